@@ -1,5 +1,5 @@
 -- How many synthesised events there are at most.
-use Rattle.std.proofs.Common.{◌≡◌, ℕ, zero, suc, ◌+◌, ◌*◌, ◌<◌, ◌≤◌, ℤ, Bool, true, false, cond, int_eq, List, [], ◌∷◌, ◌++◌, length, map, sym, ap, ◌∙◌, arith, add-one, length-append, le_trans, mul-le-mul_left, pos}
+use Rattle.std.proofs.Common.{◌≡◌, ℕ, zero, suc, ◌+◌, ◌-◌, ◌*◌, ◌<◌, ◌≤◌, ℤ, Bool, true, false, cond, int_eq, List, [], ◌∷◌, ◌++◌, length, map, refl, sym, ap, ◌∙◌, arith, add-one, length-append, le_trans, mul-le-mul_left, pos}
 use Rattle.std.proofs.lemmas.List.{length-map}
 use Rattle.std.proofs.lemmas.Bool.{false_from_ne_true}
 use Rattle.inp_model.specs.declared.event.TheConstants.{EV_SYN, EV_KEY, EV_SW, EV_LED, SYN_REPORT}
@@ -43,7 +43,55 @@ length-where_below : (n : ℕ) (test : ℕ → Bool) → length (where_below n t
 length-where_below zero test = omega arith
 length-where_below (suc n) test = omega (arith, ap (λ (k : ℕ). length (where_below k test)) (sym (add-one n)), length-where_below_more n test, length-where_below n test)
 
+-- below a greater bound no fewer pass
+length-where_below_grows : (n more : ℕ) (test : ℕ → Bool) → length (where_below n test) ≤ length (where_below (n + more) test)
+length-where_below_grows n zero test = let e : n + zero ≡ n = omega arith in omega (arith, ap (λ (k : ℕ). length (where_below k test)) e)
+length-where_below_grows n (suc more) test =
+    let e : n + suc more ≡ n + more + 1 = omega arith in
+    omega (
+      arith,
+      ap (λ (k : ℕ). length (where_below k test)) e,
+      ap length (where_below-more (n + more) test),
+      length-append (where_below (n + more) test) (cond (test (n + more)) ((n + more) ∷ []) []),
+      length-where_below_grows n more test,
+    )
+
+pub length-where_below_least : (n m : ℕ) (test : ℕ → Bool) → n ≤ m → length (where_below n test) ≤ length (where_below m test)
+length-where_below_least n m test le = let e : n + (m - n) ≡ m = omega (arith, le) in omega (arith, ap (λ (k : ℕ). length (where_below k test)) e, length-where_below_grows n (m - n) test)
+
+-- fewer pass a test that only those pass that pass another one
+pub length-where_below_fewer : (n : ℕ) (a b : ℕ → Bool) → ((k : ℕ) → k < n → a k ≡ true → b k ≡ true) → length (where_below n a) ≤ length (where_below n b)
+length-where_below_fewer zero a b h = omega arith
+length-where_below_fewer (suc n) a b h =
+    let e : suc n ≡ n + 1 = omega arith in
+    omega (
+      arith,
+      ap (λ (k : ℕ). length (where_below k a)) e,
+      ap (λ (k : ℕ). length (where_below k b)) e,
+      ap length (where_below-more n a),
+      ap length (where_below-more n b),
+      length-append (where_below n a) (cond (a n) (n ∷ []) []),
+      length-append (where_below n b) (cond (b n) (n ∷ []) []),
+      last (a n) (b n) (h n (omega arith)),
+      length-where_below_fewer n a b (λ k lt. h k (omega (arith, lt))),
+    )
+  where
+    last : (x y : Bool) → (x ≡ true → y ≡ true) → length (cond x (n ∷ []) []) ≤ length (cond y (n ∷ []) [])
+    last true true h = omega arith
+    last true false h = absurd (let bad : false ≡ true = h refl in cc)
+    last false y h = omega arith
+
 -- ---- keys, LEDs, switches and axes
+
+-- the changes of all classes, one class after the other
+pub length-classes : (old new : View) → length (class_changes old new)
+    ≡ length (bit_changes EV_KEY 768 old.keys new.keys) + length (bit_changes EV_LED 64 old.leds new.leds) + length (bit_changes EV_SW 64 old.switches new.switches) + length (axis_changes old.axes new.axes)
+length-classes old new =
+    let a = bit_changes EV_KEY 768 old.keys new.keys in
+    let b = bit_changes EV_LED 64 old.leds new.leds in
+    let c = bit_changes EV_SW 64 old.switches new.switches in
+    let d = axis_changes old.axes new.axes in
+    omega (arith, length-append (a ++ b ++ c) d, length-append (a ++ b) c, length-append a b)
 
 length-bit_changes : (kind count : ℕ) (old new : List Bool) → length (bit_changes kind count old new) ≤ count
 length-bit_changes kind count old new = omega (arith, length-map (where_below count (bits_differ_at old new)) (bit_event kind new), length-where_below count (bits_differ_at old new))

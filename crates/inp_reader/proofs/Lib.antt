@@ -35,3 +35,4 @@ pub mod ReadCounts
 pub mod LessEffort
 pub mod UseAlone
 pub mod ShowsDevice
+pub mod Rooms

@@ -1,20 +1,27 @@
 -- A reader's view keeps what its device cannot have as in a new view, and two such views agree after all answers.
-use Rattle.std.proofs.Common.{◌≡◌, ℕ, zero, suc, nat_eq, nat_lt, ℤ, pos, Bool, true, false, ◌&&◌, not, List, replicate, refl, sym, ap, ◌∙◌, if◌then◌else◌}
+use Rattle.std.proofs.Common.{◌≡◌, ◌≤◌, ℕ, zero, suc, nat_eq, nat_lt, ℤ, pos, Bool, true, false, ◌&&◌, not, List, [], ◌∷◌, length, replicate, Option, Some, None, refl, sym, ap, subst, ◌∙◌, if◌then◌else◌, inl, inr, arith}
 use Rattle.std.specs.Prelude.{slice_index_or}
-use Rattle.std.proofs.lemmas.Bool.{true≢false, false≢true, eqb-true, cond-false, cond_both}
-use Rattle.std.proofs.lemmas.List.{get_or-set_other}
+use Rattle.std.specs.List.{range_with_len}
+use Rattle.std.proofs.lemmas.Bool.{true≢false, false≢true, eqb-true, cond-false, cond_both, cases_lt}
+use Rattle.std.proofs.lemmas.List.{get_or-set_other, get_or_past, length-map}
+use Rattle.std.proofs.lemmas.List.FromFn.{length-range_with_len}
 use Rattle.inp_model.specs.declared.event.Event.{Event}
 use Rattle.inp_model.specs.declared.event.TheConstants.{EV_KEY, EV_ABS, EV_SW, EV_LED}
 use Rattle.inp_model.specs.declared.multi_touch.TheConstants.{ABS_MT_SLOT}
 use Rattle.inp_model.specs.declared.step.Step.{Step}
 use Rattle.inp_model.specs.declared.step.Step.TheVariants.{GetKeys, GetSwitches, GetLeds, GetAxis, SyncSlots}
 use Rattle.inp_model.specs.declared.reply.Reply.{Reply}
-use Rattle.inp_model.specs.declared.reply.Reply.TheVariants.{Axis}
+use Rattle.inp_model.specs.declared.reply.Reply.TheVariants.{Axis, Bits}
+use Rattle.inp_model.specs.RawItem.{RawItem, Occurred, Described}
+use Rattle.inp_model.specs.Raw.{raw}
+use Rattle.inp_model.specs.State.{key_down, turned_on}
 use Rattle.inp_model.specs.Description.{Description, has_kind, has_code, supports, is_multi_touch_code}
-use Rattle.inp_model.specs.Event.{is_repeat}
-use Rattle.inp_model.specs.Reply.{Answer, IsAnswer}
+use Rattle.inp_model.specs.Event.{is_repeat, is_set}
+use Rattle.inp_model.specs.Reply.{Answer, IsAnswer, answer_by, refused, accepted, is_accepted, code_on, bitmap_of, bits_answer}
+use Rattle.inp_model.proofs.Refused.{refused-not_accepted}
+use Rattle.inp_recon.proofs.ToldBits.{told_flag}
 use Rattle.inp_recon.specs.declared.view.View.{View}
-use Rattle.inp_recon.specs.View.{key_count, code_count, with_value_at, with_flag, axes_after_event, slot_after_event, keys_after_answer, switches_after_answer, leds_after_answer, axes_after_answer, axes_after_reply, slot_after_answer, first_view, view_after_event, view_after_answer}
+use Rattle.inp_recon.specs.View.{bit_in, bits_in, flags_after_reply, key_count, code_count, with_value_at, with_flag, axes_after_event, slot_after_event, keys_after_answer, switches_after_answer, leds_after_answer, axes_after_answer, axes_after_reply, slot_after_answer, first_view, view_after_event, view_after_answer}
 use Rattle.inp_recon.proofs.Sizes.{IsSizedFor-first_view, IsSizedFor-after_event, IsSizedFor-after_answer}
 use Rattle.inp_recon.specs.Synchronised.{has_axis}
 use Rattle.inp_reader.specs.Spare.{IsSpare, is_event_of}
@@ -54,6 +61,38 @@ no-leds d e is none = by (nat_eq e.kind EV_LED) refl
 pub keys-stay : (b c : Bool) (new old : List Bool) → b ≡ false → (if b && c then new else old) ≡ old
 keys-stay true c new old h = absurd (true≢false h)
 keys-stay false c new old h = refl
+
+-- a flag of a code that the device has not is not set by an event that it has
+flag-elsewhere : (d : Description) (kind count : ℕ) (flags : List Bool) (e : Event) (code : ℕ) → (e.kind ≡ kind → supports d kind e.code ≡ true) → supports d kind code ≡ false → e.kind ≡ kind → slice_index_or (with_flag count flags e) code false ≡ slice_index_or flags code false
+flag-elsewhere d kind count flags e code own none is =
+    cond_both (nat_lt e.code count) _ _ (λ x. slice_index_or x code false ≡ slice_index_or flags code false)
+    (λ _. get_or-set_other flags e.code code (is_set e) false (λ same. true≢false (sym (own is) ∙ ap (λ (n : ℕ). supports d kind n) (sym same) ∙ none))) (λ _. refl)
+
+flags-after : (d : Description) (kind count : ℕ) (flags : List Bool) (e : Event) (code : ℕ) (c : Bool) → (e.kind ≡ kind → supports d kind e.code ≡ true) → supports d kind code ≡ false
+    → slice_index_or (if nat_eq e.kind kind && c then with_flag count flags e else flags) code false ≡ slice_index_or flags code false
+flags-after d kind count flags e code c own none = by (nat_eq e.kind kind) c refl
+  where
+    by : (b c : Bool) → nat_eq e.kind kind ≡ b → slice_index_or (if b && c then with_flag count flags e else flags) code false ≡ slice_index_or flags code false
+    by true true is = flag-elsewhere d kind count flags e code own none (eqb-true e.kind kind is)
+    by true false is = refl
+    by false c is = refl
+
+flags-after_plain : (d : Description) (kind count : ℕ) (flags : List Bool) (e : Event) (code : ℕ) → (e.kind ≡ kind → supports d kind e.code ≡ true) → supports d kind code ≡ false
+    → slice_index_or (if nat_eq e.kind kind then with_flag count flags e else flags) code false ≡ slice_index_or flags code false
+flags-after_plain d kind count flags e code own none = by (nat_eq e.kind kind) refl
+  where
+    by : (b : Bool) → nat_eq e.kind kind ≡ b → slice_index_or (if b then with_flag count flags e else flags) code false ≡ slice_index_or flags code false
+    by true is = flag-elsewhere d kind count flags e code own none (eqb-true e.kind kind is)
+    by false is = refl
+
+own-key : (d : Description) (e : Event) → is_event_of d e ≡ true → e.kind ≡ EV_KEY → supports d EV_KEY e.code ≡ true
+own-key d e is k = of-kind d e EV_KEY k is
+
+own-switch : (d : Description) (e : Event) → is_event_of d e ≡ true → e.kind ≡ EV_SW → supports d EV_SW e.code ≡ true
+own-switch d e is k = of-kind d e EV_SW k is
+
+own-led : (d : Description) (e : Event) → is_event_of d e ≡ true → e.kind ≡ EV_LED → supports d EV_LED e.code ≡ true
+own-led d e is k = of-kind d e EV_LED k is
 
 -- an axis of its own that an event is about is one that the device has
 axis-supported : (d : Description) (code : ℕ) (value : ℤ) → is_event_of d (record { kind = EV_ABS; code = code; value = value }) ≡ true → is_multi_touch_code code ≡ false → has_axis d code ≡ true
@@ -101,11 +140,68 @@ IsSpare-after_event d v e is s = record {
   keys = λ none. keys-stay (nat_eq e.kind EV_KEY) (not (is_repeat e)) (with_flag key_count v.keys e) v.keys (no-keys d e is none) ∙ s.keys none;
   switches = λ none. cond-false (nat_eq e.kind EV_SW) (with_flag code_count v.switches e) v.switches (no-switches d e is none) ∙ s.switches none;
   leds = λ none. cond-false (nat_eq e.kind EV_LED) (with_flag code_count v.leds e) v.leds (no-leds d e is none) ∙ s.leds none;
+  key_codes = λ code none. flags-after d EV_KEY key_count v.keys e code (not (is_repeat e)) (own-key d e is) none ∙ s.key_codes code none;
+  switch_codes = λ code none. flags-after_plain d EV_SW code_count v.switches e code (own-switch d e is) none ∙ s.switch_codes code none;
+  led_codes = λ code none. flags-after_plain d EV_LED code_count v.leds e code (own-led d e is) none ∙ s.led_codes code none;
   axes = λ code none. axis-after_event d v.axes e code is none ∙ s.axes code none;
   slot = λ none. slot-after_event d v.slot e is none ∙ s.slot none;
 }
 
 -- An answer to what the device has
+
+-- no key or switch that the device has not is on
+never_down : (d : Description) (r : List RawItem) (code : ℕ) → supports d EV_KEY code ≡ false → key_down d r code ≡ false
+unfolding key_down
+never_down d [] code none = refl
+never_down d (Described axis i ∷ r) code none = never_down d r code none
+never_down d (Occurred e ∷ r) code none =
+    ap (λ (b : Bool). if b && (nat_eq e.kind EV_KEY && nat_eq e.code code) && not (is_repeat e) then is_set e else key_down d r code) none ∙ never_down d r code none
+
+never_on : (d : Description) (r : List RawItem) (kind code : ℕ) → supports d kind code ≡ false → turned_on d r kind code ≡ false
+unfolding turned_on
+never_on d [] kind code none = refl
+never_on d (Described axis i ∷ r) kind code none = never_on d r kind code none
+never_on d (Occurred e ∷ r) kind code none =
+    ap (λ (b : Bool). if b && (nat_eq e.kind kind && nat_eq e.code code) then is_set e else turned_on d r kind code) none ∙ never_on d r kind code none
+
+long-bits : (count : ℕ) (words : List ℕ) → length (bits_in count words) ≡ count
+unfolding bits_in
+long-bits count words = length-map (range_with_len 0 count) (bit_in words) ∙ length-range_with_len 0 count
+
+-- so it is after all answers to a query of these
+told-off : (count kind : ℕ) (d : Description) (past : List Step) (code : ℕ) → count ≤ 768 → code_on d (raw d past) kind code ≡ false → slice_index_or (bits_in count (bitmap_of (code_on d (raw d past) kind))) code false ≡ false
+told-off count kind d past code few off = elim (cases_lt code count) [
+  | inl lt ↦ told_flag count (code_on d (raw d past) kind) code lt (omega (arith, lt, few)) ∙ off
+  | inr past_end ↦ get_or_past (bits_in count (bitmap_of (code_on d (raw d past) kind))) code false (omega (arith, past_end, long-bits count (bitmap_of (code_on d (raw d past) kind))))
+]
+
+flags_refused : (count : ℕ) (reply : Reply) (flags : List Bool) → is_accepted reply ≡ false → flags_after_reply count reply flags ≡ flags
+flags_refused count (Bits at words) flags h = absurd (true≢false h)
+flags_refused count _ flags h = refl
+
+-- what is told is the bits, or a refusal
+told_bits : (d : Description) (past : List Step) (x : Step) (kind count code : ℕ) (given : Answer) (flags : List Bool) → accepted d past x ≡ bits_answer d past kind → count ≤ 768 → code_on d (raw d past) kind code ≡ false → IsAnswer d past x given → slice_index_or flags code false ≡ false
+    → slice_index_or (flags_after_reply count given.reply flags) code false ≡ false
+told_bits d past x kind count code given flags gives few off are was = elim are [
+  | inl e ↦ subst (λ (a : Answer). slice_index_or (flags_after_reply count a.reply flags) code false ≡ false) (sym e) (by (refused d past x) refl)
+  | inr l ↦ subst (λ (a : Answer). slice_index_or (flags_after_reply count a.reply flags) code false ≡ false) (sym l.2) was
+]
+  where
+    by : (o : Option Reply) → refused d past x ≡ o → slice_index_or (flags_after_reply count (answer_by o (accepted d past x)).reply flags) code false ≡ false
+    by None none = subst (λ (a : Answer). slice_index_or (flags_after_reply count a.reply flags) code false ≡ false) (sym gives) (told-off count kind d past code few off)
+    by (Some reply) is = subst (λ (q : List Bool). slice_index_or q code false ≡ false) (sym (flags_refused count reply flags (refused-not_accepted d past x reply is))) was
+
+key_codes-answer : (d : Description) (past : List Step) (x : Step) (given : Answer) (keys : List Bool) (code : ℕ) → supports d EV_KEY code ≡ false → IsAnswer d past x given → slice_index_or keys code false ≡ false → slice_index_or (keys_after_answer x given.reply keys) code false ≡ false
+key_codes-answer d past (GetKeys client) given keys code none are was = told_bits d past (GetKeys client) EV_KEY key_count code given keys refl (omega arith) (never_down d (raw d past) code none) are was
+key_codes-answer d past _ given keys code none are was = was
+
+switch_codes-answer : (d : Description) (past : List Step) (x : Step) (given : Answer) (flags : List Bool) (code : ℕ) → supports d EV_SW code ≡ false → IsAnswer d past x given → slice_index_or flags code false ≡ false → slice_index_or (switches_after_answer x given.reply flags) code false ≡ false
+switch_codes-answer d past (GetSwitches client) given flags code none are was = told_bits d past (GetSwitches client) EV_SW code_count code given flags refl (omega arith) (never_on d (raw d past) EV_SW code none) are was
+switch_codes-answer d past _ given flags code none are was = was
+
+led_codes-answer : (d : Description) (past : List Step) (x : Step) (given : Answer) (flags : List Bool) (code : ℕ) → supports d EV_LED code ≡ false → IsAnswer d past x given → slice_index_or flags code false ≡ false → slice_index_or (leds_after_answer x given.reply flags) code false ≡ false
+led_codes-answer d past (GetLeds client) given flags code none are was = told_bits d past (GetLeds client) EV_LED code_count code given flags refl (omega arith) (never_on d (raw d past) EV_LED code none) are was
+led_codes-answer d past _ given flags code none are was = was
 
 unfoldable pub IsWanted : Description → Step → Type 0
 IsWanted d (GetKeys client) = has_kind d EV_KEY ≡ true
@@ -153,6 +249,9 @@ IsSpare-after_answer d past v x given wanted are s = record {
   keys = λ none. spare-keys d x given.reply v.keys wanted none ∙ s.keys none;
   switches = λ none. spare-switches d x given.reply v.switches wanted none ∙ s.switches none;
   leds = λ none. spare-leds d x given.reply v.leds wanted none ∙ s.leds none;
+  key_codes = λ code none. key_codes-answer d past x given v.keys code none are (s.key_codes code none);
+  switch_codes = λ code none. switch_codes-answer d past x given v.switches code none are (s.switch_codes code none);
+  led_codes = λ code none. led_codes-answer d past x given v.leds code none are (s.led_codes code none);
   axes = λ code none. spare-axes d x given.reply v.axes code wanted none ∙ s.axes code none;
   slot = λ none. spare-slot d x given.reply v.slot wanted none ∙ s.slot none;
 }
@@ -164,6 +263,11 @@ zeros zero code = refl
 zeros (suc n) zero = refl
 zeros (suc n) (suc code) = zeros n code
 
+all_off : (n code : ℕ) → slice_index_or (replicate n false) code false ≡ false
+all_off zero code = refl
+all_off (suc n) zero = refl
+all_off (suc n) (suc code) = all_off n code
+
 pub IsSpare-first_view : (d : Description) → IsSpare d (first_view d)
 unfolding first_view
 IsSpare-first_view d = record {
@@ -171,6 +275,9 @@ IsSpare-first_view d = record {
   keys = λ none. refl;
   switches = λ none. refl;
   leds = λ none. refl;
+  key_codes = λ code none. all_off key_count code;
+  switch_codes = λ code none. all_off code_count code;
+  led_codes = λ code none. all_off code_count code;
   axes = λ code none. zeros code_count code;
   slot = λ none. refl;
 }

@@ -15,7 +15,7 @@ use Rattle.inp_reader.specs.declared.mode.Mode.{Mode}
 use Rattle.inp_reader.specs.declared.next.Next.{Next}
 use Rattle.inp_reader.specs.declared.next.Next.TheVariants.{Success}
 use Rattle.inp_reader.specs.declared.started.Started.{Started}
-use Rattle.inp_reader.specs.Reading.{Reading, start_talk, next_talk, sync_talk, handing}
+use Rattle.inp_reader.specs.Reading.{Reading, start_talk, next_talk, sync_talk}
 use Rattle.inp_reader.specs.Says.{Says}
 use Rattle.inp_reader.specs.Spare.{IsSpare, HasSpare}
 use Rattle.inp_reader.specs.Showing.{AnswerShows}

@@ -18,7 +18,7 @@ use Rattle.inp_reader.specs.declared.mode.Mode.{Mode}
 use Rattle.inp_reader.specs.declared.phase.Phase.TheVariants.{Needed}
 use Rattle.inp_reader.specs.declared.next.Next.{Next}
 use Rattle.inp_reader.specs.declared.started.Started.{Started}
-use Rattle.inp_reader.specs.Reading.{Reading, queries, start_talk, next_talk}
+use Rattle.inp_reader.specs.Reading.{Reading, queries, sync_talk, start_talk, next_talk}
 use Rattle.inp_reader.specs.Spare.{IsSpare, is_event_of, HasSpare}
 use Rattle.inp_reader.specs.Says.{Says}
 use Rattle.inp_reader.specs.Talk.{EndsWith}
@@ -94,6 +94,17 @@ keeps-rules d mode = record {
 pub keeps-next : (d : Description) (mode : Mode) (r : Reading) (calls : List Call) (result : Next × Reading) → HasSpare d r → AreAnswered d calls → EndsWith (next_talk d mode r) calls result → HasSpare d result.1
 keeps-next d mode r calls result h are ends =
     next-ends Any (Answered d) (λ (s : Unit {0}) (o : Reading). HasSpare d o) (Keeps d) d mode (keeps-rules d mode) tt tt r calls result h (answered-run d calls are) ends
+
+-- a synchronisation
+
+abbrev pub SpareView : Description → Unit {0} → Result View Reply → Type 0
+SpareView d s (Ok view) = IsSpare d view
+SpareView d s (Err reply) = Unit {0}
+
+pub says-keeps_sync : (d : Description) (before after : EvdevView) (old new : List CallMade) (r : Reading) (result : Result View Reply) → before.description ≡ d → IsSpare d r.view → Says before after old new (sync_talk d r) result → SpareView d tt result
+says-keeps_sync d before after old new r result same s h =
+    meets-ends Any (Answered d) (SpareView d) tt tt (sync_talk d r) h.calls result
+    (sync-meets Any (Answered d) (IsSpareSoFar d) (SpareView d) d tt r (spare-asks d (SpareView d) (λ view told. told) (λ reply. tt)) (s, wanted-sync d r.client)) (answered-run d h.calls (answered d before after h.calls same h.are_calls)) h.talk_ends
 
 -- `start`
 

@@ -18,6 +18,10 @@ pub record IsSpare (d : Description) (v : View) : Type 0 where
   pub keys : has_kind d EV_KEY ≡ false → v.keys ≡ replicate key_count false
   pub switches : has_kind d EV_SW ≡ false → v.switches ≡ replicate code_count false
   pub leds : has_kind d EV_LED ≡ false → v.leds ≡ replicate code_count false
+  -- a code that it has not is off
+  pub key_codes : (code : ℕ) → supports d EV_KEY code ≡ false → slice_index_or v.keys code false ≡ false
+  pub switch_codes : (code : ℕ) → supports d EV_SW code ≡ false → slice_index_or v.switches code false ≡ false
+  pub led_codes : (code : ℕ) → supports d EV_LED code ≡ false → slice_index_or v.leds code false ≡ false
   pub axes : (code : ℕ) → has_axis d code ≡ false → slice_index_or v.axes code (pos 0) ≡ pos 0
   pub slot : d.slots ≡ 0 → v.slot ≡ pos 0
 

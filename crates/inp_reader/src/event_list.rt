@@ -123,10 +123,12 @@ impl EventList {
     // Adds the changes of a class of codes.
     fn push_bits<const W: usize>(&mut self, kind: u16, old: &Bits<W>, new: &Bits<W>)
         requires words { W ≤ 12 }
-        requires few { length self.old.events + 64 * W ≤ self.old.room }
+        requires few { length self.old.events
+            + length (bit_changes kind (64 * W) old.now new.now) ≤ self.old.room }
         ensures room { self.new.room ≡ self.old.room }
         ensures pushed { self.new.events ≡ self.old.events ++ bit_changes kind (64 * W) old.now new.now }
-        ensures few { length self.new.events ≤ length self.old.events + 64 * W }
+        ensures few { length self.new.events
+            ≤ length self.old.events + length (bit_changes kind (64 * W) old.now new.now) }
     {
         for code in old.differing(new) {
             self.push(bit_event(kind, new, code as u16));
@@ -135,10 +137,12 @@ impl EventList {
 
     // Adds the changes of axes.
     fn push_axes(&mut self, old: &[i32; 64], new: &[i32; 64])
-        requires few { length self.old.events + 64 ≤ self.old.room }
+        requires few { length self.old.events + length (axis_changes old.now new.now)
+            < self.old.room }
         ensures room { self.new.room ≡ self.old.room }
         ensures pushed { self.new.events ≡ self.old.events ++ axis_changes old.now new.now }
-        ensures few { length self.new.events ≤ length self.old.events + 64 }
+        ensures few { length self.new.events
+            ≤ length self.old.events + length (axis_changes old.now new.now) }
     {
         for code in 0..64u16 {
             let event = axis_event(new, code);
@@ -149,10 +153,12 @@ impl EventList {
 
     // Adds the changes of keys, LEDs, switches and axes.
     fn push_classes(&mut self, old: &View, new: &View)
-        requires few { length self.old.events + 960 ≤ self.old.room }
+        requires few { length self.old.events + length (class_changes old.now new.now)
+            < self.old.room }
         ensures room { self.new.room ≡ self.old.room }
         ensures pushed { self.new.events ≡ self.old.events ++ class_changes old.now new.now }
-        ensures few { length self.new.events ≤ length self.old.events + 960 }
+        ensures few { length self.new.events
+            ≤ length self.old.events + length (class_changes old.now new.now) }
     {
         self.push_bits(EV_KEY, &old.keys, &new.keys);
         self.push_bits(EV_LED, &old.leds, &new.leds);
@@ -233,7 +239,8 @@ impl EventList {
     // Makes the events that lead from the old view to the new one. The old view is used up.
     pub(crate) fn fill(&mut self, old: &mut View, new: &View)
         requires cells { length old.old.cells ≡ length new.now.cells }
-        requires room { 963 + 17 * slot_count old.old.cells ≤ self.old.room }
+        requires room { length (class_changes old.old new.now) + 3
+            + 17 * slot_count old.old.cells ≤ self.old.room }
         ensures synth { self.new.events ≡ synth old.old new.now }
         ensures room { self.new.room ≡ self.old.room }
         ensures cells { length old.new.cells ≡ length old.old.cells }

@@ -60,7 +60,8 @@ impl Model for Reader {
 impl Reader {
     /// A reader for devices of this description. It has no client yet: its client is `NO_CLIENT`, its phase Plain.
     ///
-    /// It takes all memory that it will need, about 18 kB and 310 bytes a slot. `NoMemory` comes where there is none.
+    /// It takes all memory that it will need: about 10 kB, 8 bytes for each key, LED, switch and axis of such a device, and
+    /// 310 bytes a slot. `NoMemory` comes where there is none.
     pub fn new(alloc: Global, caps: &Caps) -> Result<Reader, NoMemory>
         ensures description { IfOk result (λ reader. reader.description ≡ caps.now) }
         ensures reading { IfOk result (λ reader. reader.reading ≡ record {

@@ -5,6 +5,7 @@ ghost use Rattle.inp_reader.specs.Asking.{MakesRead, asked_result};
 ghost use Rattle.inp_reader.specs.Reading.{ask_each, queries, start_talk, after_queries, after_read, first_run, queued_run, after_run, read_talk, hand_out, handing, as_plain, after_sync, sync_talk, go_on, go_on_after, plain_talk, next_talk, with_sync_needed};
 ghost use Rattle.inp_reader.specs.Says.{Says, kept_call};
 ghost use Rattle.inp_reader.specs.Session.{reading_of, IsSession};
+ghost use Rattle.inp_reader.specs.Spare.{IsSpare};
 ghost use Rattle.inp_reader.specs.Standing.{is_needed};
 ghost use Rattle.inp_reader.specs.Talk.{ask, finish, and_then};
 
@@ -215,6 +216,7 @@ impl Session {
     // call that is not accepted comes back.
     fn synchronise<E: Evdev>(&mut self, dev: &mut E, caps: &Caps) -> Option<Reply>
         requires session { IsSession caps.now (E.told dev.old) self.old }
+        requires spare { IsSpare caps.now self.old.view }
         requires few { length self.old.asker.made + 54 ≤ 64 }
         ensures says { Says (E.told dev.old) (E.told dev.new) self.old.asker.made self.new.asker.made
             (sync_talk caps.now (reading_of self.old)) (asked_result result self.new.asker.view) }
@@ -240,6 +242,7 @@ impl Session {
     // In phase Needed: synchronises, and goes on.
     fn next_after_loss<E: Evdev>(&mut self, dev: &mut E, caps: &Caps, mode: Mode) -> Next
         requires session { IsSession caps.now (E.told dev.old) self.old }
+        requires spare { IsSpare caps.now self.old.view }
         requires few { length self.old.asker.made + 55 ≤ 64 }
         ensures says { Says (E.told dev.old) (E.told dev.new) self.old.asker.made self.new.asker.made
             (and_then (sync_talk caps.now (reading_of self.old))
@@ -271,6 +274,7 @@ impl Session {
     // The next event in a mode.
     pub(crate) fn next<E: Evdev>(&mut self, dev: &mut E, caps: &Caps, mode: Mode) -> Next
         requires session { IsSession caps.now (E.told dev.old) self.old }
+        requires spare { IsSpare caps.now self.old.view }
         requires few { length self.old.asker.made + 55 ≤ 64 }
         ensures says { Says (E.told dev.old) (E.told dev.new) self.old.asker.made self.new.asker.made
             (next_talk caps.now mode (reading_of self.old)) (result, reading_of self.new) }

@@ -1,22 +1,42 @@
 //! The synthesised events.
 ghost use Rattle.std.specs.Prelude.{◌≡◌, ◌≤◌, ◌+◌, ◌*◌, [], ◌∷◌, length, IfSome, IfNone, IfOk};
 ghost use Rattle.inp_recon.specs.Cells.{slot_count};
-ghost use Rattle.inp_reader.specs.RoomyEvents.{synthesised_most};
-ghost use Rattle.inp_reader.specs.Synthesis.{synth};
+ghost use Rattle.inp_reader.specs.RoomyEvents.{code_total, synthesised_most};
+ghost use Rattle.inp_reader.specs.Synthesis.{class_changes, synth};
 
 use crate::event_list::EventList;
 use inp_caps::Caps;
-use inp_model::{Event, NoMemory};
+use inp_model::{EV_ABS, EV_KEY, EV_LED, EV_SW, Event, NoMemory};
 use inp_recon::View;
 use std::alloc::Global;
 use std::marker::Model;
 
-/// How many events a synchronisation makes at most: one for each of 768 keys, 64 LEDs, 64 switches and 64 axes, 17 for each
+/// How many events a synchronisation makes at most: one for each key, LED, switch and axis that the device has, 17 for each
 /// slot, one for the current slot, and two reports.
 pub(crate) fn synthesised_most(caps: &Caps) -> usize
     ensures { result ≡ synthesised_most caps.now }
 {
-    963 + 17 * caps.slots() as usize
+    let keys = code_total(caps, EV_KEY, 768);
+    let lights = code_total(caps, EV_LED, 64);
+    let switches = code_total(caps, EV_SW, 64);
+    let axes = code_total(caps, EV_ABS, 64);
+    keys + lights + switches + axes + 3 + 17 * caps.slots() as usize
+}
+
+// How many codes of a type the device has, of so many.
+fn code_total(caps: &Caps, kind: u16, count: u16) -> usize
+    requires { count ≤ 768 }
+    ensures total { result ≡ code_total caps.now kind count }
+    ensures few { result ≤ 768 }
+{
+    let mut total = 0;
+    for code in 0..count {
+        if !caps.supports(kind, code) {
+            continue;
+        }
+        total += 1;
+    }
+    total
 }
 
 /// The synthesised events that are not handed out yet, and room for all that there can be. A contract sees the list and the
@@ -71,10 +91,11 @@ impl Synthesis {
     }
 
     // Makes the events that lead from the old view to the new one, which has as many cells. The old view is used up. There
-    // must be room for the changes of all codes, and of so many slots.
+    // must be room for what differs in codes, for 17 events a slot and for three more.
     pub(crate) fn fill(&mut self, old: &mut View, new: &View)
         requires cells { length old.old.cells ≡ length new.now.cells }
-        requires room { 963 + 17 * slot_count old.old.cells ≤ self.old.room }
+        requires room { length (class_changes old.old new.now) + 3
+            + 17 * slot_count old.old.cells ≤ self.old.room }
         ensures synth { self.new.events ≡ synth old.old new.now }
         ensures room { self.new.room ≡ self.old.room }
         ensures cells { length old.new.cells ≡ length old.old.cells }

@@ -50,3 +50,8 @@ push_cells-requires-clause-few c =
       c.push_classes.ensures.room,
       ap (λ (n : ℕ). n / 14) c.apply.ensures.cells,
     )
+
+pub push_classes-requires : goal.push_classes-requires
+push_classes-requires c = record {
+  few = omega (arith, c.requires.room, ap length c.clear.ensures.none, c.clear.ensures.room, c.push_lifts.ensures.few, c.push_lifts.ensures.room, c.push_report.ensures.few, c.push_report.ensures.room);
+}

@@ -1,7 +1,9 @@
-use Rattle.std.proofs.Common.{◌≡◌, ◌∙◌, ◌++◌, ap, arith, not, map, ℕ, Bool}
+use Rattle.std.proofs.Common.{◌≡◌, ◌≤◌, ◌+◌, ◌∙◌, ◌++◌, ℤ, List, length, length-append, ap, arith, not, map, ℕ, Bool}
 use Rattle.std.specs.Ordering.{int_eq}
 use Rattle.inp_model.specs.declared.event.Event.{Event}
-use Rattle.inp_reader.specs.Synthesis.{where_below, differs_at, axis_event, value_at}
+use Rattle.inp_reader.specs.Synthesis.{where_below, axis_changes, differs_at, axis_event, value_at}
+use Rattle.std.proofs.lemmas.List.{length-map}
+use Rattle.inp_reader.proofs.Counts.{length-where_below_least}
 use Rattle.inp_reader.proofs.Synthesising.{events-more}
 use Rattle.inp_reader.proofs.event_list.EventList.push_axes.Goals as goal
 
@@ -17,7 +19,6 @@ loop-code-preserved c =
     record {
       pushed = events-more f test c.loop-code.code c.values_differ-wanted.result c.axis_event-event.result _ _ _ c.push_if.ensures.pushed c.loop-code.invariant.pushed is c.axis_event-event.ensures;
       room = c.push_if.ensures.room ∙ c.loop-code.invariant.room;
-      few = omega (arith, c.push_if.ensures.few, c.loop-code.invariant.few);
     }
 
 pub returns-clause-pushed : goal.returns-clause-pushed
@@ -27,3 +28,23 @@ returns-clause-pushed c =
     let f : ℕ → Event = λ code. axis_event new code code in
     let all : c.loop-code.code ≡ 64 = omega (arith, c.loop-code-test.false, c.loop-code.auto.code-end) in
     c.loop-code.invariant.pushed ∙ ap (λ (n : ℕ). c.args.self.now.events ++ map f (where_below n (differs_at old new))) all
+
+-- some of the changes come no later than the others
+so_far : (old new : List ℤ) (before list : List Event) (n : ℕ) → n ≤ 64 → list ≡ before ++ map (λ code. axis_event new code code) (where_below n (differs_at old new)) → length list ≤ length before + length (axis_changes old new)
+so_far old new before list n few is =
+    let f : ℕ → Event = λ code. axis_event new code code in
+    omega (
+      arith,
+      ap length is,
+      length-append before (map f (where_below n (differs_at old new))),
+      length-map (where_below n (differs_at old new)) f,
+      length-map (where_below 64 (differs_at old new)) f,
+      length-where_below_least n 64 (differs_at old new) few,
+    )
+
+pub push_if-requires : goal.push_if-requires
+push_if-requires c =
+    omega (arith, so_far c.args.old.now c.args.new.now c.args.self.now.events c.loop-code.self.events c.loop-code.code (omega arith) c.loop-code.invariant.pushed, c.loop-code.invariant.room, c.requires.few)
+
+pub returns-clause-few : goal.returns-clause-few
+returns-clause-few c = so_far c.args.old.now c.args.new.now c.args.self.now.events c.loop-code.self.events c.loop-code.code (omega arith) c.loop-code.invariant.pushed

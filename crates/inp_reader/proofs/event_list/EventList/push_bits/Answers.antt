@@ -1,10 +1,10 @@
-use Rattle.std.proofs.Common.{◌≡◌, ℕ, ◌*◌, ◌<◌, List, [], ◌∷◌, ◌++◌, length, map, refl, ap, sym, subst, ◌∙◌, arith, append-nil, append_assoc, length-append}
+use Rattle.std.proofs.Common.{◌≡◌, ℕ, Bool, ◌*◌, ◌<◌, List, [], ◌∷◌, ◌++◌, length, map, refl, ap, sym, subst, ◌∙◌, arith, append-nil, append_assoc, length-append}
 use Rattle.std.specs.List.{All, range_with_len, filter}
-use Rattle.std.proofs.lemmas.List.{map-append}
+use Rattle.std.proofs.lemmas.List.{map-append, length-map}
 use Rattle.std.proofs.lemmas.List.Elements.{All-tail}
 use Rattle.inp_bits.specs.Bits.{differing_indices}
 use Rattle.inp_model.specs.declared.event.Event.{Event}
-use Rattle.inp_reader.specs.Synthesis.{bit_event, bits_differ_at, where_below}
+use Rattle.inp_reader.specs.Synthesis.{bit_event, bit_changes, bits_differ_at, where_below}
 use Rattle.inp_reader.proofs.event_list.EventList.push_bits.Goals as goal
 
 pub loop-code-init : goal.loop-code-init
@@ -47,3 +47,31 @@ returns-clause-pushed g c =
     let whole : differing_indices c.args.old.now c.args.new.now ≡ where_below (64 * g.row.W) (bits_differ_at c.args.old.now c.args.new.now) =
     ap (λ (n : ℕ). filter (bits_differ_at c.args.old.now c.args.new.now) (range_with_len 0 n)) c.differing-code-items.ensures.len in
     c.loop-code.invariant.pushed ∙ ap (λ (l : List ℕ). c.args.self.now.events ++ map (bit_event c.args.kind c.args.new.now) l) (all ∙ whole)
+
+-- all changes are as many as codes differ
+length-all : (kind count : ℕ) (old new : List Bool) → length old ≡ count → length (bit_changes kind count old new) ≡ length (differing_indices old new)
+unfolding differing_indices
+length-all kind count old new len = length-map (where_below count (bits_differ_at old new)) (bit_event kind new) ∙ ap (λ (n : ℕ). length (filter (bits_differ_at old new) (range_with_len 0 n))) (sym len)
+
+pub push-requires : goal.push-requires
+push-requires g c =
+    omega (
+      arith,
+      c.requires.few,
+      length-all c.args.kind (64 * g.row.W) c.args.old.now c.args.new.now c.differing-code-items.ensures.len,
+      ap length c.loop-code.invariant.whole,
+      length-append c.loop-code.yielded c.loop-code.code-iterator,
+      ap length c.in-Some.ensures.steps,
+      c.loop-code.invariant.few,
+      c.loop-code.invariant.kept,
+    )
+
+pub returns-clause-few : goal.returns-clause-few
+returns-clause-few g c =
+    omega (
+      arith,
+      length-all c.args.kind (64 * g.row.W) c.args.old.now c.args.new.now c.differing-code-items.ensures.len,
+      ap length c.loop-code.invariant.whole,
+      length-append c.loop-code.yielded c.loop-code.code-iterator,
+      c.loop-code.invariant.few,
+    )

@@ -3,7 +3,7 @@ use Rattle.inp_model.specs.Description.{Description}
 use Rattle.inp_recon.specs.declared.view.View.{View}
 use Rattle.inp_recon.specs.View.{first_view}
 use Rattle.inp_recon.proofs.Sizes.{IsSizedFor-first_view}
-use Rattle.inp_reader.specs.RoomyEvents.{RoomyEvents}
+use Rattle.inp_reader.specs.RoomyEvents.{RoomyEvents, synthesised_most}
 use Rattle.inp_reader.proofs.TalksKeepSpare.{new-spare}
 use Rattle.inp_reader.proofs.reader.Reader.new.Goals as goal
 
@@ -17,7 +17,7 @@ invariant_of-result c =
       cells = c.in_ok-new-2.ensures ∙ ap (λ (n : ℕ). 14 * n) c.slots.ensures.slots ∙ same;
       few = omega (arith, ap length c.in_ok-new.ensures);
       slots = omega (arith, c.slots.ensures.range, c.slots.ensures.slots, ap (λ (d : Description). d.slots) c.copy.ensures.same);
-      room = omega (arith, ap (λ (v : RoomyEvents). v.room) c.in_ok-new-5.ensures, c.synthesised_most.ensures, ap (λ (d : Description). d.slots) c.copy.ensures.same);
+      room = omega (arith, ap (λ (v : RoomyEvents). v.room) c.in_ok-new-5.ensures, c.synthesised_most.ensures, ap synthesised_most c.copy.ensures.same);
       described = c.copy.ensures.description;
       spare = new-spare c.args.caps.now c.copy.result _ c.copy.ensures.same c.in_ok-new-4.ensures.view c.new-4.ensures;
     }

@@ -1,8 +1,11 @@
-use Rattle.std.proofs.Common.{◌∷◌, arith}
+use Rattle.std.proofs.Common.{◌∷◌, sym, ◌∙◌, arith}
 use Rattle.inp_model.specs.declared.step.Step.TheVariants.{Discard}
 use Rattle.inp_reader.specs.Reading.{queries, sync_talk}
 use Rattle.inp_reader.proofs.SaysSessions.{says-view}
+use Rattle.inp_reader.specs.Session.{reading_of}
+use Rattle.inp_reader.specs.Spare.{IsSpare}
 use Rattle.inp_reader.proofs.Slots.{slots-of}
+use Rattle.inp_reader.proofs.Rooms.{classes_few, spare-synced}
 use Rattle.inp_reader.proofs.session.Session.synchronise.Goals as goal
 
 pub returns-then-is_some-clause-says : goal.returns-then-is_some-clause-says
@@ -16,5 +19,12 @@ returns-clause-says g c =
     says-view _ _ _ _ (Discard c.args.self.now.client ∷ queries c.args.caps.now c.args.self.now.client) c.copy_from.new.self c.args.self.now.view _ c.copy_from.ensures.view c.discard_and_query-stop.ensures.says
 
 pub fill-requires-clause-room : goal.fill-requires-clause-room
+unfolding sync_talk
 fill-requires-clause-room g c =
-    omega (arith, slots-of c.args.caps.now.slots c.args.self.now.view.cells c.requires.session.view, c.requires.session.room)
+    let d = c.args.caps.now in
+    let old = c.args.self.now.view in
+    let new = c.discard_and_query-stop.new.self.view in
+    let says =
+    says-view _ _ _ _ (Discard c.args.self.now.client ∷ queries d c.args.self.now.client) c.copy_from.new.self old _ c.copy_from.ensures.view c.discard_and_query-stop.ensures.says in
+    let spare : IsSpare d new = spare-synced d _ _ _ _ (reading_of c.args.self.now) c.discard_and_query-stop.result new c.requires.session.description c.requires.spare says (sym c.is_some.ensures ∙ c.if-is_some.false) in
+    omega (arith, slots-of d.slots old.cells c.requires.session.view, c.requires.session.room, classes_few d old new c.requires.spare spare)
