@@ -7,7 +7,7 @@ use Rattle.std.proofs.lemmas.List.Recursion.{found_at, found_nowhere}
 use Rattle.std.proofs.lemmas.Slice.Eq.{bytes_eq-Decides}
 use Rattle.inp_codes.specs.Table.{NamedNumber, number_in}
 use Rattle.inp_codes.specs.ByName.{row_entries, IsNowhereBut, AreRowsOf}
-use Rattle.inp_codes.specs.Slot.{slot_of, HaveSlots}
+use Rattle.inp_codes.specs.Slot.{name_slot, HaveSlots}
 use Rattle.inp_codes.proofs.TableLemmas.{numbers_found, number_in-same}
 
 module _ {N : Type 0} where
@@ -60,17 +60,17 @@ module _ {N : Type 0} where
   -- the rows from a place on stand at the slots of their names
   unfoldable pub in_slots_from : ℕ → List (Bor (List ℕ) × N) → Bool
   in_slots_from n [] = true
-  in_slots_from n (row ∷ rows) = nat_eq (slot_of (name_of_row row)) n && in_slots_from (n + 1) rows
+  in_slots_from n (row ∷ rows) = nat_eq (name_slot (name_of_row row)) n && in_slots_from (n + 1) rows
 
-  in_slots_at : (n : ℕ) (rows : List (Bor (List ℕ) × N)) → in_slots_from n rows ≡ true → (k : ℕ) (d : Bor (List ℕ) × N) → k < length rows → slot_of (name_of_row (get_or rows k d)) ≡ n + k
+  in_slots_at : (n : ℕ) (rows : List (Bor (List ℕ) × N)) → in_slots_from n rows ≡ true → (k : ℕ) (d : Bor (List ℕ) × N) → k < length rows → name_slot (name_of_row (get_or rows k d)) ≡ n + k
   unfolding in_slots_from
   in_slots_at n [] h k d lt = absurd (omega arith)
   in_slots_at n (row ∷ rows) h zero d lt =
-      let here = eqb-true _ _ (and_parts (nat_eq (slot_of (name_of_row row)) n) (in_slots_from (n + 1) rows) h).0 in
+      let here = eqb-true _ _ (and_parts (nat_eq (name_slot (name_of_row row)) n) (in_slots_from (n + 1) rows) h).0 in
       let same : n ≡ n + 0 = omega arith in
       here ∙ same
   in_slots_at n (row ∷ rows) h (suc k) d lt =
-      let rest = in_slots_at (n + 1) rows (and_parts (nat_eq (slot_of (name_of_row row)) n) (in_slots_from (n + 1) rows) h).1 k d (omega arith) in
+      let rest = in_slots_at (n + 1) rows (and_parts (nat_eq (name_slot (name_of_row row)) n) (in_slots_from (n + 1) rows) h).1 k d (omega arith) in
       let same : n + 1 + k ≡ n + suc k = omega arith in
       rest ∙ same
 
@@ -78,9 +78,9 @@ module _ {N : Type 0} where
   HaveSlots-tested rows h = record { slots = λ k d lt. let same : 0 + k ≡ k = omega arith in in_slots_at 0 rows h k d lt ∙ same }
 
   -- so a name is in the row at its slot alone
-  pub IsNowhereBut-slot : (rows : List (Bor (List ℕ) × N)) (name : List ℕ) (place : ℕ) → HaveSlots rows → place ≡ slot_of name → IsNowhereBut rows name place
+  pub IsNowhereBut-slot : (rows : List (Bor (List ℕ) × N)) (name : List ℕ) (place : ℕ) → HaveSlots rows → place ≡ name_slot name → IsNowhereBut rows name place
   IsNowhereBut-slot rows name place slots at k d within hit =
-      sym (slots.slots k d within) ∙ ap slot_of ((bytes_eq-Decides (name_of_row (get_or rows k d)) name).0 hit) ∙ sym at
+      sym (slots.slots k d within) ∙ ap name_slot ((bytes_eq-Decides (name_of_row (get_or rows k d)) name).0 hit) ∙ sym at
 
   -- rows and entries that find each other give each name one number
   pub AreRowsOf-tested : (same : N → N → Bool) → ((a b : N) → same a b ≡ true → a ≡ b) → (rows : List (Bor (List ℕ) × N)) (entries : List (NamedNumber N)) → numbers_found same entries (row_entries rows) ≡ true → numbers_found same (row_entries rows) entries ≡ true → AreRowsOf rows entries

@@ -16,7 +16,7 @@ use names::{
     abs_names, led_names, msc_names, rel_names, rep_names, snd_names, sw_names, syn_names,
 };
 use rows::code_rows;
-use slots::slot_of;
+use slots::name_slot;
 
 /// The name of the code `code` of the event type `kind`, as `KEY_F12` for 1 and 88; `None` where the
 /// table has no such code.
@@ -43,7 +43,7 @@ pub fn code_of(text: &str) -> Option<(u16, u16)>
 pub fn code_named(name: &[u8]) -> Option<(u16, u16)>
     ensures code { result ≡ code_of name.now }
 {
-    number_at(code_rows(), slot_of(name), name)
+    number_at(code_rows(), name_slot(name), name)
 }
 
 /// The names of the codes of `kind`, at their codes.

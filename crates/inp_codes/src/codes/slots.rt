@@ -1,6 +1,6 @@
-//! Where the row of a code's name stands.
+//! Where the row of a code's name stands. `bench/slots` finds the table and the order of the rows.
 ghost use Rattle.std.specs.Prelude.{◌≡◌};
-ghost use Rattle.inp_codes.specs.Slot.{slot_of};
+ghost use Rattle.inp_codes.specs.Slot.{name_slot};
 
 /// How far the names of each part of the hashes are moved, so that no two names have one slot.
 pub(crate) static MOVED: [u8; 128] = [
@@ -13,8 +13,8 @@ pub(crate) static MOVED: [u8; 128] = [
 ];
 
 /// The slot of a name: each name of the table has one of its own.
-pub(crate) fn slot_of(name: &[u8]) -> usize
-    ensures { result ≡ slot_of name.now }
+pub(crate) fn name_slot(name: &[u8]) -> usize
+    ensures { result ≡ name_slot name.now }
 {
     let mut hash: u32 = 0;
     for byte in name {

@@ -4,7 +4,7 @@ use Rattle.inp_codes.proofs.ByNameLemmas.{IsNowhereBut-slot}
 use Rattle.inp_codes.proofs.codes.code_named.Goals as goal
 
 pub number_at-requires : goal.number_at-requires
-number_at-requires c = IsNowhereBut-slot _ _ _ c.code_rows.ensures.slots c.slot_of.ensures
+number_at-requires c = IsNowhereBut-slot _ _ _ c.code_rows.ensures.slots c.name_slot.ensures
 
 pub returns : goal.returns
 unfolding code_of
