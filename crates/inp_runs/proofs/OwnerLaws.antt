@@ -1,7 +1,6 @@
 -- What an owner was told, as its device goes on.
-use Rattle.std.proofs.Common.{◌≡◌, ℕ, Bool, true, false, if◌then◌else◌, List, [], ◌∷◌, ◌++◌, length, map, reverse, take, refl, sym, ap, subst, ◌∙◌, append_assoc, arith, inl, inr, Option, Some, None}
+use Rattle.std.proofs.Common.{◌≡◌, ℕ, Bool, true, false, if◌then◌else◌, List, [], ◌∷◌, ◌++◌, length, map, reverse, take, refl, sym, ap, subst, ◌∙◌, append_assoc, arith, inl, inr, Some, None}
 use Rattle.std.proofs.lemmas.List.{map-append}
-use Rattle.inp_model.specs.declared.event.Event.{Event}
 use Rattle.inp_model.specs.declared.step.Step.{Step}
 use Rattle.inp_model.specs.Description.{Description}
 use Rattle.inp_feedback.specs.declared.fed.Fed.{Fed}

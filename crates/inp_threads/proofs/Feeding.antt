@@ -19,15 +19,14 @@ use Rattle.inp_feedback.specs.declared.fed.Fed.TheVariants.{Took, Full}
 use Rattle.inp_feedback.specs.declared.fed.TheConstants.{FEEDBACK_MAX}
 use Rattle.inp_feedback.specs.Feeding.{Feeding, taken_count}
 use Rattle.inp_feedback.specs.UEntry.{steps_in}
-use Rattle.inp_feedback.specs.Feedback.{feedback_queue, is_full_of_feedback, taken_by_feedback, fed, kept_after_feedback}
+use Rattle.inp_feedback.specs.Feedback.{feedback_queue, is_full_of_feedback, taken_by_feedback, fed}
 use Rattle.inp_feedback.proofs.Few.{room-enough, room-enough-taken}
-use Rattle.inp_feedback.proofs.Lists.{reverse-cons}
 use Rattle.inp_uinput.specs.FeedbackTurn.{entries_after_call, call_places, IsFeedbackTurn}
 use Rattle.inp_script.specs.declared.stop.Stop.{Stop}
 use Rattle.inp_script.specs.declared.waiting.Waiting.{Waiting}
 use Rattle.inp_script.specs.Acting.{FeedCall, AreFeedCalls, ActsLine, OwnsLine}
 use Rattle.inp_script.specs.Job.{ActorView}
-use Rattle.inp_script.specs.Owner.{Owning, after_feedback, FeedsUnless, IsFed}
+use Rattle.inp_script.specs.Owner.{Owning, after_feedback, FeedsUnless}
 use Rattle.inp_runs.specs.DoingAll.{AreActed}
 use Rattle.inp_runs.specs.Owner.{rooms_of}
 use Rattle.inp_runs.proofs.DoingAll.{no-owner}
