@@ -5,7 +5,6 @@ use Rattle.std.proofs.lemmas.List.{take_all, take_more}
 use Rattle.std.proofs.lemmas.List.Elements.{filter-append}
 use Rattle.std.proofs.lemmas.Option.{same_Some, slice_get_within, get_or_from_slice_get}
 use Rattle.inp_model.specs.Evdev.{EvdevView}
-use Rattle.inp_model.specs.Leaves.{IsLeft}
 use Rattle.inp_model.proofs.Leaves.{AreCalls-append, left-none, left-then}
 use Rattle.inp_actors.specs.declared.actor_text.ActorText.{ActorText}
 use Rattle.inp_actors.specs.declared.line.Line.{Line}
@@ -141,8 +140,7 @@ module _ {S : Type 0} (told : S → EvdevView) (feeds : Feeding S) where
             → (rounds : ℕ) × Holds (told before) (told after) (lines_talk old.role old.description r.streams wait rounds (line ∷ lines) old.job) (Some new)
         by (inl o) later = absurd (no-owner old.role caller o.owner)
         by (inr c) later =
-            let next = later c.actor in
-            (
+            let next = later c.actor in (
               c.rounds + next.0,
               record {
                 calls = c.holds.calls ++ next.1.calls;

@@ -1,7 +1,6 @@
 -- What an owner was told, as its device goes on.
-use Rattle.std.proofs.Common.{◌≡◌, ℕ, Bool, true, false, if◌then◌else◌, List, [], ◌∷◌, ◌++◌, length, map, reverse, take, refl, sym, ap, subst, ◌∙◌, append_assoc, arith, inl, inr, Option, Some, None}
+use Rattle.std.proofs.Common.{◌≡◌, ℕ, Bool, true, false, if◌then◌else◌, List, [], ◌∷◌, ◌++◌, length, map, reverse, take, refl, sym, ap, subst, ◌∙◌, append_assoc, arith, inl, inr, Some, None}
 use Rattle.std.proofs.lemmas.List.{map-append}
-use Rattle.inp_model.specs.declared.event.Event.{Event}
 use Rattle.inp_model.specs.declared.step.Step.{Step}
 use Rattle.inp_model.specs.Description.{Description}
 use Rattle.inp_feedback.specs.declared.fed.Fed.{Fed}
@@ -42,12 +41,17 @@ fed-more d kept rooms room o free h =
 
 -- An owner and its device, line by line
 
--- What an owner was told by its lines so far, with room for so many events each, of a device that kept this.
-pub record IsToldByLines (d : Description) (kept : List UEntry) (rooms : List ℕ) (last : Owning) : Type 0 where
+-- What an owner was told by its lines so far, with room for so many events each, of a device that kept this. Of the rooms
+-- of its calls that were kept, the last call first, and of what it was told by them, something is known.
+pub record IsToldSo (H : List ℕ → Owning → Type 0) (d : Description) (kept : List UEntry) (rooms : List ℕ) (last : Owning) : Type 0 where
   pub done : List ℕ
   pub before : Owning
-  pub fed : HasFed d kept done before
+  pub fed : H done before
   pub ends : EndsFed d kept rooms done before last
+
+-- the device kept no other calls
+abbrev pub IsToldByLines : Description → List UEntry → List ℕ → Owning → Type 0
+IsToldByLines d kept rooms last = IsToldSo (HasFed d kept) d kept rooms last
 
 -- before the first line
 pub told-nothing : (d : Description) → IsToldByLines d [] [] first_owning
@@ -93,7 +97,7 @@ pub free-goes_on : (d : Description) (kept : List UEntry) (room : ℕ) → is_fu
 free-goes_on d kept room free = ap (λ (a : Fed). stop_after_answer a) (fed-free d kept room free)
 
 -- a device that keeps one entry more was not full
-grew-free : (d : Description) (kept : List UEntry) (room : ℕ) (entry : UEntry) → entry ∷ kept ≡ kept_after_feedback d kept room → is_full_of_feedback d kept ≡ false
+pub grew-free : (d : Description) (kept : List UEntry) (room : ℕ) (entry : UEntry) → entry ∷ kept ≡ kept_after_feedback d kept room → is_full_of_feedback d kept ≡ false
 grew-free d kept room entry grew = by (is_full_of_feedback d kept) refl
   where
     by : (b : Bool) → is_full_of_feedback d kept ≡ b → is_full_of_feedback d kept ≡ false
@@ -112,62 +116,64 @@ fed-goes_on d (Feedback count ∷ kept) [] o h = absurd h
 fed-goes_on d (Feedback count ∷ kept) (room ∷ rooms) o h =
     ap (λ (x : Owning). x.stop) h.3 ∙ free-goes_on d kept room (grew-free d kept room (Feedback count) h.2)
 
--- The same behind one call more, which was made or refused.
-abbrev pub IsToldMore : Description → List UEntry → List ℕ → ℕ → Owning → Type 0
-IsToldMore d kept rooms room o = IsToldByLines d (kept_after_feedback d kept room) (rooms ++ room ∷ []) (after_feedback (fed d kept room) (taken_by_feedback d kept room) o)
+-- one call more, which was made or refused
+module _ (H N : List ℕ → Owning → Type 0) (d : Description) (seen kept after : List UEntry) (room : ℕ) (o : Owning) where
+  abbrev now : Owning
+  now = after_feedback (fed d kept room) (taken_by_feedback d kept room) o
 
--- a line of an owner that goes on
-pub told-call : (d : Description) (kept : List UEntry) (rooms : List ℕ) (room : ℕ) (o : Owning) → o.stop ≡ None → IsToldByLines d kept rooms o → IsToldMore d kept rooms room o
-told-call d kept rooms room o goes_on t = by_ends t.ends
-  where
-    now : Owning
-    now = after_feedback (fed d kept room) (taken_by_feedback d kept room) o
+  module _ (refused : is_full_of_feedback d kept ≡ true → (after ≡ kept) × ((done : List ℕ) (last : Owning) → H done last → N done last))
+      (made : is_full_of_feedback d kept ≡ false → (done : List ℕ) → H done o → N (room ∷ done) now) where
+    -- a line of an owner that goes on
+    pub told-call-so : (rooms : List ℕ) → o.stop ≡ None → IsToldSo H d seen rooms o → IsToldSo N d after (rooms ++ room ∷ []) now
+    told-call-so rooms goes_on t = by_ends t.ends
+      where
+        by_full : (b : Bool) → is_full_of_feedback d kept ≡ b → reverse t.done ≡ rooms → o ≡ t.before → IsToldSo N d after (rooms ++ room ∷ []) now
+        by_full false free all same = record {
+          done = room ∷ t.done;
+          before = now;
+          fed = made free t.done (subst (H t.done) (sym same) t.fed);
+          ends = inl (reverse-cons t.done room ∙ ap (λ (ns : List ℕ). ns ++ room ∷ []) all, refl);
+        }
+        by_full true full all same =
+            let r = refused full in
+            record {
+              done = t.done;
+              before = t.before;
+              fed = r.1 t.done t.before t.fed;
+              ends =
+                  inr (record {
+                    room = room;
+                    left = [];
+                    is_next = ap (λ (ns : List ℕ). ns ++ room ∷ []) (sym all);
+                    later = [];
+                    found = kept;
+                    split = r.0;
+                    full = full;
+                    told = (λ i. after_feedback (fed d kept room) (taken-full d kept room full i) (same i));
+                  });
+            }
 
-    made : reverse t.done ≡ rooms → o ≡ t.before → is_full_of_feedback d kept ≡ false → IsToldMore d kept rooms room o
-    made all same free = record {
-      done = room ∷ t.done;
-      before = now;
-      fed = fed-more d kept t.done room o free (subst (HasFed d kept t.done) (sym same) t.fed);
-      ends = inl (reverse-cons t.done room ∙ ap (λ (ns : List ℕ). ns ++ room ∷ []) all, refl);
-    }
+        by_ends : EndsFed d seen rooms t.done t.before o → IsToldSo N d after (rooms ++ room ∷ []) now
+        by_ends (inl all) = by_full (is_full_of_feedback d kept) refl all.0 all.1
+        by_ends (inr f) =
+            let same : None ≡ Some (FullList (length (steps_in f.found))) = sym goes_on ∙ ap (λ (x : Owning). x.stop) f.told ∙ full-stops d f.found f.room f.full in
+            absurd cc
 
-    stopped : reverse t.done ≡ rooms → o ≡ t.before → is_full_of_feedback d kept ≡ true → IsToldMore d kept rooms room o
-    stopped all same full =
-        subst (λ (ks : List UEntry). IsToldByLines d ks (rooms ++ room ∷ []) now) (sym (kept-full d kept room full))
-        (record {
-          done = t.done;
-          before = t.before;
-          fed = t.fed;
-          ends =
-              inr (record {
-                room = room;
-                left = [];
-                is_next = ap (λ (ns : List ℕ). ns ++ room ∷ []) (sym all);
-                later = [];
-                found = kept;
-                split = refl;
-                full = full;
-                told = (λ i. after_feedback (fed d kept room) (taken-full d kept room full i) (same i));
-              });
-        })
+pub told-call : (d : Description) (kept : List UEntry) (rooms : List ℕ) (room : ℕ) (o : Owning) → o.stop ≡ None → IsToldByLines d kept rooms o
+    → IsToldByLines d (kept_after_feedback d kept room) (rooms ++ room ∷ []) (after_feedback (fed d kept room) (taken_by_feedback d kept room) o)
+told-call d kept rooms room o goes_on t =
+    told-call-so (HasFed d kept) (HasFed d (kept_after_feedback d kept room)) d kept kept (kept_after_feedback d kept room) room o
+    (λ full. (kept-full d kept room full, λ done last h. subst (λ (ks : List UEntry). HasFed d ks done last) (sym (kept-full d kept room full)) h))
+    (λ free done h. fed-more d kept done room o free h) rooms goes_on t
 
-    by_full : (b : Bool) → is_full_of_feedback d kept ≡ b → reverse t.done ≡ rooms → o ≡ t.before → IsToldMore d kept rooms room o
-    by_full false e all same = made all same e
-    by_full true e all same = stopped all same e
-
-    by_ends : EndsFed d kept rooms t.done t.before o → IsToldMore d kept rooms room o
-    by_ends (inl all) = by_full (is_full_of_feedback d kept) refl all.0 all.1
-    by_ends (inr f) =
-        let same : None ≡ Some (FullList (length (steps_in f.found))) = sym goes_on ∙ ap (λ (x : Owning). x.stop) f.told ∙ full-stops d f.found f.room f.full in
-        absurd cc
-
--- a line of an owner that stopped
-pub told-stopped : (d : Description) (kept : List UEntry) (rooms : List ℕ) (room : ℕ) (o : Owning) (stop : Stop) → o.stop ≡ Some stop → IsToldByLines d kept rooms o → IsToldByLines d kept (rooms ++ room ∷ []) o
-told-stopped d kept rooms room o stop stops t = record { done = t.done; before = t.before; fed = t.fed; ends = by t.ends }
+-- a line of an owner that stopped; one all of whose calls were made goes on
+pub told-stopped-so : (H : List ℕ → Owning → Type 0) (d : Description) (kept : List UEntry) (rooms : List ℕ) (room : ℕ) (o : Owning) (stop : Stop) → ((done : List ℕ) (last : Owning) → H done last → last.stop ≡ None) → o.stop ≡ Some stop
+    → IsToldSo H d kept rooms o → IsToldSo H d kept (rooms ++ room ∷ []) o
+told-stopped-so H d kept rooms room o stop goes_on stops t = record { done = t.done; before = t.before; fed = t.fed; ends = by t.ends }
   where
     by : EndsFed d kept rooms t.done t.before o → EndsFed d kept (rooms ++ room ∷ []) t.done t.before o
     by (inl all) =
-        let same : None ≡ Some stop = sym (fed-goes_on d kept t.done t.before t.fed) ∙ ap (λ (x : Owning). x.stop) (sym all.1) ∙ stops in
+        let same : None ≡ Some stop = sym (goes_on t.done t.before t.fed) ∙ ap (λ (x : Owning). x.stop) (sym all.1) ∙ stops in
         absurd cc
     by (inr f) =
         inr (record {
@@ -180,3 +186,6 @@ told-stopped d kept rooms room o stop stops t = record { done = t.done; before =
           full = f.full;
           told = f.told;
         })
+
+pub told-stopped : (d : Description) (kept : List UEntry) (rooms : List ℕ) (room : ℕ) (o : Owning) (stop : Stop) → o.stop ≡ Some stop → IsToldByLines d kept rooms o → IsToldByLines d kept (rooms ++ room ∷ []) o
+told-stopped d kept rooms room o stop stops t = told-stopped-so (HasFed d kept) d kept rooms room o stop (fed-goes_on d kept) stops t

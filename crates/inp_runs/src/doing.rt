@@ -34,8 +34,8 @@ pub fn do_lines<D: Evdev + Feeds>(
     ensures done { OnOk result (ActsAll D.told D.feeds dev.old dev.new
         rec.now wait actor.old actor.new) }
     ensures actor { actor.new ≡ record actor.old {
-        job = actor.new.job;
-        owning = actor.new.owning;
+      job = actor.new.job;
+      owning = actor.new.owning;
     } }
     ensures left { IsActedOn D.told D.feeds actor.old.role dev.old dev.new }
 {
@@ -63,8 +63,8 @@ fn do_if_own<D: Evdev + Feeds>(
     ensures done { OnOk result (ActsIfOwn D.told D.feeds dev.old dev.new
         rec.now wait line number actor.old actor.new) }
     ensures actor { actor.new ≡ record actor.old {
-        job = actor.new.job;
-        owning = actor.new.owning;
+      job = actor.new.job;
+      owning = actor.new.owning;
     } }
     ensures left { IsActedOn D.told D.feeds actor.old.role dev.old dev.new }
 {

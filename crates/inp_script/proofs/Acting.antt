@@ -1,5 +1,5 @@
 -- What an actor did at a line on a device that it may own.
-use Rattle.std.proofs.Common.{◌≡◌, ℕ, true, false, List, refl, sym, ap, subst, ◌∙◌, inl, inr, Option, Some}
+use Rattle.std.proofs.Common.{◌≡◌, ℕ, true, false, refl, sym, ap, subst, ◌∙◌, inl, inr, Option, Some}
 use Rattle.std.specs.Prelude.{min}
 use Rattle.std.specs.List.{slice_get}
 use Rattle.inp_model.specs.Evdev.{EvdevView}

@@ -149,8 +149,8 @@ impl Actor {
             rec.now wait line self.old self.new) }
         ensures begun { BeginsToAct D.told D.feeds dev.old dev.new rec.now wait line self.old }
         ensures actor { self.new ≡ record self.old {
-            job = self.new.job;
-            owning = self.new.owning;
+          job = self.new.job;
+          owning = self.new.owning;
         } }
     {
         let command = &rec.lines().get(line as usize).command;

@@ -1,9 +1,9 @@
 -- An owner's feedback calls among what its device kept.
-use Rattle.std.proofs.Common.{◌≡◌, ℕ, zero, suc, ◌≤◌, ◌<◌, false, nat_eq, List, [], ◌∷◌, ◌++◌, length, reverse, refl, sym, ap, subst, ◌∙◌, arith, inl, inr, Option, append_assoc, length-append}
+use Rattle.std.proofs.Common.{◌≡◌, ℕ, zero, suc, ◌≤◌, ◌<◌, false, nat_eq, List, [], ◌∷◌, ◌++◌, length, reverse, refl, sym, ap, subst, ◌∙◌, arith, inl, inr, Option, None, length-append}
 use Rattle.std.specs.Prelude.{All, map, slice_get, is_some}
 use Rattle.std.specs.List.{count_by}
 use Rattle.std.specs.Option.{option_and_then}
-use Rattle.std.proofs.lemmas.List.{map-append, length-reverse, reverse-append, reverse-reverse}
+use Rattle.std.proofs.lemmas.List.{length-reverse, reverse-append, reverse-reverse}
 use Rattle.std.proofs.lemmas.List.Elements.{All-nil, All-push, All-weaker}
 use mathlib.Core.List.{IsPrefix}
 use Rattle.inp_model.specs.Description.{Description}
@@ -18,6 +18,7 @@ use Rattle.inp_feedback.proofs.Lists.{reverse-cons}
 use Rattle.inp_uinput.proofs.Serving.{steps-reverse}
 use Rattle.inp_script.specs.Owner.{Owning, first_owning}
 use Rattle.inp_runs.specs.Owner.{HasFed, EndsFed, HasOwned}
+use Rattle.inp_runs.proofs.OwnerLaws.{ends-steps, free-goes_on, grew-free}
 use Rattle.inp_threads.specs.Owner.{HasCallsAt, HasFedLines}
 
 -- the place of each feedback call that a device kept, newest first, is one of these
@@ -30,6 +31,15 @@ HasAllCalls (Feedback count ∷ kept) own = (1 ≤ count_by (nat_eq (length kept
 pub no-calls : (d : Description) (view : PassView Description UEntry) (o : Owning) → view.seen ≡ [] → view.own ≡ [] → o ≡ first_owning → HasCallsAt d (reverse view.seen) view.own [] o
 unfolding HasCallsAt
 no-calls d view o seen own first = subst (λ (es : List UEntry). HasCallsAt d (reverse es) view.own [] o) (sym seen) (own, refl, first)
+
+-- they were made, so the owner goes on
+pub calls-go_on : (d : Description) (kept : List UEntry) (own rooms : List ℕ) (o : Owning) → HasCallsAt d kept own rooms o → o.stop ≡ None
+unfolding HasCallsAt
+calls-go_on d [] own rooms o h = ap (λ (x : Owning). x.stop) h.2
+calls-go_on d (Made x ∷ kept) own rooms o h = calls-go_on d kept own rooms o h
+calls-go_on d (Feedback count ∷ kept) own rooms o (inl h) = calls-go_on d kept own rooms o h
+calls-go_on d (Feedback count ∷ kept) own rooms o (inr (earlier, done, before, h, next)) =
+    ap (λ (x : Owning). x.stop) next.told ∙ free-goes_on d kept next.room (grew-free d kept next.room (Feedback count) next.answered)
 
 -- what others did behind them changes nothing
 pub calls-longer : (d : Description) (more kept : List UEntry) (own rooms : List ℕ) (o : Owning) → HasCallsAt d kept own rooms o → HasCallsAt d (more ++ kept) own rooms o
@@ -122,19 +132,8 @@ only-steps (Feedback count ∷ more) kept own all none =
     absurd (omega (arith, all.0, none (length (more ++ kept)) (omega (arith, length-append more kept))))
 
 ends-longer : (d : Description) (more kept : List UEntry) (rooms done : List ℕ) (before last : Owning) → more ≡ map Made (steps_in more) → EndsFed d kept rooms done before last → EndsFed d (more ++ kept) rooms done before last
-ends-longer d more kept rooms done before last steps (inl h) = inl h
-ends-longer d more kept rooms done before last steps (inr refused) =
-    inr (record {
-      room = refused.room;
-      left = refused.left;
-      is_next = refused.is_next;
-      later = steps_in more ++ refused.later;
-      found = refused.found;
-      split = (λ i. steps i ++ refused.split i) ∙ sym (append_assoc (map Made (steps_in more)) (map Made refused.later) refused.found)
-          ∙ ap (λ (es : List UEntry). es ++ refused.found) (sym (map-append Made (steps_in more) refused.later));
-      full = refused.full;
-      told = refused.told;
-    })
+ends-longer d more kept rooms done before last steps h =
+    subst (λ (es : List UEntry). EndsFed d (es ++ kept) rooms done before last) (sym steps) (ends-steps d kept rooms done before last (steps_in more) h)
 
 -- An owner that did its lines owned all feedback calls of the device, of which its pass saw a beginning.
 pub lines-owned : (d : Description) (rooms : List ℕ) (view : PassView Description UEntry) (entries : List UEntry) (last : Owning) → HasFedLines d rooms view last → IsPrefix view.seen entries → HasAllCalls (reverse entries) view.own

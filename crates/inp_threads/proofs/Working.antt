@@ -176,8 +176,8 @@ module _ {S : Type 0} {K : Ghosts UdevView Description UEntry} (port : S → Por
           let fed : HasFedLines d (rooms_of lines) v new.owning =
           all-lines told feeds r wait (λ (s : S). description_of (port s)) (λ (s : S). view_of (pass s))
           (λ b a room answer events h. (let t = by b a room answer events h in (ap description_of t.0, t.1)))
-          lines [] before after old new owner (ap (λ (o : Owning). o.stop) start.owning)
-          (no-calls d (view_of (pass before)) old.owning fresh.seen fresh.own start.owning) acts in
+          lines [] before after old new owner
+          (record { done = []; before = old.owning; calls = no-calls d (view_of (pass before)) old.owning fresh.seen fresh.own start.owning; ends = inl (refl, refl) }) acts in
           record {
             fed = subst (λ (n : ℕ). HasFedLines d (rooms_of (lines_by n r.lines)) v new.owning) (sym (ap (λ (a : ActorView). a.actor) still)) fed;
             job = ap (λ (a : ActorView). a.job) stays ∙ start.job ∙ (λ i. first_job (owner i) (start.description i));

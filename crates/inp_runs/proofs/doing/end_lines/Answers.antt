@@ -1,9 +1,8 @@
 use Rattle.std.proofs.Common.{◌≡◌, ℕ, List, not, refl, sym, ap, ◌∙◌, inl, inr}
-use Rattle.std.specs.Prelude.{slice_get, Some}
+use Rattle.std.specs.Prelude.{slice_get}
 use Rattle.std.proofs.lemmas.Option.{slice_get_within}
 use Rattle.std.proofs.lemmas.Result.{on_ok_weaker}
 use Rattle.inp_actors.specs.declared.actor_text.ActorText.{ActorText}
-use Rattle.inp_actors.specs.declared.role.Role.{Role}
 use Rattle.inp_actors.specs.declared.role.Role.TheVariants.{Source}
 use Rattle.inp_actors.specs.Command.{is_owner}
 use Rattle.inp_script.proofs.Holding.{holds-same}
@@ -61,13 +60,17 @@ returns-in-Client g c =
     (ap (λ (actors : List ActorText). slice_get actors c.args.number) (sym c.actors.ensures.actors) ∙ c.get.ensures.item) in
     record {
       done =
-          inl (refl, refl, last-reader c.args.wait c.args.actor.now.role c.args.actor.now.job (elim c.in-Client.is [
-            | inl h ↦ inl (sym same ∙ h)
-            | inr rest ↦ elim rest [
-              | inl h ↦ inr (inl (sym same ∙ h))
-              | inr more ↦ elim more [ inl h ↦ inr (inr (inl (sym same ∙ h))) | inr h ↦ inr (inr (inr (sym same ∙ h))) ]
-            ]
-          ]));
+          inl (
+            refl,
+            refl,
+            last-reader c.args.wait c.args.actor.now.role c.args.actor.now.job (elim c.in-Client.is [
+              | inl h ↦ inl (sym same ∙ h)
+              | inr rest ↦ elim rest [
+                | inl h ↦ inr (inl (sym same ∙ h))
+                | inr more ↦ elim more [ inl h ↦ inr (inr (inl (sym same ∙ h))) | inr h ↦ inr (inr (inr (sym same ∙ h))) ]
+              ]
+            ]),
+          );
       actor = refl;
       left = acted_on-none g.D.Evdev.told g.D.Feeds.feeds _ _;
     }

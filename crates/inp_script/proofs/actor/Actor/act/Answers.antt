@@ -7,7 +7,7 @@ use Rattle.inp_actors.specs.declared.role.Role.TheVariants.{Owner as OwnerRole}
 use Rattle.inp_script.specs.declared.role_state.RoleState.{RoleState}
 use Rattle.inp_script.specs.declared.role_state.RoleState.TheVariants.{Owner}
 use Rattle.inp_script.specs.Doing.{IsCommandFor}
-use Rattle.inp_script.specs.Job.{ActorView}
+use Rattle.inp_script.specs.Job.{ActorView, Job}
 use Rattle.inp_script.specs.RoleState.{role_of, job_in, owning_in, owning_of}
 use Rattle.inp_script.proofs.Acting.{caller-of, owns-done, owns-begun, calls-done, calls-begun, still-actor}
 use Rattle.inp_script.proofs.LinesDone.{command-of}
@@ -15,8 +15,8 @@ use Rattle.inp_script.proofs.actor.Actor.act.Goals as goal
 
 -- A line of an owner
 
-pub returns-in-Owner-clause-done : goal.returns-in-Owner-clause-done
-returns-in-Owner-clause-done g c =
+pub returns-in-Owner : goal.returns-in-Owner
+returns-in-Owner g c =
     let r = c.args.rec.now in
     let old : ActorView = c.args.self.now in
     let got : Line = c.get.result.now in
@@ -30,20 +30,14 @@ returns-in-Owner-clause-done g c =
     let new : ActorView = of_state (Owner c.do_command.new.self) in
     let actor : new ≡ record old { owning = new.owning } =
     ap of_state (sym c.in-Owner.is) ∙ ap (λ (a : ActorView). record a { owning = owning_in c.do_command.new.self }) c.self.view_is in
-    on_ok_weaker c.do_command.result
-    (owns-done g.D.Evdev.told g.D.Feeds.feeds _ _ r c.args.wait c.args.line old got is_line command owner new (owning_in c.in-Owner.owner) owning actor)
-    c.do_command.ensures.done
-
-pub returns-in-Owner-clause-begun : goal.returns-in-Owner-clause-begun
-returns-in-Owner-clause-begun g c =
-    let r = c.args.rec.now in
-    let old : ActorView = c.args.self.now in
-    let got : Line = c.get.result.now in
-    let is_line : slice_get r.lines c.args.line ≡ Some got = ap (λ (lines : List Line). slice_get lines c.args.line) (sym c.lines.ensures.lines) ∙ c.get.ensures.item in
-    let same : c.requires.line.line ≡ got = cc (c.requires.line.is_line, is_line) in
-    let command : IsCommandFor old.role r.streams got.command = command-of r old c.args.line got c.lines.ensures.«record» c.requires.actor is_line (ap (λ (l : Line). l.actor) (sym same) ∙ c.requires.line.is_actor) in
-    let owner : old.role ≡ OwnerRole = sym (ap (λ (a : ActorView). a.role) c.self.view_is) ∙ ap role_of c.in-Owner.is in
-    owns-begun g.D.Evdev.told g.D.Feeds.feeds _ _ r c.args.wait c.args.line old got is_line command owner c.do_command.ensures.begun
+    record {
+      done =
+          on_ok_weaker c.do_command.result
+          (owns-done g.D.Evdev.told g.D.Feeds.feeds _ _ r c.args.wait c.args.line old got is_line command owner new (owning_in c.in-Owner.owner) owning actor)
+          c.do_command.ensures.done;
+      begun = owns-begun g.D.Evdev.told g.D.Feeds.feeds _ _ r c.args.wait c.args.line old got is_line command owner c.do_command.ensures.begun;
+      actor = actor ∙ ap (λ (j : Job). record old { job = j; owning = new.owning }) (sym (ap (λ (a : ActorView). a.job) actor));
+    }
 
 -- A line of any other actor
 

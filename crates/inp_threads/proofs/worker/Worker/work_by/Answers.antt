@@ -1,5 +1,4 @@
-use Rattle.std.proofs.Common.{◌≡◌, Some, sym, ap, subst, ◌∙◌}
-use Rattle.std.specs.Prelude.{OnOk}
+use Rattle.std.proofs.Common.{Some, sym, ap, subst, ◌∙◌}
 use Rattle.inp_script.specs.Doing.{HasActor}
 use Rattle.inp_script.specs.Job.{ActorView}
 use Rattle.inp_turn.specs.Pass.{view_of}
