@@ -31,7 +31,7 @@ fn push_sight(text: &mut Page, took: &mut TookWords, sight: &Sight) -> Result<()
 {
     match sight {
         Sight::Call { step, reply } => push_call(text, *step, reply)?,
-        Sight::Took { event } => return took.push(text, *event),
+        Sight::Took { event } => return took.push(text, event),
         Sight::Made { event } => {
             text.push_str("made ")?;
             push_event(text, *event)?;
@@ -42,6 +42,7 @@ fn push_sight(text: &mut Page, took: &mut TookWords, sight: &Sight) -> Result<()
     text.push_str("\n")
 }
 
+#[inline(never)]
 #[tactic(auto, unfolding(crate::specs::Sights::joy_record_text))]
 fn push_joy_record(text: &mut Page, joy_record: JoyRecord) -> Result<(), NoMemory>
     ensures pushed { OnOk result
@@ -57,6 +58,7 @@ fn push_joy_record(text: &mut Page, joy_record: JoyRecord) -> Result<(), NoMemor
     Ok(())
 }
 
+#[inline(never)]
 fn push_call(text: &mut Page, step: Step, reply: &Reply) -> Result<(), NoMemory>
     ensures pushed { OnOk result
         (text.new

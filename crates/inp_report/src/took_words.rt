@@ -32,10 +32,10 @@ impl TookWords {
     // Appends the line of an event that was taken.
     #[inline(always)]
     #[tactic(auto, unfolding(crate::specs::Sights::sight_line, crate::specs::Sights::stamp_text, crate::specs::Words::event_text, crate::specs::Words::event_label))]
-    pub(crate) fn push(&mut self, text: &mut Page, taken: Taken) -> Result<(), NoMemory>
-        ensures pushed { OnOk result (text.new ≡ text.old ++ sight_line (Took taken)) }
+    pub(crate) fn push(&mut self, text: &mut Page, taken: &Taken) -> Result<(), NoMemory>
+        ensures pushed { OnOk result (text.new ≡ text.old ++ sight_line (Took taken.now)) }
     {
-        let Taken { event, time, place } = taken;
+        let Taken { event, time, place } = *taken;
         self.stamp.turn_to(place, time);
         match self.events.get(event.kind, event.code) {
             Some(label) => text.push_line(self.stamp.words(), label, event.value),
@@ -47,8 +47,8 @@ impl TookWords {
     #[cold]
     #[inline(never)]
     #[tactic(auto, unfolding(crate::specs::Sights::sight_line, crate::specs::Sights::stamp_text))]
-    fn push_new(&mut self, text: &mut Page, taken: Taken) -> Result<(), NoMemory>
-        ensures pushed { OnOk result (text.new ≡ text.old ++ sight_line (Took taken)) }
+    fn push_new(&mut self, text: &mut Page, taken: &Taken) -> Result<(), NoMemory>
+        ensures pushed { OnOk result (text.new ≡ text.old ++ sight_line (Took taken.now)) }
     {
         self.push_parts(text, taken)?;
         text.push_str("\n")
@@ -56,9 +56,9 @@ impl TookWords {
 
     // The same without its end.
     #[tactic(auto, unfolding(crate::specs::Sights::stamp_text, crate::specs::Words::event_text, crate::specs::Words::event_label))]
-    fn push_parts(&mut self, text: &mut Page, taken: Taken) -> Result<(), NoMemory>
+    fn push_parts(&mut self, text: &mut Page, taken: &Taken) -> Result<(), NoMemory>
         ensures pushed { OnOk result
-            (text.new ≡ text.old ++ (stamp_text taken.place taken.time ++ event_text taken.event)) }
+            (text.new ≡ text.old ++ (stamp_text taken.now.place taken.now.time ++ event_text taken.now.event)) }
     {
         self.stamp.turn_to(taken.place, taken.time);
         text.push_phrase(self.stamp.words())?;

@@ -28,7 +28,7 @@ pub(crate) fn push_spaced(text: &mut Page, number: i32) -> Result<(), NoMemory>
 }
 
 /// Appends the type, code and value of an event.
-#[inline]
+#[inline(never)]
 #[tactic(auto, unfolding(crate::specs::Words::event_text))]
 pub(crate) fn push_event(text: &mut Page, event: Event) -> Result<(), NoMemory>
     ensures pushed { OnOk result

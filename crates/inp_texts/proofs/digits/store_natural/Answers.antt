@@ -17,4 +17,3 @@ returns-then-number-lt10-clause-stored c =
     let one = decimal-length-one c.args.number c.if-number-lt10.true in
     take-set_at c.args.bytes.now c.args.at (c.args.at + 1) (48 + c.args.number) (omega arith) (omega arith)
     ∙ ap (λ (l : List ℕ). take c.args.at c.args.bytes.now ++ l) (sym (decimal_digit c.args.number c.if-number-lt10.true))
-
