@@ -5,4 +5,3 @@ mod ReadByStep
 mod Along
 mod Timely
 mod Rest
-mod Fed
