@@ -5,3 +5,4 @@ mod ReadByStep
 mod Along
 mod Timely
 mod Rest
+mod Injected
