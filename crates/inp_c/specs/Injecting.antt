@@ -1,5 +1,5 @@
 -- Many events of C that are injected into the device of a handle.
-use Rattle.std.specs.Prelude.{◌≡◌, ℕ, Bool, ◌&&◌, nat_eq, nat_le, if◌then◌else◌, List, length, map, take, Option, Some, None}
+use Rattle.std.specs.Prelude.{◌≡◌, ℕ, Bool, ◌&&◌, nat_eq, nat_le, if◌then◌else◌, List, length, map, take, Option, Some}
 use Rattle.std.specs.List.{list_all}
 use Rattle.inp_model.specs.declared.injected.Injected.{Injected}
 use Rattle.inp_model.specs.declared.stamped.Stamped.{Stamped}
