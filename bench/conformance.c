@@ -1,9 +1,9 @@
 /*
  * Makes the steps that `bench/conformance` noted, and compares all that comes of each.
  *
- * Standard input has lines `device NUMBER LENGTH`, with so many bytes of a record's text behind it, and lines `step NUMBER`
- * with the step's fields, the reply's, and the events and values that were read. It says how many steps were the same, or
- * prints the first that was not and ends with status 1.
+ * Standard input has lines `device NUMBER LENGTH`, with so many bytes of a record's text behind it, lines `step NUMBER` with
+ * the step's fields, the reply's, and the events and values that were read, and lines `feedback NUMBER` with an owner's call and
+ * what came of it. It says how many were the same, or prints the first that was not and ends with status 1.
  */
 #include "inputplay.h"
 
@@ -80,14 +80,42 @@ static void compare_reply(const inputplay_reply *reply) {
     same("info", 0, memcmp(&info, &reply->info, sizeof info));
 }
 
+/* One event is injected by a call for many. */
+static void inject_as_many(inputplay_handle *device, const inputplay_step_t *step, inputplay_reply *reply) {
+    inputplay_stamped one = {step->type, step->code, step->value, step->now};
+    uint32_t from, count;
+    same("status", 0, inputplay_inject_all(device, &one, 1, &from, &count));
+    reply->reply = count ? INPUTPLAY_DONE : INPUTPLAY_STEP_REFUSED;
+    reply->at = from;
+    reply->why = count ? 0 : INPUTPLAY_LOG_FULL;
+}
+
+static void compare_feedback(void) {
+    int64_t device = number();
+    size_t room = (size_t)number();
+    uint32_t at, count, full;
+    same("status", 0, inputplay_feedback(&devices[device], events, room, &at, &count, &full));
+    same("at", number(), at);
+    same("full", number(), full);
+    same("count", number(), count);
+    for (uint32_t i = 0; i < count; i++) {
+        same("type", number(), events[i].type);
+        same("code", number(), events[i].code);
+        same("value", number(), events[i].value);
+    }
+    steps++;
+}
+
 static void compare_step(void) {
     int64_t at = number();
     inputplay_step_t step = read_step();
     inputplay_reply reply;
-    /* An injected event goes the shorter way each second time. */
-    if (step.step == INPUTPLAY_INJECT && steps % 2) {
+    memset(&reply, 0, sizeof reply);
+    /* An injected event goes each of three ways in turn. */
+    if (step.step == INPUTPLAY_INJECT && steps % 3 == 2) {
+        inject_as_many(&devices[at], &step, &reply);
+    } else if (step.step == INPUTPLAY_INJECT && steps % 3) {
         uint32_t place, why;
-        memset(&reply, 0, sizeof reply);
         same("status", 0, inputplay_inject(&devices[at], step.type, step.code, step.value, step.now, &place, &why));
         reply.reply = why ? INPUTPLAY_STEP_REFUSED : INPUTPLAY_DONE;
         reply.at = place;
@@ -113,11 +141,13 @@ int main(void) {
     while (scanf("%15s", word) == 1) {
         if (!strcmp(word, "device"))
             make_device();
+        else if (!strcmp(word, "feedback"))
+            compare_feedback();
         else
             compare_step();
     }
     for (int i = 0; i < DEVICES; i++)
         inputplay_free(&devices[i]);
-    printf("%lu steps are told the same\n", steps);
+    printf("%lu steps and calls are told the same\n", steps);
     return 0;
 }

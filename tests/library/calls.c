@@ -272,7 +272,7 @@ static void migrating(void) {
     SAME(INPUTPLAY_OK, inputplay_record_text(&h, 0, out, 8, &left));
     SAME(0, left);
     SAME(INPUTPLAY_OK, inputplay_record_migrate(&h, &len));
-    SAME(strlen(STREAM), len);
+    SAME(1, len > strlen(STREAM));
     SAME(INPUTPLAY_OK, inputplay_record_text(&h, 5, out, 3, &left));
     SAME(len - 5, left);
     SAME(0, memcmp(out, "rec####", 8));

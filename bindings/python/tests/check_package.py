@@ -16,7 +16,7 @@ source s
 """
 JOYSTICK = """inputrecord 1
 device pad
-cap EV_KEY BTN_A
+cap EV_KEY BTN_SOUTH
 cap EV_LED LED_CAPSL
 axis ABS_X 3 0 255 0 0 0
 log 100
@@ -86,7 +86,7 @@ class Devices(unittest.TestCase):
         self.assertEqual([Event(1, 30, 1, 8, 2), Event(0, 0, 0, 8, 2)], client.read())
         with self.assertRaises(inputplay.CallRefused):
             self.pad.inject_all([(1, 30, 0, 9), (0, 0, 0, 2**63)])
-        self.assertEqual(697, self.pad.inject_all((1, 30, i % 2, 9) for i in range(5000)))
+        self.assertEqual(696, self.pad.inject_all((1, 30, i % 2, 9) for i in range(5000)))
 
     def test_an_owner_takes_what_was_written(self):
         with Device(JOYSTICK) as pad:
@@ -152,7 +152,7 @@ class Joysticks(unittest.TestCase):
         with Device(JOYSTICK) as pad:
             joystick = pad.joystick()
             self.assertEqual([(0, 0, 129, 0), (0, 3, 130, 0)], list(joystick))
-            place = pad.frame(("BTN_A", 1), ("ABS_X", 9), now=5000)
+            place = pad.frame(("BTN_SOUTH", 1), ("ABS_X", 9), now=5000)
             self.assertEqual((JoyAnswer.RECORD, (5, 1, 1, 0), 0), joystick.read())
             self.assertEqual((JoyAnswer.RECORD, (5, 9, 2, 0), 0), joystick.read())
             self.assertEqual((JoyAnswer.FRAME, None, place), joystick.read())
@@ -174,7 +174,10 @@ class Records(unittest.TestCase):
 
     def test_a_record_is_migrated(self):
         with Record(PAD) as record:
-            self.assertEqual(PAD.replace("inputrecord 1", "inputrecord 2"), record.migrate())
+            text = record.migrate()
+        self.assertTrue(text.startswith("inputrecord 2\ndevice pad\n"), text)
+        with Record(text) as again:
+            self.assertEqual(text, again.migrate())
 
     def test_a_text_that_is_none_is_told(self):
         for text, line, cause in (("", 1, Cause.BAD_HEADER), (PAD + "do s jump\n", 9, Cause.BAD_COMMAND)):

@@ -83,6 +83,16 @@ fn main() -> io::Result<()> {
             // A comment may hold any bytes, and says nothing.
             let text = String::from_utf8_lossy(&text);
             devices[at] = Some(Device::new(&text, at as u32).map_err(io::Error::other)?);
+        } else if first.as_deref() == Some("feedback") {
+            let device = devices[at].as_mut().unwrap_or_else(|| exit(3));
+            let room: usize = numbers.next();
+            let (_at, full, count): (u32, u8, usize) = (numbers.next(), numbers.next(), numbers.next());
+            same(steps, (full == 0).then_some(count), device.feedback(&mut events[..room]));
+            for event in &events[..count] {
+                let wanted = (numbers.next(), numbers.next(), numbers.next());
+                same::<(u16, u16, i32)>(steps, wanted, (event.kind, event.code, event.value));
+            }
+            steps += 1;
         } else {
             let device = devices[at].as_mut().unwrap_or_else(|| exit(3));
             let reply = device.step(&numbers.step(), &mut events, &mut cells).map_err(io::Error::other)?;
@@ -98,6 +108,6 @@ fn main() -> io::Result<()> {
         }
         line.clear();
     }
-    println!("{steps} steps are told the same");
+    println!("{steps} steps and calls are told the same");
     Ok(())
 }

@@ -5,4 +5,4 @@ mod ReadByStep
 mod Along
 mod Timely
 mod Rest
-mod Fed
+mod Injected

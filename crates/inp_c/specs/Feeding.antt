@@ -27,22 +27,22 @@ fed_full (Took at count) = 0
 fed_full (Full at) = 1
 
 -- how many events a call asks for, where C has room for so many: no more than wait at most
-abbrev pub feedback_room : List CEvent → ℕ
-feedback_room events = min (length events) FEEDBACK_MAX
+abbrev pub room_of_owner : List CEvent → ℕ
+room_of_owner events = min (length events) FEEDBACK_MAX
 
 -- A kept device answered a feedback call so, and its reader and joystick client stay. The events that it took stand at the front of C's array,
 -- and what is behind them stays.
 pub record FeedsDevice (old new : KeptDevice) (events new_events : List CEvent) (answer : Fed) : Type 0 where
-  pub answered : answer ≡ fed old.udev.description old.udev.kept (feedback_room events)
-  pub kept : new.udev.kept ≡ kept_after_feedback old.udev.description old.udev.kept (feedback_room events)
+  pub answered : answer ≡ fed old.udev.description old.udev.kept (room_of_owner events)
+  pub kept : new.udev.kept ≡ kept_after_feedback old.udev.description old.udev.kept (room_of_owner events)
   pub description : new.udev.description ≡ old.udev.description
   pub agains : new.udev.agains ≡ old.udev.agains
   pub reader : new.reader ≡ old.reader
   pub joy : new.joy ≡ old.joy
-  pub events_written : new_events ≡ written (map told_untimed (taken_by_feedback old.udev.description old.udev.kept (feedback_room events))) events
+  pub events_written : new_events ≡ written (map told_untimed (taken_by_feedback old.udev.description old.udev.kept (room_of_owner events))) events
 
 -- A handle keeps a device before and after, whose owner made a call. C is told its answer.
-pub record IsToldFeedback (before after : Option Kept) (events new_events : List CEvent) (at count full : ℕ) : Type 0 where
+pub record IsOwnerTold (before after : Option Kept) (events new_events : List CEvent) (at count full : ℕ) : Type 0 where
   pub old : KeptDevice
   pub new : KeptDevice
   pub answer : Fed

@@ -1,5 +1,5 @@
 -- The text of a record that a handle keeps, in the newest version.
-use Rattle.std.specs.Prelude.{◌≡◌, ◌≢◌, ◌⊎◌, ℕ, Option, Some, None}
+use Rattle.std.specs.Prelude.{◌≡◌, ◌≢◌, ◌⊎◌, ℕ, Option, None}
 use Rattle.inp_actors.specs.Record.{RecordView}
 use Rattle.inp_actors.specs.declared.record.TheConstants.{VERSION_MAX}
 use Rattle.inp_canon.specs.Text.{record_text}

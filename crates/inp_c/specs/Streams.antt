@@ -12,14 +12,14 @@ use Rattle.inp_c.specs.declared.status.TheConstants.{BAD_HANDLE}
 use Rattle.inp_c.specs.Status.{argument_status}
 
 -- the name of the file that a command's stream comes of
-abbrev pub file_of : Command → Option (List ℕ)
-file_of (Stream file index) = Some file
-file_of (Stream16 file index) = Some file
-file_of _ = None
+abbrev pub file_of_stream : Command → Option (List ℕ)
+file_of_stream (Stream file index) = Some file
+file_of_stream (Stream16 file index) = Some file
+file_of_stream _ = None
 
 -- the name of the file that a line names, if it takes a stream
 abbrev pub file_at : RecordView → ℕ → Option (List ℕ)
-file_at r line = option_and_then (λ (l : Line). file_of l.command) (slice_get r.lines line)
+file_at r line = option_and_then (λ (l : Line). file_of_stream l.command) (slice_get r.lines line)
 
 -- a call that wants a record, and a line that names a file
 abbrev pub file_status : Option Kept → ℕ → ℕ

@@ -1,7 +1,6 @@
 //! A reply, as C has it.
 ghost use Rattle.std.specs.Prelude.{◌≡◌};
-ghost use Rattle.inp_model.specs.Run.{place_of};
-ghost use Rattle.inp_c.specs.Told.{told, refusal_number, told_refusal};
+ghost use Rattle.inp_c.specs.Told.{told, refusal_number};
 
 use crate::c_info::{CInfo, c_info};
 use inp_model::{NO_INFO, Refusal, Reply};
@@ -61,33 +60,6 @@ pub(crate) fn number_of(why: Refusal) -> u32
         Refusal::TooMany => 8,
         Refusal::LogFull => 9,
         Refusal::NoMemory => 10,
-    }
-}
-
-/// The place that a reply tells.
-pub(crate) fn place_of(reply: Reply) -> u32
-    ensures { result ≡ place_of reply }
-{
-    match reply {
-        Reply::Done { at }
-        | Reply::Opened { at, .. }
-        | Reply::Took { at, .. }
-        | Reply::Discarded { at, .. }
-        | Reply::Bits { at, .. }
-        | Reply::Axis { at, .. }
-        | Reply::Cells { at, .. }
-        | Reply::Again { at, .. }
-        | Reply::Refused { at, .. } => at,
-    }
-}
-
-/// The cause of a refusal, or 0.
-pub(crate) fn cause_of(reply: Reply) -> u32
-    ensures { result ≡ told_refusal reply }
-{
-    match reply {
-        Reply::Refused { why, .. } => number_of(why),
-        _ => 0,
     }
 }
 

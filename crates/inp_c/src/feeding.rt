@@ -4,7 +4,7 @@ ghost use Rattle.inp_model.specs.Reply.{written};
 ghost use Rattle.inp_c.specs.Contents.{contents};
 ghost use Rattle.inp_c.specs.Status.{device_status};
 ghost use Rattle.inp_c.specs.Told.{told_untimed};
-ghost use Rattle.inp_c.specs.Feeding.{IsToldFeedback, FeedsDevice, fed_place, fed_count, fed_full};
+ghost use Rattle.inp_c.specs.Feeding.{IsOwnerTold, FeedsDevice, fed_place, fed_count, fed_full};
 
 use crate::c_event::{CEvent, untimed};
 use crate::handle::Handle;
@@ -27,7 +27,7 @@ pub extern "C" fn inputplay_feedback(
     full: &mut u32,
 ) -> u32
     ensures status { result ≡ device_status (contents handle.old) }
-    ensures made { result ≡ OK → IsToldFeedback (contents handle.old) (contents handle.new)
+    ensures made { result ≡ OK → IsOwnerTold (contents handle.old) (contents handle.new)
         events.old events.new at.new count.new full.new }
     ensures not_made { result ≢ OK → contents handle.new ≡ contents handle.old }
     ensures not_told { result ≢ OK
@@ -52,7 +52,7 @@ fn feed_in(
     full: &mut u32,
 ) -> u32
     ensures status { result ≡ device_status (Some kept.old) }
-    ensures made { result ≡ OK → IsToldFeedback (Some kept.old) (Some kept.new)
+    ensures made { result ≡ OK → IsOwnerTold (Some kept.old) (Some kept.new)
         events.old events.new at.new count.new full.new }
     ensures not_made { result ≢ OK → kept.new ≡ kept.old }
     ensures not_told { result ≢ OK

@@ -1,5 +1,5 @@
 //! A device, as a handle keeps it.
-ghost use Rattle.std.specs.Prelude.{◌≡◌, ◌≤◌, true, length, map, vec_len, IfOk};
+ghost use Rattle.std.specs.Prelude.{◌≡◌, ◌≤◌, true, [], ◌∷◌, length, map, vec_len, IfOk};
 ghost use Rattle.inp_model.specs.declared.stamped.TheConstants.{MOMENT_MAX};
 ghost use Rattle.inp_model.specs.Step.{moment_of};
 ghost use Rattle.inp_actors.specs.declared.command.TheConstants.{READ_MAX};
@@ -85,6 +85,14 @@ impl KeptDevice {
         ensures { IsKeptStep self.old self.new step result cells.old cells.new }
     {
         self.udev.step(step, &mut self.out, cells)
+    }
+
+    /// Injects an event. It is fewer instructions than a step `Inject`, whose reply has room for that of any step.
+    pub(crate) fn inject(&mut self, stamped: Stamped) -> Injected
+        requires moment { stamped.now ≤ MOMENT_MAX }
+        ensures { IsKeptInjectAll self.old self.new (stamped ∷ []) result }
+    {
+        self.udev.inject_all(&[stamped])
     }
 
     /// Injects events, each at its own moment.

@@ -4,8 +4,8 @@
 //! (`tools/build --library`); `include/inputplay.h` declares what it exports, and docs/LIBRARY.md says how it is used. The
 //! crate has no rule of its own: each export hands what C passes to a function of a crate below, and tells what came of it.
 //!
-//! C holds a [`Handle`](handle::Handle), which begins as zeros. It keeps nothing, or a device with its reader, or a record
-//! with its text. Each export takes what it keeps, a box, and puts it back; [`inputplay_free`](free::inputplay_free) frees it.
+//! C holds a [`Handle`](handle::Handle), which begins as zeros. It keeps nothing, or a device with its reader and its joystick
+//! client, or a record with its text. Each export takes what it keeps, a box, and puts it back; [`inputplay_free`](free::inputplay_free) frees it.
 //!
 //! Its contract speaks of the contents of the handle (`specs/Contents.antt`). Each export says by its clauses which status it
 //! answers, what it leaves in the handle and what it writes, exactly: `status` is an equation, or says of each status when it

@@ -8,9 +8,10 @@ ghost use Rattle.inp_c.specs.Contents.{contents};
 ghost use Rattle.inp_c.specs.Status.{step_status, inject_status, has_room};
 ghost use Rattle.inp_c.specs.Stepping.{TellsStep, IsToldStep, IsToldInject, read_count};
 ghost use Rattle.inp_c.specs.Told.{told_event};
+ghost use Rattle.inp_c.specs.Injecting.{inject_cause};
 
 use crate::c_event::{CEvent, copy_events};
-use crate::c_reply::{CReply, c_reply, cause_of, place_of};
+use crate::c_reply::{CReply, c_reply, number_of};
 use crate::c_step::{CStep, step_of};
 use crate::handle::Handle;
 use crate::kept::Kept;
@@ -18,7 +19,7 @@ use crate::kept_device::KeptDevice;
 use crate::status::{BAD_ARGUMENT, BAD_HANDLE, OK};
 use inp_actors::READ_MAX;
 use inp_caps::Caps;
-use inp_model::{Event, MOMENT_MAX, Reply, SLOT_VALUES, Step};
+use inp_model::{Event, MOMENT_MAX, Refusal, Reply, SLOT_VALUES, Stamped, Step};
 use std::alloc::Global;
 
 /// Makes a step. What it reads stands at the front of the arrays.
@@ -164,8 +165,19 @@ fn inject_in(kept: &mut Kept, event: Event, now: u64, at: &mut u32, why: &mut u3
     if now > MOMENT_MAX {
         return BAD_ARGUMENT;
     }
-    let reply = device.step(Step::Inject { event, now }, &mut []);
-    *at = place_of(reply);
-    *why = cause_of(reply);
+    let injected = device.inject(Stamped { event, now });
+    *at = injected.from;
+    *why = inject_cause(injected.count);
     OK
+}
+
+/// The number of the cause for which an event was not injected, where so many were, or 0.
+fn inject_cause(count: u32) -> u32
+    ensures { result ≡ inject_cause count }
+{
+    if count == 0 {
+        number_of(Refusal::LogFull)
+    } else {
+        0
+    }
 }

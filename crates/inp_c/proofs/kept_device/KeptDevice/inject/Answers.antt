@@ -1,0 +1,5 @@
+use Rattle.inp_c.proofs.Injected.{one_in_time}
+use Rattle.inp_c.proofs.kept_device.KeptDevice.inject.Goals as goal
+
+pub inject_all-requires : goal.inject_all-requires
+inject_all-requires c = record { moments = one_in_time c.args.stamped c.requires.moment }
