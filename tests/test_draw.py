@@ -312,6 +312,8 @@ class Pages(DrawCase):
         self.assertIn(".chart .labels { position: sticky; left: 0", text)
         printed = text.split("@media print")[1]
         self.assertIn("details::details-content", printed)
+        # (a long heading reaches over the plot, so the labels stand in front of it)
+        self.assertIn(".chart .labels { position: relative", printed)
         self.assertIn("onbeforeprint", printed)
 
     def test_pictures_are_told_to_those_who_do_not_see_them(self):

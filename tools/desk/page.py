@@ -29,7 +29,7 @@ overflow: auto; background: var(--paper); border-top: 2px solid var(--ink); over
 @media (max-width: 600px) { body { padding: 0 .6em } }
 @media print { body { margin: 0; max-width: none; print-color-adjust: exact; -webkit-print-color-adjust: exact }
 .chart { overflow: visible; border: none; break-inside: avoid } .chart svg { flex: 1052 1 0; min-width: 0;
-height: auto } .chart .labels { position: static; flex-grow: 168 } details::details-content {
+height: auto } .chart .labels { position: relative; flex-grow: 168 } details::details-content {
 content-visibility: visible; display: block; height: auto } #said { display: none } }"""
 
 MARKS = (

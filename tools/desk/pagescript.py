@@ -29,7 +29,7 @@ function told(shape) {
 }
 function middle(item) { const box = item.getBBox(); return box.x + box.width / 2 }
 function items(row) {
-  return [...row.children].filter(told).sort((one, other) => middle(one) - middle(other));
+  return [...row.children].filter(told).sort((one, other) => one.getBBox().x - other.getBBox().x);
 }
 function away(item, x) {
   const box = item.getBBox();
