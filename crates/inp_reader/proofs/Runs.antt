@@ -1,7 +1,6 @@
 -- The first events of a queue that are handed out in one go, and what is left behind them.
 use Rattle.std.proofs.Common.{◌≡◌, ℕ, zero, suc, ◌+◌, ◌-◌, ◌<◌, ◌≤◌, List, [], ◌∷◌, ◌++◌, length, map, take, drop, get_or, Bool, true, false, ◌||◌, if◌then◌else◌, refl, sym, ap, ◌∙◌, arith, append-nil, append_assoc, add-one}
 use Rattle.std.proofs.lemmas.List.{map-append, length-take-le}
-use Rattle.std.specs.List.{list_any}
 use Rattle.std.proofs.Math.Seq.{drop-cons, drop-length}
 use Rattle.std.proofs.lemmas.Bool.{cond_both}
 use Rattle.std.proofs.lemmas.Grind.{take_at_read}
@@ -12,7 +11,6 @@ use Rattle.inp_recon.specs.declared.view.View.{View}
 use Rattle.inp_recon.specs.View.{view_after_event, view_after_events}
 use Rattle.inp_recon.specs.Synchronised.{is_dropped}
 use Rattle.inp_recon.proofs.Folds.{view_after_events-append}
-use Rattle.inp_reader.specs.declared.phase.Phase.{Phase}
 use Rattle.inp_reader.specs.Reading.{Reading, first_run, has_loss, is_plain_phase, queued_run, after_run}
 
 -- the run is a front part of its queue, and behind it stands the rest
@@ -22,7 +20,7 @@ run-front zero q = refl
 run-front (suc most) [] = refl
 run-front (suc most) (t ∷ q) =
     cond_both (is_dropped t.event) [] (first_run most q) (λ more. (t ∷ more) ++ drop (length (t ∷ more)) (t ∷ q) ≡ t ∷ q)
-        (λ lost. refl) (λ kept. ap (λ ts. t ∷ ts) (run-front most q))
+    (λ lost. refl) (λ kept. ap (λ ts. t ∷ ts) (run-front most q))
 
 -- what is left of a run from an item on
 run_from : (most i : ℕ) (q : List Taken) (default : Taken) → i < most → i < length q

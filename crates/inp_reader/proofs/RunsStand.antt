@@ -23,7 +23,7 @@ use Rattle.inp_reader.proofs.SpareAgrees.{IsSpare-after_event}
 pub queue-run : (most : ℕ) (r : Reading) → queued_run most r ++ drop (length (queued_run most r)) r.queue ≡ r.queue
 queue-run most r =
     cond_both (is_plain_phase r.phase) (first_run most r.queue) [] (λ run. run ++ drop (length run) r.queue ≡ r.queue)
-        (λ plain. run-front most r.queue) (λ other. refl)
+    (λ plain. run-front most r.queue) (λ other. refl)
 
 pub not-plain : (phase : Phase) → (phase ≡ Needed) ⊎ (phase ≡ Handing) → is_plain_phase phase ≡ false
 not-plain phase (inl h) = ap is_plain_phase h
@@ -37,7 +37,7 @@ spare-run d v [] rest all h = (h, all)
 spare-run d v (t ∷ run) rest all h =
     let P : Taken → Type 0 = λ (x : Taken). is_event_of d x.event ≡ true in
     spare-run d (view_after_event v t.event) run rest (All-tail P t (run ++ rest) all)
-        (IsSpare-after_event d v t.event (All-head P t (run ++ rest) all) h)
+    (IsSpare-after_event d v t.event (All-head P t (run ++ rest) all) h)
 
 pub keeps-run : (d : Description) (most : ℕ) (r : Reading) → HasSpare d r → HasSpare d (after_run r (queued_run most r))
 keeps-run d most r h =

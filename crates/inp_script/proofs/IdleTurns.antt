@@ -21,7 +21,7 @@ use Rattle.inp_script.specs.declared.sight.Sight.TheVariants.{Took, Made, Again 
 use Rattle.inp_script.specs.declared.stop.Stop.{Stop}
 use Rattle.inp_script.specs.declared.stop.Stop.TheVariants.{Idle, Full as FullHistory}
 use Rattle.inp_script.specs.declared.waiting.Waiting.{Waiting}
-use Rattle.inp_script.specs.Client.{Going, goes_on, ends_with, job_after_start, handed, one_less, is_done, patience, after_again, turn_after, after_next, mode_of, with_sight, with_stop, rounds}
+use Rattle.inp_script.specs.Client.{Going, goes_on, ends_with, job_after_start, handed, one_less, is_done, patience, after_again, turn_after, after_next, mode_of, with_sight, with_stop}
 use Rattle.inp_script.specs.Doing.{DoesLine, line_talk}
 use Rattle.inp_script.specs.Job.{Job, ActorView}
 use Rattle.inp_script.specs.Legal.{CountsTurns}

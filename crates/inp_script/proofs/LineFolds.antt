@@ -28,7 +28,7 @@ use Rattle.inp_reader.specs.Talk.{Talk, finish, EndsWith}
 use Rattle.inp_script.specs.declared.sight.Sight.{Sight}
 use Rattle.inp_script.specs.declared.sight.Sight.TheVariants.{Call as Called, Again as AgainSight}
 use Rattle.inp_script.specs.declared.waiting.Waiting.{Waiting}
-use Rattle.inp_script.specs.Client.{Going, Turn, start_job, start_ends, job_after_start, after_next, mode_of, next_round, rounds, forced}
+use Rattle.inp_script.specs.Client.{Going, Turn, start_job, start_ends, job_after_start, after_next, mode_of, next_round, forced}
 use Rattle.inp_script.specs.Doing.{line_talk, DoesLine}
 use Rattle.inp_script.specs.JoyFold.{joy_fold}
 use Rattle.inp_script.specs.Fold.{Folding, settled, after_first_call, client_fold, tap_fold, IsFolded, StaysFolded}

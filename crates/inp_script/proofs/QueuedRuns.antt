@@ -7,7 +7,6 @@ use Rattle.inp_model.specs.declared.taken.Taken.{Taken}
 use Rattle.inp_model.specs.Description.{Description}
 use Rattle.inp_model.specs.Evdev.{EvdevView}
 use Rattle.inp_model.specs.Leaves.{AreCalls}
-use Rattle.inp_model.specs.Run.{Call}
 use Rattle.inp_recon.specs.View.{view_after_event, view_after_events}
 use Rattle.inp_recon.specs.Synchronised.{is_dropped}
 use Rattle.inp_reader.specs.declared.mode.Mode.{Mode}
@@ -21,13 +20,12 @@ use Rattle.inp_reader.specs.Effort.{effort, held_back}
 use Rattle.inp_reader.specs.Talk.{Talk, finish, and_then, LeadsTo}
 use Rattle.inp_reader.proofs.NextWalk.{next-queued}
 use Rattle.inp_reader.proofs.RunsStand.{queue-run}
-use Rattle.inp_script.specs.declared.client.Progress.{Progress}
 use Rattle.inp_script.specs.declared.client.Turn.{Turn as KeptTurn}
 use Rattle.inp_script.specs.declared.client.Turn.TheVariants.{GoesOn, Ends}
 use Rattle.inp_script.specs.declared.sight.Sight.{Sight}
 use Rattle.inp_script.specs.declared.sight.Sight.TheVariants.{Took}
 use Rattle.inp_script.specs.declared.waiting.Waiting.{Waiting}
-use Rattle.inp_script.specs.Client.{Going, Turn, goes_on, ends_with, handed, one_less, is_done, mode_of, next_round, after_next, turn_after, with_sight, on_turn, rounds}
+use Rattle.inp_script.specs.Client.{Going, Turn, goes_on, ends_with, handed, one_less, mode_of, next_round, after_next, turn_after, on_turn, rounds}
 use Rattle.inp_script.specs.Effort.{total_effort, Shrinks}
 use Rattle.inp_script.specs.Going.{turn_of}
 use Rattle.inp_script.specs.Handing.{most_of, less_by, job_after_run, HandsRun, IsAdvanced}
@@ -53,8 +51,8 @@ after-event : (wait : Option Waiting) (left : Option ℕ) (agains : ℕ) (j : Jo
 after-event wait left agains j t q =
     let view = view_after_event j.reading.view t.event in
     cond_both (is_dropped t.event) (Dropped t, record j.reading { queue = q; view = view; phase = Needed }) (Success t, record j.reading { queue = q; view = view })
-        (λ (o : Next × Reading). turn_after wait left agains o.0 (record j { reading = o.1 }) ≡ handed (one_less left) (record j { reading = o.1; sight = j.sight ++ Took t ∷ [] }))
-        (λ lost. refl) (λ kept. refl)
+    (λ (o : Next × Reading). turn_after wait left agains o.0 (record j { reading = o.1 }) ≡ handed (one_less left) (record j { reading = o.1; sight = j.sight ++ Took t ∷ [] }))
+    (λ lost. refl) (λ kept. refl)
 
 event-round : (d : Description) (wait : Option Waiting) (skips : Bool) (left : Option ℕ) (agains : ℕ) (j : Job) (t : Taken) (q : List Taken) → j.reading.phase ≡ Plain → j.reading.queue ≡ t ∷ q
     → next_round d wait skips (record { job = j; left = left; agains = agains }) ≡ finish (handed (one_less left) (with_event j t q))
@@ -161,17 +159,17 @@ from-event d wait skips n most t q left agains j plain queue rest =
     let here : Going = record { job = j; left = left; agains = agains } in
     cond_both (is_dropped t.event) [] more (λ (ts : List Taken). Takes d wait skips n left j (t ∷ ts) (rounds d wait skips (length (t ∷ ts) + n) here))
     (λ lost.
-        ap (λ (m : ℕ). rounds d wait skips m here) (let same : 1 + n ≡ suc (0 + n) = omega arith in same)
-        ∙ event-rounds d wait skips left agains (0 + n) j t q plain queue
-        ∙ ap (λ (m : ℕ). on_turn (rounds d wait skips m) (handed (one_less left) k)) (let same : 0 + n ≡ n = omega arith in same)
-        ∙ ap (λ (l : Option ℕ). on_turn (rounds d wait skips n) (handed l k)) (sym (left-nothing (one_less left)) ∙ left-more 0 left)
-        ∙ ap (λ (o : Job). on_turn (rounds d wait skips n) (handed (less_by 1 left) o)) (job-loss j t q queue lost))
+    ap (λ (m : ℕ). rounds d wait skips m here) (let same : 1 + n ≡ suc (0 + n) = omega arith in same)
+    ∙ event-rounds d wait skips left agains (0 + n) j t q plain queue
+    ∙ ap (λ (m : ℕ). on_turn (rounds d wait skips m) (handed (one_less left) k)) (let same : 0 + n ≡ n = omega arith in same)
+    ∙ ap (λ (l : Option ℕ). on_turn (rounds d wait skips n) (handed l k)) (sym (left-nothing (one_less left)) ∙ left-more 0 left)
+    ∙ ap (λ (o : Job). on_turn (rounds d wait skips n) (handed (less_by 1 left) o)) (job-loss j t q queue lost))
     (λ kept.
-        ap (λ (m : ℕ). rounds d wait skips m here) (let same : suc (length more) + n ≡ suc (length more + n) = omega arith in same)
-        ∙ event-rounds d wait skips left agains (length more + n) j t q plain queue
-        ∙ rest k (ap (λ (o : Next × Reading). o.1.phase) (hand-kept j.reading t q kept) ∙ plain) (ap (λ (o : Next × Reading). o.1.queue) (hand-kept j.reading t q kept))
-        ∙ ap (λ (l : Option ℕ). on_turn (rounds d wait skips n) (handed l (job_after_run k more))) (left-more (length more) left)
-        ∙ ap (λ (o : Job). on_turn (rounds d wait skips n) (handed (less_by (suc (length more)) left) o)) (job-event j t q more queue kept))
+    ap (λ (m : ℕ). rounds d wait skips m here) (let same : suc (length more) + n ≡ suc (length more + n) = omega arith in same)
+    ∙ event-rounds d wait skips left agains (length more + n) j t q plain queue
+    ∙ rest k (ap (λ (o : Next × Reading). o.1.phase) (hand-kept j.reading t q kept) ∙ plain) (ap (λ (o : Next × Reading). o.1.queue) (hand-kept j.reading t q kept))
+    ∙ ap (λ (l : Option ℕ). on_turn (rounds d wait skips n) (handed l (job_after_run k more))) (left-more (length more) left)
+    ∙ ap (λ (o : Job). on_turn (rounds d wait skips n) (handed (less_by (suc (length more)) left) o)) (job-event j t q more queue kept))
 
 no-events : (d : Description) (wait : Option Waiting) (skips : Bool) (n : ℕ) (left : Option ℕ) (j : Job) → Takes d wait skips n left j [] (on_turn (rounds d wait skips (0 + n)) (handed left j))
 no-events d wait skips n left j =
@@ -254,5 +252,5 @@ pub run-shrinks : (told : EvdevView) (wait : Option Waiting) (left : Option ℕ)
 run-shrinks told wait left agains old new Ends h = tt
 run-shrinks told wait left agains old new (GoesOn progress) h =
     let fewer : effort told new.reading < effort told old.reading =
-        subst (λ (j : Job). effort told j.reading < effort told old.reading) (sym h.taken) (effort-run told (most_of left) old.reading h.some) in
+    subst (λ (j : Job). effort told j.reading < effort told old.reading) (sym h.taken) (effort-run told (most_of left) old.reading h.some) in
     less_anew wait (effort told new.reading) (effort told old.reading) agains progress fewer h.anew

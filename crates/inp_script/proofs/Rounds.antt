@@ -50,13 +50,15 @@ advanced-round before after d wait skips here turn h = record {
 pub begun-round : (before after : EvdevView) (d : Description) (wait : Option Waiting) (skips : Bool) (here : Going) → Begins before after (next_round d wait skips here) → (n : ℕ) × Begins before after (rounds d wait skips n here)
 unfolding rounds
 begun-round before after d wait skips here h =
-    let ending : Turn → Talk (Option Job) = on_turn (rounds d wait skips 0) in
-    (1, record {
-      calls = h.calls;
-      rest = and_then h.rest ending;
-      leads = LeadsTo-and_then (next_round d wait skips here) h.rest ending h.calls h.leads;
-      are_calls = h.are_calls;
-    })
+    let ending : Turn → Talk (Option Job) = on_turn (rounds d wait skips 0) in (
+      1,
+      record {
+        calls = h.calls;
+        rest = and_then h.rest ending;
+        leads = LeadsTo-and_then (next_round d wait skips here) h.rest ending h.calls h.leads;
+        are_calls = h.are_calls;
+      },
+    )
 
 pub passed-more : (before between after : EvdevView) (d : Description) (wait : Option Waiting) (skips : Bool) (start here next : Going) → Passed before between d wait skips start here → IsAdvanced between after d wait skips here (goes_on next) → Passed before after d wait skips start next
 passed-more before between after d wait skips start here next s h = record {

@@ -5,10 +5,10 @@ ghost use Rattle.inp_model.specs.Past.{has_mask, mask_words};
 
 use inp_caps::{Caps, CapsBuilder};
 use inp_client::{Clients, OpenRefused};
-use tests_core::common::{A, B, LOSS, REPORT, axis, key};
 use inp_model::{Clock, EV_KEY, Event, Taken};
 use std::process::Abort;
 use std::test::Fail;
+use tests_core::common::{A, B, LOSS, REPORT, axis, key};
 
 /// How far the realtime clock is ahead in the tests, in microseconds.
 const REALTIME: u64 = 1_000_000;

@@ -4,13 +4,13 @@
 ghost use Rattle.inp_model.specs.Injecting.{AreInTime};
 
 use inp_caps::{Caps, CapsBuilder, CapsRefused};
-use tests_core::common::{A, A_DOWN, REPORT, key};
 use inp_device::Device;
 use inp_model::{
     EV_KEY, Event, Injected, MOMENT_MAX, Refusal, Reply, SLOT_VALUES, Stamped, Step, Taken,
 };
 use std::process::Abort;
 use std::test::Fail;
+use tests_core::common::{A, A_DOWN, REPORT, key};
 
 /// What stands in a buffer before anything is read.
 pub const NO_EVENT: Taken = Taken {

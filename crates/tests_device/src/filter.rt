@@ -2,12 +2,12 @@
 
 use crate::device::{NO_EVENT, done, finds_nothing, inject, make, opens};
 use inp_caps::{CapsBuilder, CapsRefused};
-use tests_core::common::{A, B, REPORT, key};
 use inp_device::Device;
 use inp_filter::Filters;
 use inp_model::{EV_KEY, EV_REL, Event, Filter, Step};
 use std::process::Abort;
 use std::test::Fail;
+use tests_core::common::{A, B, REPORT, key};
 
 // How many events filters leave of a frame of one event and its report.
 fn left(filters: &mut Filters, event: Event, now: u64) -> u32 {

@@ -2,12 +2,12 @@
 
 use crate::device::{NO_EVENT, make};
 use inp_caps::{Caps, CapsBuilder, CapsRefused};
-use tests_core::common::{A, A_DOWN, REPORT, axis_info};
 use inp_device::Device;
 use inp_model::{ABS_MT_POSITION_X, Clock, EV_KEY, Refusal, Reply, Step};
 use std::alloc::Global;
 use std::process::Abort;
 use std::test::Fail;
+use tests_core::common::{A, A_DOWN, REPORT, axis_info};
 
 /// The axis `ABS_X`.
 const X: u16 = 0;

@@ -5,7 +5,6 @@ ghost use Rattle.inp_port.specs.Port.{IsReadyAt};
 
 use crate::device::five;
 use inp_caps::{Caps, CapsBuilder, CapsRefused};
-use tests_core::common::{A, A_DOWN, REPORT};
 use inp_device::Device;
 use inp_model::{EV_KEY, Evdev, Injected, Refusal, Reply, Step, Taken};
 use inp_port::{Port, PortClient};
@@ -16,6 +15,7 @@ use std::sync::Wait;
 use std::test::Fail;
 use std::thread;
 use std::thread::Threads;
+use tests_core::common::{A, A_DOWN, REPORT};
 
 const NO_EVENT: Taken = Taken {
     event: REPORT,

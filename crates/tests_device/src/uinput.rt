@@ -4,7 +4,6 @@ ghost use Rattle.inp_turn.specs.Pass.{view_of};
 ghost use Rattle.inp_port.specs.Port.{IsReadyAt};
 
 use inp_caps::CapsBuilder;
-use tests_core::common::REPORT;
 use inp_model::{EV_LED, EV_SND, Evdev, Event, Reply, Step};
 use inp_turn::Pass;
 use inp_uinput::{CreateRefused, Fed, FeedbackPort, Maker, Owned, UClient, UPort, Udev};
@@ -12,6 +11,7 @@ use std::alloc::Global;
 use std::process::Abort;
 use std::sync::Wait;
 use std::test::Fail;
+use tests_core::common::REPORT;
 
 /// `LED_CAPSL` is on.
 const CAPS_LOCK: Event = Event {

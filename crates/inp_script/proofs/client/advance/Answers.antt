@@ -45,9 +45,9 @@ returns-in-None-clause-turn g c =
     let kept = subst (λ (o : Option Turn). IfNone o ((asked ≡ c.args.reader.now) × (noted ≡ c.args.notes.now))) c.in-None.is c.in_ok-turn.ensures.none in
     IfOk-weaker c.ask_reader.result _ _
     (λ (turn : Turn) is.
-        subst (λ (notes : Notes). IsAdvanced a b c.args.reader.now.description c.args.wait c.args.skips (going c.args.progress (job_of c.args.reader.now.reading notes)) (turn_of turn new)) kept.1
-        (subst (λ (v : ReaderView). IsAdvanced a b v.description c.args.wait c.args.skips (going c.args.progress (job_of v.reading noted)) (turn_of turn new)) kept.0
-        (advanced-round a b asked.description c.args.wait c.args.skips (going c.args.progress (job_of asked.reading noted)) (turn_of turn new) is)))
+    subst (λ (notes : Notes). IsAdvanced a b c.args.reader.now.description c.args.wait c.args.skips (going c.args.progress (job_of c.args.reader.now.reading notes)) (turn_of turn new)) kept.1
+    (subst (λ (v : ReaderView). IsAdvanced a b v.description c.args.wait c.args.skips (going c.args.progress (job_of v.reading noted)) (turn_of turn new)) kept.0
+    (advanced-round a b asked.description c.args.wait c.args.skips (going c.args.progress (job_of asked.reading noted)) (turn_of turn new) is)))
     c.ask_reader.ensures.turn
 
 pub returns-in-None-clause-begun : goal.returns-in-None-clause-begun

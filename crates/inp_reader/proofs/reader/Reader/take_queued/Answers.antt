@@ -1,4 +1,4 @@
-use Rattle.std.proofs.Common.{◌≡◌, ◌∙◌, List, sym, ap, subst, length, reverse, arith}
+use Rattle.std.proofs.Common.{◌∙◌, List, sym, ap, subst, length, reverse, arith}
 use Rattle.inp_model.specs.declared.step.Step.{Step}
 use Rattle.inp_reader.specs.declared.asker.Asker.{Asker}
 use Rattle.inp_reader.specs.Reading.{Reading, ReaderView}

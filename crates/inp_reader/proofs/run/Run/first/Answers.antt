@@ -1,15 +1,13 @@
-use Rattle.std.proofs.Common.{◌≡◌, ◌<◌, ◌≤◌, ◌+◌, ◌∙◌, ℕ, List, Bool, true, false, length, get_or, refl, sym, ap, arith}
+use Rattle.std.proofs.Common.{◌<◌, ◌+◌, ◌∙◌, ℕ, true, false, length, sym, ap, arith}
 use Rattle.std.proofs.lemmas.Bool.Decides.{nat_tests}
-use Rattle.inp_model.specs.declared.taken.Taken.{Taken}
-use Rattle.inp_recon.specs.Synchronised.{is_dropped}
-use Rattle.inp_reader.specs.Reading.{first_run, has_loss}
+use Rattle.inp_reader.specs.Reading.{has_loss}
 use Rattle.inp_reader.proofs.Runs.{run-more, run-lost, run-full, run-whole, run-length, loss-more, at-index}
 use Rattle.inp_reader.proofs.run.Run.first.Goals as goal
 
 pub returns-then-is_dropped-clause-run : goal.returns-then-is_dropped-clause-run
 returns-then-is_dropped-clause-run c =
     run-lost c.args.most c.loop-taken.count c.args.queue.now _ (let h = c.if-count-most.false in grind (arith, nat_tests, h, c.loop-taken.invariant.few)) (omega (arith, c.loop-taken-test.true, c.loop-taken.invariant.count))
-        (at-index c.loop-taken.count c.loop-taken.taken-index c.args.queue.now _ true c.loop-taken.invariant.count (sym c.is_dropped.ensures ∙ c.if-is_dropped.true)) c.loop-taken.invariant.run
+    (at-index c.loop-taken.count c.loop-taken.taken-index c.args.queue.now _ true c.loop-taken.invariant.count (sym c.is_dropped.ensures ∙ c.if-is_dropped.true)) c.loop-taken.invariant.run
 
 pub returns-then-is_dropped-clause-count : goal.returns-then-is_dropped-clause-count
 returns-then-is_dropped-clause-count c =
