@@ -11,9 +11,13 @@
 //! and never looks back at its history.
 //!
 //! Refusals come in one order, but that an open that nothing else refuses may be refused for want of memory. The
-//! history is longer by the step exactly where the step was accepted. After a refusal all is as before, both buffers
-//! too (`past_stays`, `out_stays`, `cells_stay`), but that answers Again are counted; and the rest of a buffer that is
-//! written to stays. Of its caller `step` asks a moment in range and buffers as long as what is asked for, and no more.
+//! history is longer by the step exactly where the step was accepted. After a refusal all is as before, both buffers and
+//! what is kept for clients too (`past_stays`, `out_stays`, `cells_stay`, `stored_stays`), but that answers Again are
+//! counted; and the rest of a buffer that is written to stays. Of its caller `step` asks a moment in range and buffers as
+//! long as what is asked for, and no more.
+//!
+//! A step adds to the events that are kept (`stored`) at most those that it offers, each once whoever gets it, and one
+//! SYN_DROPPED for each client that loses its queue (`stored_most` in `specs/Device.antt`).
 //!
 //! `Device::inject_all` says from which place on it entered events and how many of them, which is no more than the log
 //! limit leaves room for, and that the history is longer by these, in order.
