@@ -20,10 +20,9 @@ use Rattle.inp_record.specs.Place.{is_first_place, is_describing, is_naming, is_
 use Rattle.inp_record.specs.Past.{Past, no_given, with_latest, devices_of, first_context, describing, after, context_of}
 use Rattle.inp_record.specs.Meaning.{has_too_many_slots}
 use Rattle.inp_record.specs.Spelling.{description_items, action_item_of}
-use Rattle.inp_record.proofs.Rooms.{closed_length}
 use Rattle.inp_record.proofs.Entries.{code_slots, code_filters}
 use Rattle.inp_record.proofs.Sayable.{keyword_for_device, are_early, IsAccepted, after_all, AreAccepted, WereAccepted, always, describes_place}
-use Rattle.inp_record.proofs.Good.{IsGood, actor_place, good}
+use Rattle.inp_record.proofs.Good.{IsGood, actor_place, good, closed_length}
 use Rattle.inp_record.proofs.CanonLists.{head_items, all_items, AreBelow, head_device, head_actor, all_action}
 use Rattle.inp_record.proofs.MadeDescriptions.{IsGathered, IsMadeDescription, gathered_alone, gathered_after, made_of, built_slots, built_filters}
 use Rattle.inp_record.proofs.Sections.{after_all-append, accepted_then}

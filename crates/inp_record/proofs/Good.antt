@@ -21,18 +21,40 @@ use Rattle.inp_actors.specs.Record.{streams_of, IsRecord}
 use Rattle.inp_model.specs.Injecting.{AreInTime}
 use Rattle.inp_record.specs.declared.item.Item as item
 use Rattle.inp_record.specs.declared.item.Item.TheVariants.{Header, Device, Actor, Action}
-use Rattle.inp_record.proofs.Rooms.{closed_length}
 use Rattle.std.proofs.lemmas.Bool.{not-false}
 use Rattle.inp_record.specs.declared.context.Context.{Context}
 use Rattle.inp_record.specs.declared.context.TheConstants.{DEVICES_MAX, SOURCES_MAX, READERS_MAX, OWNERS_MAX, STREAMS_MAX}
 use Rattle.inp_record.specs.declared.place.Place.{Place}
 use Rattle.inp_record.specs.Place.{is_describing, is_naming, is_out_of_place}
-use Rattle.inp_record.specs.Past.{Past, with_latest, devices_of, streams_in, first_context, after, context_of}
-use Rattle.inp_record.specs.Meaning.{device_count, has_all, behind_lines, record_of_past}
+use Rattle.inp_record.specs.Past.{Past, with_latest, devices_of, streams_in, first_context, after, context_of, no_given, IsWithinCounts}
+use Rattle.inp_record.specs.Meaning.{device_count, has_all, behind_lines, record_of_past, closed}
 use Rattle.inp_record.proofs.CanonPasts.{all_accepted}
 use Rattle.inp_record.proofs.Inversions.{row_fits}
 use Rattle.inp_record.proofs.Options.{push_at, push_get, front_get}
 use Rattle.inp_record.proofs.Sayable.{keyword_for_role, IsPlainWord, IsAccepted, WereAccepted, always, describes_place}
+use Rattle.inp_record.specs.declared.place.Place.TheVariants.{Describing}
+
+-- a device that is closed is one of those that are
+pub closed_length : (devices : List DeviceText) (name : Option (List ℕ)) (requested : Bool) (d : Description) → length (with_latest devices name requested d) ≡ length devices + (if is_some name then 1 else 0)
+closed_length devices None requested d = omega arith
+closed_length devices (Some name) requested d =
+    omega (arith, length-append devices (record { name = name; caps = d; requested = requested } ∷ []))
+
+-- there is room behind a device that is begun
+pub begun_room : (c : Context) (requested : Bool) (name : List ℕ) → IsWithinCounts c → nat_le DEVICES_MAX (device_count c) ≡ false
+    → IsWithinCounts (record (closed c) { place = Describing; name = Some name; requested = requested; given = no_given; sources = 0; readers = 0; owners = 0 })
+begun_room c requested name room h =
+    let count = closed_length c.devices c.name c.requested (built c.builder) in
+    let less : device_count c < 8 = grind (arith, nat_tests) in
+    record {
+      devices = omega arith;
+      sources = omega arith;
+      readers = omega arith;
+      owners = omega arith;
+      streams = room.streams;
+      realtime = omega arith;
+      boottime = omega arith;
+    }
 
 range_on : (a n m : ℕ) → range_with_len a (n + m) ≡ range_with_len a n ++ range_with_len (a + n) m
 range_on a zero m = let z : 0 + m ≡ m = omega arith in let w : a + 0 ≡ a = omega arith in rw (z, w) refl

@@ -1,5 +1,5 @@
 -- What the keyword of a line tells of its words and of the version.
-use Rattle.std.proofs.Common.{◌≡◌, ℕ, Bool, true, false, not, if◌then◌else◌, nat_eq, bytes_eq, codes, List, [], ◌∷◌, Option, Some, None, unwrap_or, refl, sym, ap, subst, ◌∙◌}
+use Rattle.std.proofs.Common.{◌≡◌, ℕ, Bool, true, false, not, if◌then◌else◌, nat_eq, bytes_eq, codes, List, [], ◌∷◌, Option, Some, None, unwrap_or, refl, sym, ap, subst, ◌∙◌, ◌≤◌, nat_le, arith}
 use Rattle.std.specs.Prelude.{option_and_then}
 use Rattle.std.specs.List.{list_all}
 use Rattle.std.proofs.lemmas.Slice.Eq.{bytes_eq-Decides}
@@ -11,6 +11,7 @@ use Rattle.inp_record.specs.Line.{line_row}
 use Rattle.inp_record.specs.Keyword.{keyword_rows, filter_rows, filter_keyword, keyword_under, has_words, with_words, keyword_of}
 use Rattle.inp_record.specs.Words.{is_action}
 use Rattle.inp_record.proofs.Options.{and_then_is}
+use Rattle.std.proofs.lemmas.Bool.Decides.{nat_tests}
 
 -- what a table says of a word passes each test that all its rows pass
 pub named_passes : {T : Type 0} (test : List ℕ × T → Bool) (rows : List (List ℕ × T)) (word : List ℕ) (x : T) → list_all test rows ≡ true → named rows word ≡ Some x → test (word, x) ≡ true
@@ -129,3 +130,14 @@ pub keyword_is_later : (version : ℕ) (first second : List ℕ) (count : ℕ) (
 keyword_is_later version first second count k e h =
     let f = keyword_from version first second count k e in
     kept_version version first second f.0 k f.2 (named_passes is_gated keyword_rows first f.0 rows_are_gated f.1) h
+
+-- do begins an action, where it has words enough
+pub action_has_words : (count : ℕ) → 3 ≤ count → has_words keywords.Action count ≡ true
+unfolding has_words
+action_has_words count h = let long : nat_le 3 count ≡ true = grind (arith, nat_tests) in long
+
+pub do_begins_action : (version : ℕ) (first second : List ℕ) (count : ℕ) → bytes_eq first (codes "do") ≡ true → 3 ≤ count → keyword_of version first second count ≡ Some keywords.Action
+unfolding keyword_of keyword_rows line_row
+do_begins_action version first second count h long =
+    let is : first ≡ codes "do" = (bytes_eq-Decides first (codes "do")).0 h in
+    rw (is, action_has_words count long) refl

@@ -1,4 +1,3 @@
-pub mod Actions
 pub mod CanonItems
 pub mod CanonLines
 pub mod CanonLists
@@ -19,12 +18,10 @@ pub mod MadeDescriptions
 pub mod Options
 pub mod RaisedPasts
 pub mod Reading
-pub mod Rooms
 pub mod RoundTrip
 pub mod Rows
 pub mod Sayable
 pub mod SayableItems
 pub mod Sections
 pub mod Stamps
-pub mod Streamless
 pub mod Texts

@@ -11,7 +11,7 @@ use Rattle.inp_canon.specs.Command.{command_words}
 use Rattle.inp_words.specs.Table.{named}
 use Rattle.inp_record.specs.Field.{made}
 use Rattle.inp_record.specs.Past.{streams_in}
-use Rattle.inp_record.specs.Verb.{Row, command_row, verb_row, verb_rows, is_verb_of, argument_count, count_max, verbs, with_arguments, verb_of}
+use Rattle.inp_record.specs.Verb.{Row, command_row, verb_row, verb_rows, is_verb_of, argument_count, count_max, verbs, with_arguments, verb_of, is_stream}
 use Rattle.inp_record.specs.declared.verb.Verb.{Verb}
 use Rattle.inp_record.specs.declared.verb.Group.{Group}
 use Rattle.inp_actors.specs.declared.role.Role as role
@@ -188,3 +188,11 @@ command_plain stream r does s =
     ap (λ (c : command.Command). list_all is_plain (command_words c)) s.is
     ∙ ap (list_all is_plain) (row_words stream r s.verb s.values)
     ∙ rw (word_plain stream r s.verb, written_plain row.fields 0 s.values (row_sound stream r s.verb) s.fits) refl
+
+-- the number of a stream says nothing to a command that takes none
+pub same_stream : (stream : ℕ) (r : role.Role) (v : Verb) (ws : List (List ℕ)) → is_stream v ≡ false → command_of stream r v ws ≡ command_of 0 r v ws
+unfolding command_of command_row
+same_stream stream r verbs.Stream ws h = absurd (cc h)
+same_stream stream r verbs.Stream16 ws h = absurd (cc h)
+same_stream stream r verbs.Event ws h = refl
+same_stream stream r v ws h = refl

@@ -212,7 +212,7 @@ fn file_name(alloc: Global, word: &[u8]) -> Result<FileName, NoMemory>
 }
 
 /// A command with its words, of an actor of this role. A stream has this number.
-#[tactic(auto, using(crate::proofs::Streamless::same_stream), unfolding(crate::specs::Words::command_of, crate::specs::Verb::command_row))]
+#[tactic(auto, using(crate::proofs::Rows::same_stream), unfolding(crate::specs::Words::command_of, crate::specs::Verb::command_row))]
 fn command_of(
     alloc: Global,
     index: u32,

@@ -56,7 +56,7 @@ fn second_word<'a>(words: &[&'a [u8]]) -> &'a [u8]
 }
 
 /// The keyword of a line, by its words, of which there is one. Most lines are actions.
-#[tactic(auto, using(crate::proofs::Actions::do_begins_action, crate::proofs::Actions::action_has_words))]
+#[tactic(auto, using(crate::proofs::Keywords::do_begins_action, crate::proofs::Keywords::action_has_words))]
 fn line_keyword(version: u32, words: &[&[u8]]) -> Option<Keyword>
     requires { 1 ≤ length words.now }
     ensures keyword { result ≡ keyword_of version (word 0 (texts words.now)) (word 1 (texts words.now)) (length words.now) }

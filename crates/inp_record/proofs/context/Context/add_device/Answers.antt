@@ -1,6 +1,6 @@
 use Rattle.std.proofs.Common.{◌≡◌, rules}
 use Rattle.inp_record.specs.Meaning.{closed}
-use Rattle.inp_record.proofs.Rooms.{begun_room}
+use Rattle.inp_record.proofs.Good.{begun_room}
 use Rattle.inp_record.proofs.context.Context.add_device.Goals as goal
 
 pub returns-clause-room : goal.returns-clause-room
