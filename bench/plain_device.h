@@ -3,7 +3,7 @@
  * It is meant to do the same work on the same data as the program: the device keeps its history, each client has a ring, a
  * mask and a clock, and each actor keeps all that it saw: every call with its reply, every event. Each client has a
  * libevdev-like reader with a view, which synchronises after a loss. It has the types and steps that the records use which
- * these two play, and no others. Nothing here is proved.
+ * the programs play, and no others; WITH_MSC adds events of EV_MSC. Nothing here is proved.
  */
 #include <stdint.h>
 #include <stdio.h>
@@ -110,8 +110,10 @@ static void put(Client *c, uint32_t ring, Taken item) {
 static int admits(const Client *c, Event e) {
     if (e.kind == EV_SYN) return 1;
     if (!(c->kinds >> e.kind & 1)) return 0;
-    if (e.kind == EV_KEY) return bit(c->keys, e.code);
-    return (int)((e.kind == EV_MSC ? c->misc : c->axes) >> e.code & 1);
+#ifdef WITH_MSC
+    if (e.kind == EV_MSC) return (int)(c->misc >> e.code & 1);
+#endif
+    return e.kind == EV_KEY ? bit(c->keys, e.code) : (int)(c->axes >> e.code & 1);
 }
 
 static void pass_frame(Device *d, uint64_t now, uint32_t place) {
@@ -136,7 +138,9 @@ static int32_t defuzz(int64_t v, int64_t o, int64_t f) {
 static int supports(const Device *d, Event e) {
     if (e.kind == EV_SYN) return e.code <= SYN_DROPPED;
     if (e.kind == EV_KEY) return e.code > 0 && e.code < KEYS && bit(d->key_codes, e.code);
+#ifdef WITH_MSC
     if (e.kind == EV_MSC) return e.code < 8 && (d->misc_codes >> e.code & 1);
+#endif
     return e.kind == EV_ABS && e.code < 64 && (d->abs_codes >> e.code & 1);
 }
 

@@ -4,6 +4,7 @@
  * and codes, and gives the first line that is refused and its cause. It knows the lines that such a record has, one device
  * without axes, and no others. Nothing here is proved. bench/plain_names writes its table of names.
  */
+#define WITH_MSC
 #include "plain_report.h"
 
 /* Names of types and codes */
