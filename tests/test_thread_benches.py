@@ -4,7 +4,7 @@ import shutil
 import subprocess
 import unittest
 
-from playing import TOP, FolderCase, run
+from playing import PROGRAM, TOP, FolderCase, needs_program
 
 BENCH = TOP / "bench"
 COMPILER = shutil.which("cc")
@@ -37,8 +37,8 @@ class Benches(FolderCase):
                 self.assertNotIn("Traceback", ended.stderr)
 
     def test_the_times_of_threads(self):
-        run(["--make", "7"], self.folder)  # (the program is there)
-        ended = said("threads", "--frames", "80", "--runs", "1")
+        needs_program(self)
+        ended = said("threads", PROGRAM, "--frames", "80", "--runs", "1")
         self.assertEqual((0, ""), (ended.returncode, ended.stderr))
         rows = [row.split() for row in ended.stdout.splitlines()]
         self.assertEqual(["devices", "1", "2", "4", "8"], [row[0] for row in rows])
