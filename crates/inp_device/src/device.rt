@@ -1,13 +1,15 @@
 //! The device.
-ghost use Rattle.std.specs.Prelude.{◌≡◌, ◌≤◌, ◌<◌, ◌+◌, ℤ, false, List, [], ◌∷◌, length, reverse, IfOk, ◌↔◌, sum_by, All};
+ghost use Rattle.std.specs.Prelude.{◌≡◌, ◌≤◌, ◌<◌, ◌+◌, ◌&&◌, not, ℤ, false, List, [], ◌∷◌, length, reverse, IfOk, ◌↔◌, sum_by, All};
 ghost use Rattle.inp_model.specs.declared.taken.Taken.{Taken as TakenEvent};
 ghost use Rattle.inp_model.specs.declared.limits.TheConstants.{LOG_MAX};
 ghost use Rattle.inp_model.specs.declared.stamped.TheConstants.{MOMENT_MAX};
 ghost use Rattle.inp_model.specs.declared.step.Step.TheVariants.{Inject};
 ghost use Rattle.inp_model.specs.History.{IsHistory};
 ghost use Rattle.inp_model.specs.Injecting.{AreInTime, entered_count, history_with};
-ghost use Rattle.inp_model.specs.Past.{open_clients};
+ghost use Rattle.inp_model.specs.Passed.{goes_to_device};
+ghost use Rattle.inp_model.specs.Past.{is_inhibited, open_clients};
 ghost use Rattle.inp_model.specs.Queue.{queue};
+ghost use Rattle.inp_model.specs.Raw.{raw};
 ghost use Rattle.inp_model.specs.Step.{moment_of};
 ghost use Rattle.inp_model.specs.Reply.{HasRoom, IsDeviceStep, is_accepted};
 ghost use Rattle.inp_model.specs.Evdev.{agains_after};
@@ -220,8 +222,10 @@ impl Device {
         }
     }
 
-    // Injects one event, for which there is room in the history.
-    fn enter(&mut self, event: Event, now: u64)
+    /// Injects one event, for which there is room in the history.
+    ///
+    /// The caller must pass a moment of at most `MOMENT_MAX`, and see that the history is shorter than the log limit.
+    pub fn enter(&mut self, event: Event, now: u64)
         requires moment { now ≤ MOMENT_MAX }
         requires room { length self.old.past < self.old.description.log_limit }
         ensures entered { plain_view self.new
@@ -232,6 +236,17 @@ impl Device {
     {
         self.present.inject(&self.steps, event, now);
         self.steps.push(Step::Inject { event, now }).unwrap();
+    }
+
+    /// Whether an event, injected or written by a step that is accepted now, would go to the device itself: its lights,
+    /// sounds and settings. Nothing changes.
+    #[inline(always)]
+    pub fn is_for_device(&self, event: Event) -> bool
+        ensures goes { result
+            ≡ (goes_to_device self.now.description (raw self.now.description self.now.past) event
+            && not (is_inhibited self.now.past)) }
+    {
+        self.present.core.is_for_device(&self.present.caps, event)
     }
 
     /// How many events are kept: each event of a frame that at least one queue holds, once, and each SYN_DROPPED.
@@ -259,6 +274,7 @@ impl Device {
     /// The history: the accepted steps, oldest first.
     pub fn history(&self) -> &[Step]
         ensures history { result.now ≡ reverse self.now.past }
+        ensures accepted { IsHistory self.now.description self.now.past }
         ensures within { length result.now ≤ LOG_MAX }
     {
         &self.steps

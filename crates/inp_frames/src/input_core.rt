@@ -8,7 +8,9 @@ ghost use Rattle.inp_model.specs.declared.stamped.TheConstants.{MOMENT_MAX};
 ghost use Rattle.inp_model.specs.RawItem.{RawItem};
 ghost use Rattle.inp_model.specs.Description.{Description};
 ghost use Rattle.inp_model.specs.Timer.{is_due, timer_disarmed, timer_rearmed};
-ghost use Rattle.inp_model.specs.Raw.{releases, key_event};
+ghost use Rattle.inp_model.specs.Raw.{raw, releases, key_event};
+ghost use Rattle.inp_model.specs.Passed.{goes_to_device};
+ghost use Rattle.inp_model.specs.Past.{is_inhibited};
 ghost use Rattle.inp_bits.specs.Bits.{true_indices};
 ghost use Rattle.inp_slots.specs.Slots.{SlotValues};
 ghost use Rattle.inp_frames.specs.declared.frames.TheConstants.{FRAME_MAX};
@@ -167,6 +169,16 @@ impl Core {
         ensures made { (d : Description) → IsFor d self.old → IsFor d self.new }
     {
         self.state.describe(code, info);
+    }
+
+    /// Whether a raw event, injected or written, would go to the device itself. Nothing changes.
+    #[inline(always)]
+    pub fn is_for_device(&self, caps: &Caps, event: Event) -> bool
+        ensures goes { (past : List Step) → CoreStandsFor caps.now past self.now
+            → result ≡ (goes_to_device caps.now (raw caps.now past) event
+            && not (is_inhibited past)) }
+    {
+        self.state.is_for_device(caps, event) && !self.inhibited
     }
 
     /// Keys, switches, LEDs, sounds, axes and the settings of the autorepeat.

@@ -2,3 +2,4 @@ pub mod Steps
 pub mod Passes
 pub mod Arms
 pub mod Flags
+pub mod Outputs

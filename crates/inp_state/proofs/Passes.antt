@@ -21,7 +21,7 @@ differ_same a b c d x y p q = cc
 changed_same : (a b c d : ℤ) (x y : Option ℤ) → a ≡ c → b ≡ d → (if not (int_eq a b) then x else y) ≡ (if not (int_eq c d) then x else y)
 changed_same a b c d x y p q = cc
 
-turned : (b : Bool) (x y : Option ℤ) → (if b then y else x) ≡ (if not b then x else y)
+pub turned : (b : Bool) (x y : Option ℤ) → (if b then y else x) ≡ (if not b then x else y)
 turned true x y = refl
 turned false x y = refl
 

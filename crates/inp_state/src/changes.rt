@@ -1,5 +1,5 @@
 //! What an event changes in one part of a state, and the value under which it is passed, if it is.
-ghost use Rattle.std.specs.Prelude.{◌≡◌, ◌<◌, pos, if◌then◌else◌, length, slice_set, slice_index_or, false, Some, None};
+ghost use Rattle.std.specs.Prelude.{◌≡◌, ◌<◌, pos, not, if◌then◌else◌, length, slice_set, slice_index_or, false, Some, None};
 ghost use Rattle.std.specs.Ordering.{int_eq};
 ghost use Rattle.inp_model.specs.Event.{is_repeat, is_set, is_negative};
 ghost use Rattle.inp_model.specs.Passed.{differ};
@@ -37,10 +37,18 @@ pub(crate) fn set_bit(bits: &mut Bits<1>, event: Event) -> Option<i32>
         then Some event.value else None) }
     ensures len { length bits.old ≡ 64 }
 {
-    let code = u32::from(event.code);
-    let was_on = bits.get(code);
-    bits.set(code, event.is_set());
-    passed_if(was_on != event.is_set(), event)
+    let turned = is_turned(bits, event);
+    bits.set(u32::from(event.code), event.is_set());
+    passed_if(turned, event)
+}
+
+// Whether the event turns it on or off.
+pub(crate) fn is_turned(bits: &Bits<1>, event: Event) -> bool
+    requires { event.code < 64 }
+    ensures turned { result ≡ differ (slice_index_or bits.now event.code false) (is_set event) }
+    ensures len { length bits.now ≡ 64 }
+{
+    bits.get(u32::from(event.code)) != event.is_set()
 }
 
 // An axis, which moves as far as its fuzz allows.
@@ -65,11 +73,19 @@ pub(crate) fn set_setting(setting: &mut i32, event: Event) -> Option<i32>
     ensures passed { result ≡ (if int_eq setting.old (if is_negative event then setting.old
         else event.value) then None else Some event.value) }
 {
-    if event.value < 0 || *setting == event.value {
+    if !is_changed(*setting, event) {
         return None;
     }
     *setting = event.value;
     Some(event.value)
+}
+
+// Whether the event changes the setting.
+pub(crate) fn is_changed(setting: i32, event: Event) -> bool
+    ensures { result
+        ≡ not (int_eq setting (if is_negative event then setting else event.value)) }
+{
+    event.value >= 0 && event.value != setting
 }
 
 // The value of the event, if it is passed.

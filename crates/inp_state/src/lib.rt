@@ -9,8 +9,9 @@
 //! on each key and the like, and by the events on an axis since its last description. A [`State`] keeps no list;
 //! `StateStandsFor` (`specs/State.antt`) says for which lists it stands. A new one stands for the empty list. After
 //! [`State::apply`] it stands for the list with one event more, and after [`State::describe`] for the list with one
-//! description more, for each list that it stood for. What becomes of an event, and what the calls answer, are the model's
-//! for each such list. An event takes the same time whatever came before, and nothing here takes memory.
+//! description more, for each list that it stood for. What becomes of an event, whether one would go to the device
+//! ([`State::is_for_device`]), and what the calls answer, are the model's for each such list. An event takes the same
+//! time whatever came before, and nothing here takes memory.
 #![tactic(auto)]
 
 mod changes;

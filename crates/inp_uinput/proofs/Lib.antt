@@ -3,7 +3,6 @@ pub mod Sending
 pub mod Serving
 pub mod Udevs
 pub mod Events
-pub mod Items
 pub mod FeedbackTurns
-pub mod Noting
+pub mod Waiting
 pub mod Tied

@@ -1,5 +1,5 @@
 -- What a call leaves of a device made by requests.
-use Rattle.std.proofs.Common.{◌≡◌, ℕ, ◌≤◌, ◌<◌, Bool, true, false, if◌then◌else◌, List, [], ◌∷◌, ◌++◌, length, take, drop, reverse, sym, ap, ◌∙◌, subst, arith, ℤ}
+use Rattle.std.proofs.Common.{◌≡◌, ℕ, ◌≤◌, ◌<◌, Bool, true, false, if◌then◌else◌, List, [], ◌∷◌, ◌++◌, length, take, drop, reverse, sym, ap, ◌∙◌, subst, arith, ℤ, Option, option_to_list}
 use Rattle.std.specs.Prelude.{nat_le, min}
 use Rattle.std.proofs.lemmas.List.{reverse-append, length-take, take_min}
 use Rattle.std.proofs.lemmas.Bool.{le-leb}
@@ -16,15 +16,17 @@ use Rattle.inp_model.specs.Reply.{is_accepted, past_after, written, IsDeviceStep
 use Rattle.inp_feedback.specs.declared.u_entry.UEntry.{UEntry}
 use Rattle.inp_feedback.specs.declared.u_entry.UEntry.TheVariants.{Made, Feedback}
 use Rattle.inp_feedback.specs.declared.fed.Fed.TheVariants.{Took, Full}
+use Rattle.inp_feedback.specs.declared.fed.TheConstants.{FEEDBACK_MAX}
 use Rattle.inp_feedback.specs.declared.feedback_call.FeedbackCall.{FeedbackCall}
 use Rattle.inp_uinput.specs.declared.outputs.Outputs.{Outputs}
 use Rattle.inp_feedback.specs.UEntry.{steps_in, kept_after_step}
+use Rattle.inp_feedback.specs.Sent.{sent_at_step}
 use Rattle.inp_uinput.specs.UdevView.{UdevView}
 use Rattle.inp_feedback.specs.Feedback.{feedback_queue, is_full_of_feedback, taken_by_feedback, fed, kept_after_feedback}
 use Rattle.inp_feedback.specs.Kept.{kept_of, StandsWithin}
-use Rattle.inp_uinput.specs.Keeping.{AreOutputs, IsKeptBeside}
+use Rattle.inp_uinput.specs.Keeping.{with_sent, IsKeptBeside}
 use Rattle.inp_feedback.proofs.Lists.{steps_in-kept_of, feedback_count-kept_of, kept_of-nothing, kept_of-made, kept_of-fed, within-more}
-use Rattle.inp_uinput.proofs.Noting.{fed_outputs}
+use Rattle.inp_uinput.proofs.Waiting.{waits_made, waits_fed, waits_first}
 
 -- A step
 
@@ -45,26 +47,24 @@ kept_by past new calls x false within e = ap (λ p. kept_of p calls) e
 pub step_kept : (past new : List Step) (calls : List FeedbackCall) (x : Step) (reply : Reply) → StandsWithin (length past) calls → new ≡ past_after reply x past → kept_of new calls ≡ kept_after_step reply x (kept_of past calls)
 step_kept past new calls x reply within e = kept_by past new calls x (is_accepted reply) within e
 
--- what is kept beside the steps after a step that was accepted, and after one that was not
-pub beside_accepted : (d lent_d new_d : Description) (past new : List Step) (calls : List FeedbackCall) (capacity : ℕ) (x : Step) (reply : Reply) (old lent after : Outputs) → IsKeptBeside d past calls capacity old
-    → lent_d ≡ new_d → new_d ≡ d → lent ≡ old → new ≡ past_after reply x past → is_accepted reply ≡ true
-    → ((kept : List UEntry) → AreOutputs lent_d kept lent → AreOutputs lent_d (Made x ∷ kept) after) → IsKeptBeside new_d new calls capacity after
-beside_accepted d lent_d new_d past new calls capacity x reply old lent after k lends same is e accepted noted =
-    let entered : new ≡ x ∷ past = e ∙ ap (λ b. if b then x ∷ past else past) accepted in
-    let there : AreOutputs lent_d (kept_of past calls) lent = subst (λ (o : Outputs). AreOutputs lent_d (kept_of past calls) o) (sym is) (subst (λ (d : Description). AreOutputs d (kept_of past calls) old) (sym (lends ∙ same)) k.outputs) in
-    let outputs : AreOutputs d (Made x ∷ kept_of past calls) after = subst (λ (d : Description). AreOutputs d (Made x ∷ kept_of past calls) after) (lends ∙ same) (noted (kept_of past calls) there) in
-    subst (λ (d : Description). IsKeptBeside d new calls capacity after) (sym same) (subst (λ (p : List Step). IsKeptBeside d p calls capacity after) (sym entered) (record {
-      outputs = subst (λ (kept : List UEntry). AreOutputs d kept after) (sym (kept_of-made past calls x k.within)) outputs;
+-- What is kept beside the steps
+
+pub beside_same : (d new_d : Description) (past new : List Step) (calls : List FeedbackCall) (capacity : ℕ) (o : Outputs) → new_d ≡ d → new ≡ past → IsKeptBeside d past calls capacity o → IsKeptBeside new_d new calls capacity o
+beside_same d new_d past new calls capacity o same e k =
+    subst (λ (d : Description). IsKeptBeside d new calls capacity o) (sym same) (subst (λ (p : List Step). IsKeptBeside d p calls capacity o) (sym e) k)
+
+pub beside_made : (d : Description) (past : List Step) (calls : List FeedbackCall) (capacity : ℕ) (x : Step) (sent : Option Event) (old lent after : Outputs) → IsKeptBeside d past calls capacity old → lent ≡ old
+    → option_to_list sent ≡ sent_at_step d past x → after.waiting ≡ with_sent sent lent.waiting → IsKeptBeside d (x ∷ past) calls capacity after
+beside_made d past calls capacity x sent old lent after k is sends keeps =
+    let kept : List UEntry = kept_of past calls in
+    let sent_here : option_to_list sent ≡ sent_at_step d (steps_in kept) x = sends ∙ ap (λ (p : List Step). sent_at_step d p x) (sym (steps_in-kept_of past calls)) in
+    record {
+      waiting = keeps ∙ ap (λ (o : Outputs). with_sent sent o.waiting) is ∙ waits_made d kept x sent old.waiting k.waiting sent_here
+          ∙ ap (λ (kept : List UEntry). buffer (feedback_queue d kept) FEEDBACK_MAX) (sym (kept_of-made past calls x k.within));
       within = within-more (length past) calls k.within;
       few = k.few;
       room = k.room;
-    }))
-
-pub beside_refused : (d new_d : Description) (past new : List Step) (calls : List FeedbackCall) (capacity : ℕ) (x : Step) (reply : Reply) (old : Outputs) → IsKeptBeside d past calls capacity old
-    → new_d ≡ d → new ≡ past_after reply x past → is_accepted reply ≡ false → IsKeptBeside new_d new calls capacity old
-beside_refused d new_d past new calls capacity x reply old k same e refused =
-    subst (λ (d : Description). IsKeptBeside d new calls capacity old) (sym same)
-    (subst (λ (p : List Step). IsKeptBeside d p calls capacity old) (sym (e ∙ ap (λ b. if b then x ∷ past else past) refused)) k)
+    }
 
 -- A feedback call
 
@@ -125,7 +125,7 @@ calls_pushed calls call = sym (reverse-append calls (call ∷ []))
 pub beside_fed : (d : Description) (past : List Step) (calls : List FeedbackCall) (call : FeedbackCall) (capacity wider : ℕ) (old : Outputs) → IsKeptBeside d past calls capacity old → call.at ≡ length past → length calls < d.log_limit → capacity ≤ wider
     → IsKeptBeside d past (call ∷ calls) wider (record old { waiting = buffer (drop call.count old.waiting.items) old.waiting.capacity })
 beside_fed d past calls call capacity wider old k at few wide = record {
-  outputs = subst (λ (kept : List UEntry). AreOutputs d kept (record old { waiting = buffer (drop call.count old.waiting.items) old.waiting.capacity })) (sym (kept_of-fed past calls call at)) (fed_outputs d (kept_of past calls) call.count old k.outputs);
+  waiting = waits_fed d (kept_of past calls) call.count old.waiting k.waiting ∙ ap (λ (kept : List UEntry). buffer (feedback_queue d kept) FEEDBACK_MAX) (sym (kept_of-fed past calls call at));
   within = omega (arith, at);
   few = omega (arith, few);
   room = omega (arith, k.room, wide);
@@ -134,11 +134,11 @@ beside_fed d past calls call capacity wider old k at few wide = record {
 -- A device that keeps nothing
 
 pub first_beside : (caps d : Description) (past : List Step) (agains : ℕ) (calls : List FeedbackCall) (capacity : ℕ) (made o : Outputs) → (let device : DeviceView = record { description = d; past = past; agains = agains } in device ≡ record { description = caps; past = []; agains = 0 })
-    → calls ≡ [] → caps.log_limit ≤ capacity → AreOutputs caps [] made → o ≡ made → IsKeptBeside d past (reverse calls) capacity o
-first_beside caps d past agains calls capacity made o device none room outputs is =
+    → calls ≡ [] → caps.log_limit ≤ capacity → made.waiting ≡ buffer [] FEEDBACK_MAX → o ≡ made → IsKeptBeside d past (reverse calls) capacity o
+first_beside caps d past agains calls capacity made o device none room fresh is =
     subst (λ (v : DeviceView). IsKeptBeside v.description v.past (reverse calls) capacity o) (sym device)
     (subst (λ (calls : List FeedbackCall). IsKeptBeside caps [] (reverse calls) capacity o) (sym none) (record {
-      outputs = subst (λ (o : Outputs). AreOutputs caps (kept_of [] []) o) (sym is) (subst (λ (kept : List UEntry). AreOutputs caps kept made) (sym kept_of-nothing) outputs);
+      waiting = ap (λ (o : Outputs). o.waiting) is ∙ fresh ∙ waits_first caps ∙ ap (λ (kept : List UEntry). buffer (feedback_queue caps kept) FEEDBACK_MAX) (sym kept_of-nothing);
       within = tt;
       few = omega arith;
       room = room;

@@ -3,9 +3,9 @@
 //! This crate is for whoever makes a device as a program does through uinput. A [`Maker`] takes the requests: what the
 //! device has, its name, and that it be created. The [`Udev`] that comes of it is a device as any other, and its maker,
 //! the owner, reads by [`Udev::feedback`] what goes to the device: its lights, sounds and settings. The crate stands on
-//! `inp_device`, whose device makes the steps, on `inp_feedback`, whose definitions say what is sent to it and what
-//! waits, on `inp_state`, which says which events go to it, and on `inp_actors` for names. The program plays so the
-//! devices that a record makes by requests. Threads share such a device by `inp_turn` and `inp_port`: [`UPort`] is a
+//! `inp_device`, whose device makes the steps and says which events go to it, on `inp_feedback`, whose definitions say
+//! what is sent to it and what waits, and on `inp_actors` for names. The program plays so the devices that a record
+//! makes by requests. Threads share such a device by `inp_turn` and `inp_port`: [`UPort`] is a
 //! port of one, [`UClient`] is one thread's use of it, and [`FeedbackPort::feedback`] is a feedback call under the turn.
 //!
 //! Its contract: a [`Udev`] keeps a list of its accepted steps, and between them of its feedback calls ([`UEntry`]).
@@ -14,7 +14,7 @@
 //! events that wait, as many as fit, to the front of the buffer, and the rest of the buffer stays. What is sent and what
 //! waits is what `inp_feedback` says of the kept list: the last 15 at most of the events that were sent to the device
 //! and not taken yet. The call is kept, or `Full` comes exactly where as many are kept as the log limit says. The code
-//! keeps the state of the outputs alone and never looks back at its list.
+//! asks its device before a step whether the step's event goes to it, and never looks back at its list.
 //!
 //! By a port ([`FeedbackPort::feedback`], `IsFeedbackTurn` of `specs/FeedbackTurn.antt`) one turn is taken. The call is
 //! answered, and the buffer written, as the device does it for what is kept then, which begins with all that the pass

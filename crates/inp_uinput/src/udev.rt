@@ -1,16 +1,18 @@
 //! A device that was made by requests.
-ghost use Rattle.std.specs.Prelude.{◌≡◌, ◌+◌, ◌≤◌, [], length, take, reverse, IfOk};
+ghost use Rattle.std.specs.Prelude.{◌≡◌, ◌+◌, ◌≤◌, ◌<◌, [], ◌∷◌, length, take, reverse, IfOk};
 ghost use Rattle.inp_model.specs.declared.limits.TheConstants.{LOG_MAX};
 ghost use Rattle.inp_model.specs.declared.stamped.TheConstants.{MOMENT_MAX};
+ghost use Rattle.inp_model.specs.declared.step.Step.TheVariants.{Inject};
 ghost use Rattle.inp_model.specs.History.{IsHistory};
 ghost use Rattle.inp_model.specs.Step.{moment_of};
 ghost use Rattle.inp_model.specs.Reply.{HasRoom, IsDeviceStep, written};
 ghost use Rattle.inp_model.specs.Evdev.{agains_after};
 ghost use Rattle.inp_model.specs.Injecting.{AreInTime, entered_count};
+ghost use Rattle.inp_feedback.specs.declared.u_entry.UEntry.TheVariants.{Made};
 ghost use Rattle.inp_feedback.specs.UEntry.{steps_in, kept_after_step, kept_after_events};
 ghost use Rattle.inp_feedback.specs.Feedback.{taken_by_feedback, fed, kept_after_feedback};
 
-use crate::outputs::Outputs;
+use crate::outputs::{Outputs, sent_by};
 use inp_caps::Caps;
 use inp_device::Device;
 use inp_feedback::{Fed, FeedbackCall};
@@ -59,7 +61,7 @@ impl Udev {
             udev ≡ record { description = caps; kept = []; agains = 0 }) }
     {
         let feedbacks = Vec::with_capacity(alloc, caps.log() as usize)?;
-        let outputs = Box::new(alloc, Outputs::new(alloc, &caps)?)?;
+        let outputs = Box::new(alloc, Outputs::new(alloc)?)?;
         let device = Device::new(alloc, caps)?;
         Ok(Udev {
             device,
@@ -94,9 +96,10 @@ impl Udev {
         ensures accepted { IsHistory self.new.description (steps_in self.new.kept) }
         ensures before { IsHistory self.old.description (steps_in self.old.kept) }
     {
+        let sent = sent_by(&self.device, step);
         let reply = self.device.step(step, out, cells);
         if reply.is_accepted() {
-            self.outputs.note(self.device.caps(), step);
+            self.outputs.keep(sent);
         }
         reply
     }
@@ -117,10 +120,30 @@ impl Udev {
         ensures agains { self.new.agains ≡ self.old.agains }
         ensures accepted { IsHistory self.new.description (steps_in self.new.kept) }
     {
-        let injected = self.device.inject_all(events);
-        let entered = &events[..injected.count as usize];
-        self.outputs.note_all(self.device.caps(), entered);
-        injected
+        let from = self.device.history().len();
+        let room = (self.device.caps().log() as usize).saturating_sub(from);
+        let count = events.len().min(room);
+        for stamped in &events[..count] {
+            self.enter(stamped.event, stamped.now);
+        }
+        Injected {
+            from: from as u32,
+            count: count as u32,
+        }
+    }
+
+    // Injects one event, for which there is room in the history.
+    fn enter(&mut self, event: Event, now: u64)
+        requires moment { now ≤ MOMENT_MAX }
+        requires room { length (steps_in self.old.kept) < self.old.description.log_limit }
+        ensures entered { self.new ≡ record self.old {
+          kept = Made (Inject event now) ∷ self.old.kept;
+        } }
+        ensures accepted { IsHistory self.new.description (steps_in self.new.kept) }
+    {
+        let sent = sent_by(&self.device, Step::Inject { event, now });
+        self.device.enter(event, now);
+        self.outputs.keep(sent);
     }
 
     /// Moves the first of the events that wait for the owner to the front of `out`, as many as fit, and keeps the call. The

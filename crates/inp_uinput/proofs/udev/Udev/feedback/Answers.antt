@@ -14,7 +14,7 @@ use Rattle.inp_feedback.specs.Feedback.{feedback_queue, is_full_of_feedback, tak
 use Rattle.inp_uinput.specs.UdevView.{UdevView}
 use Rattle.inp_feedback.specs.Kept.{kept_of}
 use Rattle.inp_uinput.specs.Keeping.{IsKeptBeside}
-use Rattle.inp_uinput.proofs.Noting.{queue_within}
+use Rattle.inp_uinput.proofs.Waiting.{queue_within}
 use Rattle.inp_uinput.proofs.Udevs.{at_limit, full_answer, full_taken, full_kept, below_limit, some_answer, some_written, some_kept, calls_pushed, beside_fed}
 use Rattle.inp_uinput.proofs.udev.Udev.feedback.Goals as goal
 
@@ -56,7 +56,7 @@ overflow_cast-count c =
     let past = c.self.inside.device.past in
     let calls = reverse c.self.inside.feedbacks.items in
     let room = length c.args.out.now in
-    let waits : c.deref_mut.result.now.waiting ≡ buffer (feedback_queue d (kept_of past calls)) FEEDBACK_MAX = ap (λ (o : Outputs). o.waiting) c.deref_mut.ensures.value ∙ c.self.invariant.outputs.waiting in
+    let waits : c.deref_mut.result.now.waiting ≡ buffer (feedback_queue d (kept_of past calls)) FEEDBACK_MAX = ap (λ (o : Outputs). o.waiting) c.deref_mut.ensures.value ∙ c.self.invariant.waiting in
     let count : c.take-count.result ≡ min room (length (feedback_queue d (kept_of past calls))) = c.take-count.ensures.count ∙ ap (λ (w : Buffer Event). min room (length w.items)) waits in
     let few = queue_within d (kept_of past calls) in
     search rules
@@ -89,7 +89,7 @@ returns-clause-answer c =
     let below : length calls < d.log_limit = omega (arith, length-reverse c.self.inside.feedbacks.items, c.log.ensures.log, ap (λ (d : Description). d.log_limit) c.caps.ensures.description) in
     let some : is_full_of_feedback d (kept_of past calls) ≡ false = below_limit d past calls room below in
     let place : length c.history.result.now ≡ length past = ap length c.history.ensures.history ∙ length-reverse past in
-    let waits : c.deref_mut.result.now.waiting ≡ buffer (feedback_queue d (kept_of past calls)) FEEDBACK_MAX = ap (λ (o : Outputs). o.waiting) c.deref_mut.ensures.value ∙ c.self.invariant.outputs.waiting in
+    let waits : c.deref_mut.result.now.waiting ≡ buffer (feedback_queue d (kept_of past calls)) FEEDBACK_MAX = ap (λ (o : Outputs). o.waiting) c.deref_mut.ensures.value ∙ c.self.invariant.waiting in
     let count : c.take-count.result ≡ min room (length (feedback_queue d (kept_of past calls))) = c.take-count.ensures.count ∙ ap (λ (w : Buffer Event). min room (length w.items)) waits in
     ap (λ at. Took at c.take-count.result) place ∙ some_answer d past calls room c.take-count.result some count ∙ ap (λ (u : UdevView). fed u.description u.kept room) c.self.view_is
 
@@ -101,7 +101,7 @@ returns-clause-written c =
     let room = length c.args.out.now in
     let below : length calls < d.log_limit = omega (arith, length-reverse c.self.inside.feedbacks.items, c.log.ensures.log, ap (λ (d : Description). d.log_limit) c.caps.ensures.description) in
     let some : is_full_of_feedback d (kept_of past calls) ≡ false = below_limit d past calls room below in
-    let waits : c.deref_mut.result.now.waiting ≡ buffer (feedback_queue d (kept_of past calls)) FEEDBACK_MAX = ap (λ (o : Outputs). o.waiting) c.deref_mut.ensures.value ∙ c.self.invariant.outputs.waiting in
+    let waits : c.deref_mut.result.now.waiting ≡ buffer (feedback_queue d (kept_of past calls)) FEEDBACK_MAX = ap (λ (o : Outputs). o.waiting) c.deref_mut.ensures.value ∙ c.self.invariant.waiting in
     let count : c.take-count.result ≡ min room (length (feedback_queue d (kept_of past calls))) = c.take-count.ensures.count ∙ ap (λ (w : Buffer Event). min room (length w.items)) waits in
     c.take-count.ensures.written ∙ ap (λ (w : Buffer Event). take c.take-count.result w.items ++ drop c.take-count.result c.args.out.now) waits
     ∙ some_written d past calls room c.take-count.result c.args.out.now some count ∙ ap (λ (u : UdevView). written (taken_by_feedback u.description u.kept room) c.args.out.now) c.self.view_is
@@ -115,7 +115,7 @@ returns-clause-kept c =
     let below : length calls < d.log_limit = omega (arith, length-reverse c.self.inside.feedbacks.items, c.log.ensures.log, ap (λ (d : Description). d.log_limit) c.caps.ensures.description) in
     let some : is_full_of_feedback d (kept_of past calls) ≡ false = below_limit d past calls room below in
     let place : length c.history.result.now ≡ length past = ap length c.history.ensures.history ∙ length-reverse past in
-    let waits : c.deref_mut.result.now.waiting ≡ buffer (feedback_queue d (kept_of past calls)) FEEDBACK_MAX = ap (λ (o : Outputs). o.waiting) c.deref_mut.ensures.value ∙ c.self.invariant.outputs.waiting in
+    let waits : c.deref_mut.result.now.waiting ≡ buffer (feedback_queue d (kept_of past calls)) FEEDBACK_MAX = ap (λ (o : Outputs). o.waiting) c.deref_mut.ensures.value ∙ c.self.invariant.waiting in
     let count : c.take-count.result ≡ min room (length (feedback_queue d (kept_of past calls))) = c.take-count.ensures.count ∙ ap (λ (w : Buffer Event). min room (length w.items)) waits in
     let call : FeedbackCall = record { at = length c.history.result.now; count = c.take-count.result } in
     let pushed : c.push.new.self.items ≡ c.self.inside.feedbacks.items ++ call ∷ [] = c.push.ensures.items ∙ ap (λ r. if is_ok r then c.self.inside.feedbacks.items ++ call ∷ [] else c.self.inside.feedbacks.items) c.unwrap.ensures in

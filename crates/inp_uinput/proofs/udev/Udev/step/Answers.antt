@@ -1,18 +1,24 @@
-use Rattle.std.proofs.Common.{ap, sym, ◌∙◌, subst, reverse}
+use Rattle.std.proofs.Common.{ap, sym, ◌∙◌, ◌∷◌, if◌then◌else◌, subst, reverse}
 use Rattle.std.specs.Prelude.{vec_capacity}
 use Rattle.inp_model.specs.Reply.{IsDeviceStep}
 use Rattle.inp_model.specs.History.{IsHistory}
 use Rattle.inp_feedback.specs.UEntry.{steps_in, kept_after_step}
 use Rattle.inp_uinput.specs.UdevView.{UdevView}
 use Rattle.inp_feedback.specs.Kept.{kept_of}
-use Rattle.inp_uinput.proofs.Udevs.{step_over, history_over, step_kept, beside_accepted}
+use Rattle.inp_uinput.proofs.Udevs.{step_over, history_over, step_kept, beside_same, beside_made}
 use Rattle.inp_uinput.proofs.udev.Udev.step.Goals as goal
 
 pub invariant_of-self : goal.invariant_of-self
 invariant_of-self c =
-    beside_accepted c.self.inside.device.description c.caps.result.now c.step-reply.new.self.description c.self.inside.device.past c.step-reply.new.self.past (reverse c.self.inside.feedbacks.items) (vec_capacity c.self.inside.feedbacks)
-    c.args.step c.step-reply.result c.self.inside.outputs.value c.deref_mut.result.now c.note.new.self c.self.invariant c.caps.ensures.description c.step-reply.ensures.description c.deref_mut.ensures.value
-    c.step-reply.ensures.step.entered (sym c.is_accepted.ensures.accepted ∙ c.if-is_accepted.true) c.note.ensures.noted
+    let d = c.self.inside.device.description in
+    let past = c.self.inside.device.past in
+    let calls = reverse c.self.inside.feedbacks.items in
+    let room = vec_capacity c.self.inside.feedbacks in
+    let new = c.step-reply.new.self in
+    let entered = c.step-reply.ensures.step.entered ∙ ap (λ b. if b then c.args.step ∷ past else past) (sym c.is_accepted.ensures.accepted ∙ c.if-is_accepted.true) in
+    beside_same d new.description (c.args.step ∷ past) new.past calls room c.keep.new.self c.step-reply.ensures.description entered
+    (beside_made d past calls room c.args.step c.sent_by-sent.result c.self.inside.outputs.value c.deref_mut.result.now c.keep.new.self
+    c.self.invariant c.deref_mut.ensures.value c.sent_by-sent.ensures.sent c.keep.ensures.kept)
 
 pub returns-then-is_accepted-clause-step : goal.returns-then-is_accepted-clause-step
 returns-then-is_accepted-clause-step c =
