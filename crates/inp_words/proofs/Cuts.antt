@@ -37,11 +37,6 @@ other_is_no_text b h k = grind (arith, nat_tests)
 pub printed_are_plain : (line : List ℕ) (from to : ℕ) → ArePrinted line from to → IsPlain line from to
 printed_are_plain line from to printed k le lt = printed_is_plain (get_or line k 0) (printed k le lt)
 
--- printed bytes of a text are those of the line that it begins with
-pub printed_front : (line text : List ℕ) (from to : ℕ) → take (length line) text ≡ line → to ≤ length line → ArePrinted text from to → ArePrinted line from to
-printed_front line text from to front le printed k ge lt =
-    ap (λ (l : List ℕ). is_printed (get_or l k 0)) (sym front) ∙ ap is_printed (get_or-take (length line) text k 0 (omega arith)) ∙ printed k ge lt
-
 -- each byte before a place is text
 abbrev pub AreTextTo : List ℕ → ℕ → Type 0
 AreTextTo line to = (k : ℕ) → k < to → is_text_byte (get_or line k 0) ≡ true

@@ -94,15 +94,25 @@ no_prefix [] h = refl
 no_prefix (a ∷ []) h = grind (arith, nat_tests)
 no_prefix (a ∷ b ∷ word) h = grind (arith, nat_tests)
 
--- so they are a number where their value is at most what it may be
-pub decimal_number : (most : ℕ) (word : List ℕ) → is_numeral 10 word ≡ true → number most word ≡ (if nat_le (value_of 10 word) most then Some (value_of 10 word) else None)
+-- so their value is the number that they are, if it is at most what it may be
+decimal_number : (most : ℕ) (word : List ℕ) → is_numeral 10 word ≡ true → number most word ≡ (if nat_le (value_of 10 word) most then Some (value_of 10 word) else None)
 unfolding number numeral
 decimal_number most [] h = absurd (cc h)
 decimal_number most (b ∷ digits) h = rw (no_prefix (b ∷ digits) h, h) refl
+
+pub decimal_within : (most value : ℕ) (word : List ℕ) → is_numeral 10 word ≡ true → value ≡ value_of 10 word → value ≤ most → Some value ≡ number most word
+decimal_within most value word h is le =
+    let within : nat_le (value_of 10 word) most ≡ true = grind (arith, nat_tests) in
+    sym (decimal_number most word h ∙ rw within (ap (λ (n : ℕ). Some n) (sym is)))
+
+pub decimal_beyond : (most value : ℕ) (word : List ℕ) → is_numeral 10 word ≡ true → value ≡ value_of 10 word → most < value → None ≡ number most word
+decimal_beyond most value word h is lt =
+    let beyond : nat_le (value_of 10 word) most ≡ false = grind (arith, nat_tests) in
+    sym (decimal_number most word h ∙ rw beyond refl)
 
 -- a decimal digit more has room where there are few
 pub digit_more : (i value digit : ℕ) → i < 19 → value < 10 ^ i → digit ≤ 9 → (value * 10 + digit < 10 ^ (i + 1)) × (value * 10 + digit < 2 ^ 64)
 digit_more i value digit few small h =
     let next : 10 ^ (i + 1) ≡ 10 * 10 ^ i = ap (λ (k : ℕ). 10 ^ k) (add-one i) ∙ pow-succ' 10 i in
-    let most : 10 ^ (i + 1) ≤ 10 ^ 19 = pow-le-pow_right (omega arith) (omega arith) in
+    let most : 10 ^ (i + 1) ≤ 10 ^ 19 = pow-le-pow_right {n = 10} (omega arith) {i = i + 1} {j = 19} (omega arith) in
     (omega (arith, next), omega (arith, next, most))

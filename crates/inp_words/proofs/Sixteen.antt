@@ -1,5 +1,5 @@
 -- From lanes to the bytes of a line.
-use Rattle.std.proofs.Common.{◌≡◌, ◌≤◌, ◌<◌, ◌+◌, ◌-◌, ◌%◌, ◌^◌, cond, leb, map, replicate, w8, ℕ, true, false, not, List, length, get_or, arith, ap, ◌∙◌}
+use Rattle.std.proofs.Common.{◌≡◌, ◌≤◌, ◌<◌, ◌+◌, ◌-◌, ◌%◌, ◌^◌, cond, leb, map, replicate, w8, ℕ, Bool, true, false, not, List, length, get_or, arith, ap, ◌∙◌}
 use Rattle.std.specs.List.{prefix_len}
 use lib.Lanes.{chunk, mask_l, top, zip2}
 use mir.Val.{bits, hbits, Fits}

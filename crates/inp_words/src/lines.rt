@@ -64,7 +64,7 @@ fn is_printed(byte: u8) -> bool
 /// line is the front of a text, of which 16 bytes are looked at also where the line ends before.
 #[inline(always)]
 fn piece_end(line: &[u8], text: &[u8], from: usize) -> usize
-    requires { from ≤ length line.now }
+    requires within { from ≤ length line.now }
     requires front { take (length line.now) text.now ≡ line.now }
     ensures after { from ≤ result }
     ensures within { result ≤ length line.now }
