@@ -32,7 +32,7 @@ returns-then-end-rest c =
     let more = read_more all (lines_of c.lines.rest.now) [] c.lines.line past bytes alone c.lines.invariant.read.2 in
     let means = rw c.strip_carriage_return-bytes.ensures.stripped at (c.read_line.ensures.behind past c.lines.invariant.read.1) in
     all_read all (c.lines.line + 1) c.read_line.new.context (counted_more all (lines_of c.lines.rest.now) [] c.lines.line bytes alone c.lines.invariant.counted)
-    (more_read all [] c.lines.line (behind_line past bytes) c.in_default.field-0 c.read_line.new.context more (rw c.in_default.is at means))
+    (more_read all [] c.lines.line (behind_line past bytes) c.in_default-read_line.field-0 c.read_line.new.context more (rw c.in_default-read_line.is at means))
 
 pub read_line-requires-clause-front : goal.read_line-requires-clause-front
 read_line-requires-clause-front c =
@@ -56,5 +56,5 @@ lines-preserved c =
       counted = counted_more all (lines_of rest) left c.lines.line bytes next c.lines.invariant.counted;
       room = search rules;
       actors = search rules;
-      read = more_read all left c.lines.line (behind_line past bytes) c.in_default.field-0 c.read_line.new.context more (rw c.in_default.is at means);
+      read = more_read all left c.lines.line (behind_line past bytes) c.in_default-read_line.field-0 c.read_line.new.context more (rw c.in_default-read_line.is at means);
     }
