@@ -1,7 +1,6 @@
 -- Rows with a name before its number.
-use Rattle.std.specs.Prelude.{◌≡◌, ℕ, ◌<◌, List, true, length, map, get_or}
+use Rattle.std.specs.Prelude.{◌≡◌, ℕ, ◌<◌, List, length, map, get_or, Some}
 use Rattle.std.specs.Borrow.{Bor}
-use Rattle.std.specs.Str.{bytes_eq}
 use Rattle.inp_codes.specs.Table.{NamedNumber, number_in}
 
 module _ {N : Type 0} where
@@ -9,10 +8,9 @@ module _ {N : Type 0} where
   abbrev pub row_entries : List (Bor (List ℕ) × N) → List (NamedNumber N)
   row_entries rows = map (λ row. (row.1, row.0.now)) rows
 
-  -- no row but the one at this place has the name
-  abbrev pub IsNowhereBut : List (Bor (List ℕ) × N) → List ℕ → ℕ → Type 0
-  IsNowhereBut rows name place =
-      (k : ℕ) (d : Bor (List ℕ) × N) → k < length rows → bytes_eq (get_or rows k d).0.now name ≡ true → k ≡ place
+  -- each row has the number that the rows give its name
+  pub record GiveOwnNumbers (rows : List (Bor (List ℕ) × N)) : Type 0 where
+    pub own : (k : ℕ) (d : Bor (List ℕ) × N) → k < length rows → number_in (row_entries rows) (get_or rows k d).0.now ≡ Some (get_or rows k d).1
 
   -- the rows give each name the number that the entries give it
   pub record AreRowsOf (rows : List (Bor (List ℕ) × N)) (entries : List (NamedNumber N)) : Type 0 where

@@ -2,5 +2,4 @@ pub mod ByName
 pub mod ByNumber
 pub mod CodeNames
 pub mod KindNames
-pub mod Slot
 pub mod Table

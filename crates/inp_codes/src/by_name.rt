@@ -1,6 +1,6 @@
 //! Rows with a name before its number.
 ghost use Rattle.std.specs.Prelude.{◌≡◌};
-ghost use Rattle.inp_codes.specs.ByName.{row_entries, IsNowhereBut};
+ghost use Rattle.inp_codes.specs.ByName.{row_entries, GiveOwnNumbers};
 ghost use Rattle.inp_codes.specs.Table.{number_in};
 
 /// An array of the rows `NAME = number`, each a pair of the name's text and the number.
@@ -25,15 +25,17 @@ pub(crate) fn find_number<N: Copy>(rows: &[(&'static str, N)], name: &[u8]) -> O
     None
 }
 
-/// The number in the row at `place`, if it has `name`. No other row may have it.
+/// The number of `name`, whose row is looked for at `place` first, and else among all rows. Where it stands at `place`
+/// this takes one comparison.
 pub(crate) fn number_at<N: Copy>(rows: &[(&'static str, N)], place: usize, name: &[u8]) -> Option<N>
-    requires { IsNowhereBut rows.now name.now place }
+    requires { GiveOwnNumbers rows.now }
     ensures { result ≡ number_in (row_entries rows.now) name.now }
 {
-    let &(text, number) = rows.get(place)?;
-    if text.as_bytes() == name {
-        Some(number)
-    } else {
-        None
+    if place < rows.len() {
+        let (text, number) = rows[place];
+        if text.as_bytes() == name {
+            return Some(number);
+        }
     }
+    find_number(rows, name)
 }

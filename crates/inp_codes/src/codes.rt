@@ -1,5 +1,6 @@
 //! The codes of event types and their names.
-ghost use Rattle.std.specs.Prelude.{◌≡◌, option_copied};
+ghost use Rattle.std.specs.Prelude.{◌≡◌, slice_index_or, option_copied};
+ghost use Rattle.std.specs.Char.{is_ascii_uppercase};
 ghost use Rattle.inp_codes.specs.ByNumber.{texts, names_by_number};
 ghost use Rattle.inp_codes.specs.CodeNames.{name_of, code_of, codes_of_kind};
 
@@ -43,7 +44,21 @@ pub fn code_of(text: &str) -> Option<(u16, u16)>
 pub fn code_named(name: &[u8]) -> Option<(u16, u16)>
     ensures code { result ≡ code_of name.now }
 {
-    number_at(code_rows(), name_slot(name), name)
+    if begins_name(name) {
+        number_at(code_rows(), name_slot(name), name)
+    } else {
+        None
+    }
+}
+
+/// Whether the first byte is an upper-case letter, as that of each name. A number is no name at one look.
+fn begins_name(word: &[u8]) -> bool
+    ensures { result ≡ is_ascii_uppercase (slice_index_or word.now 0 0) }
+{
+    match word {
+        [first, ..] => first.is_ascii_uppercase(),
+        [] => false,
+    }
 }
 
 /// The names of the codes of `kind`, at their codes.

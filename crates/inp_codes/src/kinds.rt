@@ -1,10 +1,10 @@
 //! The event types and their names.
 ghost use Rattle.std.specs.Prelude.{◌≡◌, option_copied};
-ghost use Rattle.inp_codes.specs.ByName.{AreRowsOf};
+ghost use Rattle.inp_codes.specs.ByName.{AreRowsOf, GiveOwnNumbers};
 ghost use Rattle.inp_codes.specs.ByNumber.{texts, names_by_number};
 ghost use Rattle.inp_codes.specs.KindNames.{kind_entries, kind_name, kind_of};
 
-use crate::by_name::{find_number, rows};
+use crate::by_name::{number_at, rows};
 use crate::by_number::{name_at, names};
 
 // The event types, by the names that the header has for them.
@@ -37,7 +37,7 @@ pub fn kind_name(kind: u16) -> Option<&'static str>
 
 /// The event type whose name is `text`, as 1 for `EV_KEY`; `None` where the table has no such name.
 ///
-/// The whole text is compared, byte by byte: case counts, and nothing is trimmed. The names are tried one by one.
+/// The whole text is compared, byte by byte: case counts, and nothing is trimmed. One look at a slot.
 pub fn kind_of(text: &str) -> Option<u16>
     ensures kind { result ≡ kind_of text.now }
 {
@@ -48,7 +48,7 @@ pub fn kind_of(text: &str) -> Option<u16>
 pub fn kind_named(name: &[u8]) -> Option<u16>
     ensures kind { result ≡ kind_of name.now }
 {
-    find_number(kind_rows(), name)
+    number_at(kind_rows(), kind_slot(name), name)
 }
 
 /// The names of event types, at their numbers.
@@ -70,20 +70,30 @@ fn kind_names() -> &'static [&'static str]
     &NAMES
 }
 
-/// Each name with its event type, those of most events first.
+/// The slot of a type's name, made of its last two letters. Each type has one of its own. No answer rests on that: see
+/// `number_at`.
+fn kind_slot(name: &[u8]) -> usize {
+    match name {
+        [.., before, last] => (usize::from(*before) * 27 + usize::from(*last) * 6) / 16 % 9,
+        _ => 0,
+    }
+}
+
+/// Each name with its event type, in the order of the slots of the names.
 fn kind_rows() -> &'static [(&'static str, u16)]
-    ensures { AreRowsOf result.now kind_entries }
+    ensures numbers { AreRowsOf result.now kind_entries }
+    ensures own { GiveOwnNumbers result.now }
 {
     static ROWS: [(&str, u16); 9] = rows![
-        EV_SYN = EV_SYN,
-        EV_KEY = EV_KEY,
-        EV_ABS = EV_ABS,
         EV_REL = EV_REL,
-        EV_MSC = EV_MSC,
         EV_SW = EV_SW,
-        EV_LED = EV_LED,
-        EV_SND = EV_SND,
         EV_REP = EV_REP,
+        EV_MSC = EV_MSC,
+        EV_SND = EV_SND,
+        EV_KEY = EV_KEY,
+        EV_LED = EV_LED,
+        EV_ABS = EV_ABS,
+        EV_SYN = EV_SYN,
     ];
     &ROWS
 }

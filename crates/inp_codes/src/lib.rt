@@ -17,8 +17,9 @@
 //! `codes_are_one_to_one` say that the look-ups are inverse, so that a name that was written is read
 //! back, and that each name is a word of upper-case letters, digits and underscores.
 //!
-//! A look-up by number reads one place of an array; one by a code's name hashes the name and compares it with
-//! one row. No call needs memory or can fail otherwise than by `None`. The crate stands on `std` alone.
+//! A look-up by number reads one place of an array; one by a name compares it with the row at its slot, and
+//! walks over the rows where that has another name, which no name of the table needs. No call needs memory or
+//! can fail otherwise than by `None`. The crate stands on `std` alone.
 #![tactic(auto)]
 
 mod by_name;

@@ -7,6 +7,7 @@ pub mod Computing
 pub mod DescriptionAgain
 pub mod DescriptionLines
 pub mod Entries
+pub mod EventLines
 pub mod FieldFits
 pub mod Fields
 pub mod Good

@@ -153,7 +153,7 @@ do_keyword name version commands.Uninhibit = refl
 do_keyword name version does = refl
 
 -- a row that the role has is found
-verb_read : (stream : ℕ) (r : role.Role) (v : verb.Verb) (count : ℕ) → is_verb_of r v ≡ true → argument_count v ≡ count → verb_of r (command_row stream r v).word count ≡ Some v
+pub verb_read : (stream : ℕ) (r : role.Role) (v : verb.Verb) (count : ℕ) → is_verb_of r v ≡ true → argument_count v ≡ count → verb_of r (command_row stream r v).word count ≡ Some v
 unfolding verb_of
 verb_read stream r v count h k =
     let same : nat_eq (argument_count v) count ≡ true = grind (arith, nat_tests) in

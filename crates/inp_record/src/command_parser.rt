@@ -1,5 +1,5 @@
 //! The commands of action lines.
-ghost use Rattle.std.specs.Prelude.{◌≡◌, ◌+◌, ◌<◌, ◌≤◌, ◌^◌, length, IfOk, true, false};
+ghost use Rattle.std.specs.Prelude.{◌≡◌, ◌+◌, ◌<◌, ◌≤◌, ◌^◌, length, IfOk, IfSome, true, false};
 ghost use Rattle.inp_model.specs.declared.stamped.TheConstants.{MOMENT_MAX};
 ghost use Rattle.inp_actors.specs.declared.command.TheConstants.{READ_MAX};
 ghost use Rattle.inp_actors.specs.declared.role.Role.TheVariants.{Source, Client};
@@ -8,6 +8,7 @@ ghost use Rattle.inp_words.specs.Number.{number};
 ghost use Rattle.inp_record.specs.Fault.{IsReading};
 ghost use Rattle.inp_record.specs.declared.verb.Verb.TheVariants.{Event, Write, Mask, Clock, SetAxis};
 ghost use Rattle.inp_record.specs.Field.{field_word, Positive};
+ghost use Rattle.inp_record.specs.Past.{is_later, streams_in};
 ghost use Rattle.inp_record.specs.Verb.{argument_count, count_max, is_stream};
 ghost use Rattle.inp_codes.specs.ByNumber.{texts};
 ghost use Rattle.inp_record.specs.Words.{command_of, actor_from, action_item};
@@ -41,9 +42,11 @@ fn some_word(word: &[u8]) -> Option<u32>
 
 /// An event that a source injects.
 #[tactic(auto, unfolding(crate::specs::Words::command_of, crate::specs::Verb::command_row))]
-fn event_command(words: &[&[u8]]) -> Option<Command>
+pub(crate) fn event_command(words: &[&[u8]]) -> Option<Command>
     requires { 7 ≤ length words.now }
-    ensures { result ≡ command_of 0 Source Event (texts words.now) }
+    ensures command { result ≡ command_of 0 Source Event (texts words.now) }
+    ensures version { IfSome result (λ command. is_later command ≡ false) }
+    ensures streams { IfSome result (λ command. streams_in command ≡ 0) }
 {
     let moment = moment_word(word(words, 3))?;
     let kind = kind_word(word(words, 4))?;
@@ -239,7 +242,7 @@ fn command_of(
 
 /// The number of the actor with this name, and its role.
 #[tactic(auto, unfolding(crate::specs::Words::actor_from))]
-fn actor_named(actors: &[ActorText], name: &[u8]) -> Option<(u32, Role)>
+pub(crate) fn actor_named(actors: &[ActorText], name: &[u8]) -> Option<(u32, Role)>
     requires { length actors.now < 2 ^ 32 }
     ensures { result ≡ actor_from 0 actors.now name.now }
 {

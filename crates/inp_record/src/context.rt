@@ -94,8 +94,9 @@ pub(crate) struct Context {
 }
 
 impl Context {
-    /// Before the first line.
-    pub(crate) fn new(alloc: Global) -> Context
+    /// Before the first line, with an empty list for the action lines.
+    pub(crate) fn new(alloc: Global, lines: Lines) -> Context
+        requires empty { lines ≡ [] }
         ensures context { result ≡ context_of [] }
         ensures room { IsWithinCounts result }
     {
@@ -111,7 +112,7 @@ impl Context {
             owners: 0,
             devices: Items::new(alloc),
             actors: Items::new(alloc),
-            lines: Items::new(alloc),
+            lines,
             streams: 0,
         }
     }
@@ -348,7 +349,7 @@ impl Context {
     }
 
     /// Adds an action.
-    fn add_line(&mut self, actor: u32, command: Command) -> Result<(), LineFault>
+    pub(crate) fn add_line(&mut self, actor: u32, command: Command) -> Result<(), LineFault>
         requires room { IsWithinCounts self.old }
         requires enough { is_too_many self.old (items.Action actor command) ≡ false }
         ensures entered { (past : Past) → self.old ≡ context_of past

@@ -1,22 +1,24 @@
 //! Reading one line.
-ghost use Rattle.std.specs.Prelude.{◌≡◌, ◌+◌, ◌<◌, ◌≤◌, ◌^◌, length, true, OnOk, IfSome};
+ghost use Rattle.std.specs.Prelude.{◌≡◌, ◌+◌, ◌<◌, ◌≤◌, ◌^◌, length, take, true, OnOk, IfSome};
+ghost use Rattle.inp_actors.specs.declared.role.Role.TheVariants as roles;
 ghost use Rattle.inp_words.specs.Line.{AreText};
 ghost use Rattle.inp_record.specs.Fault.{IsReading};
 ghost use Rattle.inp_record.specs.Keyword.{has_words, keyword_of};
 ghost use Rattle.inp_codes.specs.ByNumber.{texts};
-ghost use Rattle.inp_record.specs.Words.{word, item_of};
+ghost use Rattle.inp_record.specs.declared.verb.Verb.TheVariants as verbs;
+ghost use Rattle.inp_record.specs.Words.{word, action_of, command_of, item_of};
 ghost use Rattle.inp_record.specs.Past.{Past, context_of, IsWithinCounts};
 ghost use Rattle.inp_record.specs.Meaning.{item_of_words, behind_words, behind_line, IsBehind};
 
 use crate::Cause;
-use crate::command_parser::action_item;
+use crate::command_parser::{action_item, actor_named, event_command};
 use crate::context::Context;
 use crate::item::Item;
 use crate::item_parser::{is_header, plain_item, word};
 use crate::keyword::{Keyword, keyword_of};
 use crate::line_fault::LineFault;
 use crate::place::{Place, is_out_of_place};
-use inp_actors::ActorText;
+use inp_actors::{ActorText, Role};
 use inp_caps::CapsRefused;
 use inp_words::{is_comment, text_words};
 use std::alloc::Global;
@@ -95,7 +97,43 @@ fn item_of_words(context: &Context, alloc: Global, words: &[&[u8]]) -> Result<It
     )
 }
 
-/// Reads the words of a line.
+/// The source whose event a line injects, by its words, where it is such a line.
+fn event_source(context: &Context, words: &[&[u8]]) -> Option<u32>
+    requires actors { length context.now.actors < 2 ^ 32 }
+    ensures words { IfSome result (λ source. length words.now ≡ 7) }
+    ensures item { IfSome result (λ source. item_of_words context.now (texts words.now)
+        ≡ action_of source (command_of 0 roles.Source verbs.Event (texts words.now))) }
+{
+    if context.place == Place::Start || words.len() != 7 {
+        return None;
+    }
+    if word(words, 0) != b"do".as_slice() || word(words, 2) != b"event".as_slice() {
+        return None;
+    }
+    match actor_named(context.actors.as_slice(), word(words, 1)) {
+        Some((source, Role::Source)) => Some(source),
+        _ => None,
+    }
+}
+
+/// Reads a line by which this source injects an event. It is of each version, and never one too many.
+fn read_event(context: &mut Context, source: u32, words: &[&[u8]]) -> Result<(), LineFault>
+    requires room { IsWithinCounts context.old }
+    requires words { length words.now ≡ 7 }
+    requires item { item_of_words context.old (texts words.now)
+        ≡ action_of source (command_of 0 roles.Source verbs.Event (texts words.now)) }
+    ensures behind { (past : Past) → context.old ≡ context_of past
+        → IsBehind result (behind_words past (texts words.now)) context.new }
+    ensures room { OnOk result (IsWithinCounts context.new) }
+    ensures actors { OnOk result (context.new.actors ≡ context.old.actors) }
+{
+    match event_command(words) {
+        Some(command) => context.add_line(source, command),
+        None => Err(LineFault::Refused(Cause::BadWord)),
+    }
+}
+
+/// Reads the words of a line. Most lines inject an event.
 fn read_words(context: &mut Context, alloc: Global, words: &[&[u8]]) -> Result<(), LineFault>
     requires room { IsWithinCounts context.old }
     requires actors { length context.old.actors + 1 < 2 ^ 32 }
@@ -108,6 +146,9 @@ fn read_words(context: &mut Context, alloc: Global, words: &[&[u8]]) -> Result<(
 {
     if words.is_empty() {
         return Ok(());
+    }
+    if let Some(source) = event_source(context, words) {
+        return read_event(context, source, words);
     }
     let item = item_of_words(context, alloc, words)?;
     if context.is_later_command(&item) {
@@ -125,14 +166,17 @@ fn read_words(context: &mut Context, alloc: Global, words: &[&[u8]]) -> Result<(
     context.enter(alloc, item)
 }
 
-/// Reads a line. After a fault the context is given up. The list is lent for the words of the line.
+/// Reads a line, which is the front of a text. After a fault the context is given up. The list is lent for the words of the
+/// line.
 #[tactic(auto, unfolding(crate::specs::Meaning::behind_line))]
 pub(crate) fn read_line<'a>(
     context: &mut Context,
     alloc: Global,
     list: &mut Vec<&'a [u8]>,
     line: &'a [u8],
+    text: &[u8],
 ) -> Result<(), LineFault>
+    requires front { take (length line.now) text.now ≡ line.now }
     requires room { IsWithinCounts context.old }
     requires actors { length context.old.actors + 1 < 2 ^ 32 }
     ensures behind { (past : Past) → context.old ≡ context_of past
@@ -144,7 +188,7 @@ pub(crate) fn read_line<'a>(
     if is_comment(line) {
         return Ok(());
     }
-    match text_words(line, list) {
+    match text_words(line, text, list) {
         Ok(true) => read_words(context, alloc, list.as_slice()),
         Ok(false) => Err(LineFault::Refused(Cause::NotText)),
         Err(_) => Err(LineFault::NoMemory),

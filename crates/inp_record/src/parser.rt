@@ -11,15 +11,22 @@ use crate::line_parser::read_line;
 use crate::place::Place;
 use crate::{Cause, ParseFault, Refused};
 use inp_actors::Record;
+use inp_model::Items;
 use inp_words::{line_end, strip_carriage_return};
 use std::alloc::Global;
+
+/// A text has room for the lines of a record asked for at once where its lines have so many bytes.
+const LINE_LEN: usize = 32;
 
 /// Reads all lines, and counts them. One list takes the words of each line.
 fn read_lines(alloc: Global, text: &[u8]) -> Result<(Context, u32), ParseFault>
     requires few { length (lines_of text.now) < 2 ^ 32 }
     ensures { AreLinesRead result (lines_of text.now) }
 {
-    let mut context = Context::new(alloc);
+    let Ok(lines) = Vec::with_capacity(alloc, text.len() / LINE_LEN) else {
+        return Err(ParseFault::NoMemory);
+    };
+    let mut context = Context::new(alloc, Items::of(lines));
     let mut words = Vec::new(alloc);
     let mut line: u32 = 0;
     let mut rest = text;
@@ -27,7 +34,7 @@ fn read_lines(alloc: Global, text: &[u8]) -> Result<(Context, u32), ParseFault>
         let end = line_end(rest);
         line += 1;
         let bytes = strip_carriage_return(&rest[..end]);
-        if let Err(fault) = read_line(&mut context, alloc, &mut words, bytes) {
+        if let Err(fault) = read_line(&mut context, alloc, &mut words, bytes, rest) {
             return Err(fault.at(line));
         }
         if end == rest.len() {

@@ -1,7 +1,7 @@
 -- Numbers, digit by digit.
-use Rattle.std.proofs.Common.{◌≡◌, ℕ, ◌+◌, ◌-◌, ◌*◌, ◌<◌, ◌≤◌, ◌≢◌, ◌&&◌, nat_eq, ◌^◌, pos, neg_ℤ, option_map, Bool, true, false, if◌then◌else◌, nat_le, List, [], ◌∷◌, ◌++◌, length, get_or, take, drop, fold, Some, None, sym, ap, refl, arith, cond}
+use Rattle.std.proofs.Common.{◌≡◌, ℕ, ◌+◌, ◌-◌, ◌*◌, ◌<◌, ◌≤◌, ◌≢◌, ◌&&◌, nat_eq, ◌^◌, pos, neg_ℤ, option_map, Bool, true, false, if◌then◌else◌, nat_le, List, [], ◌∷◌, ◌++◌, length, get_or, take, drop, fold, Some, None, sym, ap, ◌∙◌, refl, arith, cond, add-one}
 use Rattle.std.specs.List.{list_all}
-use Rattle.std.proofs.Math.Nat.{mul-le-mul_right}
+use Rattle.std.proofs.Math.Nat.{mul-le-mul_right, pow-succ', pow-le-pow_right}
 use Rattle.std.proofs.lemmas.List.{take-append-drop, take_all}
 use Rattle.std.proofs.lemmas.List.Folds.{list_all_at}
 use Rattle.std.proofs.lemmas.List.Sums.{fold-append, fold_more}
@@ -87,3 +87,32 @@ number_within most word n e = by_prefix (is_hexadecimal word) e
     by_prefix : (hexadecimal : Bool) → (if hexadecimal then numeral 16 most (drop 2 word) else numeral 10 most word) ≡ Some n → nat_le n most ≡ true
     by_prefix true e = numeral_within 16 most (drop 2 word) n e
     by_prefix false e = numeral_within 10 most word n e
+
+-- decimal digits do not begin with 0x
+no_prefix : (word : List ℕ) → list_all (is_digit 10) word ≡ true → is_hexadecimal word ≡ false
+no_prefix [] h = refl
+no_prefix (a ∷ []) h = grind (arith, nat_tests)
+no_prefix (a ∷ b ∷ word) h = grind (arith, nat_tests)
+
+-- so their value is the number that they are, if it is at most what it may be
+decimal_number : (most : ℕ) (word : List ℕ) → is_numeral 10 word ≡ true → number most word ≡ (if nat_le (value_of 10 word) most then Some (value_of 10 word) else None)
+unfolding number numeral
+decimal_number most [] h = absurd (cc h)
+decimal_number most (b ∷ digits) h = rw (no_prefix (b ∷ digits) h, h) refl
+
+pub decimal_within : (most value : ℕ) (word : List ℕ) → is_numeral 10 word ≡ true → value ≡ value_of 10 word → value ≤ most → Some value ≡ number most word
+decimal_within most value word h is le =
+    let within : nat_le (value_of 10 word) most ≡ true = grind (arith, nat_tests) in
+    sym (decimal_number most word h ∙ rw within (ap (λ (n : ℕ). Some n) (sym is)))
+
+pub decimal_beyond : (most value : ℕ) (word : List ℕ) → is_numeral 10 word ≡ true → value ≡ value_of 10 word → most < value → None ≡ number most word
+decimal_beyond most value word h is lt =
+    let beyond : nat_le (value_of 10 word) most ≡ false = grind (arith, nat_tests) in
+    sym (decimal_number most word h ∙ rw beyond refl)
+
+-- a decimal digit more has room where there are few
+pub digit_more : (i value digit : ℕ) → i < 19 → value < 10 ^ i → digit ≤ 9 → (value * 10 + digit < 10 ^ (i + 1)) × (value * 10 + digit < 2 ^ 64)
+digit_more i value digit few small h =
+    let next : 10 ^ (i + 1) ≡ 10 * 10 ^ i = ap (λ (k : ℕ). 10 ^ k) (add-one i) ∙ pow-succ' 10 i in
+    let most : 10 ^ (i + 1) ≤ 10 ^ 19 = pow-le-pow_right {n = 10} (omega arith) {i = i + 1} {j = 19} (omega arith) in
+    (omega (arith, next), omega (arith, next, most))

@@ -2,8 +2,7 @@
 //!
 //! | Call | Gives |
 //! |---|---|
-//! | `words(alloc, b"do  s tick 0x10")` | the words `do`, `s`, `tick` and `0x10` |
-//! | `text_words(b"do s open", &mut list)` | `true`, and the list has the words `do`, `s` and `open` |
+//! | `text_words(b"do  s open", b"do  s open\n", &mut list)` | `true`, and the list has the words `do`, `s` and `open` |
 //! | `number(b"0x10", 99)` | `Some(16)` |
 //! | `signed_number(b"-0x10")` | `Some(-16)` |
 //! | `kind_word(b"EV_KEY")`, `kind_word(b"1")` | `Some(1)` |
@@ -14,7 +13,7 @@
 //!
 //! Its contract: each call answers as the definition of its form in `specs/` says; [`examples`] shows what these say:
 //! of numbers at their bounds in both bases, of codes by name and by number, and of how lines and words are cut.
-//! [`words`] takes memory, and [`text_words`] where the list that it is lent has no room.
+//! [`text_words`] takes memory where the list that it is lent has no room.
 #![tactic(auto)]
 
 mod codes;
@@ -25,9 +24,7 @@ mod table;
 mod word_examples;
 
 pub use codes::{code_word, kind_word};
-pub use lines::{
-    first_word, is_comment, is_text, line_end, strip_carriage_return, text_words, words,
-};
+pub use lines::{first_word, is_comment, line_end, strip_carriage_return, text_words};
 pub use numbers::{number, signed_number};
 pub use table::named;
 pub use word_examples::examples;

@@ -7,7 +7,6 @@ ghost use Rattle.inp_words.specs.Line.{is_blank, is_comment, is_line_feed, is_pr
 use crate::lanes::printed_lanes;
 use inp_model::NoMemory;
 use memchr::memchr;
-use std::alloc::Global;
 
 /// Where the first line of a text ends: at its first line feed, or at the end of the text.
 #[inline]
@@ -23,8 +22,11 @@ pub fn line_end(text: &[u8]) -> usize
 }
 
 /// A line without the carriage return at its end, where it has one. A second one stays.
+#[inline]
 pub fn strip_carriage_return(line: &[u8]) -> &[u8]
     ensures stripped { result.now ≡ strip_carriage_return line.now }
+    ensures front { take (length result.now) line.now ≡ result.now }
+    ensures within { length result.now ≤ length line.now }
 {
     match line {
         [front @ .., b'\r'] => front,
@@ -51,25 +53,6 @@ pub fn is_comment(line: &[u8]) -> bool
     false
 }
 
-/// Whether a line has tabs and printable ASCII characters alone.
-pub fn is_text(line: &[u8]) -> bool
-    ensures text { result ≡ is_text line.now }
-{
-    line.iter()
-        .all(|byte| *byte == b'\t' || (32 <= *byte && *byte <= 126))
-}
-
-/// The words of a line. It takes memory for their list.
-pub fn words(alloc: Global, line: &[u8]) -> Result<Vec<&[u8]>, NoMemory>
-    ensures words { IfOk result (λ list. map (λ word. word.now) list.items ≡ words_of line.now) }
-{
-    Ok(
-        line.split(|byte| *byte == b' ' || *byte == b'\t')
-            .filter(|piece| !piece.is_empty())
-            .collect(alloc)?,
-    )
-}
-
 /// Whether a byte is printable ASCII and no space.
 fn is_printed(byte: u8) -> bool
     ensures { result ≡ is_printed byte }
@@ -77,17 +60,20 @@ fn is_printed(byte: u8) -> bool
     33 <= byte && byte <= 126
 }
 
-/// Where the first byte from a place on stands that is not printed; the line's length where there is none.
-fn piece_end(line: &[u8], from: usize) -> usize
-    requires { from ≤ length line.now }
+/// Where the first byte of a line from a place on stands that is not printed; the line's length where there is none. The
+/// line is the front of a text, of which 16 bytes are looked at also where the line ends before.
+#[inline(always)]
+fn piece_end(line: &[u8], text: &[u8], from: usize) -> usize
+    requires within { from ≤ length line.now }
+    requires front { take (length line.now) text.now ≡ line.now }
     ensures after { from ≤ result }
     ensures within { result ≤ length line.now }
     ensures printed { ArePrinted line.now from result }
     ensures other { result < length line.now → is_printed (slice_index_or line.now result 0) ≡ false }
 {
     let mut place = from;
-    if line.len() - from >= 16 {
-        place = from + printed_lanes(line, from);
+    if text.len() - from >= 16 {
+        place = line.len().min(from + printed_lanes(text, from));
         if place < from + 16 {
             return place;
         }
@@ -116,9 +102,14 @@ fn add_piece<'a>(
     Ok(())
 }
 
-/// Whether a line is text; then its words are what the list has, in place of what it had. It takes memory where the list
-/// has no room for them.
-pub fn text_words<'a>(line: &'a [u8], list: &mut Vec<&'a [u8]>) -> Result<bool, NoMemory>
+/// Whether a line, which is the front of a text, is text; then its words are what the list has, in place of what it had. It
+/// takes memory where the list has no room for them.
+pub fn text_words<'a>(
+    line: &'a [u8],
+    text: &[u8],
+    list: &mut Vec<&'a [u8]>,
+) -> Result<bool, NoMemory>
+    requires front { take (length line.now) text.now ≡ line.now }
     ensures text { IfOk result (λ text. text ≡ is_text line.now) }
     ensures words { IfOk result (λ text. text ≡ true
         → map (λ word. word.now) list.new.items ≡ words_of line.now) }
@@ -126,7 +117,7 @@ pub fn text_words<'a>(line: &'a [u8], list: &mut Vec<&'a [u8]>) -> Result<bool, 
     list.clear();
     let mut from = 0;
     'pieces: loop {
-        let end = piece_end(line, from);
+        let end = piece_end(line, text, from);
         add_piece(line, from, end, list)?;
         if end == line.len() {
             return Ok(true);

@@ -1,7 +1,7 @@
 //! Words that are numbers.
-ghost use Rattle.std.specs.Prelude.{◌≡◌, ◌≤◌, IfSome, length};
+ghost use Rattle.std.specs.Prelude.{◌≡◌, ◌≤◌, true, IfSome, length};
 ghost use Rattle.std.specs.Bool.{OnTrue};
-ghost use Rattle.inp_words.specs.Number.{digit_of, is_hexadecimal, numeral, number, signed_number};
+ghost use Rattle.inp_words.specs.Number.{digit_of, value_of, is_numeral, is_hexadecimal, numeral, number, signed_number};
 
 /// What a digit of base 16 is worth, and 16 for any other byte.
 #[inline(always)]
@@ -38,31 +38,31 @@ fn numeral(base: u8, digits: &[u8], most: u64) -> Option<u64>
     if value <= most { Some(value) } else { None }
 }
 
-/// The greatest number that has room for a digit more in 64 bits, whichever it is.
-const ROOMY: u64 = 1_844_674_407_370_955_160;
+/// So many decimal digits have room in 64 bits, whichever they are.
+const ROOMY: usize = 19;
 
-const _: () = prove!(ROOMY == (u64::MAX - 9) / 10);
+const _: () = prove!(9_999_999_999_999_999_999 < u64::MAX);
 
-/// The same for decimal digits. What has no room in this loop, or is no number, is read the long way.
-fn decimal(digits: &[u8], most: u64) -> Option<u64>
-    ensures value { result ≡ numeral 10 most digits.now }
-    ensures bound { IfSome result (λ value. value ≤ most) }
+/// The value of decimal digits, of which there is one or more, unless there are more than have room in any case.
+#[inline(always)]
+fn decimal(digits: &[u8]) -> Option<u64>
+    ensures digits { IfSome result (λ value. is_numeral 10 digits.now ≡ true) }
+    ensures value { IfSome result (λ value. value ≡ value_of 10 digits.now) }
 {
-    if digits.is_empty() {
+    if digits.is_empty() || digits.len() > ROOMY {
         return None;
     }
     let mut value: u64 = 0;
     for byte in digits {
-        if *byte < b'0' || b'9' < *byte || ROOMY < value {
-            return numeral(10, digits, most);
+        if *byte < b'0' || b'9' < *byte {
+            return None;
         }
         value = value * 10 + u64::from(*byte - b'0');
     }
-    if value <= most { Some(value) } else { None }
+    Some(value)
 }
 
 /// Whether a word begins with `0x`.
-#[inline(always)]
 fn is_hexadecimal(word: &[u8]) -> bool
     ensures prefix { result ≡ is_hexadecimal word.now }
     ensures room { OnTrue result (2 ≤ length word.now) }
@@ -70,17 +70,29 @@ fn is_hexadecimal(word: &[u8]) -> bool
     word.starts_with(b"0x")
 }
 
-/// The number that a word is, if it is at most `most`: decimal digits, or `0x` and hexadecimal digits of either case.
-/// There may be leading zeros, and there is no sign (this project's choice).
+/// The number that a word is, read the long way, in either base.
 #[tactic(auto, unfolding(crate::specs::Number::number))]
-pub fn number(word: &[u8], most: u64) -> Option<u64>
+fn any_number(word: &[u8], most: u64) -> Option<u64>
     ensures value { result ≡ number most word.now }
     ensures bound { IfSome result (λ value. value ≤ most) }
 {
     if is_hexadecimal(word) {
         numeral(16, &word[2..], most)
     } else {
-        decimal(word, most)
+        numeral(10, word, most)
+    }
+}
+
+/// The number that a word is, if it is at most `most`: decimal digits, or `0x` and hexadecimal digits of either case.
+/// There may be leading zeros, and there is no sign (this project's choice). Most numbers are some decimal digits.
+pub fn number(word: &[u8], most: u64) -> Option<u64>
+    ensures value { result ≡ number most word.now }
+    ensures bound { IfSome result (λ value. value ≤ most) }
+{
+    match decimal(word) {
+        Some(value) if value <= most => Some(value),
+        Some(_) => None,
+        None => any_number(word, most),
     }
 }
 

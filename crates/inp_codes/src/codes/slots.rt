@@ -1,25 +1,26 @@
-//! Where the row of a code's name stands. `bench/slots` finds the table and the order of the rows.
-ghost use Rattle.std.specs.Prelude.{◌≡◌};
-ghost use Rattle.inp_codes.specs.Slot.{name_slot};
+//! Where the row of a code's name is looked for first. `bench/slots` finds the table and the order of the rows.
 
 /// How far the names of each part of the hashes are moved, so that no two names have one slot.
-pub(crate) static MOVED: [u8; 128] = [
-    17, 1, 31, 6, 7, 13, 19, 11, 0, 2, 10, 0, 21, 88, 0, 3, 0, 1, 3, 9, 21, 0, 2, 4, 0, 121, 32, 3,
-    2, 5, 7, 44, 1, 0, 28, 14, 2, 0, 86, 40, 98, 25, 0, 1, 5, 2, 124, 75, 3, 126, 45, 134, 34, 23,
-    27, 11, 32, 41, 2, 40, 3, 0, 127, 144, 0, 97, 1, 52, 8, 64, 69, 14, 139, 48, 12, 140, 53, 19,
-    82, 30, 85, 18, 38, 160, 6, 0, 165, 72, 87, 144, 78, 92, 153, 154, 32, 155, 163, 2, 53, 164,
-    92, 9, 12, 3, 5, 6, 0, 32, 22, 37, 26, 31, 119, 9, 3, 0, 150, 20, 0, 0, 40, 0, 0, 5, 20, 1, 11,
-    102,
+static MOVED: [u8; 128] = [
+    0, 1, 4, 0, 0, 0, 4, 4, 2, 2, 17, 12, 6, 72, 2, 0, 2, 0, 3, 0, 1, 21, 1, 68, 4, 0, 67, 2, 8, 0,
+    2, 10, 71, 0, 0, 1, 1, 4, 4, 2, 32, 6, 0, 0, 12, 23, 1, 21, 59, 22, 5, 1, 0, 0, 0, 37, 0, 0, 7,
+    0, 1, 6, 2, 3, 7, 22, 84, 24, 1, 6, 0, 8, 0, 5, 44, 22, 3, 0, 10, 5, 5, 5, 21, 8, 134, 89, 21,
+    151, 114, 99, 158, 0, 10, 2, 7, 68, 1, 2, 33, 24, 0, 134, 73, 44, 17, 26, 8, 0, 210, 0, 3, 1,
+    0, 19, 56, 28, 97, 0, 59, 80, 8, 5, 1, 149, 2, 21, 16, 5,
 ];
 
-/// The slot of a name: each name of the table has one of its own.
-pub(crate) fn name_slot(name: &[u8]) -> usize
-    ensures { result ≡ name_slot name.now }
-{
-    let mut hash: u32 = 0;
-    for byte in name {
-        hash = (hash * 103 + u32::from(*byte)) % 65536;
-    }
-    let moved = MOVED[(hash % 128) as usize];
-    ((hash / 128 + u32::from(moved)) % 272) as usize
+/// What the bytes of a name are multiplied by: it tells the names apart.
+const FACTOR: u64 = 0xff51_afd7_ed55_8ccd;
+
+/// The slot of a name, made of its first byte, the one in the middle, its last four and its length. Each name of the table
+/// has one of its own. No answer rests on that: see `number_at`.
+pub(crate) fn name_slot(name: &[u8]) -> usize {
+    let Some(last) = name.last_chunk::<4>() else {
+        return 0;
+    };
+    let ends = u64::from(u32::from_le_bytes(*last)) | u64::from(name[0]) << 32;
+    let middle = u64::from(name[name.len() / 2]);
+    let word = ends | middle << 40 | (name.len() as u64) << 48;
+    let hash = (word.wrapping_mul(FACTOR) >> 48) as usize;
+    (hash / 128 + usize::from(MOVED[hash % 128])) % 272
 }

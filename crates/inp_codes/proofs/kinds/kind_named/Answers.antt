@@ -4,4 +4,4 @@ use Rattle.inp_codes.proofs.kinds.kind_named.Goals as goal
 
 pub returns : goal.returns
 unfolding kind_of
-returns c = record { kind = c.find_number.ensures ∙ c.kind_rows.ensures.numbers c.args.name.now }
+returns c = record { kind = c.number_at.ensures ∙ c.kind_rows.ensures.numbers.numbers c.args.name.now }

@@ -1,4 +1,5 @@
-use Rattle.std.proofs.Common.{◌+◌, ◌-◌, [], length, map, take, drop, ap, rules, arith}
+use Rattle.std.proofs.Common.{◌+◌, ◌-◌, ◌≤◌, [], length, map, take, drop, sym, ap, ◌∙◌, rules, arith}
+use Rattle.std.proofs.lemmas.List.{length-take, take-take}
 use Rattle.std.specs.Str.Lines.{strip_carriage_return}
 use Rattle.inp_words.specs.Line.{lines_behind, lines_of}
 use Rattle.inp_record.specs.Meaning.{behind_line}
@@ -31,7 +32,14 @@ returns-then-end-rest c =
     let more = read_more all (lines_of c.lines.rest.now) [] c.lines.line past bytes alone c.lines.invariant.read.2 in
     let means = rw c.strip_carriage_return-bytes.ensures.stripped at (c.read_line.ensures.behind past c.lines.invariant.read.1) in
     all_read all (c.lines.line + 1) c.read_line.new.context (counted_more all (lines_of c.lines.rest.now) [] c.lines.line bytes alone c.lines.invariant.counted)
-    (more_read all [] c.lines.line (behind_line past bytes) c.in_default.field-0 c.read_line.new.context more (rw c.in_default.is at means))
+    (more_read all [] c.lines.line (behind_line past bytes) c.in_default-read_line.field-0 c.read_line.new.context more (rw c.in_default-read_line.is at means))
+
+pub read_line-requires-clause-front : goal.read_line-requires-clause-front
+read_line-requires-clause-front c =
+    let end = c.line_end-end.result in
+    let rest = c.lines.rest.now in
+    let few : length c.strip_carriage_return-bytes.result.now ≤ end = omega (arith, length-take end rest, c.strip_carriage_return-bytes.ensures.within) in
+    sym (take-take (length c.strip_carriage_return-bytes.result.now) end rest few) ∙ c.strip_carriage_return-bytes.ensures.front
 
 pub lines-preserved : goal.lines-preserved
 lines-preserved c =
@@ -48,5 +56,5 @@ lines-preserved c =
       counted = counted_more all (lines_of rest) left c.lines.line bytes next c.lines.invariant.counted;
       room = search rules;
       actors = search rules;
-      read = more_read all left c.lines.line (behind_line past bytes) c.in_default.field-0 c.read_line.new.context more (rw c.in_default.is at means);
+      read = more_read all left c.lines.line (behind_line past bytes) c.in_default-read_line.field-0 c.read_line.new.context more (rw c.in_default-read_line.is at means);
     }

@@ -1,11 +1,23 @@
-use Rattle.inp_words.proofs.Sixteen.{lanes_within, lanes_printed, lanes_stop}
+use Rattle.std.proofs.Common.{sym, ap, ◌∙◌, arith}
+use lib.Count.{count_trailing_zeros}
+use lib.Lanes.{chunk}
+use Rattle.std.proofs.lemmas.Simd.{length-chunk, leading_from_mask_l, trailing_mask_l}
+use Rattle.inp_words.proofs.Sixteen.{is_above, above_mask, IsRun, run_is}
 use Rattle.inp_words.proofs.lanes.printed_lanes.Goals as goal
 
-pub returns-clause-within : goal.returns-clause-within
-returns-clause-within c = lanes_within c.args.line.now c.args.at c.before_low.result c.before_high.result c.min.result c.requires c.before_low.ensures c.before_high.ensures c.min.ensures
+pub returns-then-other-eq0 : goal.returns-then-other-eq0
+returns-then-other-eq0 c =
+    let v = chunk c.args.at 16 c.args.line.now in
+    let long = length-chunk c.args.at 16 c.args.line.now c.requires in
+    let none = leading_from_mask_l is_above v (sym (above_mask v long) ∙ c.if-other-eq0.true) in
+    let run = run_is c.args.line.now c.args.at 16 c.requires c.type_inv.line (sym (none ∙ long)) in
+    record { within = run.within; printed = run.printed; other = run.other }
 
-pub returns-clause-printed : goal.returns-clause-printed
-returns-clause-printed c = lanes_printed c.args.line.now c.args.at c.before_low.result c.before_high.result c.min.result c.requires c.before_low.ensures c.before_high.ensures c.min.ensures
-
-pub returns-clause-other : goal.returns-clause-other
-returns-clause-other c = lanes_stop c.args.line.now c.args.at c.before_low.result c.before_high.result c.min.result c.requires c.before_low.ensures c.before_high.ensures c.min.ensures
+pub returns-else-other-eq0 : goal.returns-else-other-eq0
+returns-else-other-eq0 c =
+    let v = chunk c.args.at 16 c.args.line.now in
+    let long = length-chunk c.args.at 16 c.args.line.now c.requires in
+    let mask = above_mask v long in
+    let first = ap (count_trailing_zeros 64) mask ∙ trailing_mask_l is_above 64 v (omega arith) (omega arith) in
+    let run = run_is c.args.line.now c.args.at _ c.requires c.type_inv.line first in
+    record { within = run.within; printed = run.printed; other = run.other }

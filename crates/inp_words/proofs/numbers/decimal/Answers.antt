@@ -1,16 +1,13 @@
-use Rattle.std.proofs.Common.{◌≡◌, length, arith}
-use Rattle.std.proofs.lemmas.Bool.Decides.{nat_tests}
-use Rattle.std.proofs.lemmas.Grind.{common_steps}
-use Rattle.inp_words.proofs.Numerals.{numeral_empty, numeral_too_great, numeral_is}
+use Rattle.std.proofs.Common.{arith}
+use Rattle.inp_words.proofs.Numerals.{digit_more}
 use Rattle.inp_words.proofs.numbers.decimal.Goals as goal
 
-pub returns-then-is_empty-clause-value : goal.returns-then-is_empty-clause-value
-returns-then-is_empty-clause-value c =
-    let empty : length c.args.digits.now ≡ 0 = grind (arith, nat_tests) in
-    grind (arith, numeral_empty)
+pub overflow_mul-value : goal.overflow_mul-value
+overflow_mul-value c =
+    let more = digit_more c.loop-byte.byte-index c.loop-byte.value 0 (omega arith) c.loop-byte.invariant.small (omega arith) in
+    record { fits = omega (arith, more.1) }
 
-pub returns-then-value-most-clause-value : goal.returns-then-value-most-clause-value
-returns-then-value-most-clause-value c = grind (arith, common_steps, numeral_is)
-
-pub returns-else-value-most-clause-value : goal.returns-else-value-most-clause-value
-returns-else-value-most-clause-value c = grind (arith, common_steps, numeral_too_great)
+pub overflow_add-value : goal.overflow_add-value
+overflow_add-value c =
+    let more = digit_more c.loop-byte.byte-index c.loop-byte.value c.from.result (omega arith) c.loop-byte.invariant.small (omega (arith, c.from.ensures)) in
+    record { fits = more.1 }

@@ -1,6 +1,6 @@
 use Rattle.std.proofs.Common.{refl}
 use Rattle.inp_codes.specs.CodeNames.{is_same_code}
-use Rattle.inp_codes.proofs.ByNameLemmas.{AreRowsOf-tested, HaveSlots-tested}
+use Rattle.inp_codes.proofs.ByNameLemmas.{AreRowsOf-tested, GiveOwnNumbers-tested}
 use Rattle.inp_codes.proofs.CodeNamesLemmas.{is_same_code-true}
 use Rattle.inp_codes.proofs.Computing.{event_codes}
 use Rattle.inp_codes.proofs.codes.rows.code_rows.Goals as goal
@@ -10,6 +10,6 @@ pub returns-clause-numbers : goal.returns-clause-numbers
 unfolding event_codes
 returns-clause-numbers c = AreRowsOf-tested is_same_code is_same_code-true _ _ refl refl
 
-pub returns-clause-slots : goal.returns-clause-slots
+pub returns-clause-own : goal.returns-clause-own
 unfolding event_codes
-returns-clause-slots c = HaveSlots-tested _ refl
+returns-clause-own c = GiveOwnNumbers-tested is_same_code is_same_code-true _ refl
