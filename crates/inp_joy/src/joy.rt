@@ -13,12 +13,11 @@ ghost use Rattle.inp_joy.specs.Picture.{blank_picture, seen_as};
 ghost use Rattle.inp_joy.specs.Reads.{IsJoyRead, IsPictured, IsReadLess, JoyStands, ReadPictures, agains_after_read};
 
 use crate::code_list::CodeList;
-use crate::joy_calls::JoyCalls;
 use crate::joy_state::JoyState;
 use crate::{JoyRead, Picture};
 use inp_caps::Caps;
 use inp_model::{Evdev, NoMemory};
-use inp_reader::{CallMade, Reader, Started};
+use inp_reader::{CallMade, CallsMade, Reader, Started};
 use std::alloc::Global;
 use std::marker::Model;
 
@@ -77,7 +76,7 @@ impl Joy {
             reader: Reader::new(alloc, caps)?,
             handed,
             picture: Picture::blank(),
-            made: JoyCalls::new(alloc)?,
+            made: CallsMade::new(alloc)?,
         };
         Ok(Joy { state })
     }

@@ -14,14 +14,13 @@ ghost use Rattle.inp_joy.specs.Picture.{seen_as};
 ghost use Rattle.inp_joy.specs.Reads.{IsPictured, IsJoyRead, IsReadLess, ReadPictures, agains_after_read};
 
 use crate::code_list::CodeList;
-use crate::joy_calls::JoyCalls;
 use crate::joy_record::within_16_bits;
 use crate::stops::{event_handed_out, is_lost, joy_read_of};
 use crate::turn_end::TurnEnd;
 use crate::views::{cut_axis_of, is_down};
 use crate::{JoyRead, JoyRecord, Picture};
 use inp_model::{EV_ABS, EV_KEY, Evdev, Taken};
-use inp_reader::{Mode, Next, Phase, Reader, Started};
+use inp_reader::{CallsMade, Mode, Next, Phase, Reader, Started};
 
 /// How many accepted calls end a read that came to no answer (this project's choice).
 const LONG: usize = 64;
@@ -41,8 +40,8 @@ pub(crate) struct JoyState {
     pub(crate) handed: usize,
     /// What the records since the startup began tell.
     pub(crate) picture: Picture,
-    /// The calls of the last `start` or `read`.
-    pub(crate) made: JoyCalls,
+    /// The calls of the last `start` or `read`, at most 128 (this project's choice).
+    pub(crate) made: CallsMade<128>,
 }
 
 impl JoyState {

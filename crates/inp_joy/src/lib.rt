@@ -26,7 +26,6 @@
 
 mod code_list;
 mod joy;
-mod joy_calls;
 mod joy_read;
 mod joy_record;
 mod joy_state;

@@ -1,16 +1,15 @@
 -- The first events of a queue that are handed out in one go, and what is left behind them.
-use Rattle.std.proofs.Common.{◌≡◌, ℕ, zero, suc, ◌+◌, ◌-◌, ◌<◌, ◌≤◌, List, [], ◌∷◌, ◌++◌, length, map, take, drop, get_or, Bool, true, false, ◌||◌, if◌then◌else◌, refl, sym, ap, ◌∙◌, arith, append-nil, append_assoc, add-one}
-use Rattle.std.proofs.lemmas.List.{map-append, length-take-le}
+use Rattle.std.proofs.Common.{◌≡◌, ℕ, zero, suc, ◌+◌, ◌-◌, ◌<◌, ◌≤◌, List, [], ◌∷◌, ◌++◌, length, map, take, drop, get_or, Bool, true, false, ◌||◌, if◌then◌else◌, refl, sym, ap, subst, ◌∙◌, arith, append-nil, append_assoc, length-append, add-one}
+use Rattle.std.proofs.Math.Bool.{or-false}
 use Rattle.std.proofs.Math.Seq.{drop-cons, drop-length}
+use Rattle.std.proofs.lemmas.List.{length-take-le, nil_from_length, take_at, take_more}
 use Rattle.std.proofs.lemmas.Bool.{cond_both}
-use Rattle.std.proofs.lemmas.Grind.{take_at_read}
-use Rattle.std.proofs.lemmas.List.Folds.{list_any-append}
-use Rattle.inp_model.specs.declared.event.Event.{Event}
 use Rattle.inp_model.specs.declared.taken.Taken.{Taken}
 use Rattle.inp_recon.specs.declared.view.View.{View}
-use Rattle.inp_recon.specs.View.{view_after_event, view_after_events}
 use Rattle.inp_recon.specs.Synchronised.{is_dropped}
-use Rattle.inp_recon.proofs.Folds.{view_after_events-append}
+use Rattle.inp_recon.specs.View.{view_after_events}
+use Rattle.inp_reader.specs.declared.phase.Phase.{Phase}
+use Rattle.inp_reader.specs.declared.phase.Phase.TheVariants.{Needed}
 use Rattle.inp_reader.specs.Reading.{Reading, first_run, has_loss, is_plain_phase, queued_run, after_run}
 
 -- the run is a front part of its queue, and behind it stands the rest
@@ -32,9 +31,6 @@ run_from most i q default few within =
     let front : drop i q ≡ get_or q i default ∷ drop (i + 1) q = drop-cons q i default within ∙ ap (λ k. get_or q i default ∷ drop k q) (sym (add-one i)) in
     ap (λ k. first_run k (drop i q)) n ∙ ap (λ ts. first_run (suc (most - (i + 1))) ts) front
 
-take_one : (i : ℕ) (q : List Taken) (default : Taken) → i < length q → take (i + 1) q ≡ take i q ++ get_or q i default ∷ []
-take_one i q default within = (take_at_read q i default within).1
-
 if_lost : (b : Bool) (t : Taken) (more : List Taken) → b ≡ true → t ∷ (if b then [] else more) ≡ t ∷ []
 if_lost b t more h = ap (λ x. t ∷ (if x then [] else more)) h
 
@@ -50,14 +46,14 @@ run-more most i q default few within kept is =
     is
     ∙ ap (λ ts. take i q ++ ts) (run_from most i q default few within ∙ if_kept (is_dropped t.event) t more kept)
     ∙ sym (append_assoc (take i q) (t ∷ []) more)
-    ∙ ap (λ ts. ts ++ more) (sym (take_one i q default within))
+    ∙ ap (λ ts. ts ++ more) (sym (take_more q i default within))
 
 -- a run ends with a loss
 pub run-lost : (most i : ℕ) (q : List Taken) (default : Taken) → i < most → i < length q → is_dropped (get_or q i default).event ≡ true
     → first_run most q ≡ take i q ++ first_run (most - i) (drop i q) → take (i + 1) q ≡ first_run most q
 run-lost most i q default few within lost is =
     let t : Taken = get_or q i default in
-    take_one i q default within
+    take_more q i default within
     ∙ ap (λ ts. take i q ++ ts) (sym (run_from most i q default few within ∙ if_lost (is_dropped t.event) t (first_run (most - (i + 1)) (drop (i + 1) q)) lost))
     ∙ sym is
 
@@ -79,19 +75,6 @@ run-whole most i q e is =
     let none : drop i q ≡ [] = ap (λ k. drop k q) e ∙ drop-length q in
     sym (is ∙ ap (λ ts. take i q ++ first_run (most - i) ts) none ∙ ap (λ ts. take i q ++ ts) (of_nothing (most - i)) ∙ append-nil (take i q))
 
--- whether there is a loss among one event more
-pub loss-more : (i : ℕ) (q : List Taken) (default : Taken) → i < length q → has_loss (take i q) ≡ false → has_loss (take (i + 1) q) ≡ is_dropped (get_or q i default).event
-loss-more i q default within none =
-    let t : Taken = get_or q i default in
-    ap has_loss (take_one i q default within)
-    ∙ list_any-append (λ (x : Taken). is_dropped x.event) (take i q) (t ∷ [])
-    ∙ ap (λ (b : Bool). b || (is_dropped t.event || false)) none
-    ∙ or-false (is_dropped t.event)
-  where
-    or-false : (b : Bool) → (b || false) ≡ b
-    or-false true = refl
-    or-false false = refl
-
 -- a front part that is the run is as long as it
 pub run-length : (most i : ℕ) (q : List Taken) → i ≤ length q → take i q ≡ first_run most q → i ≡ length (first_run most q)
 run-length most i q within is = sym (length-take-le i q within) ∙ ap length is
@@ -100,26 +83,80 @@ run-length most i q within is = sym (length-take-le i q within) ∙ ap length is
 pub at-index : (i j : ℕ) (q : List Taken) (default : Taken) (b : Bool) → i ≡ j → is_dropped (get_or q j default).event ≡ b → is_dropped (get_or q i default).event ≡ b
 at-index i j q default b same is = ap (λ k. is_dropped (get_or q k default).event) same ∙ is
 
--- nothing is handed out in another phase
-pub no-run : (most : ℕ) (r : Reading) → is_plain_phase r.phase ≡ false → r ≡ after_run r (queued_run most r)
-unfolding view_after_events
-no-run most r h = ap (λ (b : Bool). after_run r (if b then first_run most r.queue else [])) (sym h)
-
--- and in phase Plain the run is that of the queue
+-- in phase Plain the run is that of the queue
 pub plain-run : (most : ℕ) (r : Reading) → is_plain_phase r.phase ≡ true → queued_run most r ≡ first_run most r.queue
 plain-run most r h = ap (λ (b : Bool). if b then first_run most r.queue else []) h
 
--- one more event of a list is taken over by a view
-pub view-more : (start view new : View) (events : List Taken) (index : ℕ) (default : Taken) → index < length events
-    → view ≡ view_after_events start (map (λ (t : Taken). t.event) (take index events))
-    → new ≡ view_after_event view (get_or events index default).event
-    → new ≡ view_after_events start (map (λ (t : Taken). t.event) (take (index + 1) events))
-unfolding view_after_events
-view-more start view new events index default within taken next =
-    let event : Taken → Event = λ (t : Taken). t.event in
-    let e : Event = (get_or events index default).event in
-    next
-    ∙ ap (λ (v : View). view_after_event v e) taken
-    ∙ sym (view_after_events-append start (map event (take index events)) (e ∷ []))
-    ∙ ap (λ (es : List Event). view_after_events start es)
-    (sym (ap (λ (ts : List Taken). map event ts) (take_one index events default within) ∙ map-append event (take index events) (get_or events index default ∷ [])))
+pub queue-run : (most : ℕ) (r : Reading) → queued_run most r ++ drop (length (queued_run most r)) r.queue ≡ r.queue
+queue-run most r =
+    cond_both (is_plain_phase r.phase) (first_run most r.queue) [] (λ run. run ++ drop (length run) r.queue ≡ r.queue)
+    (λ plain. run-front most r.queue) (λ other. refl)
+
+-- Where so many are queued, they are the first so many
+
+pub few-queued : (count : ℕ) (r : Reading) → length (queued_run count r) ≡ count → count ≤ length r.queue
+few-queued count r h = omega (arith, h, ap length (queue-run count r), length-append (queued_run count r) (drop (length (queued_run count r)) r.queue))
+
+pub front-queued : (count : ℕ) (r : Reading) → length (queued_run count r) ≡ count → take count r.queue ≡ queued_run count r
+front-queued count r h =
+    ap (λ ts. take count ts) (sym (queue-run count r)) ∙ take_at (queued_run count r) (drop (length (queued_run count r)) r.queue) count h
+
+-- and as many as are queued are queued again
+run_again : (most : ℕ) (q : List Taken) → first_run (length (first_run most q)) q ≡ first_run most q
+unfolding first_run
+run_again zero q = refl
+run_again (suc most) [] = refl
+run_again (suc most) (t ∷ q) =
+    cond_both (is_dropped t.event) [] (first_run most q) (λ more. first_run (length (t ∷ more)) (t ∷ q) ≡ t ∷ more)
+    (λ lost. if_lost (is_dropped t.event) t (first_run 0 q) lost)
+    (λ kept. if_kept (is_dropped t.event) t (first_run (length (first_run most q)) q) kept ∙ ap (λ ts. t ∷ ts) (run_again most q))
+
+queued_again : (most : ℕ) (r : Reading) → queued_run (length (queued_run most r)) r ≡ queued_run most r
+queued_again most r =
+    cond_both (is_plain_phase r.phase) (first_run most r.queue) [] (λ run. queued_run (length run) r ≡ run)
+    (λ plain. plain-run (length (first_run most r.queue)) r plain ∙ run_again most r.queue)
+    (λ other. ap (λ (b : Bool). if b then first_run 0 r.queue else []) other)
+
+pub queued-many : (most count : ℕ) (r : Reading) (run : List Taken) → run ≡ queued_run most r → count ≡ length run → queued_run count r ≡ queued_run most r
+queued-many most count r run is many = ap (λ (n : ℕ). queued_run n r) (many ∙ ap length is) ∙ queued_again most r
+
+-- The last event of a run alone may tell of a loss
+last-loss : (most : ℕ) (q : List Taken) (last : ℕ) (default : Taken) → length (first_run most q) ≡ suc last → is_dropped (get_or (first_run most q) last default).event ≡ has_loss (first_run most q)
+unfolding first_run
+last-loss zero q last default = λ h. absurd (omega (arith, h))
+last-loss (suc most) [] last default = λ h. absurd (omega (arith, h))
+last-loss (suc most) (t ∷ q) last default =
+    cond_both (is_dropped t.event) [] (first_run most q) (λ more. length (t ∷ more) ≡ suc last → is_dropped (get_or (t ∷ more) last default).event ≡ has_loss (t ∷ more))
+    (λ lost. only last) (λ kept. behind kept (last-loss most q) last)
+  where
+    only : (i : ℕ) → length (t ∷ []) ≡ suc i → is_dropped (get_or (t ∷ []) i default).event ≡ has_loss (t ∷ [])
+    only zero h = sym (or-false (is_dropped t.event))
+    only (suc i) h = absurd (omega (arith, h))
+
+    behind : is_dropped t.event ≡ false → ((i : ℕ) (d : Taken) → length (first_run most q) ≡ suc i → is_dropped (get_or (first_run most q) i d).event ≡ has_loss (first_run most q))
+        → (i : ℕ) → length (t ∷ first_run most q) ≡ suc i → is_dropped (get_or (t ∷ first_run most q) i default).event ≡ has_loss (t ∷ first_run most q)
+    behind kept ih zero h =
+        let none : first_run most q ≡ [] = nil_from_length (first_run most q) (omega (arith, h)) in
+        sym (or-false (is_dropped t.event)) ∙ ap (λ (ts : List Taken). is_dropped t.event || has_loss ts) (sym none)
+    behind kept ih (suc i) h =
+        ih i default (omega (arith, h))
+        ∙ ap (λ (b : Bool). b || has_loss (first_run most q)) (sym kept)
+
+queued_loss : (most : ℕ) (r : Reading) (last : ℕ) (default : Taken) → length (queued_run most r) ≡ suc last → is_dropped (get_or (queued_run most r) last default).event ≡ has_loss (queued_run most r)
+queued_loss most r last default =
+    cond_both (is_plain_phase r.phase) (first_run most r.queue) [] (λ run. length run ≡ suc last → is_dropped (get_or run last default).event ≡ has_loss run)
+    (λ plain. last-loss most r.queue last default) (λ other h. absurd (omega (arith, h)))
+
+pub run-loss : (most : ℕ) (r : Reading) (run : List Taken) (last : ℕ) (default : Taken) → run ≡ queued_run most r → length run ≡ suc last → is_dropped (get_or run last default).event ≡ has_loss run
+run-loss most r run last default is =
+    subst (λ (ts : List Taken). length ts ≡ suc last → is_dropped (get_or ts last default).event ≡ has_loss ts) (sym is) (queued_loss most r last default)
+
+-- a reader that handed out the first of its queue, as many as are queued
+pub run-taken : (count : ℕ) (r : Reading) (run queue : List Taken) (view : View) (lost : Bool) (phase : Phase) → length (queued_run count r) ≡ count → run ≡ queued_run count r
+    → queue ≡ drop count r.queue → view ≡ view_after_events r.view (map (λ (t : Taken). t.event) run) → lost ≡ has_loss run → phase ≡ (if lost then Needed else r.phase)
+    → record r { queue = queue; view = view; phase = phase } ≡ after_run r (queued_run count r)
+run-taken count r run queue view lost phase many is rest taken loss goes =
+    ap (λ (q : List Taken). record r { queue = q; view = view; phase = phase }) (rest ∙ ap (λ (n : ℕ). drop n r.queue) (sym many ∙ ap length (sym is)))
+    ∙ ap (λ (v : View). record r { queue = drop (length run) r.queue; view = v; phase = phase }) taken
+    ∙ ap (λ (p : Phase). record r { queue = drop (length run) r.queue; view = view_after_events r.view (map (λ (t : Taken). t.event) run); phase = p }) (goes ∙ ap (λ (b : Bool). if b then Needed else r.phase) loss)
+    ∙ ap (λ (ts : List Taken). after_run r ts) is

@@ -1,7 +1,7 @@
 -- What a reader is after a run of its queue was handed out.
-use Rattle.std.proofs.Common.{◌≡◌, ◌⊎◌, inl, inr, ℕ, true, false, Bool, List, [], ◌∷◌, ◌++◌, length, map, drop, if◌then◌else◌, refl, sym, ap, ◌∙◌, append_assoc}
+use Rattle.std.proofs.Common.{◌≡◌, ℕ, true, false, Bool, List, [], ◌∷◌, ◌++◌, length, map, drop, if◌then◌else◌, sym, ap, ◌∙◌, append_assoc}
 use Rattle.std.specs.List.{All}
-use Rattle.std.proofs.lemmas.Bool.{cond_both, true≢false}
+use Rattle.std.proofs.lemmas.Bool.{true≢false}
 use Rattle.std.proofs.lemmas.List.{map-append}
 use Rattle.std.proofs.lemmas.List.Elements.{All-head, All-tail, All-same}
 use Rattle.inp_model.specs.declared.event.Event.{Event}
@@ -12,22 +12,12 @@ use Rattle.inp_recon.specs.declared.view.View.{View}
 use Rattle.inp_recon.specs.View.{first_view, view_after_event, view_after_events}
 use Rattle.inp_recon.proofs.Folds.{view_after_events-append}
 use Rattle.inp_reader.specs.declared.phase.Phase.{Phase}
-use Rattle.inp_reader.specs.declared.phase.Phase.TheVariants.{Needed, Handing}
-use Rattle.inp_reader.specs.Reading.{Reading, first_run, has_loss, is_plain_phase, queued_run, after_run}
+use Rattle.inp_reader.specs.declared.phase.Phase.TheVariants.{Needed}
+use Rattle.inp_reader.specs.Reading.{Reading, has_loss, queued_run, after_run}
 use Rattle.inp_reader.specs.Spare.{IsSpare, is_event_of, HasSpare}
 use Rattle.inp_reader.specs.Standing.{StandsAt, IsInStep, is_needed, taken_events, view_after_answers}
-use Rattle.inp_reader.proofs.Runs.{run-front}
+use Rattle.inp_reader.proofs.Runs.{queue-run}
 use Rattle.inp_reader.proofs.SpareAgrees.{IsSpare-after_event}
-
--- the queue is the run, and behind it what stays in the queue
-pub queue-run : (most : ℕ) (r : Reading) → queued_run most r ++ drop (length (queued_run most r)) r.queue ≡ r.queue
-queue-run most r =
-    cond_both (is_plain_phase r.phase) (first_run most r.queue) [] (λ run. run ++ drop (length run) r.queue ≡ r.queue)
-    (λ plain. run-front most r.queue) (λ other. refl)
-
-pub not-plain : (phase : Phase) → (phase ≡ Needed) ⊎ (phase ≡ Handing) → is_plain_phase phase ≡ false
-not-plain phase (inl h) = ap is_plain_phase h
-not-plain phase (inr h) = ap is_plain_phase h
 
 -- its view keeps what its devices cannot have, and so will the rest of its queue
 spare-run : (d : Description) (v : View) (run rest : List Taken) → All (λ (t : Taken). is_event_of d t.event ≡ true) (run ++ rest) → IsSpare d v

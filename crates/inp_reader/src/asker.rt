@@ -9,9 +9,8 @@ ghost use Rattle.inp_reader.specs.Reading.{queries, bit_queries, axis_queries, p
 ghost use Rattle.inp_reader.specs.Says.{Says, kept_call};
 ghost use Rattle.inp_reader.specs.Session.{IsReady};
 
-use crate::CallMade;
-use crate::calls_made::CallsMade;
 use crate::cell_buffer::CellBuffer;
+use crate::{CallMade, CallsMade};
 use inp_caps::Caps;
 use inp_model::{
     ABS_MAX, ABS_MT_SLOT, ABS_MT_TOOL_Y, EV_ABS, EV_KEY, EV_LED, EV_SW, Evdev, Reply, Step,
@@ -21,8 +20,8 @@ use inp_recon::View;
 /// Makes calls, keeps them, and sets a view by the answers.
 #[derive(Drop)]
 pub(crate) struct Asker {
-    /// The calls that were made, those answered Again left out.
-    pub(crate) made: CallsMade,
+    /// The calls that were made, at most 64 (this project's choice), those answered Again left out.
+    pub(crate) made: CallsMade<64>,
     /// The buffer for the values of slots.
     pub(crate) cells: CellBuffer,
     /// The view that is set by the answers.

@@ -1,23 +1,18 @@
 //! The calls that a reader made, as a list.
-ghost use Rattle.std.specs.Prelude.{◌≡◌, ◌<◌, ◌≤◌, [], ◌∷◌, ◌++◌, length, IfOk};
+ghost use Rattle.std.specs.Prelude.{◌≡◌, ◌≤◌, ◌<◌, ◌+◌, [], ◌∷◌, ◌++◌, length, IfOk};
 
 use crate::CallMade;
 use inp_model::NoMemory;
 use std::alloc::Global;
 use std::marker::Model;
 
-/// How many calls `start` and `next` make at most (this project's choice).
-pub(crate) const CALLS_MAX: usize = 64;
-
-const _: () = prove!(CALLS_MAX == 64);
-
-/// The calls of the last `start` or `next`, with room for 64. A contract sees the list.
+/// The calls that were made, in order, with room for `ROOM` of them, which stays. A contract sees the list.
 #[derive(Drop)]
-pub(crate) struct CallsMade {
+pub struct CallsMade<const ROOM: usize> {
     calls: Vec<CallMade>,
 }
 
-impl Model for CallsMade {
+impl<const ROOM: usize> Model for CallsMade<ROOM> {
     ghost use Rattle.std.specs.Prelude.{List, ◌≤◌, vec_capacity};
     ghost use Rattle.inp_reader.specs.declared.call_made.CallMade.{CallMade};
 
@@ -25,36 +20,53 @@ impl Model for CallsMade {
 
     ghost view = { λ made. made.calls.items };
 
-    ghost invariant = { λ made. 64 ≤ vec_capacity made.calls };
+    ghost invariant = { λ made. ROOM ≤ vec_capacity made.calls };
 }
 
-impl CallsMade {
-    // No call, with room for 64. It is refused for memory alone.
-    pub(crate) fn new(alloc: Global) -> Result<CallsMade, NoMemory>
-        ensures { IfOk result (λ made. made ≡ []) }
+impl<const ROOM: usize> CallsMade<ROOM> {
+    /// No call. It takes all memory that it will need. `NoMemory` comes where there is none.
+    pub fn new(alloc: Global) -> Result<CallsMade<ROOM>, NoMemory>
+        ensures none { IfOk result (λ made. made ≡ []) }
     {
-        let calls = Vec::with_capacity(alloc, CALLS_MAX)?;
+        let calls = Vec::with_capacity(alloc, ROOM)?;
         Ok(CallsMade { calls })
     }
 
-    // Forgets all calls.
-    pub(crate) fn clear(&mut self)
-        ensures { self.new ≡ [] }
+    /// Forgets all calls.
+    pub fn clear(&mut self)
+        ensures none { self.new ≡ [] }
     {
         self.calls.clear();
     }
 
-    // Adds a call.
-    pub(crate) fn push(&mut self, call: CallMade)
-        requires { length self.old < 64 }
-        ensures { self.new ≡ self.old ++ call ∷ [] }
+    /// Adds a call. There must be room for it.
+    pub fn push(&mut self, call: CallMade)
+        requires room { length self.old < ROOM }
+        ensures pushed { self.new ≡ self.old ++ call ∷ [] }
     {
         self.calls.push(call).unwrap();
     }
 
-    // The calls, in order.
-    pub(crate) fn as_slice(&self) -> &[CallMade]
-        ensures { result.now ≡ self.now }
+    /// Adds calls, in order. There must be room for all.
+    pub fn add_all(&mut self, calls: &[CallMade])
+        requires room { length self.old + length calls.now ≤ ROOM }
+        ensures added { self.new ≡ self.old ++ calls.now }
+    {
+        for call in calls {
+            self.push(*call);
+        }
+    }
+
+    /// How many calls there are.
+    pub fn len(&self) -> usize
+        ensures length { result ≡ length self.now }
+    {
+        self.calls.len()
+    }
+
+    /// The calls, in order.
+    pub fn as_slice(&self) -> &[CallMade]
+        ensures calls { result.now ≡ self.now }
     {
         &self.calls
     }

@@ -10,7 +10,8 @@
 //! and what they answer and leave (a `Talk`, `specs/Talk.antt`). [`Reader::start`] and [`Reader::next`] promise that
 //! the calls they made are those of that talk, and that the answer and the reader are its result (`Says`,
 //! `specs/Says.antt`). [`Reader::force_sync`] and each accessor say exactly what they do, and so does [`Reader::new`],
-//! unless memory ran out; the view has fourteen values a slot.
+//! unless memory ran out; the view has fourteen values a slot. [`Reader::take_queued`] hands out in one go what the calls of
+//! `next` that make no call would hand out one by one.
 //!
 //! `specs/Synthesis.antt` says which events lead from one view to another. [`laws::synthesis`] states what holds of
 //! them (`specs/Laws.antt`): the old view that takes them over, in order, is the new one; each of them but a report
@@ -64,6 +65,7 @@ mod stops;
 mod synthesis;
 
 pub use call_made::CallMade;
+pub use calls_made::CallsMade;
 pub use mode::Mode;
 pub use next::Next;
 pub use phase::Phase;

@@ -1,7 +1,9 @@
 //! The events that a reader has read and not handed out.
 ghost use Rattle.std.specs.Prelude.{◌≡◌, ◌≤◌, ◌↔◌, [], ◌∷◌, drop, IsTrue, IfSome, IfNone, length};
+ghost use Rattle.inp_model.specs.declared.step.Step.TheVariants.{Read};
 ghost use Rattle.inp_reader.specs.Asking.{MakesRead};
 
+use crate::CallMade;
 use inp_model::{Evdev, Event, Reply, Step, Taken};
 use std::marker::Model;
 
@@ -93,22 +95,20 @@ impl Queue {
     }
 
     // Reads at most 64 of a client's events into an empty queue.
-    pub(crate) fn read<E: Evdev>(&mut self, dev: &mut E, client: u32) -> Reply
+    pub(crate) fn read<E: Evdev>(&mut self, dev: &mut E, client: u32) -> CallMade
         requires { self.old ≡ [] }
-        ensures { MakesRead (E.told dev.old) (E.told dev.new) client result self.new }
+        ensures step { result.step ≡ Read client 64 }
+        ensures reads { MakesRead (E.told dev.old) (E.told dev.new) client result.reply self.new }
     {
         let step = Step::Read {
             client,
             count: QUEUE_LEN,
         };
         let reply = dev.call(step, &mut self.buffer, &mut []);
-        match reply {
-            Reply::Took { count, .. } => {
-                self.next = 0;
-                self.end = count as usize;
-                reply
-            }
-            _ => reply,
+        if let Reply::Took { count, .. } = reply {
+            self.next = 0;
+            self.end = count as usize;
         }
+        CallMade { step, reply }
     }
 }

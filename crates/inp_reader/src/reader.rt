@@ -13,12 +13,11 @@ ghost use Rattle.inp_reader.specs.Reading.{start_talk, next_talk, queued_run, af
 ghost use Rattle.inp_reader.specs.Starting.{client_opened, after_refused_query};
 
 use crate::asker::Asker;
-use crate::calls_made::CallsMade;
 use crate::cell_buffer::CellBuffer;
 use crate::queue::Queue;
 use crate::session::Session;
 use crate::synthesis::{Synthesis, synthesised_most};
-use crate::{CallMade, Mode, Next, Phase, Started};
+use crate::{CallMade, CallsMade, Mode, Next, Phase, Started};
 use inp_caps::Caps;
 use inp_model::{Evdev, NoMemory, Taken};
 use inp_recon::View;
@@ -194,18 +193,21 @@ impl Reader {
         self.session.queued(most)
     }
 
-    /// Hands out all of [`queued`](Reader::queued) in one go, as so many calls of [`next`](Reader::next) would: the view takes
-    /// these events over, and a SYN_DROPPED, which is the last of them, makes the phase Needed.
+    /// Hands out the first events of [`queued`](Reader::queued) in one go, so many as there are, as so many calls of
+    /// [`next`](Reader::next) would: the view takes these events over, and a SYN_DROPPED, which is the last of them, makes
+    /// the phase Needed.
     ///
     /// It makes no call. A reader that stood at the end of a history stands there still.
-    pub fn take_queued(&mut self, most: u32)
-        ensures reading { self.new.reading ≡ after_run self.old.reading (queued_run most self.old.reading) }
+    pub fn take_queued(&mut self, count: usize)
+        requires queued { length (queued_run count self.old.reading) ≡ count }
+        ensures reading { self.new.reading
+            ≡ after_run self.old.reading (queued_run count self.old.reading) }
         ensures made { self.new.made ≡ [] }
         ensures reader { self.new.description ≡ self.old.description }
         ensures stands { (told : EvdevView) → Stands told self.old → Stands told self.new }
     {
         self.session.asker.made.clear();
-        self.session.take_queued(most);
+        self.session.take_queued(count);
     }
 
     /// Makes the phase Needed, so that the next call of [`next`](Reader::next) synchronises first (libevdev's
@@ -222,6 +224,14 @@ impl Reader {
         ensures sized { length result.now.cells ≡ SLOT_VALUES * self.now.description.slots }
     {
         &self.session.view
+    }
+
+    /// The view of a reader that is done with. It takes no memory.
+    pub fn into_view(self) -> View
+        ensures view { result ≡ self.reading.view }
+        ensures sized { length result.cells ≡ SLOT_VALUES * self.description.slots }
+    {
+        self.session.view
     }
 
     /// The client that is read as, or `NO_CLIENT` where no start opened one.

@@ -2,7 +2,7 @@
 ghost use Rattle.std.specs.Prelude.{◌≡◌, ◌≤◌, ◌<◌, ◌+◌, false, [], ◌++◌, length};
 ghost use Rattle.inp_model.specs.declared.step.Step.TheVariants.{Read};
 ghost use Rattle.inp_reader.specs.Asking.{MakesRead, asked_result};
-ghost use Rattle.inp_reader.specs.Reading.{ask_each, queries, start_talk, after_queries, after_read, first_run, queued_run, after_run, read_talk, hand_out, handing, as_plain, after_sync, sync_talk, go_on, go_on_after, plain_talk, next_talk, with_sync_needed};
+ghost use Rattle.inp_reader.specs.Reading.{ask_each, queries, start_talk, after_queries, after_read, queued_run, after_run, read_talk, hand_out, handing, as_plain, after_sync, sync_talk, go_on, go_on_after, plain_talk, next_talk, with_sync_needed};
 ghost use Rattle.inp_reader.specs.Says.{Says, kept_call};
 ghost use Rattle.inp_reader.specs.Session.{reading_of, IsSession};
 ghost use Rattle.inp_reader.specs.Spare.{IsSpare};
@@ -11,7 +11,7 @@ ghost use Rattle.inp_reader.specs.Talk.{ask, finish, and_then};
 
 use crate::asker::Asker;
 use crate::queue::Queue;
-use crate::run::{Run, take_events};
+use crate::run::{ends_with_loss, run_len};
 use crate::stops::{is_dropped, start_stop_of, stop_of};
 use crate::synthesis::Synthesis;
 use crate::{Mode, Next, Phase, Started};
@@ -67,37 +67,26 @@ impl Session {
         match self.phase {
             Phase::Plain => {
                 let queue = self.queue.as_slice();
-                &queue[..Run::first(queue, most).count]
+                &queue[..run_len(queue, most)]
             }
             Phase::Needed | Phase::Handing => &[],
         }
     }
 
-    // Hands them out.
-    pub(crate) fn take_queued(&mut self, most: u32)
-        ensures reading { reading_of self.new ≡ after_run (reading_of self.old) (queued_run most (reading_of self.old)) }
+    // Hands out so many of them.
+    pub(crate) fn take_queued(&mut self, count: usize)
+        requires queued { length (queued_run count (reading_of self.old)) ≡ count }
+        ensures reading { reading_of self.new
+            ≡ after_run (reading_of self.old) (queued_run count (reading_of self.old)) }
         ensures asker { self.new.asker ≡ self.old.asker }
         ensures room { self.new.left.room ≡ self.old.left.room }
         ensures cells { length self.new.view.cells ≡ length self.old.view.cells }
     {
-        match self.phase {
-            Phase::Plain => self.take_run(most),
-            Phase::Needed | Phase::Handing => {}
-        }
-    }
-
-    // Hands out the first events of the queue, at most so many, and none behind a loss.
-    fn take_run(&mut self, most: u32)
-        ensures reading { reading_of self.new ≡ after_run (reading_of self.old) (first_run most self.old.queue) }
-        ensures asker { self.new.asker ≡ self.old.asker }
-        ensures room { self.new.left.room ≡ self.old.left.room }
-        ensures cells { length self.new.view.cells ≡ length self.old.view.cells }
-    {
-        let queue = self.queue.as_slice();
-        let run = Run::first(queue, most);
-        take_events(&mut self.view, &queue[..run.count]);
-        self.queue.skip(run.count);
-        if run.is_lost {
+        let run = &self.queue.as_slice()[..count];
+        let is_lost = ends_with_loss(run);
+        self.view.take_events(run);
+        self.queue.skip(count);
+        if is_lost {
             self.phase = Phase::Needed;
         }
     }
@@ -113,13 +102,9 @@ impl Session {
             ≡ record (reading_of self.old) { queue = self.new.queue } }
         ensures room { self.new.left.room ≡ self.old.left.room }
     {
-        let reply = self.queue.read(dev, self.client);
-        let step = Step::Read {
-            client: self.client,
-            count: 64,
-        };
-        self.asker.keep(step, reply);
-        reply
+        let call = self.queue.read(dev, self.client);
+        self.asker.keep(call.step, call.reply);
+        call.reply
     }
 
     // Reads, and hands out the first event.

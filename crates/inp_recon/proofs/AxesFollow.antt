@@ -74,14 +74,11 @@ module _ (eats : Eats) (d : Description) (client code : ℕ) (has : has_axis d c
 
   axis_event : (v : View) (e : Event) → IsSizedFor d.slots v → axis_of (view_after_event v e) ≡ axis_after code (axis_of v) e
   unfolding view_after_event
-  axis_event v e h = by (nat_eq e.kind EV_ABS && not (is_multi_touch e))
+  axis_event v e h =
+      elim (nat_eq e.kind EV_ABS && not (is_multi_touch e)) as (λ b. get_or (if b then with_value_at 64 v.axes e.code e.value else v.axes) code (pos 0) ≡ (if b && nat_eq e.code code then e.value else axis_of v)) [ true ↦ set_it | false ↦ refl ]
     where
       set_it : get_or (with_value_at 64 v.axes e.code e.value) code (pos 0) ≡ (if nat_eq e.code code then e.value else axis_of v)
       set_it = get_or-with_value_at 64 v.axes e.code code e.value (pos 0) h.axes within
-
-      by : (b : Bool) → get_or (if b then with_value_at 64 v.axes e.code e.value else v.axes) code (pos 0) ≡ (if b && nat_eq e.code code then e.value else axis_of v)
-      by true = set_it
-      by false = refl
 
   -- what is told of the axis
   told_value : (r : List RawItem) → (axis_answer d r code).value ≡ axis_value d r code

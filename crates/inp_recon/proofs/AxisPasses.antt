@@ -1,7 +1,7 @@
 -- An axis with a value of its own: what is passed for a raw event leads from its value before to its value behind.
 use Rattle.std.proofs.Common.{◌≡◌, ◌≤◌, ℕ, ℤ, Bool, true, false, ◌&&◌, not, if◌then◌else◌, nat_eq, nat_le, List, [], ◌∷◌, ◌++◌, refl, sym, ap, subst, ◌∙◌, Some, None, option_to_list, option_map, is_some, arith}
 use Rattle.std.specs.Ordering.{int_eq}
-use Rattle.std.proofs.lemmas.Bool.{eqb-true, eq-eqb, leb-true, le-leb, not-true, and_right}
+use Rattle.std.proofs.lemmas.Bool.{eqb-true, eq-eqb, leb-true, le-leb, not-true, and_left, and_right}
 use Rattle.std.proofs.lemmas.Bool.Decides.{Decides-int_eq}
 use Rattle.inp_model.specs.declared.event.TheConstants.{EV_ABS}
 use Rattle.inp_model.specs.declared.multi_touch.TheConstants.{ABS_MT_SLOT, ABS_MT_TOUCH_MAJOR, ABS_MT_TOOL_Y}
@@ -43,11 +43,7 @@ pub unkind-idle : (code : ℕ) (e : Event) → nat_eq e.kind EV_ABS ≡ false �
 unkind-idle code e h = unset-idle code e (ap (λ (b : Bool). (b && not (is_multi_touch e)) && nat_eq e.code code) h)
 
 pub multi_touch-idle : (code : ℕ) (e : Event) → is_multi_touch e ≡ true → IsIdle (axis_after code) e
-multi_touch-idle code e h = unset-idle code e (ap (λ (b : Bool). (nat_eq e.kind EV_ABS && not b) && nat_eq e.code code) h ∙ by (nat_eq e.kind EV_ABS))
-  where
-    by : (k : Bool) → ((k && false) && nat_eq e.code code) ≡ false
-    by true = refl
-    by false = refl
+multi_touch-idle code e h = unset-idle code e (ap (λ (b : Bool). (nat_eq e.kind EV_ABS && not b) && nat_eq e.code code) h ∙ and_left _ (nat_eq e.code code) (and_right (nat_eq e.kind EV_ABS) false refl))
 
 pub axis-unviewed : (code : ℕ) (e : Event) → is_viewed e.kind ≡ false → IsIdle (axis_after code) e
 axis-unviewed code e h = unkind-idle code e (unviewed-other e.kind EV_ABS refl h)
@@ -79,11 +75,8 @@ module _ (d : Description) (code : ℕ) (has : has_axis d code ≡ true) where
 
   other-same : (r : List RawItem) (e : Event) → (nat_eq e.kind EV_ABS && nat_eq e.code code) ≡ false → axis_value d (Occurred e ∷ r) code ≡ axis_value d r code
   unfolding axis_value
-  other-same r e h = ap (λ (b : Bool). if (supports d EV_ABS code && b) && not (is_multi_touch e) then defuzz e.value (axis_value d r code) (axis_info d r code).fuzz else axis_value d r code) h ∙ by (supports d EV_ABS code)
-    where
-      by : (s : Bool) → (if (s && false) && not (is_multi_touch e) then defuzz e.value (axis_value d r code) (axis_info d r code).fuzz else axis_value d r code) ≡ axis_value d r code
-      by true = refl
-      by false = refl
+  other-same r e h = ap (λ (b : Bool). if (supports d EV_ABS code && b) && not (is_multi_touch e) then defuzz e.value (axis_value d r code) (axis_info d r code).fuzz else axis_value d r code) h
+      ∙ ap (λ (b : Bool). if b && not (is_multi_touch e) then defuzz e.value (axis_value d r code) (axis_info d r code).fuzz else axis_value d r code) (and_right (supports d EV_ABS code) false refl)
 
   -- an event on the axis is passed as the value that the axis takes, where that is another one
   passed_at : (r : List RawItem) (value : ℤ) → let e : Event = event EV_ABS code value in

@@ -1,5 +1,6 @@
 -- What a step leaves in a client's queue before its frames come: what the client reads, loses or flushes.
-use Rattle.std.proofs.Common.{◌≡◌, ◌⊎◌, ℕ, ℤ, Bool, true, false, ◌||◌, if◌then◌else◌, nat_eq, min, List, [], ◌∷◌, take, drop, refl, sym, ap, subst, ◌∙◌, Some, None, inl, inr}
+use Rattle.std.proofs.Common.{◌≡◌, ◌⊎◌, ℕ, ℤ, Bool, true, false, if◌then◌else◌, nat_eq, min, List, [], ◌∷◌, take, drop, refl, sym, ap, subst, ◌∙◌, Some, None, inl, inr}
+use Rattle.std.proofs.lemmas.Bool.{or_parts}
 use Rattle.inp_model.specs.declared.event.TheConstants.{EV_KEY, EV_SW, EV_LED, EV_SND}
 use Rattle.inp_model.specs.declared.event.Event.{Event}
 use Rattle.inp_model.specs.declared.step.Step.{Step}
@@ -67,11 +68,7 @@ left_by eats d past client x start = by (is_same (client_of x) client) refl
     q = queue_with eats d past client
 
     opening : is_opening past client x ≡ false
-    opening = or-left (is_opening past client x) _ start
-      where
-        or-left : (a b : Bool) → (a || b) ≡ false → a ≡ false
-        or-left true b h = h
-        or-left false b h = refl
+    opening = (or_parts (is_opening past client x) _ start).0
 
     left : (b : Bool) → is_same (client_of x) client ≡ b → left_in_queue eats d past client x ≡ (if b then left_by_call d past x q else q)
     left b e =

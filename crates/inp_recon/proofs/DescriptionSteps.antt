@@ -1,6 +1,6 @@
 -- Steps that describe an axis: they end no frame and leave the queue; where they stand, and since when there was none.
 use Rattle.std.proofs.Common.{◌≡◌, ◌<◌, ◌≤◌, ℕ, suc, Bool, true, false, if◌then◌else◌, List, [], ◌∷◌, ◌++◌, length, map, refl, sym, ap, subst, ◌∙◌, inl, inr, arith}
-use Rattle.std.proofs.lemmas.Bool.{cases_lt}
+use Rattle.std.proofs.lemmas.Bool.{cases_lt, cond_both}
 use Rattle.std.proofs.lemmas.List.{append-nil}
 use Rattle.inp_model.specs.declared.event.Event.{Event}
 use Rattle.inp_model.specs.declared.step.Step.{Step}
@@ -129,11 +129,7 @@ settled_events : (d : Description) (xs r : List RawItem) → Each IsEventItem xs
 unfolding is_settled
 settled_events d [] r h k = k
 settled_events d (Described code axis ∷ xs) r h k = let bad : false ≡ true = h.0 in absurd cc
-settled_events d (Occurred e ∷ xs) r h k = settled_events d xs (Occurred e ∷ r) h.1 (by (is_empty (cut_for d r (Occurred e))))
-  where
-    by : (b : Bool) → (if b then is_settled d r else true) ≡ true
-    by true = k
-    by false = refl
+settled_events d (Occurred e ∷ xs) r h k = settled_events d xs (Occurred e ∷ r) h.1 (cond_both (is_empty (cut_for d r (Occurred e))) (is_settled d r) true (λ b. b ≡ true) (λ none. k) (λ some. refl))
 
 -- raw events that end a frame settle
 settled_cut : (d : Description) (xs r : List RawItem) → Each IsEventItem xs → is_empty (cuts d r xs) ≡ false → is_settled d (raw_after r xs) ≡ true

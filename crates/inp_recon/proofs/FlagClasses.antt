@@ -1,9 +1,9 @@
 -- Keys, switches and LEDs are classes of flags.
 use Rattle.std.proofs.Common.{◌≡◌, ◌<◌, ℕ, ℤ, pos, Bool, true, false, ◌&&◌, if◌then◌else◌, cond, nat_eq, List, get_or, refl, sym, ap, ◌∙◌, arith, Option, Some, None}
+use Rattle.std.proofs.Math.Bool.{and-true}
 use Rattle.std.specs.Ordering.{int_eq}
 use Rattle.inp_model.proofs.Descriptions.{get_or-replicate_same}
 use Rattle.inp_model.specs.declared.event.TheConstants.{EV_KEY, EV_SW, EV_LED}
-use Rattle.inp_model.specs.declared.event.Event.{Event}
 use Rattle.inp_model.specs.declared.step.Step.{Step}
 use Rattle.inp_model.specs.declared.step.Step.TheVariants.{GetKeys, GetSwitches, GetLeds}
 use Rattle.inp_model.specs.Description.{Description, supports}
@@ -75,11 +75,7 @@ is_never value = false
 
 bit-steps : (d : Description) (kind : ℕ) → StepsFlag d kind is_never (λ r code. turned_on d r kind code)
 unfolding turned_on
-bit-steps d kind r e code = by (supports d kind code && (nat_eq e.kind kind && nat_eq e.code code))
-  where
-    by : (b : Bool) → (if b then is_set e else turned_on d r kind code) ≡ (if b && true then is_set e else turned_on d r kind code)
-    by true = refl
-    by false = refl
+bit-steps d kind r e code = ap (λ (b : Bool). if b then is_set e else turned_on d r kind code) (sym (and-true (supports d kind code && (nat_eq e.kind kind && nat_eq e.code code))))
 
 switch_answer : (eats : Eats) (d : Description) (client code : ℕ) → code < 64 → (past : List Step) (x : Step) (v : View) → is_same (client_of x) client ≡ true
     → get_or (view_after_answer v x (accepted_with eats d past x).reply (accepted_with eats d past x).cells).switches code false ≡ cond (asks_for AllSwitches client x) (turned_on d (raw d past) EV_SW code) (get_or v.switches code false)
@@ -110,15 +106,11 @@ switches-class eats d client = record {
   viewed = refl;
   long = λ v h. h.switches;
   first = λ code. get_or-replicate_same 64 code false;
-  event = λ v e. by (nat_eq e.kind EV_SW) v e;
+  event = λ v e. ap (λ (b : Bool). if b then with_value_at 64 v.switches e.code (is_set e) else v.switches) (sym (and-true (nat_eq e.kind EV_SW)));
   answer = λ code within. switch_answer eats d client code within;
   asked = switch_asked eats d client;
   only = switch_only client;
 }
-  where
-    by : (b : Bool) (v : View) (e : Event) → (if b then with_value_at 64 v.switches e.code (is_set e) else v.switches) ≡ (if b && true then with_value_at 64 v.switches e.code (is_set e) else v.switches)
-    by true v e = refl
-    by false v e = refl
 
 led_answer : (eats : Eats) (d : Description) (client code : ℕ) → code < 64 → (past : List Step) (x : Step) (v : View) → is_same (client_of x) client ≡ true
     → get_or (view_after_answer v x (accepted_with eats d past x).reply (accepted_with eats d past x).cells).leds code false ≡ cond (asks_for AllLeds client x) (turned_on d (raw d past) EV_LED code) (get_or v.leds code false)
@@ -149,12 +141,8 @@ leds-class eats d client = record {
   viewed = refl;
   long = λ v h. h.leds;
   first = λ code. get_or-replicate_same 64 code false;
-  event = λ v e. by (nat_eq e.kind EV_LED) v e;
+  event = λ v e. ap (λ (b : Bool). if b then with_value_at 64 v.leds e.code (is_set e) else v.leds) (sym (and-true (nat_eq e.kind EV_LED)));
   answer = λ code within. led_answer eats d client code within;
   asked = led_asked eats d client;
   only = led_only client;
 }
-  where
-    by : (b : Bool) (v : View) (e : Event) → (if b then with_value_at 64 v.leds e.code (is_set e) else v.leds) ≡ (if b && true then with_value_at 64 v.leds e.code (is_set e) else v.leds)
-    by true v e = refl
-    by false v e = refl

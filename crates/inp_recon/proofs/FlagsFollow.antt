@@ -1,6 +1,7 @@
 -- The keys, switches or LEDs of a view follow the device, for any of the three.
-use Rattle.std.proofs.Common.{◌≡◌, ◌<◌, ℕ, ℤ, Bool, true, false, ◌&&◌, not, if◌then◌else◌, cond, nat_eq, List, [], ◌∷◌, length, map, get_or, refl, ap, ◌∙◌, Some}
-use Rattle.std.proofs.lemmas.Bool.{eqb-true, and_left}
+use Rattle.std.proofs.Common.{◌≡◌, ◌<◌, ℕ, ℤ, Bool, true, false, ◌&&◌, not, if◌then◌else◌, cond, nat_eq, List, [], ◌∷◌, length, map, get_or, refl, sym, ap, ◌∙◌, Some}
+use Rattle.std.proofs.Math.Bool.{and-true}
+use Rattle.std.proofs.lemmas.Bool.{eqb-true, and_left, and_right}
 use Rattle.inp_model.specs.declared.event.TheConstants.{EV_ABS}
 use Rattle.inp_model.specs.declared.event.Event.{Event}
 use Rattle.inp_model.specs.declared.axis_info.AxisInfo.{AxisInfo}
@@ -75,14 +76,9 @@ module _ (eats : Eats) (d : Description) (client kind : ℕ) (skips : ℤ → Bo
       set_it : get_or (with_value_at count (flags v) e.code (is_set e)) code false ≡ (if nat_eq e.code code then is_set e else flag_of v)
       set_it = get_or-with_value_at count (flags v) e.code code (is_set e) false (c.long v h) within
 
-      all : (a : Bool) → (if a then is_set e else flag_of v) ≡ (if a && true then is_set e else flag_of v)
-      all true = refl
-      all false = refl
-
       by : (k s : Bool) → get_or (if k && not s then with_value_at count (flags v) e.code (is_set e) else flags v) code false ≡ (if (k && nat_eq e.code code) && not s then is_set e else flag_of v)
-      by true true =
-          elim (nat_eq e.code code) as (λ a. flag_of v ≡ (if a && false then is_set e else flag_of v)) [ true ↦ refl | false ↦ refl ]
-      by true false = set_it ∙ all (nat_eq e.code code)
+      by true true = ap (λ (a : Bool). if a then is_set e else flag_of v) (sym (and_right (nat_eq e.code code) false refl))
+      by true false = set_it ∙ ap (λ (a : Bool). if a then is_set e else flag_of v) (sym (and-true (nat_eq e.code code)))
       by false s = refl
 
   pub flag-after_events : code < count → (v : View) (es : List Event) → IsSizedFor d.slots v → flag_of (view_after_events v es) ≡ over flag_after (flag_of v) es

@@ -74,11 +74,10 @@ module _ (eats : Eats) (d : Description) (P : Event → Type 0) (syn : (e : Even
   entries_each : (client : ℕ) (past : List Step) (s : Step) (cs : List Cut) → Each (λ c. Each P c.events) cs → Each Q (entries_with eats d client (map (frame_of past s) cs))
   entries_each client past s [] h = tt
   entries_each client past s (c ∷ cs) h =
-      Each-append Q (entries_of_with eats d client (frame_of past s c)) (entries_with eats d client (map (frame_of past s) cs)) (by (is_offered past client)) (entries_each client past s cs h.1)
-    where
-      by : (b : Bool) → Each Q (if b then map (entry d client (frame_of past s c)) (filter (admits past client) (left eats (frame_of past s c))) else [])
-      by true = kept_each client (frame_of past s c) (admits past client) (left eats (frame_of past s c)) (Each-left_from P (eats (frame_of past s c)) 0 c.events h.0)
-      by false = tt
+      Each-append Q (entries_of_with eats d client (frame_of past s c)) (entries_with eats d client (map (frame_of past s) cs))
+      (cond_both (is_offered past client) (map (entry d client (frame_of past s c)) (filter (admits past client) (left eats (frame_of past s c)))) [] (Each Q)
+      (λ offered. kept_each client (frame_of past s c) (admits past client) (left eats (frame_of past s c)) (Each-left_from P (eats (frame_of past s c)) 0 c.events h.0)) (λ other. tt))
+      (entries_each client past s cs h.1)
 
   lost : (x : Entry) → is_dropped (event_of x) ≡ true → Q x
   lost x h = of_losses P (λ value. syn _ refl) (event_of x) h

@@ -1,6 +1,6 @@
 -- What a value becomes by the entries of a queue: when entries are put, flushed, lost and read.
 use Rattle.std.proofs.Common.{◌≡◌, ℕ, suc, zero, Bool, true, false, ◌&&◌, ◌||◌, not, if◌then◌else◌, nat_lt, List, [], ◌∷◌, ◌++◌, length, map, take, drop, refl, sym, ap, subst, ◌∙◌}
-use Rattle.std.proofs.lemmas.Bool.{and_from, not-true, cond_both}
+use Rattle.std.proofs.lemmas.Bool.{and_from, not-true, cond_both, not_from_false, false_from_ne_true}
 use Rattle.std.proofs.lemmas.List.{map-append}
 use Rattle.inp_model.specs.declared.event.Event.{Event}
 use Rattle.inp_model.specs.Event.{is_report}
@@ -124,11 +124,7 @@ loss_stays drops out before x h =
 
 kept_loss : (b : Bool) (x : Entry) (rest : List Entry) → (is_dropped (event_of x) ≡ true → b ≡ true) → has_no_loss ((if b then x ∷ [] else []) ++ rest) ≡ true → (not (is_dropped (event_of x)) ≡ true) × (has_no_loss rest ≡ true)
 kept_loss true x rest h k = (and-left _ _ k, and-right _ _ k)
-kept_loss false x rest h k = (by (is_dropped (event_of x)) h, k)
-  where
-    by : (b : Bool) → (b ≡ true → false ≡ true) → not b ≡ true
-    by true h = let e = h refl in cc
-    by false h = refl
+kept_loss false x rest h k = (not_from_false _ (false_from_ne_true (is_dropped (event_of x)) (λ e. let bad = h e in cc)), k)
 
 flush_behind-no_loss : (drops : Event → Bool) → ((e : Event) → is_dropped e ≡ true → (is_report e ≡ false) × (drops e ≡ false)) → (before q : List Entry) → has_no_loss (flush_behind event_of drops before q) ≡ true → has_no_loss q ≡ true
 flush_behind-no_loss drops out before [] h = refl

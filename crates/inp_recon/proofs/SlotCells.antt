@@ -2,7 +2,7 @@
 use Rattle.std.proofs.Common.{◌≡◌, ◌<◌, ◌≤◌, ℕ, zero, suc, ◌+◌, ◌-◌, ◌*◌, ◌/◌, ℤ, pos, negsuc, Bool, true, false, ◌&&◌, not, if◌then◌else◌, nat_eq, nat_lt, nat_le, List, ◌++◌, length, set, get_or, refl, sym, ap, ◌∙◌, arith, inl, inr}
 use Rattle.std.specs.List.{flat_map, range_with_len}
 use Rattle.std.specs.Ordering.{int_eq}
-use Rattle.std.proofs.lemmas.Bool.{eqb-true, eqb-false, eq-eqb, leb-true, lt-ltb, le-ltb, cases_lt}
+use Rattle.std.proofs.lemmas.Bool.{eqb-true, eqb-false, eq-eqb, leb-true, lt-ltb, le-ltb, cases_lt, and_right}
 use Rattle.std.proofs.lemmas.Bool.Decides.{Decides-int_eq}
 use Rattle.std.proofs.lemmas.List.{get_or_append_left, get_or-append_right, get_or-set_same, get_or-set_other}
 use Rattle.std.proofs.lemmas.List.FromFn.{length-map-range_with_len, get_or-map-range_with_len}
@@ -75,11 +75,8 @@ other_index j i c m lc hc lm hm h e =
 
 pub get-with_cell : (cells : List ℤ) (slots : ℕ) (at : ℤ) (c : ℕ) (value : ℤ) (slot code : ℕ) → length cells ≡ 14 * slots → slot < slots → is_slot_code c ≡ true → is_slot_code code ≡ true
     → get_or (with_cell cells at c value) (cell_index (pos slot) code) (pos 0) ≡ (if nat_eq c code && int_eq at (pos slot) then value else get_or cells (cell_index (pos slot) code) (pos 0))
-get-with_cell cells slots (negsuc j) c value slot code long within is_c is_code = by (nat_eq c code)
-  where
-    by : (b : Bool) → get_or cells (cell_index (pos slot) code) (pos 0) ≡ (if b && false then value else get_or cells (cell_index (pos slot) code) (pos 0))
-    by true = refl
-    by false = refl
+get-with_cell cells slots (negsuc j) c value slot code long within is_c is_code =
+    ap (λ (b : Bool). if b then value else get_or cells (cell_index (pos slot) code) (pos 0)) (sym (and_right (nat_eq c code) false refl))
 get-with_cell cells slots (pos j) c value slot code long within is_c is_code =
     ap (λ (b : Bool). get_or (if b then set cells (cell_index (pos j) c) value else cells) index (pos 0)) (has_slot-pos cells slots j long)
     ∙ elim (cases_lt j slots) [

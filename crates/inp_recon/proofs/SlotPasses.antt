@@ -1,7 +1,7 @@
 -- The current slot and a value of a slot: what is passed for a raw event leads from those before to those behind.
 use Rattle.std.proofs.Common.{◌≡◌, ◌<◌, ◌≤◌, ℕ, ℤ, Bool, true, false, ◌&&◌, not, if◌then◌else◌, nat_eq, nat_le, List, [], ◌∷◌, ◌++◌, refl, sym, ap, subst, ◌∙◌, Option, Some, None, option_to_list, option_map, is_some, arith}
 use Rattle.std.specs.Ordering.{int_eq}
-use Rattle.std.proofs.lemmas.Bool.{eqb-true, ne_eqb, leb-true, leb-false, le-leb, and_right, and_right}
+use Rattle.std.proofs.lemmas.Bool.{eqb-true, ne_eqb, leb-true, leb-false, le-leb, and_right}
 use Rattle.std.proofs.lemmas.Bool.Decides.{Decides-int_eq}
 use Rattle.inp_model.specs.declared.event.TheConstants.{EV_ABS}
 use Rattle.inp_model.specs.declared.multi_touch.TheConstants.{ABS_MT_SLOT, ABS_MT_TOUCH_MAJOR, ABS_MT_TOOL_Y}
@@ -104,11 +104,8 @@ module _ (d : Description) (some : nat_eq d.slots 0 ≡ false) (slot : ℤ) (cod
 
   -- the naming of a slot is not passed
   slot_unpassed : (r : List RawItem) (value : ℤ) → passed d r (event EV_ABS ABS_MT_SLOT value) ≡ []
-  slot_unpassed r value = by (supports d EV_ABS ABS_MT_SLOT)
-    where
-      by : (b : Bool) → option_to_list (option_map (λ v. event EV_ABS ABS_MT_SLOT v) (if b && false then Some (multi_touch_value d r (event EV_ABS ABS_MT_SLOT value)) else None)) ≡ []
-      by true = refl
-      by false = refl
+  slot_unpassed r value =
+      ap (λ (b : Bool). option_to_list (option_map (λ v. event EV_ABS ABS_MT_SLOT v) (if b then Some (multi_touch_value d r (event EV_ABS ABS_MT_SLOT value)) else None))) (and_right (supports d EV_ABS ABS_MT_SLOT) false refl)
 
   -- an event that is no value of a slot: nothing that is passed for it changes either
   other-passes : (r : List RawItem) (e : Event) → is_slot_value e ≡ false → over (cell_then slot code) (cell_now r) (passed d r e) ≡ cell_now (Occurred e ∷ r)

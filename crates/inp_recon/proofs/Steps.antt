@@ -19,7 +19,7 @@ use Rattle.inp_recon.proofs.Cutting.{NoCut, OneCut, cut_cases}
 use Rattle.inp_recon.proofs.CallsLeft.{LeftBy, ByRead, ByLoss, ByFlush, ByNone, left_by, left_in_queue}
 use Rattle.inp_recon.proofs.FrameEntries.{Receives}
 use Rattle.inp_recon.proofs.FrameSteps.{frames_by, offered_to}
-use Rattle.std.proofs.lemmas.Bool.{or_parts}
+use Rattle.std.proofs.lemmas.Bool.{or_parts, or_right}
 
 pub raw-step : (d : Description) (past : List Step) (x : Step) → raw d (x ∷ past) ≡ raw_after (raw d past) (raw_of_step d past x)
 unfolding raw raw_and_timer raw_of_step
@@ -47,11 +47,7 @@ sync-same past client x h k =
 
 pub sync-query : (past : List Step) (client : ℕ) (x : Step) → is_query_of client x ≡ true → sync_place (x ∷ past) client ≡ length past
 unfolding sync_place
-sync-query past client x h = by (is_start past client x)
-  where
-    by : (b : Bool) → (if b || is_query_of client x then length past else sync_place past client) ≡ length past
-    by true = refl
-    by false = ap (λ (b : Bool). if b then length past else sync_place past client) h
+sync-query past client x h = ap (λ (b : Bool). if b then length past else sync_place past client) (or_right (is_start past client x) _ h)
 
 either_le : (b : Bool) (m n k : ℕ) → m ≤ k → n ≤ k → (if b then m else n) ≤ k
 either_le true m n k h j = h

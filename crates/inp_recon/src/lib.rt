@@ -5,8 +5,9 @@
 //! replies, on `inp_bits` for the lists of codes, and on `inp_caps` for the description.
 //!
 //! Its contract: `specs/View.antt` says, part by part, what an event and an answer make of a view. [`View::take_event`]
-//! and [`View::answer`] are one step of that fold each, as an equation on the whole view. A copied view is given
-//! exactly, and a new one too, unless memory ran out; each call of [`Cells`] is an equation.
+//! and [`View::answer`] are one step of that fold each, and [`View::take_events`] is one for each event, as an equation on
+//! the whole view. A copied view is given exactly, and a new one too, unless memory ran out; each call of [`Cells`] is an
+//! equation.
 //!
 //! [`laws::faithful`] says when a view is the device's state: at each report of a frame that the client could follow,
 //! having asked for everything and lost nothing, while nothing was kept from it. It is a law over the definitions

@@ -1,13 +1,14 @@
 //! The view of a client.
-ghost use Rattle.std.specs.Prelude.{◌≡◌, length, IfOk};
-ghost use Rattle.inp_recon.specs.View.{first_view, code_count, with_value_at, axes_after_reply, slot_after_reply, cells_after_reply, IsAxis, AreCells, HasAxis, HasCells, view_after_event, view_after_answer};
+ghost use Rattle.std.specs.Prelude.{◌≡◌, length, map, IfOk};
+ghost use Rattle.inp_recon.specs.View.{first_view, code_count, with_value_at, axes_after_reply, slot_after_reply, cells_after_reply, IsAxis, AreCells, HasAxis, HasCells, view_after_event, view_after_events, view_after_answer};
 
 use crate::Cells;
 use crate::flags::{set_flag, set_flags};
 use inp_bits::Bits;
 use inp_caps::Caps;
 use inp_model::{
-    ABS_MT_SLOT, EV_ABS, EV_KEY, EV_LED, EV_SW, Event, NoMemory, Reply, Step, is_multi_touch_code,
+    ABS_MT_SLOT, EV_ABS, EV_KEY, EV_LED, EV_SW, Event, NoMemory, Reply, Step, Taken,
+    is_multi_touch_code,
 };
 use std::alloc::Global;
 
@@ -73,6 +74,17 @@ impl View {
             }
             EV_ABS => set_axis(&mut self.axes, event),
             _ => {}
+        }
+    }
+
+    /// Takes over events that the client read, the first one first, as a call of [`take_event`](View::take_event) for each
+    /// would.
+    pub fn take_events(&mut self, events: &[Taken])
+        ensures view { self.new ≡ view_after_events self.old (map (λ t. t.event) events.now) }
+        ensures cells { length self.new.cells ≡ length self.old.cells }
+    {
+        for taken in events {
+            self.take_event(taken.event);
         }
     }
 

@@ -2,6 +2,7 @@
 use Rattle.std.proofs.Common.{◌≡◌, ℕ, true, false, refl, sym, ap, subst, ◌∙◌, inl, inr, Option, Some}
 use Rattle.std.specs.Prelude.{min}
 use Rattle.std.specs.List.{slice_get}
+use Rattle.inp_model.specs.Description.{Description}
 use Rattle.inp_model.specs.Evdev.{EvdevView}
 use Rattle.inp_actors.specs.declared.command.Command.{Command}
 use Rattle.inp_actors.specs.declared.command.Command.TheVariants.{Feedback}
@@ -28,11 +29,11 @@ owner-room (Feedback count) h = (count, refl)
 owner-room _ h = absurd cc
 
 -- what keeps no owner's is of another role
-pub caller-of : (state : RoleState) → ((owner : owner.Owner) → state ≡ Owner owner → ⊥) → is_owner (role_of state) ≡ false
-caller-of (Owner owner) other = absurd (other owner refl)
-caller-of (Source view) other = refl
-caller-of (Tap tap) other = refl
-caller-of (Client reader view) other = refl
+pub caller-of : (state : RoleState) → ((caps : Description) (owner : owner.Owner) → state ≡ Owner caps owner → ⊥) → is_owner (role_of state) ≡ false
+caller-of (Owner caps owner) other = absurd (other caps owner refl)
+caller-of (Source caps view) other = refl
+caller-of (Tap caps tap) other = refl
+caller-of (Client reader) other = refl
 caller-of (Joy joy) other = refl
 
 module _ {S : Type 0} (told : S → EvdevView) (feeds : Feeding S) (before after : S) (r : RecordView) (wait : Option Waiting) (number : ℕ) (old : ActorView) where

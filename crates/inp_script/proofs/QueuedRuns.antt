@@ -19,17 +19,19 @@ use Rattle.inp_reader.specs.Reading.{Reading, first_run, queued_run, after_run, 
 use Rattle.inp_reader.specs.Effort.{effort, held_back}
 use Rattle.inp_reader.specs.Talk.{Talk, finish, and_then, LeadsTo}
 use Rattle.inp_reader.proofs.NextWalk.{next-queued}
-use Rattle.inp_reader.proofs.RunsStand.{queue-run}
+use Rattle.inp_reader.proofs.Runs.{queue-run, queued-many}
 use Rattle.inp_script.specs.declared.client.Turn.{Turn as KeptTurn}
 use Rattle.inp_script.specs.declared.client.Turn.TheVariants.{GoesOn, Ends}
+use Rattle.inp_script.specs.declared.notes.Notes.{Notes}
 use Rattle.inp_script.specs.declared.sight.Sight.{Sight}
 use Rattle.inp_script.specs.declared.sight.Sight.TheVariants.{Took}
 use Rattle.inp_script.specs.declared.waiting.Waiting.{Waiting}
 use Rattle.inp_script.specs.Client.{Going, Turn, goes_on, ends_with, handed, one_less, mode_of, next_round, after_next, turn_after, on_turn, rounds}
 use Rattle.inp_script.specs.Effort.{total_effort, Shrinks}
-use Rattle.inp_script.specs.Going.{turn_of}
+use Rattle.inp_script.specs.Going.{turn_of, IsPatient, IsAnew}
 use Rattle.inp_script.specs.Handing.{most_of, less_by, job_after_run, HandsRun, IsAdvanced}
 use Rattle.inp_script.specs.Job.{Job}
+use Rattle.inp_script.specs.Noting.{job_of}
 use Rattle.inp_script.specs.Sight.{noted, taken_sight}
 use Rattle.inp_script.proofs.Turns.{less_anew}
 
@@ -233,6 +235,23 @@ advanced-run told d wait skips left agains old new turn h =
           ∙ ap (λ (j : Job). on_turn (rounds d wait skips n) (handed (less_by (length run) left) j)) (sym h.taken)
           ∙ ap (λ (t : Turn). on_turn (rounds d wait skips n) t) h.goes;
       are_calls = refl;
+    }
+
+-- as many as are queued were handed out and noted
+pub hands-run : (left : Option ℕ) (r s : Reading) (old new : Notes) (run : List Taken) (count : ℕ) (turn : KeptTurn) → run ≡ queued_run (most_of left) r → count ≡ length run → 1 ≤ count
+    → s ≡ after_run r (queued_run count r) → new ≡ record old { sight = old.sight ++ map taken_sight run }
+    → ((j : Job) → handed (less_by count left) j ≡ turn_of turn j) → IsPatient turn → IsAnew turn → HandsRun left (job_of r old) turn (job_of s new)
+hands-run left r s old new run count turn is many some taken noted goes patient anew =
+    let queued : List Taken = queued_run (most_of left) r in
+    let n : count ≡ length queued = many ∙ ap length is in
+    record {
+      some = omega (arith, some, n);
+      taken =
+          ap (λ (t : Reading). job_of t new) (taken ∙ ap (λ (ts : List Taken). after_run r ts) (queued-many (most_of left) count r run is many))
+          ∙ ap (λ (notes : Notes). job_of (after_run r queued) notes) (noted ∙ ap (λ (ts : List Taken). record old { sight = old.sight ++ map taken_sight ts }) is);
+      goes = ap (λ (k : ℕ). handed (less_by k left) (job_of s new)) (sym n) ∙ goes (job_of s new);
+      patient = patient;
+      anew = anew;
     }
 
 -- Such a run leaves less to do

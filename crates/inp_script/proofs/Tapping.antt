@@ -1,7 +1,6 @@
 -- What one call of a tap leaves.
-use Rattle.std.proofs.Common.{◌≡◌, ℕ, ◌*◌, ◌+◌, ◌<◌, ◌≤◌, List, [], ◌∷◌, ◌++◌, get_or, length, take, drop, map, refl, sym, ap, subst, ◌∙◌, arith, Bool, false, if◌then◌else◌, Option, Some, None, ℤ}
-use Rattle.std.proofs.lemmas.List.{take_at, take_more, map-append, length-append}
-use Rattle.inp_model.specs.declared.event.Event.{Event}
+use Rattle.std.proofs.Common.{◌≡◌, ℕ, ◌*◌, ◌≤◌, List, ◌++◌, length, take, drop, map, refl, sym, ap, subst, ◌∙◌, arith, Bool, false, if◌then◌else◌, Option, Some, None, ℤ}
+use Rattle.std.proofs.lemmas.List.{take_at, length-append}
 use Rattle.inp_model.specs.declared.taken.Taken.{Taken}
 use Rattle.inp_model.specs.declared.step.Step.{Step}
 use Rattle.inp_model.specs.declared.reply.Reply.{Reply}
@@ -10,8 +9,7 @@ use Rattle.inp_model.specs.Past.{past_at}
 use Rattle.inp_model.specs.Reply.{Answer}
 use Rattle.inp_model.specs.Run.{place_of}
 use Rattle.inp_recon.specs.declared.view.View.{View}
-use Rattle.inp_recon.specs.View.{view_after_answer, view_after_event, view_after_events}
-use Rattle.inp_recon.proofs.Folds.{view_after_events-append}
+use Rattle.inp_recon.specs.View.{view_after_answer, view_after_events}
 use Rattle.inp_reader.specs.Reading.{Reading}
 use Rattle.inp_reader.specs.Talk.{finish}
 use Rattle.inp_reader.proofs.Answering.{view-answered}
@@ -85,15 +83,3 @@ tap-noted before after x reply old new r s view out events m memory read same no
 pub tap-begun : (before after : EvdevView) (x : Step) (reply : Reply) (view new : View) (out : List Taken) (j : Job) → IsTapCall before after x reply view new out → Begins before after (tap_call j x)
 tap-begun before after x reply view new out j m =
     begins-one before after x (λ (answer : Answer). finish (unless_lacking answer.reply (after_tap_call j x answer))) (record { answer = m.answer; is_call = m.is_call })
-
--- one more event of a buffer is taken
-pub taken-more : (start view new : View) (events : List Taken) (index : ℕ) (default : Taken) → index < length events → view ≡ view_after_events start (map event_of_taken (take index events)) → new ≡ view_after_event view (get_or events index default).event
-    → new ≡ view_after_events start (map event_of_taken (take (index + 1) events))
-unfolding view_after_events
-taken-more start view new events index default within taken next =
-    let e : Event = (get_or events index default).event in
-    next
-    ∙ ap (λ (v : View). view_after_event v e) taken
-    ∙ sym (view_after_events-append start (map event_of_taken (take index events)) (e ∷ []))
-    ∙ ap (λ (es : List Event). view_after_events start es)
-    (sym (ap (λ (ts : List Taken). map event_of_taken ts) (take_more events index default within) ∙ map-append event_of_taken (take index events) (get_or events index default ∷ [])))

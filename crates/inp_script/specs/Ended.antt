@@ -60,11 +60,11 @@ played_of devices = record {
   owners = flat_map (λ (device : DeviceRun). device.owners) devices;
 }
 
--- of one that keeps this on a device of this description, saw this and ended so
-abbrev pub ended_with : Description → RoleState → ℕ → List Sight → Stop → Ended
-ended_with d (Joy joy) actor sight stop = JoyEnded (record { actor = actor; sight = sight; picture = joy.joying.picture; stop = stop })
-ended_with d (Owner owner) actor sight stop = OwnerEnded (record { actor = actor; fed = owner.fed; stop = last_stop owner.stop })
-ended_with d state actor sight stop = JobEnded (record { actor = actor; sight = sight; view = (role_reading d state).view; stop = stop })
+-- of one that keeps this, saw this and ended so
+abbrev pub ended_with : RoleState → ℕ → List Sight → Stop → Ended
+ended_with (Joy joy) actor sight stop = JoyEnded (record { actor = actor; sight = sight; picture = joy.joying.picture; stop = stop })
+ended_with (Owner caps owner) actor sight stop = OwnerEnded (record { actor = actor; fed = owner.fed; stop = last_stop owner.stop })
+ended_with state actor sight stop = JobEnded (record { actor = actor; sight = sight; view = (role_reading state).view; stop = stop })
 
 -- the view of a job has the device's slots
 abbrev pub HasDeviceSlots : Description → Ended → Type 0

@@ -17,19 +17,27 @@ use Rattle.inp_script.specs.Owner.{Owning, first_owning}
 use Rattle.inp_script.specs.Tap.{tap_reading, IsSizedTap}
 
 abbrev pub role_of : RoleState → Role
-role_of (Source view) = SourceRole
-role_of (Tap tap) = TapRole
-role_of (Client reader view) = ClientRole
+role_of (Source caps view) = SourceRole
+role_of (Tap caps tap) = TapRole
+role_of (Client reader) = ClientRole
 role_of (Joy joy) = JoyRole
-role_of (Owner owner) = OwnerRole
+role_of (Owner caps owner) = OwnerRole
 
--- the client that it reads as, on a device of this description; an owner reads as none
-abbrev pub role_reading : Description → RoleState → Reading
-role_reading d (Source view) = record { client = NO_CLIENT; queue = []; view = view; phase = Plain; left = [] }
-role_reading d (Tap tap) = tap_reading tap
-role_reading d (Client reader view) = reader.reading
-role_reading d (Joy joy) = joy.joying.reading
-role_reading d (Owner owner) = first_reading d
+-- the description of its device
+abbrev pub description_of : RoleState → Description
+description_of (Source caps view) = caps
+description_of (Tap caps tap) = caps
+description_of (Client reader) = reader.description
+description_of (Joy joy) = joy.description
+description_of (Owner caps owner) = caps
+
+-- the client that it reads as; an owner reads as none
+abbrev pub role_reading : RoleState → Reading
+role_reading (Source caps view) = record { client = NO_CLIENT; queue = []; view = view; phase = Plain; left = [] }
+role_reading (Tap caps tap) = tap_reading tap
+role_reading (Client reader) = reader.reading
+role_reading (Joy joy) = joy.joying.reading
+role_reading (Owner caps owner) = first_reading caps
 
 -- what it keeps of a joystick
 abbrev pub stick_of : RoleState → Stick
@@ -41,18 +49,15 @@ owning_in owner = record { fed = owner.fed; stop = owner.stop }
 
 -- what it keeps of an owner
 abbrev pub owning_of : RoleState → Owning
-owning_of (Owner owner) = owning_in owner
+owning_of (Owner caps owner) = owning_in owner
 owning_of _ = first_owning
 
 -- its job, with what is noted of it
-abbrev pub job_in : Description → RoleState → Notes → Job
-job_in d state notes = job_with (role_reading d state) (stick_of state) notes
+abbrev pub job_in : RoleState → Notes → Job
+job_in state notes = job_with (role_reading state) (stick_of state) notes
 
--- views and buffers have as many cells as the device, and a reader or a joystick is one for it, whose own view has as many by
--- itself
-abbrev pub IsSized : Description → RoleState → Type 0
-IsSized d (Source view) = length view.cells ≡ SLOT_VALUES * d.slots
-IsSized d (Tap tap) = IsSizedTap d tap
-IsSized d (Client reader view) = (reader.description ≡ d) × (length view.cells ≡ SLOT_VALUES * d.slots)
-IsSized d (Joy joy) = joy.description ≡ d
-IsSized d (Owner owner) = Unit {0}
+-- views and buffers have as many cells as the device; a reader's and a joystick's have by themselves
+abbrev pub IsSized : RoleState → Type 0
+IsSized (Source caps view) = length view.cells ≡ SLOT_VALUES * caps.slots
+IsSized (Tap caps tap) = IsSizedTap caps tap
+IsSized _ = Unit {0}

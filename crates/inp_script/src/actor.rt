@@ -18,7 +18,6 @@ use crate::role_state::RoleState;
 use crate::stops::last_stop;
 use crate::{Ended, Sights, Waiting};
 use inp_actors::Record;
-use inp_caps::Caps;
 use inp_feedback::Feeds;
 use inp_model::{Evdev, NoMemory, Step};
 use std::alloc::Global;
@@ -34,7 +33,6 @@ use std::marker::Model;
 #[derive(Drop)]
 pub struct Actor {
     actor: u32,
-    caps: Caps,
     notes: Notes,
     state: RoleState,
 }
@@ -74,7 +72,6 @@ impl Actor {
         };
         Ok(Actor {
             actor,
-            caps: caps.copy(),
             notes,
             state,
         })
@@ -123,7 +120,7 @@ impl Actor {
             return Ok(());
         }
         self.state
-            .do_command(dev, &mut self.notes, &self.caps, rec, command, wait)
+            .do_command(dev, &mut self.notes, rec, command, wait)
     }
 
     /// Does the line of this number on a device that the actor may own, or nothing where it has stopped. An owner makes the
@@ -155,7 +152,7 @@ impl Actor {
     {
         let command = &rec.lines().get(line as usize).command;
         match &mut self.state {
-            RoleState::Owner { owner } => owner.do_command(dev, command),
+            RoleState::Owner { owner, .. } => owner.do_command(dev, command),
             _ => self.line(dev, rec, line, wait),
         }
     }
@@ -194,11 +191,10 @@ impl Actor {
     {
         let Actor {
             actor,
-            caps,
             notes,
             state,
         } = self;
         let Notes { sight, stop } = notes;
-        state.end(actor, &caps, sight, last_stop(stop))
+        state.end(actor, sight, last_stop(stop))
     }
 }

@@ -233,19 +233,19 @@ fn hand_queued(
     notes: &mut Notes,
     left: Option<u32>,
 ) -> Result<Option<Turn>, NoMemory>
-    ensures none { IfOk result (λ turn. IfNone turn ((reader.new ≡ reader.old) × (notes.new ≡ notes.old))) }
+    ensures none { IfOk result (λ turn. IfNone turn
+        ((reader.new ≡ reader.old) × (notes.new ≡ notes.old))) }
     ensures some { IfOk result (λ turn. IfSome turn (λ t. HandsRun left
         (job_of reader.old.reading notes.old) t (job_of reader.new.reading notes.new))) }
     ensures reader { reader.new.description ≡ reader.old.description }
 {
-    let most = most_of(left);
-    let run = reader.queued(most);
+    let run = reader.queued(most_of(left));
     if run.is_empty() {
         return Ok(None);
     }
     let count = run.len();
     notes.push_taken(run)?;
-    reader.take_queued(most);
+    reader.take_queued(count);
     Ok(Some(handed_run(left, count)))
 }
 

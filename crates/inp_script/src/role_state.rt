@@ -4,7 +4,7 @@ ghost use Rattle.inp_script.specs.Owner.{first_owning};
 ghost use Rattle.inp_script.specs.Doing.{Begins, DoesCommand, IsCommandFor, command_talk};
 ghost use Rattle.inp_script.specs.Job.{first_reading, first_stick};
 ghost use Rattle.inp_script.specs.Ended.{HasDeviceSlots, ended_with};
-ghost use Rattle.inp_script.specs.RoleState.{role_of, role_reading, stick_of, owning_of, owning_in, job_in, IsSized};
+ghost use Rattle.inp_script.specs.RoleState.{role_of, description_of, role_reading, stick_of, owning_of, owning_in, job_in, IsSized};
 
 use crate::client::do_client_command;
 use crate::joystick::do_joystick_command;
@@ -22,46 +22,48 @@ use inp_reader::Reader;
 use inp_recon::View;
 use std::alloc::Global;
 
-/// What an actor keeps by its role.
+/// What an actor keeps by its role, with the description of its device, which a reader and a joystick have themselves.
 #[derive(Drop)]
 pub(crate) enum RoleState {
     /// A source sees nothing of the device: its view is a new one.
-    Source { view: View },
+    Source { caps: Caps, view: View },
     /// A tap makes the calls of a client one by one.
-    Tap { tap: Tap },
-    /// A client reads by a reader. The view is room for the reader's at the end.
-    Client { reader: Reader, view: View },
+    Tap { caps: Caps, tap: Tap },
+    /// A client reads by a reader.
+    Client { reader: Reader },
     /// A joystick reads as one.
     Joy { joy: Joy },
     /// An owner makes feedback calls, and none of an evdev.
-    Owner { owner: Owner },
+    Owner { caps: Caps, owner: Owner },
 }
 
 impl RoleState {
     // What an actor of a role keeps before its first line. It is refused for memory alone.
     pub(crate) fn new(alloc: Global, caps: &Caps, role: Role) -> Result<RoleState, NoMemory>
         ensures role { IfOk result (λ state. role_of state ≡ role) }
-        ensures reading { IfOk result
-            (λ state. role_reading caps.now state ≡ first_reading caps.now) }
+        ensures description { IfOk result (λ state. description_of state ≡ caps.now) }
+        ensures reading { IfOk result (λ state. role_reading state ≡ first_reading caps.now) }
         ensures stick { IfOk result (λ state. stick_of state ≡ first_stick role caps.now) }
         ensures owning { IfOk result (λ state. owning_of state ≡ first_owning) }
-        ensures sized { IfOk result (IsSized caps.now) }
+        ensures sized { IfOk result IsSized }
     {
         match role {
             Role::Source => Ok(RoleState::Source {
+                caps: caps.copy(),
                 view: View::new(alloc, caps)?,
             }),
             Role::Tap => Ok(RoleState::Tap {
+                caps: caps.copy(),
                 tap: Tap::new(alloc, caps)?,
             }),
             Role::Client => Ok(RoleState::Client {
                 reader: Reader::new(alloc, caps)?,
-                view: View::new(alloc, caps)?,
             }),
             Role::Joy => Ok(RoleState::Joy {
                 joy: Joy::new(alloc, caps)?,
             }),
             Role::Owner => Ok(RoleState::Owner {
+                caps: caps.copy(),
                 owner: Owner::new(alloc),
             }),
         }
@@ -72,53 +74,48 @@ impl RoleState {
         &mut self,
         dev: &mut E,
         notes: &mut Notes,
-        caps: &Caps,
         rec: &Record,
         command: &Command,
         wait: Option<Waiting>,
     ) -> Result<(), NoMemory>
         requires command { IsCommandFor (role_of self.old) rec.now.streams command.now }
-        requires device { (E.told dev.old).description ≡ caps.now }
-        requires sized { IsSized caps.now self.old }
+        requires device { (E.told dev.old).description ≡ description_of self.old }
+        requires sized { IsSized self.old }
         ensures done { OnOk result (DoesCommand (E.told dev.old) (E.told dev.new)
-            (role_of self.old) caps.now rec.now.streams wait command.now
-            (job_in caps.now self.old notes.old) (job_in caps.now self.new notes.new)) }
+            (role_of self.old) (description_of self.old) rec.now.streams wait command.now
+            (job_in self.old notes.old) (job_in self.new notes.new)) }
         ensures begun { (rounds : ℕ) × Begins (E.told dev.old) (E.told dev.new)
-            (command_talk (role_of self.old) caps.now rec.now.streams wait rounds command.now
-            (job_in caps.now self.old notes.old)) }
+            (command_talk (role_of self.old) (description_of self.old) rec.now.streams wait rounds
+            command.now (job_in self.old notes.old)) }
         ensures role { role_of self.new ≡ role_of self.old }
+        ensures description { description_of self.new ≡ description_of self.old }
         ensures owning { owning_of self.new ≡ owning_of self.old }
-        ensures sized { IsSized caps.now self.new }
+        ensures sized { IsSized self.new }
     {
         match self {
             RoleState::Source { .. } => do_source_command(dev, notes, rec, command),
-            RoleState::Tap { tap } => tap.do_command(dev, notes, command),
-            RoleState::Client { reader, .. } => do_client_command(
-                dev, reader, notes, command, wait,
-            ),
+            RoleState::Tap { tap, .. } => tap.do_command(dev, notes, command),
+            RoleState::Client { reader } => do_client_command(dev, reader, notes, command, wait),
             RoleState::Joy { joy } => do_joystick_command(dev, joy, notes, command),
             RoleState::Owner { .. } => Ok(()),
         }
     }
 
     // What comes of an actor of this number that saw this and ended so. It takes no memory.
-    pub(crate) fn end(self, actor: u32, caps: &Caps, sight: Sights, stop: Stop) -> Ended
-        requires sized { IsSized caps.now self }
-        ensures ended { result ≡ ended_with caps.now self actor sight stop }
-        ensures cells { HasDeviceSlots caps.now result }
+    pub(crate) fn end(self, actor: u32, sight: Sights, stop: Stop) -> Ended
+        requires sized { IsSized self }
+        ensures ended { result ≡ ended_with self actor sight stop }
+        ensures cells { HasDeviceSlots (description_of self) result }
     {
         let view = match self {
-            RoleState::Source { view } => view,
-            RoleState::Tap { tap } => tap.into_view(),
-            RoleState::Client { reader, mut view } => {
-                view.copy_from(reader.view());
-                view
-            }
+            RoleState::Source { view, .. } => view,
+            RoleState::Tap { tap, .. } => tap.into_view(),
+            RoleState::Client { reader } => reader.into_view(),
             RoleState::Joy { joy } => {
                 let end = JoyEnd::new(actor, sight, *joy.picture(), stop);
                 return Ended::Joy { end };
             }
-            RoleState::Owner { owner } => {
+            RoleState::Owner { owner, .. } => {
                 let Owner { fed, stop } = owner;
                 let end = OwnerEnd::new(actor, fed, last_stop(stop));
                 return Ended::Owner { end };

@@ -1,14 +1,13 @@
 //! What a tap does.
-ghost use Rattle.std.specs.Prelude.{◌≡◌, ◌≤◌, ◌*◌, true, length, map, OnOk, IfOk, Some};
+ghost use Rattle.std.specs.Prelude.{◌≡◌, ◌≤◌, ◌*◌, true, length, OnOk, IfOk, Some};
 ghost use Rattle.inp_actors.specs.declared.role.Role.TheVariants.{Tap as TapRole};
 ghost use Rattle.inp_actors.specs.Command.{is_command_of, is_in_range};
 ghost use Rattle.inp_model.specs.declared.stamped.TheConstants.{MOMENT_MAX};
 ghost use Rattle.inp_model.specs.Step.{moment_of};
 ghost use Rattle.inp_model.specs.Reply.{HasRoom};
-ghost use Rattle.inp_recon.specs.View.{view_after_events};
 ghost use Rattle.inp_script.specs.Doing.{Begins, Holds};
 ghost use Rattle.inp_script.specs.Job.{first_reading};
-ghost use Rattle.inp_script.specs.Line.{tap_client_after, event_of_taken, tap_call, tap_talk};
+ghost use Rattle.inp_script.specs.Line.{tap_client_after, tap_call, tap_talk};
 ghost use Rattle.inp_script.specs.Noting.{job_of, count_taken};
 ghost use Rattle.inp_script.specs.Tap.{tap_reading, IsSizedTap, IsTapCall};
 
@@ -126,18 +125,8 @@ fn make<E: Evdev>(
 {
     let reply = dev.call(step, out, cells);
     view.answer(step, reply, cells);
-    take_events(view, &out[..count_taken(reply)]);
+    view.take_events(&out[..count_taken(reply)]);
     reply
-}
-
-// Sets a view by events, the first one first.
-fn take_events(view: &mut View, events: &[Taken])
-    ensures view { view.new ≡ view_after_events view.old (map event_of_taken events.now) }
-    ensures cells { length view.new.cells ≡ length view.old.cells }
-{
-    for taken in events {
-        view.take_event(taken.event);
-    }
 }
 
 // The client after a call: the one that it opened, if it did.

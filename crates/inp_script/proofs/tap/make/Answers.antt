@@ -12,5 +12,5 @@ slice_bounds-take_events-end-2 g c =
 
 pub returns-clause-made : goal.returns-clause-made
 returns-clause-made g c =
-    tap-made _ _ c.args.step c.call-reply.result c.args.out.now c.call-reply.new.out c.args.cells.now c.call-reply.new.cells c.args.view.now c.answer.new.self c.take_events.new.view c.count_taken.result
+    tap-made _ _ c.args.step c.call-reply.result c.args.out.now c.call-reply.new.out c.args.cells.now c.call-reply.new.cells c.args.view.now c.answer.new.self c.take_events.new.self c.count_taken.result
     c.call-reply.ensures.called c.requires.view c.answer.ensures.view c.count_taken.ensures c.take_events.ensures.view

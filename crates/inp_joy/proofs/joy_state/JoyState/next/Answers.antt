@@ -7,7 +7,7 @@ use Rattle.inp_joy.proofs.joy_state.JoyState.next.Goals as goal
 pub returns-clause-calls : goal.returns-clause-calls
 returns-clause-calls g c =
     calls-next _ _ c.args.self.now.made c.add_all.new.self c.args.mode c.args.self.now.reader c.next-next.new.self c.next-next.result c.next-next.ensures.says c.next-next.ensures.reader c.next-next.ensures.left
-    (c.add_all.ensures ∙ ap (λ (ms : List CallMade). c.args.self.now.made ++ ms) c.made.ensures.made) c.next-next.ensures.stands c.next-next.ensures.shows
+    (c.add_all.ensures.added ∙ ap (λ (ms : List CallMade). c.args.self.now.made ++ ms) c.made.ensures.made) c.next-next.ensures.stands c.next-next.ensures.shows
 
 pub returns-clause-state : goal.returns-clause-state
 returns-clause-state g c = record {

@@ -35,7 +35,7 @@ returns-clause-says g c =
     let j = kept_joying c.args.self.now in
     let k = with_reading j c.start-started.new.self.reading in
     let l = kept_joying c.after_start.new.self in
-    let made = ap (λ (s : JoyState). s.made) c.after_start.ensures.rest ∙ c.add_all.ensures ∙ ap (λ (ms : List CallMade). ms ++ c.made.result.now) c.clear.ensures ∙ c.made.ensures.made in
+    let made = ap (λ (s : JoyState). s.made) c.after_start.ensures.rest ∙ c.add_all.ensures.added ∙ ap (λ (ms : List CallMade). ms ++ c.made.result.now) c.clear.ensures.none ∙ c.made.ensures.made in
     subst (λ (ms : List CallMade). Says a b [] ms (joy_start d j) (c.start-started.result, l)) (sym made)
     (says-started a b [] _ d j k l c.start-started.result c.start-started.new.self.reading c.start-started.ensures.says refl (subst (λ (e : Description). l ≡ joying_after_start e k c.start-started.result) c.start-started.ensures.reader c.after_start.ensures.joying))
 

@@ -11,18 +11,18 @@ use Rattle.inp_reader.proofs.LessEffort.{says-less}
 use Rattle.inp_reader.proofs.reader.Reader.next.Goals as goal
 
 pub returns-clause-left : goal.returns-clause-left
-returns-clause-left g c = says-left _ _ _ _ _ (says-anew _ _ _ _ _ _ c.clear.ensures c.next.ensures.says)
+returns-clause-left g c = says-left _ _ _ _ _ (says-anew _ _ _ _ _ _ c.clear.ensures.none c.next.ensures.says)
 
 pub returns-clause-agains : goal.returns-clause-agains
 returns-clause-agains g c =
-    says-agains _ _ _ _ c.args.mode _ _ _ (c.requires.description ∙ ap (λ (v : ReaderView). v.description) (sym c.self.view_is)) (says-anew _ _ _ _ _ _ c.clear.ensures c.next.ensures.says)
+    says-agains _ _ _ _ c.args.mode _ _ _ (c.requires.description ∙ ap (λ (v : ReaderView). v.description) (sym c.self.view_is)) (says-anew _ _ _ _ _ _ c.clear.ensures.none c.next.ensures.says)
 
 pub invariant_of-self : goal.invariant_of-self
 invariant_of-self g c = record {
   view = c.next.ensures.session.view;
   asked = c.next.ensures.session.asked;
   cells = c.next.ensures.session.cells;
-  few = omega (arith, c.next.ensures.few, ap length c.clear.ensures);
+  few = omega (arith, c.next.ensures.few, ap length c.clear.ensures.none);
   slots = c.next.ensures.session.slots;
   room = c.next.ensures.session.room;
   described = c.self.invariant.described;
@@ -31,12 +31,12 @@ invariant_of-self g c = record {
 
 pub returns-clause-stands : goal.returns-clause-stands
 returns-clause-stands g c = λ stood alone.
-    next-stands c.self.inside.caps _ _ _ c.args.mode (reading_of c.self.inside.session) (reading_of c.next.new.self) c.next.result (c.requires.description ∙ ap (λ (v : ReaderView). v.description) (sym c.self.view_is)) c.self.invariant.spare (says-anew _ _ _ _ _ _ c.clear.ensures c.next.ensures.says)
+    next-stands c.self.inside.caps _ _ _ c.args.mode (reading_of c.self.inside.session) (reading_of c.next.new.self) c.next.result (c.requires.description ∙ ap (λ (v : ReaderView). v.description) (sym c.self.view_is)) c.self.invariant.spare (says-anew _ _ _ _ _ _ c.clear.ensures.none c.next.ensures.says)
     (subst (λ (v : ReaderView). Stands (g.E.Evdev.told c.args.dev.now) v) (sym c.self.view_is) stood) alone
 
 pub returns-clause-shows : goal.returns-clause-shows
 returns-clause-shows g c = λ stood alone.
-    next-shows c.self.inside.caps _ _ _ c.args.mode (reading_of c.self.inside.session) (reading_of c.next.new.self) c.next.result (c.requires.description ∙ ap (λ (v : ReaderView). v.description) (sym c.self.view_is)) c.self.invariant.described c.self.invariant.spare (says-anew _ _ _ _ _ _ c.clear.ensures c.next.ensures.says)
+    next-shows c.self.inside.caps _ _ _ c.args.mode (reading_of c.self.inside.session) (reading_of c.next.new.self) c.next.result (c.requires.description ∙ ap (λ (v : ReaderView). v.description) (sym c.self.view_is)) c.self.invariant.described c.self.invariant.spare (says-anew _ _ _ _ _ _ c.clear.ensures.none c.next.ensures.says)
     (subst (λ (v : ReaderView). Stands (g.E.Evdev.told c.args.dev.now) v) (sym c.self.view_is) stood) alone
 
 pub returns-clause-less : goal.returns-clause-less

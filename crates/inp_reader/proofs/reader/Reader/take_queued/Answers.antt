@@ -13,11 +13,11 @@ invariant_of-self c = record {
   view = c.take_queued.ensures.cells ∙ c.self.invariant.view;
   asked = ap (λ (a : Asker). length a.view.cells) c.take_queued.ensures.asker ∙ c.self.invariant.asked;
   cells = ap (λ (a : Asker). length a.cells) c.take_queued.ensures.asker ∙ c.self.invariant.cells;
-  few = omega (arith, ap (λ (a : Asker). length a.made) c.take_queued.ensures.asker, ap length c.clear.ensures);
+  few = omega (arith, ap (λ (a : Asker). length a.made) c.take_queued.ensures.asker, ap length c.clear.ensures.none);
   room = omega (arith, c.self.invariant.room, c.take_queued.ensures.room);
   slots = c.self.invariant.slots;
   described = c.self.invariant.described;
-  spare = subst (λ (r : Reading). HasSpare c.self.inside.caps r) (sym c.take_queued.ensures.reading) (keeps-run c.self.inside.caps c.args.most (reading_of c.self.inside.session) c.self.invariant.spare);
+  spare = subst (λ (r : Reading). HasSpare c.self.inside.caps r) (sym c.take_queued.ensures.reading) (keeps-run c.self.inside.caps c.args.count (reading_of c.self.inside.session) c.self.invariant.spare);
 }
 
 pub returns-clause-stands : goal.returns-clause-stands
@@ -25,4 +25,4 @@ returns-clause-stands c = λ told stood.
     let past : List Step = reverse told.seen in
     let before : StandsAt c.self.inside.caps past (reading_of c.self.inside.session) = subst (λ (v : ReaderView). StandsAt v.description past v.reading) (sym c.self.view_is) stood in
     subst (λ (r : Reading). StandsAt c.self.inside.caps past r) (sym c.take_queued.ensures.reading)
-    (stands-run c.self.inside.caps past c.args.most (reading_of c.self.inside.session) before)
+    (stands-run c.self.inside.caps past c.args.count (reading_of c.self.inside.session) before)

@@ -22,20 +22,20 @@ pub returns : goal.returns
 returns g c =
     let a = g.E.Evdev.told c.args.dev.now in
     let b = g.E.Evdev.told c.call.new.dev in
-    let new : Job = job_in c.self.inside.caps c.self.inside.state c.call.new.self in
+    let new : Job = job_in c.self.inside.state c.call.new.self in
     let ends : Holds a b (end_talk c.args.self.now.job.stop c.args.self.now.job) (Some new) =
     subst (λ (x : ActorView). Holds a b (end_talk x.job.stop x.job) (Some new)) c.self.view_is
-    (ends-noted a b (role_reading c.self.inside.caps c.self.inside.state) (stick_of c.self.inside.state) c.in_ok-call.field-0 c.self.inside.notes c.call.new.self (sym c.is_some.ensures ∙ c.if-is_some.false) c.in_ok-call.ensures.noted) in
+    (ends-noted a b (role_reading c.self.inside.state) (stick_of c.self.inside.state) c.in_ok-call.field-0 c.self.inside.notes c.call.new.self (sym c.is_some.ensures ∙ c.if-is_some.false) c.in_ok-call.ensures.noted) in
     let begun : Begins a b (end_talk c.args.self.now.job.stop c.args.self.now.job) =
     subst (λ (x : ActorView). Begins a b (end_talk x.job.stop x.job)) c.self.view_is
-    (ends-begun a b (role_reading c.self.inside.caps c.self.inside.state) (stick_of c.self.inside.state) c.self.inside.notes (sym c.is_some.ensures ∙ c.if-is_some.false) c.in_ok-call.ensures.made) in
+    (ends-begun a b (role_reading c.self.inside.state) (stick_of c.self.inside.state) c.self.inside.notes (sym c.is_some.ensures ∙ c.if-is_some.false) c.in_ok-call.ensures.made) in
     let all = end-done a b c.args.self.now new c.requires.device c.requires.source ends in
     record { done = all.done; begun = begun; places = all.places; legal = all.legal; view = all.view; actor = search rules; left = left-one _ _ _ c.in_ok-call.ensures.made.is_call }
 
 pub returns-in_err-call-clause-begun : goal.returns-in_err-call-clause-begun
 returns-in_err-call-clause-begun g c =
     subst (λ (x : ActorView). Begins (g.E.Evdev.told c.args.dev.now) (g.E.Evdev.told c.call.new.dev) (end_talk x.job.stop x.job)) c.self.view_is
-    (ends-begun _ _ (role_reading c.self.inside.caps c.self.inside.state) (stick_of c.self.inside.state) c.self.inside.notes (sym c.is_some.ensures ∙ c.if-is_some.false) c.in_err-call.ensures.made)
+    (ends-begun _ _ (role_reading c.self.inside.state) (stick_of c.self.inside.state) c.self.inside.notes (sym c.is_some.ensures ∙ c.if-is_some.false) c.in_err-call.ensures.made)
 
 pub returns-in_err-call-clause-left : goal.returns-in_err-call-clause-left
 returns-in_err-call-clause-left g c = left-one _ _ _ c.in_err-call.ensures.made.is_call

@@ -1,9 +1,0 @@
-use Rattle.std.proofs.Common.{◌≡◌, map, take, length}
-use Rattle.inp_recon.specs.View.{view_after_events}
-use Rattle.inp_reader.proofs.run.take_events.Given as goal
-
-abbrev pub invariant-loop-taken : goal.invariant-loop-taken
-invariant-loop-taken l = record {
-  view : l.view ≡ view_after_events l.initial.view (map (λ t. t.event) (take l.taken-index l.events));
-  cells : length l.view.cells ≡ length l.initial.view.cells;
-}
