@@ -141,7 +141,6 @@ impl Notes {
         if let Some(waiting) = wait {
             if ends < waiting.sources {
                 if agains < u64::from(waiting.idle) {
-                    Waiting::rest(agains);
                     return Ok(Turn::GoesOn {
                         progress: Progress {
                             left: progress.left,

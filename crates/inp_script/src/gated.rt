@@ -10,11 +10,19 @@ ghost use Rattle.inp_feedback.specs.Feeding.{taken_count};
 use inp_edge::Gate;
 use inp_feedback::{Fed, Feeds};
 use inp_model::{Evdev, Event, Injected, Reply, Stamped, Step, Taken};
+use std::thread::yield_now;
+
+/// How often a job yields the processor before a call, at most (this project's choice).
+const MOST_RESTS: u32 = 16;
 
 /// An evdev that passes a gate before each call, also before one that injects many events and before a feedback call. To a
 /// contract it is the evdev behind the gate.
 ///
 /// After a call the gate was told of it: its job, and how many calls were made before.
+///
+/// A job that found nothing rests before its next call, since each call takes the turn from the sources that it
+/// waits for: after the first answer `Again` in a row it yields the processor once, after the second twice, and so on
+/// up to 16 times.
 #[derive(Drop)]
 pub struct Gated<'a, E, G> {
     /// The evdev that makes the calls.
@@ -25,6 +33,8 @@ pub struct Gated<'a, E, G> {
     pub job: u32,
     /// How many calls were made, which the gate is told. The count stays at the greatest `u32`.
     pub calls: u32,
+    // How many answers Again came last, one after another. The count stays at the greatest `u32`.
+    agains: u32,
 }
 
 impl<'a, E, G> Gated<'a, E, G> {
@@ -39,7 +49,23 @@ impl<'a, E, G> Gated<'a, E, G> {
             gate,
             job,
             calls: 0,
+            agains: 0,
         }
+    }
+}
+
+// Rests before a call, where so many answers Again came last.
+fn rest(agains: u32) {
+    for _ in 0..agains.min(MOST_RESTS) {
+        yield_now();
+    }
+}
+
+// How many answers Again came last, one after another, where this one comes after so many.
+fn count_agains(reply: Reply, agains: u32) -> u32 {
+    match reply {
+        Reply::Again { .. } => agains.saturating_add(1),
+        _ => 0,
     }
 }
 
@@ -55,9 +81,12 @@ impl<'a, E: Evdev, G: Gate> Evdev for Gated<'a, E, G> {
         ensures job { self.new.job ≡ self.old.job }
         ensures passed { G.passed self.old.gate.now self.old.job self.old.calls }
     {
+        rest(self.agains);
         self.gate.before(self.job, self.calls);
         self.calls = self.calls.saturating_add(1);
-        self.inner.call(step, out, cells)
+        let reply = self.inner.call(step, out, cells);
+        self.agains = count_agains(reply, self.agains);
+        reply
     }
 
     fn inject_all(&mut self, events: &[Stamped]) -> Injected
@@ -68,9 +97,11 @@ impl<'a, E: Evdev, G: Gate> Evdev for Gated<'a, E, G> {
         ensures job { self.new.job ≡ self.old.job }
         ensures passed { G.passed self.old.gate.now self.old.job self.old.calls }
     {
+        rest(self.agains);
         let (gate, job, call) = (self.gate, self.job, self.calls);
         gate.before(job, call);
         self.calls = call.saturating_add(1);
+        self.agains = 0;
         self.inner.inject_all(events)
     }
 }
@@ -87,9 +118,11 @@ impl<'a, E: Feeds, G: Gate> Feeds for Gated<'a, E, G> {
         ensures job { self.new.job ≡ self.old.job }
         ensures passed { G.passed self.old.gate.now self.old.job self.old.calls }
     {
+        rest(self.agains);
         let (gate, job, call) = (self.gate, self.job, self.calls);
         gate.before(job, call);
         self.calls = call.saturating_add(1);
+        self.agains = 0;
         self.inner.feedback(out)
     }
 }

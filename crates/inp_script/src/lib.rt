@@ -41,7 +41,8 @@
 //! A call of [`Gated`] is one of the evdev behind the gate (`IsEvdevCall`), and so is one that injects many events.
 //! After it, over any gate, the gate's `passed` holds of the job's number and the count of the calls before, and the
 //! count is one more, whatever the number of events. That the gate was passed before the call and not after it, and once,
-//! no clause says: tests of evdevs and of gates look.
+//! no clause says: tests of evdevs and of gates look. A `Gated` rests before the call behind an answer Again, and an actor
+//! nowhere.
 #![tactic(auto)]
 
 mod actor;
