@@ -1,11 +1,11 @@
 -- What a call on one client leaves of all that is kept.
-use Rattle.std.proofs.Common.{◌≡◌, ◌≢◌, ◌≤◌, ◌<◌, ℕ, ◌+◌, Bool, true, false, ◌||◌, ◌⊎◌, if◌then◌else◌, nat_eq, List, [], ◌∷◌, length, map, get_or, set, Contains, Option, Some, None, IsSome, refl, sym, ap, ◌∙◌, subst, inl, inr, arith}
+use Rattle.std.proofs.Common.{◌≡◌, ◌≢◌, ◌≤◌, ◌<◌, ℕ, ◌+◌, Bool, true, false, ◌||◌, ◌⊎◌, nat_eq, List, [], ◌∷◌, length, map, get_or, set, Contains, Option, Some, None, IsSome, refl, sym, ap, ◌∙◌, subst, inl, inr, arith}
 use Rattle.std.specs.Prelude.{flat_map}
 use Rattle.std.specs.Option.{option_map_or, option_map}
 use Rattle.std.proofs.Math.Seq.{map-set_same}
 use Rattle.std.proofs.lemmas.Bool.{cases_lt}
 use Rattle.std.proofs.lemmas.List.Sums.{sum_by-set}
-use Rattle.std.proofs.lemmas.List.Elements.{All-drop, All-append, All-cons, All-nil, All-head, All-tail}
+use Rattle.std.proofs.lemmas.List.Elements.{All-drop, All-cons, All-nil}
 use Rattle.slab.specs.Slab.{get, with_value}
 use Rattle.inp_model.specs.declared.stamped.TheConstants.{MOMENT_MAX}
 use Rattle.inp_model.specs.declared.taken.Taken.{Taken}
@@ -13,7 +13,8 @@ use Rattle.inp_model.specs.declared.clock.Clock.{Clock}
 use Rattle.inp_model.specs.Description.{Description, offset}
 use Rattle.inp_model.specs.Event.{syn_dropped}
 use Rattle.inp_model.specs.Step.{Query, is_part_of}
-use Rattle.inp_model.specs.Queue.{stays, flush_behind, is_same_clock, clock_changed}
+use Rattle.inp_model.specs.Queue.{is_same_clock, clock_changed}
+use Rattle.inp_model.proofs.Removal.{flush-all}
 use Rattle.inp_ring.specs.declared.cell.Cell.{Cell}
 use Rattle.inp_ring.specs.declared.cell.Held.{Held}
 use Rattle.inp_ring.specs.Store.{StoreView, held_under, holders, holders_of, event_of_cell, cell_taken, HasCell, IsIdle, IsIdleSlot}
@@ -60,18 +61,7 @@ pub timed_take : (count : ℕ) (c : ClientView Cell) → AreFit c.ring.events �
 timed_take count c fit = All-drop (λ (x : Cell). x.now ≤ MOMENT_MAX) count c.ring.events fit
 
 pub timed_flush : (query : Query) (c : ClientView Cell) → AreFit c.ring.events → AreFit (after_flush event_of_cell query c).ring.events
-timed_flush query c fit = behind [] c.ring.events fit
-  where
-    behind : (before q : List Cell) → AreFit q → AreFit (flush_behind event_of_cell (is_part_of query) before q)
-    behind before [] all = all
-    behind before (x ∷ q) all =
-        All-append (λ (x : Cell). x.now ≤ MOMENT_MAX) (if stays event_of_cell (is_part_of query) before x then x ∷ [] else []) (flush_behind event_of_cell (is_part_of query) (x ∷ before) q)
-        (one (stays event_of_cell (is_part_of query) before x) (All-head (λ (x : Cell). x.now ≤ MOMENT_MAX) x q all))
-        (behind (x ∷ before) q (All-tail (λ (x : Cell). x.now ≤ MOMENT_MAX) x q all))
-      where
-        one : (b : Bool) → x.now ≤ MOMENT_MAX → AreFit (if b then x ∷ [] else [])
-        one true h = All-cons (λ (x : Cell). x.now ≤ MOMENT_MAX) x [] h (All-nil (λ (x : Cell). x.now ≤ MOMENT_MAX))
-        one false h = All-nil (λ (x : Cell). x.now ≤ MOMENT_MAX)
+timed_flush query c fit = flush-all event_of_cell (is_part_of query) (λ (x : Cell). x.now ≤ MOMENT_MAX) c.ring.events fit
 
 pub timed_clock : (clock : Clock) (now place : ℕ) (c : ClientView Cell) → now ≤ MOMENT_MAX → AreFit c.ring.events → AreFit (after_clock clock now place c).ring.events
 timed_clock clock now place c h fit = changed (is_same_clock c.clock clock) c.ring.events fit

@@ -11,7 +11,8 @@ use Rattle.inp_model.specs.Description.{Description, offset}
 use Rattle.inp_model.specs.Event.{is_report, syn_dropped}
 use Rattle.inp_model.specs.Step.{Query, is_part_of}
 use Rattle.inp_model.specs.Queue as model
-use Rattle.inp_model.specs.Queue.{is_empty, ends_in_report, put, put_all, visible, follows_kept, stays, flush_behind, flush, is_same_clock, clock_changed}
+use Rattle.inp_model.proofs.Removal.{flush-map}
+use Rattle.inp_model.specs.Queue.{is_empty, ends_in_report, put, put_all, visible, is_same_clock, clock_changed}
 use Rattle.inp_ring.specs.declared.cell.Cell.{Cell}
 use Rattle.inp_ring.specs.Store.{event_of_cell, dropped_cell, cell_taken}
 use Rattle.inp_client.specs.Masks.{admits_of}
@@ -31,27 +32,6 @@ module _ {X Y : Type 0} (f : X → Y) (event : X → Event) (event' : Y → Even
   ends-on [] = refl
   ends-on (x ∷ []) = ap is_report (same x)
   ends-on (x ∷ y ∷ q) = ends-on (y ∷ q)
-
-  follows-on : (drops : Event → Bool) (before : List X) → follows_kept event' drops (map f before) ≡ follows_kept event drops before
-  follows-on drops [] = refl
-  follows-on drops (y ∷ before) =
-      ap (λ e. if is_report e then false else if drops e then follows_kept event' drops (map f before) else true) (same y)
-      ∙ ap (λ (b : Bool). if is_report (event y) then false else if drops (event y) then b else true) (follows-on drops before)
-
-  flush_behind-on : (drops : Event → Bool) (before q : List X) → flush_behind event' drops (map f before) (map f q) ≡ map f (flush_behind event drops before q)
-  flush_behind-on drops before [] = refl
-  flush_behind-on drops before (x ∷ q) =
-      ap (λ (b : Bool). (if b then f x ∷ [] else []) ++ flush_behind event' drops (map f (x ∷ before)) (map f q)) stay
-      ∙ ap (λ r. (if stays event drops before x then f x ∷ [] else []) ++ r) (flush_behind-on drops (x ∷ before) q)
-      ∙ one (stays event drops before x)
-    where
-      stay : stays event' drops (map f before) (f x) ≡ stays event drops before x
-      stay = ap (λ e. if is_report e then follows_kept event' drops (map f before) else not (drops e)) (same x)
-          ∙ ap (λ (b : Bool). if is_report (event x) then b else not (drops (event x))) (follows-on drops before)
-
-      one : (b : Bool) → (if b then f x ∷ [] else []) ++ map f (flush_behind event drops (x ∷ before) q) ≡ map f ((if b then x ∷ [] else []) ++ flush_behind event drops (x ∷ before) q)
-      one true = refl
-      one false = refl
 
   put-on : (lost : X → X) (lost' : Y → Y) → ((x : X) → lost' (f x) ≡ f (lost x)) → (places : ℕ) (q : List X) (x : X) → put event' lost' places (map f q) (f x) ≡ map f (put event lost places q x)
   put-on lost lost' alike places q x =
@@ -94,7 +74,7 @@ module _ (d : Description) where
   on_take count c = ap (λ q. with_events q (client_on d c)) (sym (drop-map (cell_taken (offset d c.clock)) count c.ring.events))
 
   pub on_flush : (query : Query) (c : ClientView Cell) → client_on d (after_flush event_of_cell query c) ≡ after_flush taken_event query (client_on d c)
-  on_flush query c = ap (λ q. with_events q (client_on d c)) (sym (flush_behind-on (cell_taken (offset d c.clock)) event_of_cell taken_event (λ x. refl) (is_part_of query) [] c.ring.events))
+  on_flush query c = ap (λ q. with_events q (client_on d c)) (flush-map (cell_taken (offset d c.clock)) event_of_cell taken_event (λ x. refl) (is_part_of query) c.ring.events)
 
   pub on_clock : (clock : Clock) (now place : ℕ) (c : ClientView Cell) → client_on d (after_clock clock now place c) ≡ read_after_clock d clock now place (client_on d c)
   on_clock clock now place c =

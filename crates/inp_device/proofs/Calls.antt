@@ -26,7 +26,7 @@ use Rattle.inp_client.specs.Clients.{has_client, has_revoked_client, events_of, 
 use Rattle.inp_device.specs.Present.{client_after, clients_after, MasksEnd, IsFresh}
 use Rattle.inp_model.proofs.Opens.{is_open-lt}
 use Rattle.inp_device.proofs.OpenClients.{open_clients-open, open_clients-close}
-use Rattle.inp_device.proofs.Queues.{flush-map}
+use Rattle.inp_model.proofs.Removal.{flush-map}
 use Rattle.inp_device.proofs.MaskWords.{masks_with-set}
 use Rattle.inp_client.proofs.Lists.{any_below}
 use Rattle.inp_client.proofs.ClientLists.{has_client-filter, events_of-map, has_revoked_client-map, without_client-map}
@@ -87,7 +87,7 @@ left_of : (d : Description) (past : List Step) (n count : ℕ) (q : List Entry) 
 left_of d past n count q = ap (λ (ts : List Taken). with_events ts (client_with d past n q)) (sym (drop-map taken_of count q))
 
 flush_of : (d : Description) (past : List Step) (n : ℕ) (query : Query) (q : List Entry) → client_with d past n (flush model.event_of (is_part_of query) q) ≡ after_flush taken_event query (client_with d past n q)
-flush_of d past n query q = ap (λ (ts : List Taken). with_events ts (client_with d past n q)) (flush-map (is_part_of query) q)
+flush_of d past n query q = ap (λ (ts : List Taken). with_events ts (client_with d past n q)) (flush-map taken_of model.event_of taken_event (λ x. refl) (is_part_of query) q)
 
 pub clients_after-read : (d : Description) (past : List Step) (n count taken : ℕ) → taken ≡ min count (visible model.event_of (queue d past n)) → clients_after d (Read n count ∷ past) ≡ map_client n (after_take taken) (clients_after d past)
 unfolding opens is_open is_revoked clock_of mask_bit queue_with raw_of_step cuts

@@ -1,12 +1,11 @@
 -- A queue of entries, seen as the events that a client reads.
-use Rattle.std.proofs.Common.{◌≡◌, ◌≤◌, ℕ, suc, Bool, true, false, ◌&&◌, ◌||◌, not, if◌then◌else◌, nat_eq, nat_lt, List, [], ◌∷◌, ◌++◌, length, map, refl, sym, ap, ◌∙◌, arith}
+use Rattle.std.proofs.Common.{◌≡◌, ◌≤◌, ℕ, suc, Bool, true, false, ◌&&◌, ◌||◌, if◌then◌else◌, nat_eq, nat_lt, List, [], ◌∷◌, ◌++◌, length, map, refl, sym, ap, ◌∙◌, arith}
 use Rattle.std.proofs.lemmas.List.{map-append, length-map}
 use Rattle.std.proofs.lemmas.Bool.Decides.{nat_tests}
 use Rattle.inp_model.specs.declared.taken.Taken.{Taken}
-use Rattle.inp_model.specs.declared.event.Event.{Event}
 use Rattle.inp_model.specs.Event.{is_report}
 use Rattle.inp_model.specs.Queue as queue
-use Rattle.inp_model.specs.Queue.{Entry, dropped_at, entry_dropped_at, ends_in_report, is_empty, put, put_all, visible, follows_kept, stays, flush_behind, flush}
+use Rattle.inp_model.specs.Queue.{Entry, dropped_at, entry_dropped_at, ends_in_report, is_empty, put, put_all, visible}
 use Rattle.inp_model.specs.Reply.{taken_of}
 use Rattle.inp_client.specs.Read.{taken_event as event_of}
 
@@ -55,28 +54,3 @@ visible-le (x ∷ q) = visible_step (visible event_of q) (length q) (is_report (
     visible_step : (behind n : ℕ) (report : Bool) → behind ≤ n → (if nat_eq behind 0 then (if report then 1 else 0) else suc behind) ≤ suc n
     visible_step behind n true h = grind (arith, nat_tests)
     visible_step behind n false h = grind (arith, nat_tests)
-
--- Removing the events of a class
-
-follows_kept-map : (drops : Event → Bool) (before : List Entry) → follows_kept event_of drops (map taken_of before) ≡ follows_kept queue.event_of drops before
-follows_kept-map drops [] = refl
-follows_kept-map drops (y ∷ before) =
-    ap (λ (b : Bool). if is_report (queue.event_of y) then false else if drops (queue.event_of y) then b else true) (follows_kept-map drops before)
-
-stays-map : (drops : Event → Bool) (before : List Entry) (x : Entry) → stays event_of drops (map taken_of before) (taken_of x) ≡ stays queue.event_of drops before x
-stays-map drops before x =
-    ap (λ (b : Bool). if is_report (queue.event_of x) then b else not (drops (queue.event_of x))) (follows_kept-map drops before)
-
-map_one : (b : Bool) (x : Entry) (q : List Entry) → map taken_of ((if b then x ∷ [] else []) ++ q) ≡ (if b then taken_of x ∷ [] else []) ++ map taken_of q
-map_one true x q = refl
-map_one false x q = refl
-
-flush_behind-map : (drops : Event → Bool) (before q : List Entry) → map taken_of (flush_behind queue.event_of drops before q) ≡ flush_behind event_of drops (map taken_of before) (map taken_of q)
-flush_behind-map drops before [] = refl
-flush_behind-map drops before (x ∷ q) =
-    map_one (stays queue.event_of drops before x) x (flush_behind queue.event_of drops (x ∷ before) q)
-    ∙ ap (λ (b : Bool). (if b then taken_of x ∷ [] else []) ++ map taken_of (flush_behind queue.event_of drops (x ∷ before) q)) (sym (stays-map drops before x))
-    ∙ ap (λ (rest : List Taken). (if stays event_of drops (map taken_of before) (taken_of x) then taken_of x ∷ [] else []) ++ rest) (flush_behind-map drops (x ∷ before) q)
-
-pub flush-map : (drops : Event → Bool) (q : List Entry) → map taken_of (flush queue.event_of drops q) ≡ flush event_of drops (map taken_of q)
-flush-map drops q = flush_behind-map drops [] q

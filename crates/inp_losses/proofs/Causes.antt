@@ -4,7 +4,6 @@ use Rattle.std.proofs.Common.{◌≡◌, ◌≤◌, ◌<◌, ◌⊎◌, ℕ, zer
 use Rattle.std.specs.List.{slice_get}
 use Rattle.std.proofs.lemmas.Bool.Decides.{nat_tests}
 use Rattle.inp_model.specs.declared.clock.Clock.{Clock}
-use Rattle.inp_model.specs.declared.event.Event.{Event}
 use Rattle.inp_model.specs.declared.step.Step.{Step}
 use Rattle.inp_model.specs.declared.step.Step.TheVariants.{Open, Read, Discard, Clock as ToClock}
 use Rattle.inp_model.specs.Description.{Description, doubled, ring}
@@ -13,8 +12,9 @@ use Rattle.inp_model.specs.Step.{Query, client_of, is_same, query_of, is_part_of
 use Rattle.inp_model.specs.Past.{is_call_of, is_opening, clock_of}
 use Rattle.inp_model.specs.Raw.{raw, raw_of_step}
 use Rattle.inp_model.specs.Frame.{frames_of_step}
-use Rattle.inp_model.specs.Queue.{Entry, event_of, entry_dropped_at, is_empty, ends_in_report, put, put_all, entries, visible, stays, flush_behind, flush_for, is_same_clock, clock_entry, clock_changed, left_by_call, queue, queue_with, taken_by, took, took_with}
+use Rattle.inp_model.specs.Queue.{Entry, event_of, entry_dropped_at, is_empty, ends_in_report, put, put_all, entries, visible, flush_for, is_same_clock, clock_entry, clock_changed, left_by_call, queue, queue_with, taken_by, took, took_with}
 use Rattle.inp_recon.proofs.Each.{Each, Each-append, Each-weaker, Each-take, Each-drop}
+use Rattle.inp_model.proofs.Removal.{flush-length}
 use Rattle.inp_recon.proofs.Queueing.{put_all-append, flush-each}
 use Rattle.inp_losses.specs.Losses.{queue_before_frames, MeetsFullRing, ChangesClock, IsCausedAt, IsCaused, AreQueuedCaused, AreTakenCaused}
 use Rattle.inp_losses.proofs.Passing.{ComesAt, cuts-no_loss, entries-come}
@@ -66,15 +66,9 @@ drop-length zero q = omega arith
 drop-length (suc n) [] = omega arith
 drop-length (suc n) (x ∷ q) = omega (arith, drop-length n q)
 
-flush_behind-length : (drops : Event → Bool) (before q : List Entry) → length (flush_behind event_of drops before q) ≤ length q
-flush_behind-length drops before [] = omega arith
-flush_behind-length drops before (x ∷ q) =
-    (cond_both (stays event_of drops before x) _ _ (λ y. length (flush_behind event_of drops (x ∷ before) q) ≤ length q → length (y ++ flush_behind event_of drops (x ∷ before) q) ≤ suc (length q))
-    (λ _ h. omega (arith, h)) (λ _ h. omega (arith, h))) (flush_behind-length drops (x ∷ before) q)
-
 flush_for-length : (o : Option Query) (q : List Entry) → length (flush_for event_of o q) ≤ length q
 flush_for-length None q = omega arith
-flush_for-length (Some query) q = flush_behind-length (is_part_of query) [] q
+flush_for-length (Some query) q = flush-length event_of (is_part_of query) q
 
 clock-room : (same : Bool) (e : Entry) (q : List Entry) (places : ℕ) → 64 ≤ places → length q < places → length (clock_changed same e q) < places
 clock-room same e [] places most room = room

@@ -5,4 +5,5 @@ pub mod Injecting
 pub mod Leaves
 pub mod Opens
 pub mod Refused
+pub mod Removal
 pub mod Telling

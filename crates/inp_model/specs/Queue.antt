@@ -60,28 +60,19 @@ visible event (x ∷ q) =
     let behind = visible event q in
     if nat_eq behind 0 then (if is_report (event x) then 1 else 0) else suc behind
 
--- Did an item stay since the last report before this place? The items before it are written newest first. Where there
--- is no report before it, the next one is the first, which stays in any case.
-abbrev pub follows_kept : {X : Type 0} → (X → Event) → (Event → Bool) → List X → Bool
-follows_kept event drops [] = true
-follows_kept event drops (y ∷ before) =
-    if is_report (event y) then false else if drops (event y) then follows_kept event drops before else true
+-- a queue without the events that are dropped; its reports stay
+abbrev pub without : {X : Type 0} → (X → Event) → (Event → Bool) → List X → List X
+without event drops q = filter (λ x. is_report (event x) || not (drops (event x))) q
 
--- a report stays where it follows an item that stays, and another item where it is not dropped
--- (docs/RULES.md, "Queries")
-abbrev pub stays : {X : Type 0} → (X → Event) → (Event → Bool) → List X → X → Bool
-stays event drops before x = if is_report (event x) then follows_kept event drops before else not (drops (event x))
+-- A queue without each report that comes directly after a report. The flag says whether a report came before its first item.
+abbrev pub apart : {X : Type 0} → (X → Event) → Bool → List X → List X
+apart event after [] = []
+apart event after (x ∷ q) =
+    (if is_report (event x) && after then [] else x ∷ []) ++ apart event (is_report (event x)) q
 
--- what stays of a queue, behind these items
-abbrev pub flush_behind : {X : Type 0} → (X → Event) → (Event → Bool) → List X → List X → List X
-flush_behind event drops before [] = []
-flush_behind event drops before (x ∷ q) =
-    (if stays event drops before x then x ∷ [] else []) ++ flush_behind event drops (x ∷ before) q
-
--- a queue without the events that are dropped, and without the reports that have no event left before them
--- (docs/RULES.md, "Queries")
+-- A query drops events, and then each report that now comes directly after a report (docs/RULES.md, "Queries").
 abbrev pub flush : {X : Type 0} → (X → Event) → (Event → Bool) → List X → List X
-flush event drops q = flush_behind event drops [] q
+flush event drops q = apart event false (without event drops q)
 
 -- without what the answer to a query tells whole; as it is where nothing is asked
 abbrev pub flush_for : {X : Type 0} → (X → Event) → Option Query → List X → List X

@@ -74,21 +74,21 @@ abbrev pub items_after : Description → List Step → Step → RawAndTimer → 
 items_after d past (SetAxis client code axis) before = Described code axis ∷ []
 items_after d past x before = map Occurred (events_after d past x before)
 
--- a tick disarms the timer that is due (docs/RULES.md, "Autorepeat")
-abbrev pub timer_before : Step → Timer → Timer
-timer_before (Tick now) timer = if is_due timer now then timer_disarmed timer else timer
-timer_before _ timer = timer
+-- the timer once a step has begun: a tick disarms the timer that is due (docs/RULES.md, "Autorepeat")
+abbrev pub disarmed_by : Step → Timer → Timer
+disarmed_by (Tick now) timer = if is_due timer now then timer_disarmed timer else timer
+disarmed_by _ timer = timer
 
--- a tick that fired arms the timer anew behind its frames (docs/RULES.md, "Autorepeat")
-abbrev pub timer_behind : Description → List Step → Step → RawAndTimer → List RawItem → Timer → Timer
-timer_behind d past (Tick now) before r timer = if fires d past before now then timer_rearmed now (setting d r REP_PERIOD) timer else timer
-timer_behind d past _ before r timer = timer
+-- the timer at the end of a step: a tick that fired arms it anew, after its frames (docs/RULES.md, "Autorepeat")
+abbrev pub rearmed_by : Description → List Step → Step → RawAndTimer → List RawItem → Timer → Timer
+rearmed_by d past (Tick now) before r timer = if fires d past before now then timer_rearmed now (setting d r REP_PERIOD) timer else timer
+rearmed_by d past _ before r timer = timer
 
 -- the timer after a step that stands for these items: what the frames arm or disarm, in order
 abbrev pub timer_after : Description → List Step → Step → RawAndTimer → List RawItem → Timer
 timer_after d past x before xs =
-    let armed = timer_at_cuts d (moment_of x) (cuts d before.raw xs) (timer_before x before.timer) in
-    let after = timer_behind d past x before (raw_after before.raw xs) armed in
+    let armed = timer_at_cuts d (moment_of x) (cuts d before.raw xs) (disarmed_by x before.timer) in
+    let after = rearmed_by d past x before (raw_after before.raw xs) armed in
     if repeats_keys d then after else before.timer
 
 abbrev pub raw_and_timer_after : Description → List Step → Step → RawAndTimer → RawAndTimer

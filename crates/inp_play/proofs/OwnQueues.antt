@@ -12,7 +12,8 @@ use Rattle.inp_model.specs.RawItem.{Cut}
 use Rattle.inp_model.specs.Cut.{cuts}
 use Rattle.inp_model.specs.Raw.{raw_of_step}
 use Rattle.inp_model.specs.Frame.{cuts_of_step, frame_of, frames_of_step}
-use Rattle.inp_model.specs.Queue.{Entry, event_of, entry_dropped_at, put_all, entries, visible, stays, flush_behind, flush_for, left_by_call, queue, queue_with}
+use Rattle.inp_model.proofs.Removal.{stays, report_stays_after, flush_from, flush-walk}
+use Rattle.inp_model.specs.Queue.{Entry, event_of, entry_dropped_at, put_all, entries, visible, flush_for, left_by_call, queue, queue_with}
 
 -- how many are visible, with one event more in front
 abbrev with_first : Bool → ℕ → ℕ
@@ -49,19 +50,19 @@ none_behind true behind h = absurd (grind (arith, nat_tests))
 none_behind false behind h = (refl, grind (arith, nat_tests))
 
 -- and none comes of the removal of events
-flush-none : (drops : Event → Bool) (before q : List Entry) → visible event_of q ≡ 0 → visible event_of (flush_behind event_of drops before q) ≡ 0
-flush-none drops before [] h = refl
-flush-none drops before (x ∷ q) h =
+flush-none : (drops : Event → Bool) (flag : Bool) (q : List Entry) → visible event_of q ≡ 0 → visible event_of (flush_from event_of drops flag q) ≡ 0
+flush-none drops flag [] h = refl
+flush-none drops flag (x ∷ q) h =
     let first = none_behind (is_report (event_of x)) (visible event_of q) h in
-    by_flag (stays event_of drops before x) first.0 (flush-none drops (x ∷ before) q first.1)
+    by_flag (stays event_of drops flag x) first.0 (flush-none drops (report_stays_after event_of drops flag x) q first.1)
   where
-    by_flag : (b : Bool) → is_report (event_of x) ≡ false → visible event_of (flush_behind event_of drops (x ∷ before) q) ≡ 0 → visible event_of ((if b then x ∷ [] else []) ++ flush_behind event_of drops (x ∷ before) q) ≡ 0
+    by_flag : (b : Bool) → is_report (event_of x) ≡ false → visible event_of (flush_from event_of drops (report_stays_after event_of drops flag x) q) ≡ 0 → visible event_of ((if b then x ∷ [] else []) ++ flush_from event_of drops (report_stays_after event_of drops flag x) q) ≡ 0
     by_flag true other more = ap (λ (n : ℕ). with_first (is_report (event_of x)) n) more ∙ ap (λ (r : Bool). if r then 1 else 0) other
     by_flag false other more = more
 
 flush_for-none : (o : Option Query) (q : List Entry) → visible event_of q ≡ 0 → visible event_of (flush_for event_of o q) ≡ 0
 flush_for-none None q h = h
-flush_for-none (Some query) q h = flush-none (is_part_of query) [] q h
+flush_for-none (Some query) q h = ap (visible event_of) (flush-walk event_of (is_part_of query) q) ∙ flush-none (is_part_of query) true q h
 
 -- Own calls
 

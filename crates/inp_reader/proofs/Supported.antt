@@ -24,7 +24,8 @@ use Rattle.inp_model.specs.Raw.{raw, raw_of_step}
 use Rattle.inp_model.specs.Past.{is_call_of, admits, clock_of}
 use Rattle.inp_model.specs.Step.{Query, query_of, is_part_of}
 use Rattle.inp_model.specs.Left.{eaten, is_left, left_from, left}
-use Rattle.inp_model.specs.Queue.{Entry, event_of, entry_dropped_at, put, put_all, visible, stays, flush_behind, flush_for, is_offered, entry, entries_of, entries, clock_entry, clock_changed, is_same_clock, left_by_call, queue, queue_with, taken_by, is_empty, ends_in_report}
+use Rattle.inp_model.proofs.Removal.{flush-all}
+use Rattle.inp_model.specs.Queue.{Entry, event_of, entry_dropped_at, put, put_all, visible, flush_for, is_offered, entry, entries_of, entries, clock_entry, clock_changed, is_same_clock, left_by_call, queue, queue_with, taken_by, is_empty, ends_in_report}
 use Rattle.inp_model.specs.Reply.{Answer, IsAnswer, answer_by, accepted, refused, taken_of}
 use Rattle.inp_reader.specs.Spare.{is_event_of}
 
@@ -229,17 +230,9 @@ put_all-of d places q [] h k = h
 put_all-of d places q (x ∷ xs) h k =
     put_all-of d places (put event_of entry_dropped_at places q x) xs (put-of d places q x h (All-head (IsEntryOf d) x xs k)) (All-tail (IsEntryOf d) x xs k)
 
-flush_behind-of : (d : Description) (drops : Event → Bool) (before q : List Entry) → All (IsEntryOf d) q → All (IsEntryOf d) (flush_behind event_of drops before q)
-flush_behind-of d drops before [] h = All-nil (IsEntryOf d)
-flush_behind-of d drops before (x ∷ q) h =
-    let first : List Entry = if stays event_of drops before x then x ∷ [] else [] in
-    All-append (IsEntryOf d) first (flush_behind event_of drops (x ∷ before) q)
-    (if-some (IsEntryOf d) (stays event_of drops before x) (x ∷ []) (All-cons (IsEntryOf d) x [] (All-head (IsEntryOf d) x q h) (All-nil (IsEntryOf d))))
-    (flush_behind-of d drops (x ∷ before) q (All-tail (IsEntryOf d) x q h))
-
 flush_for-of : (d : Description) (o : Option Query) (q : List Entry) → All (IsEntryOf d) q → All (IsEntryOf d) (flush_for event_of o q)
 flush_for-of d None q h = h
-flush_for-of d (Some query) q h = flush_behind-of d (is_part_of query) [] q h
+flush_for-of d (Some query) q h = flush-all event_of (is_part_of query) (IsEntryOf d) q h
 
 clock_changed-of : (d : Description) (same : Bool) (past : List Step) (clock : Clock) (now : ℕ) (q : List Entry) → All (IsEntryOf d) q → All (IsEntryOf d) (clock_changed same (clock_entry d past clock now) q)
 clock_changed-of d same past clock now [] h = h

@@ -4,7 +4,8 @@ use Rattle.std.proofs.lemmas.Bool.{and_from, not-true, cond_both, not_from_false
 use Rattle.std.proofs.lemmas.List.{map-append}
 use Rattle.inp_model.specs.declared.event.Event.{Event}
 use Rattle.inp_model.specs.Event.{is_report}
-use Rattle.inp_model.specs.Queue.{Entry, event_of, entry_dropped_at, is_empty, ends_in_report, put, put_all, follows_kept, stays, flush_behind, flush}
+use Rattle.inp_model.specs.Queue.{Entry, event_of, entry_dropped_at, is_empty, ends_in_report, put, put_all, flush}
+use Rattle.inp_model.proofs.Removal.{stays, report_stays_after, flush_from, flush-walk}
 use Rattle.inp_recon.specs.Synchronised.{is_dropped, has_no_loss}
 use Rattle.inp_recon.proofs.Each.{Each, Each-append, and-left, and-right, all-left}
 use Rattle.inp_recon.proofs.Over.{over, over-append, IsIdle}
@@ -66,21 +67,21 @@ kept_or_not : {X : Type 0} (G : X → Type 0) (b : Bool) (x : X) (xs : List X) �
 kept_or_not G true x xs h k = (h, k)
 kept_or_not G false x xs h k = k
 
-flush_behind-each : (G : Entry → Type 0) (drops : Event → Bool) (before q : List Entry) → Each G q → Each G (flush_behind event_of drops before q)
-flush_behind-each G drops before [] h = tt
-flush_behind-each G drops before (x ∷ q) h =
-    kept_or_not G (stays event_of drops before x) x (flush_behind event_of drops (x ∷ before) q) h.0 (flush_behind-each G drops (x ∷ before) q h.1)
+flush_from-each : (G : Entry → Type 0) (drops : Event → Bool) (flag : Bool) (q : List Entry) → Each G q → Each G (flush_from event_of drops flag q)
+flush_from-each G drops flag [] h = tt
+flush_from-each G drops flag (x ∷ q) h =
+    kept_or_not G (stays event_of drops flag x) x (flush_from event_of drops (report_stays_after event_of drops flag x) q) h.0 (flush_from-each G drops (report_stays_after event_of drops flag x) q h.1)
 
 pub flush-each : (G : Entry → Type 0) (drops : Event → Bool) (q : List Entry) → Each G q → Each G (flush event_of drops q)
-flush-each G drops q h = flush_behind-each G drops [] q h
+flush-each G drops q h = subst (Each G) (sym (flush-walk event_of drops q)) (flush_from-each G drops true q h)
 
 -- ---- entries are flushed
 
 -- what a flush removes changes nothing
-stays_or_idle : {V : Type 0} (t : V → Event → V) → ReportsIdle t → (drops : Event → Bool) → ((e : Event) → drops e ≡ true → IsIdle t e) → (before : List Entry) (x : Entry) → stays event_of drops before x ≡ false → IsIdle t (event_of x)
-stays_or_idle {V} t idle drops out before x h = by (is_report (event_of x)) refl h
+stays_or_idle : {V : Type 0} (t : V → Event → V) → ReportsIdle t → (drops : Event → Bool) → ((e : Event) → drops e ≡ true → IsIdle t e) → (flag : Bool) (x : Entry) → stays event_of drops flag x ≡ false → IsIdle t (event_of x)
+stays_or_idle {V} t idle drops out flag x h = by (is_report (event_of x)) refl h
   where
-    by : (b : Bool) → is_report (event_of x) ≡ b → (if b then follows_kept event_of drops before else not (drops (event_of x))) ≡ false → IsIdle t (event_of x)
+    by : (b : Bool) → is_report (event_of x) ≡ b → (if b then flag else not (drops (event_of x))) ≡ false → IsIdle t (event_of x)
     by true e k = idle (event_of x) e
     by false e k = out (event_of x) ((elim (drops (event_of x)) as (λ b. not b ≡ false → b ≡ true) [ true ↦ λ h. refl | false ↦ λ h. cc ]) k)
 
@@ -88,18 +89,18 @@ over-kept_or_not : {V : Type 0} (t : V → Event → V) (b : Bool) (x : Entry) (
 over-kept_or_not t true x rest v idle = refl
 over-kept_or_not t false x rest v idle = ap (λ w. over t w (map event_of rest)) (sym (idle refl v))
 
-flush_behind-same : {V : Type 0} (t : V → Event → V) → ReportsIdle t → (drops : Event → Bool) → ((e : Event) → drops e ≡ true → IsIdle t e) → (before q : List Entry) (v : V) → over t v (map event_of (flush_behind event_of drops before q)) ≡ over t v (map event_of q)
-flush_behind-same t idle drops out before [] v = refl
-flush_behind-same t idle drops out before (x ∷ q) v =
-    over-kept_or_not t (stays event_of drops before x) x (flush_behind event_of drops (x ∷ before) q) v (stays_or_idle t idle drops out before x)
-    ∙ flush_behind-same t idle drops out (x ∷ before) q (t v (event_of x))
+flush_from-same : {V : Type 0} (t : V → Event → V) → ReportsIdle t → (drops : Event → Bool) → ((e : Event) → drops e ≡ true → IsIdle t e) → (flag : Bool) (q : List Entry) (v : V) → over t v (map event_of (flush_from event_of drops flag q)) ≡ over t v (map event_of q)
+flush_from-same t idle drops out flag [] v = refl
+flush_from-same t idle drops out flag (x ∷ q) v =
+    over-kept_or_not t (stays event_of drops flag x) x (flush_from event_of drops (report_stays_after event_of drops flag x) q) v (stays_or_idle t idle drops out flag x)
+    ∙ flush_from-same t idle drops out (report_stays_after event_of drops flag x) q (t v (event_of x))
 
 pub flush-same : {V : Type 0} (t : V → Event → V) → ReportsIdle t → (drops : Event → Bool) → ((e : Event) → drops e ≡ true → IsIdle t e) → (q : List Entry) (v : V) → over t v (map event_of (flush event_of drops q)) ≡ over t v (map event_of q)
-flush-same t idle drops out q v = flush_behind-same t idle drops out [] q v
+flush-same t idle drops out q v = ap (λ r. over t v (map event_of r)) (flush-walk event_of drops q) ∙ flush_from-same t idle drops out true q v
 
 -- what a flush keeps changes nothing
-kept_idle : {V : Type 0} (t : V → Event → V) → ReportsIdle t → (drops : Event → Bool) → ((e : Event) → drops e ≡ false → IsIdle t e) → (before : List Entry) (x : Entry) → stays event_of drops before x ≡ true → IsIdle t (event_of x)
-kept_idle {V} t idle drops out before x h =
+kept_idle : {V : Type 0} (t : V → Event → V) → ReportsIdle t → (drops : Event → Bool) → ((e : Event) → drops e ≡ false → IsIdle t e) → (flag : Bool) (x : Entry) → stays event_of drops flag x ≡ true → IsIdle t (event_of x)
+kept_idle {V} t idle drops out flag x h =
     (cond_both (is_report (event_of x)) _ _ (λ y. y ≡ true → IsIdle t (event_of x))
     (λ e k. idle (event_of x) e) (λ e k. out (event_of x) (not-true (drops (event_of x)) k))) h
 
@@ -107,33 +108,33 @@ over-kept_idle : {V : Type 0} (t : V → Event → V) (b : Bool) (x : Entry) (re
 over-kept_idle t true x rest v idle = ap (λ w. over t w (map event_of rest)) (idle refl v)
 over-kept_idle t false x rest v idle = refl
 
-flush_behind-idle : {V : Type 0} (t : V → Event → V) → ReportsIdle t → (drops : Event → Bool) → ((e : Event) → drops e ≡ false → IsIdle t e) → (before q : List Entry) (v : V) → over t v (map event_of (flush_behind event_of drops before q)) ≡ v
-flush_behind-idle t idle drops out before [] v = refl
-flush_behind-idle t idle drops out before (x ∷ q) v =
-    over-kept_idle t (stays event_of drops before x) x (flush_behind event_of drops (x ∷ before) q) v (kept_idle t idle drops out before x)
-    ∙ flush_behind-idle t idle drops out (x ∷ before) q v
+flush_from-idle : {V : Type 0} (t : V → Event → V) → ReportsIdle t → (drops : Event → Bool) → ((e : Event) → drops e ≡ false → IsIdle t e) → (flag : Bool) (q : List Entry) (v : V) → over t v (map event_of (flush_from event_of drops flag q)) ≡ v
+flush_from-idle t idle drops out flag [] v = refl
+flush_from-idle t idle drops out flag (x ∷ q) v =
+    over-kept_idle t (stays event_of drops flag x) x (flush_from event_of drops (report_stays_after event_of drops flag x) q) v (kept_idle t idle drops out flag x)
+    ∙ flush_from-idle t idle drops out (report_stays_after event_of drops flag x) q v
 
 pub flush-idle : {V : Type 0} (t : V → Event → V) → ReportsIdle t → (drops : Event → Bool) → ((e : Event) → drops e ≡ false → IsIdle t e) → (q : List Entry) (v : V) → over t v (map event_of (flush event_of drops q)) ≡ v
-flush-idle t idle drops out q v = flush_behind-idle t idle drops out [] q v
+flush-idle t idle drops out q v = ap (λ r. over t v (map event_of r)) (flush-walk event_of drops q) ∙ flush_from-idle t idle drops out true q v
 
 -- a loss stays in a flushed queue
-loss_stays : (drops : Event → Bool) → ((e : Event) → is_dropped e ≡ true → (is_report e ≡ false) × (drops e ≡ false)) → (before : List Entry) (x : Entry) → is_dropped (event_of x) ≡ true → stays event_of drops before x ≡ true
-loss_stays drops out before x h =
+loss_stays : (drops : Event → Bool) → ((e : Event) → is_dropped e ≡ true → (is_report e ≡ false) × (drops e ≡ false)) → (flag : Bool) (x : Entry) → is_dropped (event_of x) ≡ true → stays event_of drops flag x ≡ true
+loss_stays drops out flag x h =
     let k = out (event_of x) h in
-    ap (λ (b : Bool). if b then follows_kept event_of drops before else not (drops (event_of x))) k.0 ∙ ap not k.1
+    ap (λ (b : Bool). if b then flag else not (drops (event_of x))) k.0 ∙ ap not k.1
 
 kept_loss : (b : Bool) (x : Entry) (rest : List Entry) → (is_dropped (event_of x) ≡ true → b ≡ true) → has_no_loss ((if b then x ∷ [] else []) ++ rest) ≡ true → (not (is_dropped (event_of x)) ≡ true) × (has_no_loss rest ≡ true)
 kept_loss true x rest h k = (and-left _ _ k, and-right _ _ k)
 kept_loss false x rest h k = (not_from_false _ (false_from_ne_true (is_dropped (event_of x)) (λ e. let bad = h e in cc)), k)
 
-flush_behind-no_loss : (drops : Event → Bool) → ((e : Event) → is_dropped e ≡ true → (is_report e ≡ false) × (drops e ≡ false)) → (before q : List Entry) → has_no_loss (flush_behind event_of drops before q) ≡ true → has_no_loss q ≡ true
-flush_behind-no_loss drops out before [] h = refl
-flush_behind-no_loss drops out before (x ∷ q) h =
-    let k = kept_loss (stays event_of drops before x) x (flush_behind event_of drops (x ∷ before) q) (loss_stays drops out before x) h in
-    and_from _ _ k.0 (flush_behind-no_loss drops out (x ∷ before) q k.1)
+flush_from-no_loss : (drops : Event → Bool) → ((e : Event) → is_dropped e ≡ true → (is_report e ≡ false) × (drops e ≡ false)) → (flag : Bool) (q : List Entry) → has_no_loss (flush_from event_of drops flag q) ≡ true → has_no_loss q ≡ true
+flush_from-no_loss drops out flag [] h = refl
+flush_from-no_loss drops out flag (x ∷ q) h =
+    let k = kept_loss (stays event_of drops flag x) x (flush_from event_of drops (report_stays_after event_of drops flag x) q) (loss_stays drops out flag x) h in
+    and_from _ _ k.0 (flush_from-no_loss drops out (report_stays_after event_of drops flag x) q k.1)
 
 pub flush-no_loss : (drops : Event → Bool) → ((e : Event) → is_dropped e ≡ true → (is_report e ≡ false) × (drops e ≡ false)) → (q : List Entry) → has_no_loss (flush event_of drops q) ≡ true → has_no_loss q ≡ true
-flush-no_loss drops out q h = flush_behind-no_loss drops out [] q h
+flush-no_loss drops out q h = flush_from-no_loss drops out true q (sym (ap has_no_loss (flush-walk event_of drops q)) ∙ h)
 
 -- ---- what is promised at each report of a queue, up to a loss
 
@@ -185,12 +186,12 @@ Promised-kept_or_not {V} P t v false x rest idle loss h = by (is_dropped (event_
     by true e = absurd (let k : false ≡ true = loss e in cc)
     by false e = subst (λ w. Promised P t w rest) (idle refl v) (h e).1
 
-Promised-flush_behind : {V : Type 0} (P : Entry → V → Type 0) (t : V → Event → V) → ReportsIdle t → (drops : Event → Bool) → ((e : Event) → drops e ≡ true → IsIdle t e) → ((e : Event) → is_dropped e ≡ true → (is_report e ≡ false) × (drops e ≡ false)) → (before q : List Entry) (v : V) → Promised P t v q → Promised P t v (flush_behind event_of drops before q)
-Promised-flush_behind P t idle drops out loss before [] v h = tt
-Promised-flush_behind P t idle drops out loss before (x ∷ q) v h =
-    Promised-kept_or_not P t v (stays event_of drops before x) x (flush_behind event_of drops (x ∷ before) q)
-    (stays_or_idle t idle drops out before x) (loss_stays drops loss before x)
-    (λ here. ((h here).0, Promised-flush_behind P t idle drops out loss (x ∷ before) q (t v (event_of x)) (h here).1))
+Promised-flush_from : {V : Type 0} (P : Entry → V → Type 0) (t : V → Event → V) → ReportsIdle t → (drops : Event → Bool) → ((e : Event) → drops e ≡ true → IsIdle t e) → ((e : Event) → is_dropped e ≡ true → (is_report e ≡ false) × (drops e ≡ false)) → (flag : Bool) (q : List Entry) (v : V) → Promised P t v q → Promised P t v (flush_from event_of drops flag q)
+Promised-flush_from P t idle drops out loss flag [] v h = tt
+Promised-flush_from P t idle drops out loss flag (x ∷ q) v h =
+    Promised-kept_or_not P t v (stays event_of drops flag x) x (flush_from event_of drops (report_stays_after event_of drops flag x) q)
+    (stays_or_idle t idle drops out flag x) (loss_stays drops loss flag x)
+    (λ here. ((h here).0, Promised-flush_from P t idle drops out loss (report_stays_after event_of drops flag x) q (t v (event_of x)) (h here).1))
 
 pub Promised-flush : {V : Type 0} (P : Entry → V → Type 0) (t : V → Event → V) → ReportsIdle t → (drops : Event → Bool) → ((e : Event) → drops e ≡ true → IsIdle t e) → ((e : Event) → is_dropped e ≡ true → (is_report e ≡ false) × (drops e ≡ false)) → (q : List Entry) (v : V) → Promised P t v q → Promised P t v (flush event_of drops q)
-Promised-flush P t idle drops out loss q v h = Promised-flush_behind P t idle drops out loss [] q v h
+Promised-flush P t idle drops out loss q v h = subst (Promised P t v) (sym (flush-walk event_of drops q)) (Promised-flush_from P t idle drops out loss true q v h)

@@ -12,7 +12,8 @@ use Rattle.inp_model.specs.Cut.{cut_for, cuts}
 use Rattle.inp_model.specs.Raw.{raw, raw_of_step}
 use Rattle.inp_model.specs.Frame.{frame_of}
 use Rattle.inp_model.specs.Left.{Eats, left_from}
-use Rattle.inp_model.specs.Queue.{Entry, event_of, entry_dropped_at, is_empty, ends_in_report, put, put_all, visible, follows_kept, stays, flush_behind, flush, entry, entries_of_with, entries_with, queue_with}
+use Rattle.inp_model.proofs.Removal.{stays, report_stays_after, flush_from, flush-walk}
+use Rattle.inp_model.specs.Queue.{Entry, event_of, entry_dropped_at, is_empty, ends_in_report, put, put_all, visible, flush, entry, entries_of_with, entries_with, queue_with}
 use Rattle.inp_recon.specs.Synchronised.{is_dropped, has_no_loss, is_start}
 use Rattle.inp_recon.proofs.Each.{and-right}
 use Rattle.inp_recon.proofs.Queueing.{put_all-append}
@@ -86,68 +87,68 @@ ends-more true x [] h = let bad : false ≡ true = h in absurd cc
 ends-more true x (y ∷ q) h = h
 
 -- Where all that is left of a queue goes, nothing was kept since the last report before it.
-AllGoes : (Event → Bool) → List Entry → List Entry → Type 0
-AllGoes drops before flushed = (flushed ≡ []) × (follows_kept event_of drops before ≡ false)
+AllGoes : Bool → List Entry → Type 0
+AllGoes flag flushed = (flushed ≡ []) × (flag ≡ false)
 
-FlushesWell : (Event → Bool) → List Entry → List Entry → Type 0
-FlushesWell drops before flushed = AllGoes drops before flushed ⊎ (ends_in_report event_of flushed ≡ true)
+FlushesWell : Bool → List Entry → Type 0
+FlushesWell flag flushed = AllGoes flag flushed ⊎ (ends_in_report event_of flushed ≡ true)
 
-flush_last : (drops : Event → Bool) (before : List Entry) (x : Entry) → is_report (event_of x) ≡ true → FlushesWell drops before ((if stays event_of drops before x then x ∷ [] else []) ++ [])
+flush_last : (drops : Event → Bool) (flag : Bool) (x : Entry) → is_report (event_of x) ≡ true → FlushesWell flag ((if stays event_of drops flag x then x ∷ [] else []) ++ [])
 unfolding FlushesWell AllGoes
-flush_last drops before x report = by (follows_kept event_of drops before) refl
+flush_last drops flag x report = by (flag) refl
   where
-    kept : (b : Bool) → follows_kept event_of drops before ≡ b → stays event_of drops before x ≡ b
-    kept b h = ap (λ (c : Bool). if c then follows_kept event_of drops before else not (drops (event_of x))) report ∙ h
+    kept : (b : Bool) → flag ≡ b → stays event_of drops flag x ≡ b
+    kept b h = ap (λ (c : Bool). if c then flag else not (drops (event_of x))) report ∙ h
 
-    by : (b : Bool) → follows_kept event_of drops before ≡ b → FlushesWell drops before ((if stays event_of drops before x then x ∷ [] else []) ++ [])
+    by : (b : Bool) → flag ≡ b → FlushesWell flag ((if stays event_of drops flag x then x ∷ [] else []) ++ [])
     by true h = inr (ap (λ (b : Bool). ends_in_report event_of ((if b then x ∷ [] else []) ++ [])) (kept true h) ∙ report)
     by false h = inl (ap (λ (b : Bool). (if b then x ∷ [] else []) ++ []) (kept false h), h)
 
-flush_more : (drops : Event → Bool) (before : List Entry) (x : Entry) (rest : List Entry) → FlushesWell drops (x ∷ before) rest → FlushesWell drops before ((if stays event_of drops before x then x ∷ [] else []) ++ rest)
+flush_more : (drops : Event → Bool) (flag : Bool) (x : Entry) (rest : List Entry) → FlushesWell (report_stays_after event_of drops flag x) rest → FlushesWell flag ((if stays event_of drops flag x then x ∷ [] else []) ++ rest)
 unfolding FlushesWell AllGoes
-flush_more drops before x rest (inr ends) = inr (ends-more (stays event_of drops before x) x rest ends)
-flush_more drops before x rest (inl goes) = by (is_report (event_of x)) refl
+flush_more drops flag x rest (inr ends) = inr (ends-more (stays event_of drops flag x) x rest ends)
+flush_more drops flag x rest (inl goes) = by (is_report (event_of x)) refl
   where
-    all : FlushesWell drops before ((if stays event_of drops before x then x ∷ [] else []) ++ []) → FlushesWell drops before ((if stays event_of drops before x then x ∷ [] else []) ++ rest)
-    all h = subst (λ (l : List Entry). FlushesWell drops before ((if stays event_of drops before x then x ∷ [] else []) ++ l)) (sym goes.0) h
+    all : FlushesWell flag ((if stays event_of drops flag x then x ∷ [] else []) ++ []) → FlushesWell flag ((if stays event_of drops flag x then x ∷ [] else []) ++ rest)
+    all h = subst (λ (l : List Entry). FlushesWell flag ((if stays event_of drops flag x then x ∷ [] else []) ++ l)) (sym goes.0) h
 
     -- it is no report, and nothing was kept up to it: it goes, and so did what was before it
-    other : is_report (event_of x) ≡ false → (b : Bool) → drops (event_of x) ≡ b → FlushesWell drops before ((if stays event_of drops before x then x ∷ [] else []) ++ [])
+    other : is_report (event_of x) ≡ false → (b : Bool) → drops (event_of x) ≡ b → FlushesWell flag ((if stays event_of drops flag x then x ∷ [] else []) ++ [])
     other no_report true h =
-        let none : stays event_of drops before x ≡ false = ap (λ (c : Bool). if c then follows_kept event_of drops before else not (drops (event_of x))) no_report ∙ ap not h in
-        let before_it : follows_kept event_of drops before ≡ false =
-        ap (λ (c : Bool). if c then follows_kept event_of drops before else true) (sym h)
-        ∙ ap (λ (c : Bool). if c then false else if drops (event_of x) then follows_kept event_of drops before else true) (sym no_report)
+        let none : stays event_of drops flag x ≡ false = ap (λ (c : Bool). if c then flag else not (drops (event_of x))) no_report ∙ ap not h in
+        let before_it : flag ≡ false =
+        ap (λ (c : Bool). if c then flag else true) (sym h)
+        ∙ ap (λ (c : Bool). if c then false else if drops (event_of x) then flag else true) (sym no_report)
         ∙ goes.1 in
         inl (ap (λ (c : Bool). (if c then x ∷ [] else []) ++ []) none, before_it)
     other no_report false h =
         let bad : true ≡ false =
-        ap (λ (c : Bool). if c then follows_kept event_of drops before else true) (sym h)
-        ∙ ap (λ (c : Bool). if c then false else if drops (event_of x) then follows_kept event_of drops before else true) (sym no_report)
+        ap (λ (c : Bool). if c then flag else true) (sym h)
+        ∙ ap (λ (c : Bool). if c then false else if drops (event_of x) then flag else true) (sym no_report)
         ∙ goes.1 in
         absurd cc
 
-    by : (b : Bool) → is_report (event_of x) ≡ b → FlushesWell drops before ((if stays event_of drops before x then x ∷ [] else []) ++ rest)
-    by true h = all (flush_last drops before x h)
+    by : (b : Bool) → is_report (event_of x) ≡ b → FlushesWell flag ((if stays event_of drops flag x then x ∷ [] else []) ++ rest)
+    by true h = all (flush_last drops flag x h)
     by false h = all (other h (drops (event_of x)) refl)
 
-flush_behind-well : (drops : Event → Bool) (before q : List Entry) → ends_in_report event_of q ≡ true → FlushesWell drops before (flush_behind event_of drops before q)
-flush_behind-well drops before [] h = let bad : false ≡ true = h in absurd cc
-flush_behind-well drops before (x ∷ []) h = flush_last drops before x h
-flush_behind-well drops before (x ∷ y ∷ q) h = flush_more drops before x (flush_behind event_of drops (x ∷ before) (y ∷ q)) (flush_behind-well drops (x ∷ before) (y ∷ q) h)
+flush_from-well : (drops : Event → Bool) (flag : Bool) (q : List Entry) → ends_in_report event_of q ≡ true → FlushesWell flag (flush_from event_of drops flag q)
+flush_from-well drops flag [] h = let bad : false ≡ true = h in absurd cc
+flush_from-well drops flag (x ∷ []) h = flush_last drops flag x h
+flush_from-well drops flag (x ∷ y ∷ q) h = flush_more drops flag x (flush_from event_of drops (report_stays_after event_of drops flag x) (y ∷ q)) (flush_from-well drops (report_stays_after event_of drops flag x) (y ∷ q) h)
 
 flush-shaped : (drops : Event → Bool) → KeepsLosses drops → (q : List Entry) → IsShaped q → IsShaped (flush event_of drops q)
 unfolding FlushesWell AllGoes
 flush-shaped drops keeps q (IsEmpty is) = IsEmpty (ap (flush event_of drops) is)
-flush-shaped drops keeps q (EndsInReport ends) = by (flush_behind-well drops [] q ends)
+flush-shaped drops keeps q (EndsInReport ends) = by (flush_from-well drops true q ends)
   where
-    by : FlushesWell drops [] (flush_behind event_of drops [] q) → IsShaped (flush event_of drops q)
+    by : FlushesWell true (flush_from event_of drops true q) → IsShaped (flush event_of drops q)
     by (inl goes) = let bad : true ≡ false = goes.1 in absurd cc
-    by (inr ends) = EndsInReport ends
+    by (inr ends) = EndsInReport (ap (ends_in_report event_of) (flush-walk event_of drops q) ∙ ends)
 flush-shaped drops keeps q (IsLoss e is loss) =
     let k = keeps (event_of e) loss in
-    let stays_there : stays event_of drops [] e ≡ true = ap (λ (c : Bool). if c then true else not (drops (event_of e))) k.0 ∙ ap not k.1 in
-    IsLoss e (ap (flush event_of drops) is ∙ ap (λ (c : Bool). (if c then e ∷ [] else []) ++ []) stays_there) loss
+    let stays_there : stays event_of drops true e ≡ true = ap (λ (c : Bool). if c then true else not (drops (event_of e))) k.0 ∙ ap not k.1 in
+    IsLoss e (ap (flush event_of drops) is ∙ flush-walk event_of drops (e ∷ []) ∙ ap (λ (c : Bool). (if c then e ∷ [] else []) ++ []) stays_there) loss
 
 -- ---- frames
 

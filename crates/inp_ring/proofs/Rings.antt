@@ -12,7 +12,8 @@ use Rattle.inp_ring.specs.Store.{StoreView, event_of_cell, cell_in, holders, hol
 use Rattle.inp_ring.specs.Ring.{RingView, times, ring_in, IsRing, AreDifferent, AreHeldAlone, HoldsAllButOne, EntersAlone, IsLost, IsTakenOut, IsPutAtEnd, cell_at, some_cell, queue_in}
 use Rattle.inp_ring.proofs.Times.{once, once_same, times_push, times-drop-le, times-le-length, times_first, AreDifferent_push}
 use Rattle.inp_ring.proofs.Kept.{keep_last-push}
-use Rattle.inp_ring.proofs.Walks.{event_at, flush-length, flush-times, flush-map}
+use Rattle.inp_model.proofs.Removal.{flush-length, flush-map}
+use Rattle.inp_ring.proofs.Walks.{event_at, flush-times}
 
 -- one number more
 pub ring_push : (b new : Buffer ℕ) (m : ℕ) → IsRing (ring_in b) → suc (length b.items) < b.capacity → times m b.items ≡ 0 →
@@ -64,7 +65,7 @@ queue_rest old new q r n e t = queue_stays old new r t.stay ∙ ap (queue_in old
 
 -- what is left of it when a class of events is removed
 pub queue_flush : (old new : StoreView) (q r : List ℕ) (drops : Event → Bool) → r ≡ flush (event_at old) drops q → IsTakenOut old new q r → queue_in new r ≡ flush event_of_cell drops (queue_in old q)
-queue_flush old new q r drops e t = queue_stays old new r t.stay ∙ ap (queue_in old) e ∙ flush-map old drops q
+queue_flush old new q r drops e t = queue_stays old new r t.stay ∙ ap (queue_in old) e ∙ flush-map (cell_at old) (event_at old) event_of_cell (λ n. refl) drops q
 
 -- the number at an index
 pub number_at : (q : List ℕ) (i x : ℕ) → slice_get q i ≡ Some x → get_or q i 0 ≡ x

@@ -1,23 +1,15 @@
 -- The walk that removes a class of events from a ring.
-use Rattle.std.proofs.Common.{◌≡◌, ◌≤◌, ◌<◌, ℕ, zero, suc, ◌+◌, Bool, true, false, not, if◌then◌else◌, List, [], ◌∷◌, ◌++◌, length, map, take, drop, get_or, refl, sym, ap, ◌∙◌, arith}
+use Rattle.std.proofs.Common.{◌≡◌, ◌≤◌, ◌<◌, ℕ, zero, suc, ◌+◌, Bool, true, false, not, if◌then◌else◌, List, [], ◌∷◌, ◌++◌, length, take, drop, get_or, refl, sym, ap, ◌∙◌, arith}
 use Rattle.std.proofs.lemmas.List.{append-nil, append_assoc, length-append, length-drop, take_more, drop_more, take_all, drop_all}
 use Rattle.circular_buffer.specs.Buffer.{Buffer, buffer}
 use Rattle.inp_model.specs.declared.event.Event.{Event}
 use Rattle.inp_model.specs.Event.{is_report}
-use Rattle.inp_model.specs.Queue.{follows_kept, stays, flush_behind, flush}
+use Rattle.inp_model.specs.Queue.{flush}
+use Rattle.inp_model.proofs.Removal.{stays, report_stays_after, flush_from, flush-walk, flush_from-length}
 use Rattle.inp_ring.specs.Store.{StoreView, event_of_cell}
 use Rattle.inp_ring.specs.Ring.{times, AreHeld, IsTakenOut, cell_at, some_cell}
 use Rattle.inp_ring.proofs.Times.{once, times-append, times_push, times-take-drop, times_first}
 use Rattle.inp_ring.proofs.Moves.{held_moved, taken_none, taken_then, taken_same, idle_out}
-
--- these numbers, newest first, in front of those that were newest_first before
-abbrev pub newest_first : List ℕ → List ℕ → List ℕ
-newest_first before [] = before
-newest_first before (x ∷ q) = newest_first (x ∷ before) q
-
-newest_first-push : (before q : List ℕ) (x : ℕ) → newest_first before (q ++ x ∷ []) ≡ x ∷ newest_first before q
-newest_first-push before [] x = refl
-newest_first-push before (y ∷ q) x = newest_first-push (y ∷ before) q x
 
 -- the number, where it stays
 abbrev pub kept_of : Bool → ℕ → List ℕ
@@ -32,62 +24,43 @@ kept_of-length true x = omega arith
 kept_of-length false x = omega arith
 
 module _ (event : ℕ → Event) (drops : Event → Bool) where
+  -- whether a report stays that comes after these numbers
+  abbrev pub flag_after : Bool → List ℕ → Bool
+  flag_after flag [] = flag
+  flag_after flag (x ∷ q) = flag_after (report_stays_after event drops flag x) q
+
+  flag_after-push : (flag : Bool) (q : List ℕ) (x : ℕ) → flag_after flag (q ++ x ∷ []) ≡ report_stays_after event drops (flag_after flag q) x
+  flag_after-push flag [] x = refl
+  flag_after-push flag (y ∷ q) x = flag_after-push (report_stays_after event drops flag y) q x
+
   -- one number more at the end
-  flush_behind-push : (before q : List ℕ) (x : ℕ) →
-      flush_behind event drops before (q ++ x ∷ []) ≡ flush_behind event drops before q ++ kept_of (stays event drops (newest_first before q) x) x
-  flush_behind-push before [] x = append-nil (kept_of (stays event drops before x) x)
-  flush_behind-push before (y ∷ q) x =
-      ap (λ r. kept_of (stays event drops before y) y ++ r) (flush_behind-push (y ∷ before) q x)
-      ∙ sym (append_assoc (kept_of (stays event drops before y) y) (flush_behind event drops (y ∷ before) q) (kept_of (stays event drops (newest_first (y ∷ before) q) x) x))
+  flush_from-push : (flag : Bool) (q : List ℕ) (x : ℕ) →
+      flush_from event drops flag (q ++ x ∷ []) ≡ flush_from event drops flag q ++ kept_of (stays event drops (flag_after flag q) x) x
+  flush_from-push flag [] x = append-nil (kept_of (stays event drops flag x) x)
+  flush_from-push flag (y ∷ q) x =
+      let next = report_stays_after event drops flag y in
+      ap (λ r. kept_of (stays event drops flag y) y ++ r) (flush_from-push next q x)
+      ∙ sym (append_assoc (kept_of (stays event drops flag y) y) (flush_from event drops next q) (kept_of (stays event drops (flag_after next q) x) x))
 
   -- no number is added
-  flush_behind-length : (before q : List ℕ) → length (flush_behind event drops before q) ≤ length q
-  flush_behind-length before [] = omega arith
-  flush_behind-length before (x ∷ q) =
-      let rest = flush_behind event drops (x ∷ before) q in
-      omega (arith, flush_behind-length (x ∷ before) q, length-append (kept_of (stays event drops before x) x) rest, kept_of-length (stays event drops before x) x)
-
-  flush_behind-times : (n : ℕ) (before q : List ℕ) → times n (flush_behind event drops before q) ≤ times n q
-  flush_behind-times n before [] = omega arith
-  flush_behind-times n before (x ∷ q) =
-      let rest = flush_behind event drops (x ∷ before) q in
-      omega (arith, flush_behind-times n (x ∷ before) q, times-append n (kept_of (stays event drops before x) x) rest, kept_of-times n (stays event drops before x) x)
-
-  pub flush-length : (q : List ℕ) → length (flush event drops q) ≤ length q
-  flush-length q = flush_behind-length [] q
+  flush_from-times : (n : ℕ) (flag : Bool) (q : List ℕ) → times n (flush_from event drops flag q) ≤ times n q
+  flush_from-times n flag [] = omega arith
+  flush_from-times n flag (x ∷ q) =
+      let next = report_stays_after event drops flag x in
+      let kept = kept_of (stays event drops flag x) x in
+      omega (arith, flush_from-times n next q, times-append n kept (flush_from event drops next q), kept_of-times n (stays event drops flag x) x)
 
   pub flush-times : (n : ℕ) (q : List ℕ) → times n (flush event drops q) ≤ times n q
-  flush-times n q = flush_behind-times n [] q
+  flush-times n q = omega (arith, ap (times n) (flush-walk event drops q), flush_from-times n true q)
 
 -- the event of a number as a store has it
 abbrev pub event_at : StoreView → ℕ → Event
 event_at s n = event_of_cell (cell_at s n)
 
--- a flush of the numbers is one of the queue
-pub flush-map : (s : StoreView) (drops : Event → Bool) (q : List ℕ) → map (cell_at s) (flush (event_at s) drops q) ≡ flush event_of_cell drops (map (cell_at s) q)
-flush-map s drops q = behind [] q
-  where
-    follows : (before : List ℕ) → follows_kept (event_at s) drops before ≡ follows_kept event_of_cell drops (map (cell_at s) before)
-    follows [] = refl
-    follows (y ∷ before) = ap (λ (b : Bool). if is_report (event_at s y) then false else if drops (event_at s y) then b else true) (follows before)
-
-    one : (b : Bool) (x : ℕ) (r : List ℕ) → map (cell_at s) (kept_of b x ++ r) ≡ (if b then cell_at s x ∷ [] else []) ++ map (cell_at s) r
-    one true x r = refl
-    one false x r = refl
-
-    behind : (before q : List ℕ) → map (cell_at s) (flush_behind (event_at s) drops before q) ≡ flush_behind event_of_cell drops (map (cell_at s) before) (map (cell_at s) q)
-    behind before [] = refl
-    behind before (x ∷ q) =
-        let stay : stays (event_at s) drops before x ≡ stays event_of_cell drops (map (cell_at s) before) (cell_at s x) =
-        ap (λ (b : Bool). if is_report (event_at s x) then b else not (drops (event_at s x))) (follows before) in
-        one (stays (event_at s) drops before x) x (flush_behind (event_at s) drops (x ∷ before) q)
-        ∙ ap (λ (b : Bool). (if b then cell_at s x ∷ [] else []) ++ map (cell_at s) (flush_behind (event_at s) drops (x ∷ before) q)) stay
-        ∙ ap (λ r. (if stays event_of_cell drops (map (cell_at s) before) (cell_at s x) then cell_at s x ∷ [] else []) ++ r) (behind (x ∷ before) q)
-
 -- The numbers before `at` were walked: those that stay stand behind the others. The events are those of the first store.
 pub record IsWalked (drops : Event → Bool) (first : StoreView) (q : List ℕ) (capacity : ℕ) (s : StoreView) (numbers : Buffer ℕ) (at : ℕ) (report_stays : Bool) : Type 0 where
-  pub items : numbers ≡ buffer (drop at q ++ flush (event_at first) drops (take at q)) capacity
-  pub flag : report_stays ≡ follows_kept (event_at first) drops (newest_first [] (take at q))
+  pub items : numbers ≡ buffer (drop at q ++ flush_from (event_at first) drops true (take at q)) capacity
+  pub flag : report_stays ≡ flag_after (event_at first) drops true (take at q)
   pub taken : IsTakenOut first s q numbers.items
   pub held : AreHeld first q
 
@@ -102,11 +75,12 @@ module _ {drops : Event → Bool} {first s : StoreView} {q : List ℕ} {capacity
   walked_all h =
       let rest : drop at q ≡ [] = drop_all at q h in
       let all : take at q ≡ q = take_all at q h in
-      w.items ∙ ap (λ r. buffer (r ++ flush (event_at first) drops (take at q)) capacity) rest ∙ ap (λ r. buffer (flush (event_at first) drops r) capacity) all
+      w.items ∙ ap (λ r. buffer (r ++ flush_from (event_at first) drops true (take at q)) capacity) rest ∙ ap (λ r. buffer (flush_from (event_at first) drops true r) capacity) all
+      ∙ ap (λ r. buffer r capacity) (sym (flush-walk (event_at first) drops q))
 
   walked_length : length numbers.items ≤ length q
   walked_length =
-      omega (arith, ap (λ (b : Buffer ℕ). length b.items) w.items, length-append (drop at q) (flush (event_at first) drops (take at q)), length-drop at q, flush-length (event_at first) drops (take at q), take_within)
+      omega (arith, ap (λ (b : Buffer ℕ). length b.items) w.items, length-append (drop at q) (flush_from (event_at first) drops true (take at q)), length-drop at q, flush_from-length (event_at first) drops true (take at q), take_within)
     where
       take_within : length (take at q) + length (drop at q) ≡ length q
       take_within = take-drop at q
@@ -119,14 +93,14 @@ module _ {drops : Event → Bool} {first s : StoreView} {q : List ℕ} {capacity
   -- it has no number that was not there
   walked_times : (n : ℕ) → times n numbers.items ≤ times n q
   walked_times n =
-      omega (arith, ap (λ (b : Buffer ℕ). times n b.items) w.items, times-append n (drop at q) (flush (event_at first) drops (take at q)), flush-times (event_at first) drops n (take at q), times-take-drop n at q)
+      omega (arith, ap (λ (b : Buffer ℕ). times n b.items) w.items, times-append n (drop at q) (flush_from (event_at first) drops true (take at q)), flush_from-times (event_at first) drops n true (take at q), times-take-drop n at q)
 
   module _ (here : at < length q) where
     abbrev pub walked_number : ℕ
     walked_number = get_or q at 0
 
-    walked_items : numbers.items ≡ walked_number ∷ (drop (at + 1) q ++ flush (event_at first) drops (take at q))
-    walked_items = ap (λ (b : Buffer ℕ). b.items) w.items ∙ ap (λ r. r ++ flush (event_at first) drops (take at q)) (drop_more q at 0 here)
+    walked_items : numbers.items ≡ walked_number ∷ (drop (at + 1) q ++ flush_from (event_at first) drops true (take at q))
+    walked_items = ap (λ (b : Buffer ℕ). b.items) w.items ∙ ap (λ r. r ++ flush_from (event_at first) drops true (take at q)) (drop_more q at 0 here)
 
     pub walked_some : 0 < length numbers.items
     walked_some = omega (arith, ap length walked_items)
@@ -137,7 +111,7 @@ module _ {drops : Event → Bool} {first s : StoreView} {q : List ℕ} {capacity
     -- the event in front is that of the number walked next, as it was first
     pub walked_event : event_at s (get_or numbers.items 0 0) ≡ event_at first walked_number
     walked_event =
-        let there : 1 ≤ times walked_number numbers.items = omega (arith, ap (times walked_number) walked_items, times_first walked_number (drop (at + 1) q ++ flush (event_at first) drops (take at q))) in
+        let there : 1 ≤ times walked_number numbers.items = omega (arith, ap (times walked_number) walked_items, times_first walked_number (drop (at + 1) q ++ flush_from (event_at first) drops true (take at q))) in
         ap (λ p. event_at s (get_or p 0 0)) walked_items ∙ ap (λ o. event_of_cell (some_cell o)) (w.taken.stay walked_number there)
 
     walked_front : take (at + 1) q ≡ take at q ++ walked_number ∷ []
@@ -145,18 +119,18 @@ module _ {drops : Event → Bool} {first s : StoreView} {q : List ℕ} {capacity
 
     -- what stays of one number more
     flush-more : (kept : Bool) → kept ≡ (if is_report (event_at first walked_number) then report_stays else not (drops (event_at first walked_number))) →
-        flush (event_at first) drops (take (at + 1) q) ≡ flush (event_at first) drops (take at q) ++ kept_of kept walked_number
+        flush_from (event_at first) drops true (take (at + 1) q) ≡ flush_from (event_at first) drops true (take at q) ++ kept_of kept walked_number
     flush-more kept k =
         let e = event_at first walked_number in
-        let same : kept ≡ stays (event_at first) drops (newest_first [] (take at q)) walked_number = k ∙ ap (λ (b : Bool). if is_report e then b else not (drops e)) w.flag in
-        ap (flush (event_at first) drops) walked_front ∙ flush_behind-push (event_at first) drops [] (take at q) walked_number
-        ∙ ap (λ b. flush (event_at first) drops (take at q) ++ kept_of b walked_number) (sym same)
+        let same : kept ≡ stays (event_at first) drops (flag_after (event_at first) drops true (take at q)) walked_number = k ∙ ap (λ (b : Bool). if is_report e then b else not (drops e)) w.flag in
+        ap (flush_from (event_at first) drops true) walked_front ∙ flush_from-push (event_at first) drops true (take at q) walked_number
+        ∙ ap (λ b. flush_from (event_at first) drops true (take at q) ++ kept_of b walked_number) (sym same)
 
     -- whether a report stays that follows one number more
-    flag-more : follows_kept (event_at first) drops (newest_first [] (take (at + 1) q)) ≡ (if is_report (event_at first walked_number) then false else if drops (event_at first walked_number) then report_stays else true)
+    flag-more : flag_after (event_at first) drops true (take (at + 1) q) ≡ (if is_report (event_at first walked_number) then false else if drops (event_at first walked_number) then report_stays else true)
     flag-more =
-        ap (λ r. follows_kept (event_at first) drops (newest_first [] r)) walked_front
-        ∙ ap (follows_kept (event_at first) drops) (newest_first-push [] (take at q) walked_number)
+        ap (flag_after (event_at first) drops true) walked_front
+        ∙ flag_after-push (event_at first) drops true (take at q) walked_number
         ∙ ap (λ (b : Bool). if is_report (event_at first walked_number) then false else if drops (event_at first walked_number) then b else true) (sym w.flag)
 
     walked_then : (new : StoreView) (rest : Buffer ℕ) → IsTakenOut s new numbers.items rest.items → IsTakenOut first new q rest.items
@@ -167,10 +141,10 @@ module _ {drops : Event → Bool} {first s : StoreView} {q : List ℕ} {capacity
         rest ≡ buffer (drop 1 numbers.items) numbers.capacity → IsTakenOut s new numbers.items rest.items →
         IsWalked drops first q capacity new rest (at + 1) report_stays
     walked_dropped new rest stayed k gone e t =
-        let none : flush (event_at first) drops (take (at + 1) q) ≡ flush (event_at first) drops (take at q) =
-        flush-more stayed k ∙ ap (λ b. flush (event_at first) drops (take at q) ++ kept_of b walked_number) gone ∙ append-nil (flush (event_at first) drops (take at q)) in
-        let items : rest ≡ buffer (drop (at + 1) q ++ flush (event_at first) drops (take at q)) capacity =
-        e ∙ ap (λ p. buffer (drop 1 p) numbers.capacity) walked_items ∙ ap (λ (b : Buffer ℕ). buffer (drop (at + 1) q ++ flush (event_at first) drops (take at q)) b.capacity) w.items in
+        let none : flush_from (event_at first) drops true (take (at + 1) q) ≡ flush_from (event_at first) drops true (take at q) =
+        flush-more stayed k ∙ ap (λ b. flush_from (event_at first) drops true (take at q) ++ kept_of b walked_number) gone ∙ append-nil (flush_from (event_at first) drops true (take at q)) in
+        let items : rest ≡ buffer (drop (at + 1) q ++ flush_from (event_at first) drops true (take at q)) capacity =
+        e ∙ ap (λ p. buffer (drop 1 p) numbers.capacity) walked_items ∙ ap (λ (b : Buffer ℕ). buffer (drop (at + 1) q ++ flush_from (event_at first) drops true (take at q)) b.capacity) w.items in
         record {
           items = items ∙ ap (λ r. buffer (drop (at + 1) q ++ r) capacity) (sym none);
           flag = same_flag (is_report (event_at first walked_number)) (drops (event_at first walked_number)) report_stays (sym k ∙ gone) ∙ sym flag-more;
@@ -188,8 +162,8 @@ module _ {drops : Event → Bool} {first s : StoreView} {q : List ℕ} {capacity
         rest ≡ buffer (drop 1 numbers.items ++ get_or numbers.items 0 0 ∷ []) numbers.capacity →
         IsWalked drops first q capacity s rest (at + 1) (not (is_report (event_at first walked_number)))
     walked_kept rest stayed k stay e =
-        let front = flush (event_at first) drops (take at q) in
-        let one : flush (event_at first) drops (take (at + 1) q) ≡ front ++ walked_number ∷ [] =
+        let front = flush_from (event_at first) drops true (take at q) in
+        let one : flush_from (event_at first) drops true (take (at + 1) q) ≡ front ++ walked_number ∷ [] =
         flush-more stayed k ∙ ap (λ b. front ++ kept_of b walked_number) stay in
         let items : rest ≡ buffer ((drop (at + 1) q ++ front) ++ walked_number ∷ []) capacity =
         e ∙ ap (λ p. buffer (drop 1 p ++ get_or p 0 0 ∷ []) numbers.capacity) walked_items
