@@ -2,6 +2,7 @@ pub mod OwnQueues
 pub mod Follows
 pub mod Limits
 pub mod Growth
+pub mod RunLines
 pub mod PlayerLines
 pub mod PlayerMaking
 pub mod Gathered

@@ -5,6 +5,7 @@ use Rattle.std.proofs.lemmas.List.{map-set, length-map}
 use Rattle.std.proofs.lemmas.Option.{slice_get-map, slice_get_read}
 use Rattle.std.proofs.lemmas.Bool.{cond_both}
 use Rattle.inp_model.specs.declared.event.Event.{Event}
+use Rattle.inp_model.specs.declared.stamped.Stamped.{Stamped}
 use Rattle.inp_model.specs.declared.step.Step.{Step}
 use Rattle.inp_model.specs.Description.{Description}
 use Rattle.inp_model.proofs.Leaves.{description-kept}
@@ -14,6 +15,7 @@ use Rattle.inp_actors.specs.declared.line.Line.{Line}
 use Rattle.inp_actors.specs.declared.command.Command.{Command}
 use Rattle.inp_actors.specs.declared.command.Command.TheVariants.{Feedback as ToFeed}
 use Rattle.inp_actors.specs.declared.role.Role.{Role}
+use Rattle.inp_actors.specs.declared.role.Role.TheVariants.{Source}
 use Rattle.inp_actors.specs.Command.{is_command_of, is_owner, feedback_room}
 use Rattle.inp_actors.specs.Record.{RecordView, IsRecord}
 use Rattle.inp_feedback.specs.declared.u_entry.UEntry.{UEntry}
@@ -32,15 +34,18 @@ use Rattle.inp_uinput.specs.OwnedFeeding.{IsFeedbackOf}
 use Rattle.inp_uinput.proofs.Tied.{untied-calls, tied-calls}
 use Rattle.inp_reader.specs.Talk.{Talk, talk_with}
 use Rattle.inp_script.specs.Acting.{ActsLine}
-use Rattle.inp_script.specs.Doing.{HasActor, Holds, IsLineOf, line_talk}
+use Rattle.inp_script.specs.Doing.{HasActor, Holds, IsLineOf, unless_stopped, line_talk, inject_talk}
 use Rattle.inp_script.specs.declared.stop.Stop.{Stop}
 use Rattle.inp_script.specs.Job.{Job, ActorView}
+use Rattle.inp_script.specs.Line.{stream_talk}
 use Rattle.inp_script.specs.Owner.{Owning, after_feedback, IsFed, FeedsUnless, FeedsLine}
-use Rattle.inp_order.specs.Play.{Stage, feedback_calls_after, after_talk, unless_owner_stopped, by_command, after_line, after_line_of}
+use Rattle.inp_order.specs.Play.{Stage, feedback_calls_after, after_talk, unless_owner_stopped, by_command, after_line, after_lines, after_line_of}
 use Rattle.inp_play.specs.Player.{stage_with, pasts_of, feedback_calls_of, HasDevices, HasActors}
 use Rattle.inp_order.proofs.Alone.{device-alone}
 use Rattle.inp_order.proofs.LineDone.{set_same}
-use Rattle.inp_runs.proofs.Memory.{gives_up-line}
+use Rattle.inp_play.specs.Run.{inject_line}
+use Rattle.inp_play.proofs.RunLines.{injects-lines}
+use Rattle.inp_runs.proofs.Memory.{GivesUp, gives_up-line, gives_up-stream}
 
 -- Lists
 
@@ -102,11 +107,13 @@ found-description r devices actors number line text a device f =
     let its : slice_get (map (λ (t : DeviceText). t.caps) r.devices) text.device ≡ Some e.1.device.caps = slice_get-map (λ (t : DeviceText). t.caps) r.devices text.device ∙ ap (option_map (λ (t : DeviceText). t.caps)) there in
     some_one device.description e.1.device.caps (sym mine ∙ ap (λ (ds : List Description). slice_get ds text.device) f.has_devices ∙ its) ∙ e.1.description
 
+pub found-same_role : (r : RecordView) (devices : List UdevView) (actors : List ActorView) (number : ℕ) (line : Line) (text : ActorText) (a : ActorView) (device : UdevView) → IsFound r devices actors number line text a device → text.role ≡ a.role
+found-same_role r devices actors number line text a device f =
+    ap (λ (t : ActorText). t.role) (sym (own_text r devices actors number line text a device f)) ∙ (f.has_actors.each line.actor a f.is_actor).1.role
+
 found-role : (r : RecordView) (devices : List UdevView) (actors : List ActorView) (number : ℕ) (line : Line) (text : ActorText) (a : ActorView) (device : UdevView) → IsRecord r → IsFound r devices actors number line text a device → is_command_of a.role line.command ≡ true
 found-role r devices actors number line text a device keeps f =
-    let e = f.has_actors.each line.actor a f.is_actor in
-    let role : text.role ≡ a.role = ap (λ (t : ActorText). t.role) (sym (own_text r devices actors number line text a device f)) ∙ e.1.role in
-    ap (λ (role : _). is_command_of role line.command) (sym role) ∙ keeps.commands number line text f.is_line f.is_text
+    ap (λ (role : Role). is_command_of role line.command) (sym (found-same_role r devices actors number line text a device f)) ∙ keeps.commands number line text f.is_line f.is_text
 
 -- A line that was done
 
@@ -146,31 +153,53 @@ calls_same devices i device after there same =
 
 -- A line of calls of an evdev
 
-talk_at : (r : RecordView) (n : ℕ) (line : Line) (a : ActorView) → Talk (Option Job)
-talk_at r n line a = line_talk a.role a.description r.streams None n line.command a.job
+-- what a talk with its device leaves, whose calls these were
+talk_does : (r : RecordView) (devices : List UdevView) (actors : List ActorView) (number : ℕ) (line : Line) (text : ActorText) (a : ActorView) (device after : UdevView) (talk : Talk (Option Job)) (new : Job) → IsFound r devices actors number line text a device → GivesUp talk
+    → Holds (owned_view device) (owned_view after) talk (Some new)
+    → after_talk (stage_with devices actors) text.device a (talk_with a.description (steps_in device.kept) talk) ≡ Some (stage_with (slice_set devices text.device after) (slice_set actors line.actor (record a { job = new })))
+talk_does r devices actors number line text a device after talk new f gives_up holds =
+    let s : Stage = stage_with devices actors in
+    let past : List Step = steps_in device.kept in
+    let now : List Step = steps_in after.kept in
+    let done : talk_with device.description past talk ≡ (Some new, now) =
+    device-alone (device_of device) (device_of after) talk holds.calls new gives_up holds.talk_ends (untied-calls device after holds.calls holds.are_calls) in
+    let its : talk_with a.description past talk ≡ (Some new, now) =
+    ap (λ (d : Description). talk_with d past talk) (sym (found-description r devices actors number line text a device f)) ∙ done in
+    let place : a.actor ≡ line.actor = (f.has_actors.each line.actor a f.is_actor).0 in
+    let calls : feedback_calls_of (slice_set devices text.device after) ≡ s.calls = calls_same devices text.device device after f.is_device (tied-calls device after holds.calls holds.are_calls) in
+    ap (after_talk s text.device a) its
+    ∙ ap (λ (i : ℕ). Some (record { pasts = slice_set s.pasts text.device now; calls = s.calls; actors = slice_set s.actors i (record a { job = new }) })) place
+    ∙ ap (λ (pasts : List (List Step)). Some (record { pasts = pasts; calls = s.calls; actors = slice_set s.actors line.actor (record a { job = new }) })) (sym (map-set (λ (d : UdevView). steps_in d.kept) devices text.device after))
+    ∙ ap (λ (cs : List (List FeedbackCall)). Some (record { pasts = pasts_of (slice_set devices text.device after); calls = cs; actors = slice_set s.actors line.actor (record a { job = new }) })) (sym calls)
 
 line_does : (r : RecordView) (devices : List UdevView) (actors : List ActorView) (number : ℕ) (line : Line) (text : ActorText) (a : ActorView) (device after : UdevView) (n : ℕ) (new : Job) → IsRecord r → IsFound r devices actors number line text a device → feedback_room line.command ≡ None
     → Holds (owned_view device) (owned_view after) (line_talk a.role a.description r.streams None n line.command a.job) (Some new)
     → after_line r n (stage_with devices actors) line ≡ Some (stage_with (slice_set devices text.device after) (slice_set actors line.actor (record a { job = new })))
-unfolding talk_at
 line_does r devices actors number line text a device after n new keeps f no_room holds =
     let s : Stage = stage_with devices actors in
     let past : List Step = steps_in device.kept in
-    let now : List Step = steps_in after.kept in
-    let role : is_command_of a.role line.command ≡ true = found-role r devices actors number line text a device keeps f in
-    let done : talk_with device.description past (talk_at r n line a) ≡ (Some new, now) =
-    device-alone (device_of device) (device_of after) (talk_at r n line a) holds.calls new (gives_up-line a.role a.description r.streams None n line.command a.job role) holds.talk_ends
-    (untied-calls device after holds.calls holds.are_calls) in
-    let talk : talk_with a.description past (talk_at r n line a) ≡ (Some new, now) =
-    ap (λ (d : Description). talk_with d past (talk_at r n line a)) (sym (found-description r devices actors number line text a device f)) ∙ done in
-    let place : a.actor ≡ line.actor = (f.has_actors.each line.actor a f.is_actor).0 in
-    let calls : feedback_calls_of (slice_set devices text.device after) ≡ s.calls = calls_same devices text.device device after f.is_device (tied-calls device after holds.calls holds.are_calls) in
+    let talk : Talk (Option Job) = line_talk a.role a.description r.streams None n line.command a.job in
     stage_after r n devices actors number line text a device f
-    ∙ ap (λ (o : Option ℕ). by_command o s text.device a past (after_talk s text.device a (talk_with a.description past (talk_at r n line a)))) no_room
-    ∙ ap (after_talk s text.device a) talk
-    ∙ ap (λ (i : ℕ). Some (record { pasts = slice_set s.pasts text.device now; calls = s.calls; actors = slice_set s.actors i (record a { job = new }) })) place
-    ∙ ap (λ (pasts : List (List Step)). Some (record { pasts = pasts; calls = s.calls; actors = slice_set s.actors line.actor (record a { job = new }) })) (sym (map-set (λ (d : UdevView). steps_in d.kept) devices text.device after))
-    ∙ ap (λ (cs : List (List FeedbackCall)). Some (record { pasts = pasts_of (slice_set devices text.device after); calls = cs; actors = slice_set s.actors line.actor (record a { job = new }) })) (sym calls)
+    ∙ ap (λ (o : Option ℕ). by_command o s text.device a past (after_talk s text.device a (talk_with a.description past talk))) no_room
+    ∙ talk_does r devices actors number line text a device after talk new f
+    (gives_up-line a.role a.description r.streams None n line.command a.job (found-role r devices actors number line text a device keeps f)) holds
+
+-- Lines that inject events of one source
+
+gives_up-inject : (events : List Stamped) (j : Job) → GivesUp (inject_talk events j)
+gives_up-inject events j = by j.stop
+  where
+    by : (stop : Option Stop) → GivesUp (unless_stopped stop j (stream_talk events j))
+    by None = gives_up-stream events j
+    by (Some stop) = tt
+
+pub inject_does : (r : RecordView) (devices : List UdevView) (actors : List ActorView) (number : ℕ) (line : Line) (text : ActorText) (a : ActorView) (device after : UdevView) (events : List Stamped) (new : Job) → IsFound r devices actors number line text a device → a.role ≡ Source
+    → Holds (owned_view device) (owned_view after) (inject_talk events a.job) (Some new)
+    → after_lines r 0 (stage_with devices actors) (map (inject_line line.actor) events) ≡ Some (stage_with (slice_set devices text.device after) (slice_set actors line.actor (record a { job = new })))
+inject_does r devices actors number line text a device after events new f source holds =
+    injects-lines r 0 line.actor text f.is_text events (stage_with devices actors) a (steps_in device.kept)
+    (record { role = source; place = (f.has_actors.each line.actor a f.is_actor).0; is_actor = f.is_actor; is_past = past_at r devices actors number line text a device f })
+    ∙ talk_does r devices actors number line text a device after (inject_talk events a.job) new f (gives_up-inject events a.job) holds
 
 -- A line of a feedback call
 

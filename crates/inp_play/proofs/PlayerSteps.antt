@@ -1,16 +1,31 @@
 -- The lines of a record, one after another.
-use Rattle.std.proofs.Common.{◌≡◌, ℕ, ◌+◌, ◌≤◌, List, [], ◌∷◌, ◌++◌, length, take, Option, Some, None, refl, sym, ap, ◌∙◌, add_comm}
-use Rattle.std.specs.Prelude.{option_map, option_and_then}
+use Rattle.std.proofs.Common.{◌≡◌, ℕ, zero, suc, ◌+◌, ◌≤◌, List, [], ◌∷◌, ◌++◌, length, take, drop, Option, Some, None, refl, sym, ap, ◌∙◌, add_comm, get_or}
+use Rattle.std.specs.Prelude.{slice_get, option_map, option_and_then}
+use Rattle.std.proofs.Math.Seq.{take-add}
 use Rattle.std.proofs.lemmas.List.{take_all}
+use Rattle.inp_actors.specs.declared.actor_text.ActorText.{ActorText}
 use Rattle.inp_actors.specs.declared.line.Line.{Line}
-use Rattle.inp_actors.specs.Record.{RecordView}
+use Rattle.inp_actors.specs.Record.{RecordView, IsRecord}
 use Rattle.inp_script.specs.declared.run.Played.{Played}
 use Rattle.inp_script.specs.Ended.{played_of}
+use Rattle.inp_script.specs.Job.{ActorView}
+use Rattle.inp_uinput.specs.UdevView.{UdevView}
 use Rattle.inp_play.specs.declared.player.Player.{Player}
+use Rattle.inp_play.proofs.PlayerLines.{IsFound, found}
 use Rattle.inp_order.specs.Play.{Stage, first_stage, after_line, after_lines, runs_of, play, IsPlay}
 use Rattle.inp_play.specs.Player.{stage_of, IsPlayer, DoesOn, HasDone}
-use Rattle.inp_play.proofs.PlayerMaking.{take-next}
-use Rattle.inp_order.proofs.Rounds.{after_line-more, after_lines-more}
+use Rattle.inp_order.proofs.Rounds.{after_lines-more}
+
+-- Which line it is, and what it finds
+
+pub found_by : (r : RecordView) (p : Player) (number : ℕ) (line : Line) (text : ActorText) (a : ActorView) (device : UdevView) (lines : List Line) (actors : List ActorText) → IsRecord r → IsPlayer r p
+    → lines ≡ r.lines → slice_get lines number ≡ Some line → actors ≡ r.actors → slice_get actors line.actor ≡ Some text → a ≡ get_or p.actors.items line.actor a → device ≡ get_or p.devices.items text.device device
+    → IsFound r p.devices.items p.actors.items number line text a device
+found_by r p number line text a device lines actors keeps is same is_line these is_text is_actor is_device =
+    found r p.devices.items p.actors.items number line text a device keeps is.devices is.actors (ap (λ (ls : List Line). slice_get ls number) (sym same) ∙ is_line)
+    (ap (λ (texts : List ActorText). slice_get texts line.actor) (sym these) ∙ is_text) is_actor is_device
+
+-- One after another
 
 after_lines-append : (r : RecordView) (n : ℕ) (s : Stage) (lines more : List Line) → after_lines r n s (lines ++ more) ≡ option_and_then (λ now. after_lines r n now more) (after_lines r n s lines)
 unfolding after_lines
@@ -22,28 +37,42 @@ after_lines-append r n s (line ∷ lines) more = by_stage (after_line r n s line
     by_stage None rest = refl
     by_stage (Some now) rest = rest now
 
-one_line : (r : RecordView) (n : ℕ) (s t : Stage) (line : Line) → after_line r n s line ≡ Some t → after_lines r n s (line ∷ []) ≡ Some t
+one_at : (lines : List Line) (i : ℕ) (line : Line) → slice_get lines i ≡ Some line → take 1 (drop i lines) ≡ line ∷ []
+one_at [] i line h = absurd cc
+one_at (first ∷ lines) zero line h =
+    let same : first ≡ line = cc in
+    ap (λ (l : Line). l ∷ []) same
+one_at (first ∷ lines) (suc i) line h = one_at lines i line h
+
+-- one line alone
+pub one-line : (r : RecordView) (n number : ℕ) (s t : Stage) (line : Line) → slice_get r.lines number ≡ Some line → after_line r n s line ≡ Some t → after_lines r n s (take 1 (drop number r.lines)) ≡ Some t
 unfolding after_lines
-one_line r n s t line h = ap (option_and_then (λ now. Some now)) h
+one-line r n number s t line there h = ap (after_lines r n s) (one_at r.lines number line there) ∙ ap (option_and_then (λ now. Some now)) h
+
+-- So many lines from this number on were done, and the devices and the actors are still those of the record.
+pub record IsDone (r : RecordView) (number count : ℕ) (old new : Player) : Type 0 where
+  pub done : DoesOn r number count old new
+  pub player : IsPlayer r new
 
 pub done-none : (r : RecordView) (p : Player) → IsPlayer r p → stage_of p ≡ first_stage r → HasDone r 0 p
 unfolding after_lines
 done-none r p is h = record { player = is; rounds = 0; does = ap (λ (s : Stage). Some s) (sym h) }
 
-pub done-more : (r : RecordView) (n : ℕ) (old new : Player) → HasDone r n old → DoesOn r n old new → IsPlayer r new → HasDone r (n + 1) new
-done-more r n old new done does is =
+pub done-more : (r : RecordView) (n count : ℕ) (old new : Player) → HasDone r n old → DoesOn r n count old new → IsPlayer r new → HasDone r (n + count) new
+done-more r n count old new done does is =
     let more : ℕ = done.rounds + does.rounds in
+    let lines : List Line = take count (drop n r.lines) in
     let before : after_lines r more (first_stage r) (take n r.lines) ≡ Some (stage_of old) = after_lines-more r done.rounds does.rounds (first_stage r) (stage_of old) (take n r.lines) done.does in
-    let last : after_line r more (stage_of old) does.line ≡ Some (stage_of new) =
-    ap (λ (k : ℕ). after_line r k (stage_of old) does.line) (add_comm done.rounds does.rounds) ∙ after_line-more r does.rounds done.rounds (stage_of old) (stage_of new) does.line does.does in
+    let last : after_lines r more (stage_of old) lines ≡ Some (stage_of new) =
+    ap (λ (k : ℕ). after_lines r k (stage_of old) lines) (add_comm done.rounds does.rounds) ∙ after_lines-more r does.rounds done.rounds (stage_of old) (stage_of new) lines does.does in
     record {
       player = is;
       rounds = more;
       does =
-          ap (after_lines r more (first_stage r)) (take-next r.lines n does.line does.is_line)
-          ∙ after_lines-append r more (first_stage r) (take n r.lines) (does.line ∷ [])
-          ∙ ap (option_and_then (λ now. after_lines r more now (does.line ∷ []))) before
-          ∙ one_line r more (stage_of old) (stage_of new) does.line last;
+          ap (after_lines r more (first_stage r)) (take-add n count r.lines)
+          ∙ after_lines-append r more (first_stage r) (take n r.lines) lines
+          ∙ ap (option_and_then (λ now. after_lines r more now lines)) before
+          ∙ last;
     }
 
 pub done-all : (r : RecordView) (n : ℕ) (p : Player) (played : Played) → HasDone r n p → length r.lines ≤ n → played ≡ played_of (runs_of r (stage_of p)) → IsPlay r played

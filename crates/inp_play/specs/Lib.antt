@@ -1,2 +1,3 @@
 pub mod Player
 pub mod Gathering
+pub mod Run

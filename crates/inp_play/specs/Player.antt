@@ -1,9 +1,8 @@
 -- The devices and the actors of a record at work.
-use Rattle.std.specs.Prelude.{◌≡◌, ℕ, List, [], length, map, take, slice_get, Some}
+use Rattle.std.specs.Prelude.{◌≡◌, ◌≤◌, ℕ, ◌+◌, List, [], length, map, take, drop, slice_get, Some}
 use Rattle.std.specs.List.{enumerate_from}
 use Rattle.inp_model.specs.declared.step.Step.{Step}
 use Rattle.inp_actors.specs.declared.device_text.DeviceText.{DeviceText}
-use Rattle.inp_actors.specs.declared.line.Line.{Line}
 use Rattle.inp_actors.specs.Record.{RecordView}
 use Rattle.inp_feedback.specs.declared.feedback_call.FeedbackCall.{FeedbackCall}
 use Rattle.inp_feedback.specs.UEntry.{steps_in}
@@ -12,7 +11,7 @@ use Rattle.inp_uinput.specs.UdevView.{UdevView}
 use Rattle.inp_script.specs.Doing.{HasActor}
 use Rattle.inp_script.specs.Job.{ActorView}
 use Rattle.inp_play.specs.declared.player.Player.{Player}
-use Rattle.inp_order.specs.Play.{Stage, first_actor, first_stage, after_line, after_lines}
+use Rattle.inp_order.specs.Play.{Stage, first_actor, first_stage, after_lines}
 
 -- the steps that devices accepted, and the feedback calls that they keep, newest first
 abbrev pub pasts_of : List UdevView → List (List Step)
@@ -50,12 +49,12 @@ pub record IsPlayer (r : RecordView) (p : Player) : Type 0 where
   pub devices : HasDevices r p.devices.items
   pub actors : HasActors r p.actors.items
 
--- The line of this number was done, in some number of rounds.
-pub record DoesOn (r : RecordView) (number : ℕ) (old new : Player) : Type 0 where
-  pub line : Line
-  pub is_line : slice_get r.lines number ≡ Some line
+-- So many lines from this number on were done, one at least, in file order, each in some number of rounds.
+pub record DoesOn (r : RecordView) (number count : ℕ) (old new : Player) : Type 0 where
+  pub some : 1 ≤ count
+  pub within : number + count ≤ length r.lines
   pub rounds : ℕ
-  pub does : after_line r rounds (stage_of old) line ≡ Some (stage_of new)
+  pub does : after_lines r rounds (stage_of old) (take count (drop number r.lines)) ≡ Some (stage_of new)
 
 -- So many lines were done, in file order, each in some number of rounds.
 pub record HasDone (r : RecordView) (count : ℕ) (p : Player) : Type 0 where

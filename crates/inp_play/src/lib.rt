@@ -5,6 +5,8 @@
 //! promised. Each device is an [`Owned`](inp_uinput::Owned), also where the record gives it no owner: then it keeps its
 //! steps alone.
 //!
+//! Lines that follow each other and each inject an event of one source are done together, by one call of the device.
+//!
 //! Its contract: what is given is what comes of the record (`IsPlay` of `inp_order`), where each device answers on one
 //! list of steps. Of each device there is one history in which each job's replies, joysticks' too, are the one-thread
 //! device's at their places, and among its steps stand the feedback calls of the device's owner and no other ones, each
@@ -15,5 +17,6 @@
 mod gathering;
 mod player;
 mod playing;
+mod run;
 
 pub use playing::play;

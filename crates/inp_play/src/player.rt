@@ -6,8 +6,9 @@ ghost use Rattle.inp_order.specs.Play.{first_stage, runs_of};
 ghost use Rattle.inp_play.specs.Player.{stage_of, first_device, first_actors, HasActors, IsPlayer, DoesOn};
 
 use crate::gathering::{device_runs, histories, number_of, push_end};
+use crate::run::{NO_STAMPED, RUN_MAX, gather};
 use inp_actors::Record;
-use inp_model::NoMemory;
+use inp_model::{NoMemory, Stamped};
 use inp_script::{Actor, Played};
 use inp_uinput::Owned;
 use std::alloc::Global;
@@ -17,6 +18,8 @@ use std::alloc::Global;
 pub(crate) struct Player {
     devices: Vec<Owned>,
     actors: Vec<Actor>,
+    // The events of the lines that are done together.
+    events: [Stamped; RUN_MAX],
 }
 
 impl Player {
@@ -29,14 +32,38 @@ impl Player {
         Ok(Player {
             devices: first_devices(alloc, rec)?,
             actors: first_actors(alloc, rec)?,
+            events: [NO_STAMPED; RUN_MAX],
         })
     }
 
-    // Has its actor do the line of this number on its device.
-    pub(crate) fn line(&mut self, rec: &Record, line: u32) -> Result<(), NoMemory>
+    // Has its actor do the line of this number on its device, and where it injects an event, those behind it too that
+    // inject one of the same actor. Says how many lines were done.
+    pub(crate) fn lines(&mut self, rec: &Record, line: u32) -> Result<u32, NoMemory>
         requires player { IsPlayer rec.now self.old }
         requires line { line < length rec.now.lines }
-        ensures done { OnOk result (DoesOn rec.now line self.old self.new) }
+        ensures done { IfOk result (λ count. DoesOn rec.now line count self.old self.new) }
+        ensures player { IfOk result (λ _. IsPlayer rec.now self.new) }
+    {
+        let lines = rec.lines();
+        let text = lines.get(line as usize);
+        let lines = &lines.as_slice()[line as usize..];
+        let count = gather(lines, text.actor, &mut self.events);
+        if count < 2 {
+            self.line(rec, line)?;
+            return Ok(1);
+        }
+        let device = rec.actors().get(text.actor as usize).device;
+        let dev = &mut self.devices[device as usize];
+        let actor = &mut self.actors[text.actor as usize];
+        actor.inject_all(dev, &self.events[..count])?;
+        Ok(count as u32)
+    }
+
+    // Has its actor do the line of this number on its device.
+    fn line(&mut self, rec: &Record, line: u32) -> Result<(), NoMemory>
+        requires player { IsPlayer rec.now self.old }
+        requires line { line < length rec.now.lines }
+        ensures done { OnOk result (DoesOn rec.now line 1 self.old self.new) }
         ensures player { OnOk result (IsPlayer rec.now self.new) }
     {
         let text = rec.lines().get(line as usize);
@@ -52,7 +79,11 @@ impl Player {
         ensures played { IfOk result (λ played. played ≡
             played_of (runs_of rec.now (stage_of self))) }
     {
-        let Player { devices, actors } = self;
+        let Player {
+            devices,
+            actors,
+            ..
+        } = self;
         let mut gathered = histories(alloc, devices)?;
         for actor in actors {
             let end = actor.finish();

@@ -19,8 +19,10 @@ pub fn play(alloc: Global, rec: &Record) -> Result<Played, NoMemory>
     ensures promised { IfOk result (ArePromised None rec.now) }
 {
     let mut player = Player::new(alloc, rec)?;
-    for line in 0..rec.lines().len() as u32 {
-        player.line(rec, line)?;
+    let count = rec.lines().len() as u32;
+    let mut line = 0;
+    while line < count {
+        line += player.lines(rec, line)?;
     }
     player.finish(alloc, rec)
 }

@@ -134,7 +134,7 @@ gives_up-tap : (o : Option Step) (j : Job) → GivesUp (tap_call_if j o)
 gives_up-tap None j = tt
 gives_up-tap (Some x) j = ((λ e n. refl), λ answer. tt)
 
-gives_up-stream : (stream : List Stamped) (j : Job) → GivesUp (stream_talk stream j)
+pub gives_up-stream : (stream : List Stamped) (j : Job) → GivesUp (stream_talk stream j)
 unfolding stream_talk
 gives_up-stream [] j = tt
 gives_up-stream (stamped ∷ stream) j =

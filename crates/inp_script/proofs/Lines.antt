@@ -11,6 +11,7 @@ use Rattle.inp_actors.specs.declared.command.Command.{Command}
 use Rattle.inp_actors.specs.declared.command.Command.TheVariants.{Stream, Stream16}
 use Rattle.inp_actors.specs.declared.line.Line.{Line}
 use Rattle.inp_actors.specs.declared.role.Role.{Role}
+use Rattle.inp_actors.specs.declared.role.Role.TheVariants.{Source as SourceRole}
 use Rattle.inp_actors.specs.Command.{is_command_of, is_in_range, stream_of}
 use Rattle.inp_model.specs.Injecting.{AreInTime}
 use Rattle.inp_actors.specs.Record.{RecordView, IsRecord, streams_of}
@@ -19,10 +20,13 @@ use Rattle.inp_reader.specs.Talk.{Talk, finish}
 use Rattle.inp_script.specs.declared.notes.Notes.{Notes}
 use Rattle.inp_script.specs.declared.stop.Stop.{Stop}
 use Rattle.inp_script.specs.declared.waiting.Waiting.{Waiting}
-use Rattle.inp_script.specs.Doing.{Holds, Begins, DoesCommand, DoesLine, BeginsLine, IsCommandFor, HasStream, command_talk, unless_stopped, line_talk}
-use Rattle.inp_script.specs.Job.{Job, Stick, ActorView}
-use Rattle.inp_script.specs.Line.{stream_numbered, end_talk, call_talk}
+use Rattle.inp_script.specs.declared.role_state.RoleState.{RoleState}
+use Rattle.inp_script.specs.declared.role_state.RoleState.TheVariants.{Source, Tap, Client, Joy, Owner}
+use Rattle.inp_script.specs.Doing.{Holds, Begins, DoesCommand, DoesLine, BeginsLine, IsCommandFor, HasStream, command_talk, unless_stopped, line_talk, inject_talk}
+use Rattle.inp_script.specs.Job.{Job, Stick, ActorView, no_stick}
+use Rattle.inp_script.specs.Line.{stream_numbered, stream_talk, end_talk, call_talk}
 use Rattle.inp_script.specs.Noting.{job_with, IsStepMade, IsNoted}
+use Rattle.inp_script.specs.RoleState.{role_of, stick_of}
 use Rattle.inp_script.proofs.Holding.{holds-nothing, holds-same, begins-same}
 use Rattle.inp_script.proofs.Streams.{holds-noted, begins-call_if}
 
@@ -114,6 +118,25 @@ begins-line before after a r wait number line n is h begun = record {
   begins = begins-same before after (command_talk a.role a.description r.streams wait n line.command a.job) (line_talk a.role a.description r.streams wait n line.command a.job)
       (sym (going_talk a.job.stop a.job (command_talk a.role a.description r.streams wait n line.command a.job) h)) begun;
 }
+
+-- Events that a source injects one after another
+
+pub injects-nothing : (told : EvdevView) (events : List Stamped) (j : Job) → is_some j.stop ≡ true → Holds told told (inject_talk events j) (Some j)
+injects-nothing told events j h = holds-nothing told (inject_talk events j) (Some j) (stopped_talk j.stop j (stream_talk events j) h)
+
+pub injects-all : (before after : EvdevView) (events : List Stamped) (old new : Job) → is_some old.stop ≡ false → Holds before after (stream_talk events old) (Some new) → Holds before after (inject_talk events old) (Some new)
+injects-all before after events old new h = holds-same before after (stream_talk events old) (inject_talk events old) (Some new) (sym (going_talk old.stop old (stream_talk events old) h))
+
+pub injects-begun : (before after : EvdevView) (events : List Stamped) (old : Job) → is_some old.stop ≡ false → Begins before after (stream_talk events old) → Begins before after (inject_talk events old)
+injects-begun before after events old h = begins-same before after (stream_talk events old) (inject_talk events old) (sym (going_talk old.stop old (stream_talk events old) h))
+
+-- a source keeps nothing of a joystick
+pub source-stick : (state : RoleState) → role_of state ≡ SourceRole → no_stick ≡ stick_of state
+source-stick (Source view) h = refl
+source-stick (Tap tap) h = absurd cc
+source-stick (Client reader view) h = absurd cc
+source-stick (Joy joy) h = absurd cc
+source-stick (Owner owner) h = absurd cc
 
 -- The end of a source
 

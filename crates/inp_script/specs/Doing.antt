@@ -21,7 +21,7 @@ use Rattle.inp_script.specs.declared.waiting.Waiting.{Waiting}
 use Rattle.inp_script.specs.Client.{client_talk, hand_talk}
 use Rattle.inp_script.specs.Job.{Job, ActorView}
 use Rattle.inp_script.specs.Joystick.{joystick_talk}
-use Rattle.inp_script.specs.Line.{stream_numbered, source_talk, tap_talk}
+use Rattle.inp_script.specs.Line.{stream_numbered, stream_talk, source_talk, tap_talk}
 
 -- What an actor of a role does at a command. An owner makes no call of an evdev.
 abbrev pub command_talk : Role → Description → List (List Stamped) → Option Waiting → ℕ → Command → Job → Talk (Option Job)
@@ -39,6 +39,10 @@ unless_stopped (Some stop) j talk = finish (Some j)
 -- what an actor does at a command of a record, in at most so many rounds
 unfoldable pub line_talk : Role → Description → List (List Stamped) → Option Waiting → ℕ → Command → Job → Talk (Option Job)
 line_talk role d streams wait n command j = unless_stopped j.stop j (command_talk role d streams wait n command j)
+
+-- what a source does that injects these events, in order, up to the first one that is refused
+abbrev pub inject_talk : List Stamped → Job → Talk (Option Job)
+inject_talk events j = unless_stopped j.stop j (stream_talk events j)
 
 -- The calls that were made on an evdev are those of a talk, and this is its result.
 pub record Holds {A : Type 0} (before after : EvdevView) (talk : Talk A) (result : A) : Type 0 where

@@ -1,12 +1,13 @@
 //! An actor of a record at work.
 ghost use Rattle.inp_model.specs.declared.step.Step.{Step as AStep};
 ghost use Rattle.std.specs.Prelude.{◌≡◌, ◌<◌, false, List, length, OnOk, IfOk, IfSome, Some};
+ghost use Rattle.inp_model.specs.Injecting.{AreInTime};
 ghost use Rattle.inp_model.specs.Leaves.{IsLeft};
 ghost use Rattle.inp_actors.specs.declared.role.Role.TheVariants.{Source};
 ghost use Rattle.inp_actors.specs.Command.{is_owner};
 ghost use Rattle.inp_script.specs.Acting.{Acts, BeginsToAct};
 ghost use Rattle.inp_script.specs.Owner.{first_owning};
-ghost use Rattle.inp_script.specs.Doing.{Begins, BeginsLine, DoesLine, Holds, HasActor, IsLineOf, IsWaiting};
+ghost use Rattle.inp_script.specs.Doing.{Begins, BeginsLine, DoesLine, Holds, HasActor, IsLineOf, IsWaiting, inject_talk};
 ghost use Rattle.inp_script.specs.Legal.{CountsTurns, GainsPlaces, StaysLegal};
 ghost use Rattle.inp_script.specs.Fold.{IsFolded, StaysFolded};
 ghost use Rattle.inp_script.specs.Ended.{HasDeviceSlots, ended_as};
@@ -15,11 +16,12 @@ ghost use Rattle.inp_script.specs.Line.{end_talk};
 
 use crate::notes::Notes;
 use crate::role_state::RoleState;
+use crate::source::inject_stream;
 use crate::stops::last_stop;
 use crate::{Ended, Sights, Waiting};
 use inp_actors::Record;
 use inp_feedback::Feeds;
-use inp_model::{Evdev, NoMemory, Step};
+use inp_model::{Evdev, NoMemory, Stamped, Step};
 use std::alloc::Global;
 use std::marker::Model;
 
@@ -155,6 +157,28 @@ impl Actor {
             RoleState::Owner { owner, .. } => owner.do_command(dev, command),
             _ => self.line(dev, rec, line, wait),
         }
+    }
+
+    /// Injects events as a source, each at its own moment, or does nothing where it has stopped. It is what lines do that
+    /// inject these events one after another, by one call for a thousand of them.
+    ///
+    /// The first event for which the log limit leaves no room is refused and stops the source, and no event behind it is
+    /// injected. `NoMemory` comes where there is none for what the actor saw. Whatever the answer, the calls that were made
+    /// are the first ones of what is asked for (`begun`). After `Ok` they are all of it (`done`).
+    pub fn inject_all<E: Evdev>(&mut self, dev: &mut E, events: &[Stamped]) -> Result<(), NoMemory>
+        requires source { self.old.role ≡ Source }
+        requires moments { AreInTime events.now }
+        ensures done { OnOk result (Holds (E.told dev.old) (E.told dev.new)
+            (inject_talk events.now self.old.job) (Some self.new.job)) }
+        ensures begun { Begins (E.told dev.old) (E.told dev.new)
+            (inject_talk events.now self.old.job) }
+        ensures actor { self.new ≡ record self.old { job = self.new.job } }
+        ensures left { IsLeft (E.told dev.old) (E.told dev.new) }
+    {
+        if self.notes.stop.is_none() {
+            return inject_stream(dev, &mut self.notes, events);
+        }
+        Ok(())
     }
 
     /// Makes the step `End`, by which a source says that it is done, or does nothing where the actor has stopped.

@@ -145,7 +145,11 @@ impl Notes {
     {
         let mut at = from;
         for stamped in events {
-            self.note(injecting(*stamped), Reply::Done { at }, &[])?;
+            self.push(Sight::Call {
+                step: injecting(*stamped),
+                reply: Reply::Done { at },
+            })?;
+            self.stop = None;
             at += 1;
         }
         Ok(())

@@ -12,12 +12,12 @@ use Rattle.inp_script.proofs.source.do_source_command.Goals as goal
 pub returns-in-Some-clause-done : goal.returns-in-Some-clause-done
 returns-in-Some-clause-done g c =
     on_ok_weaker c.inject_stream.result
-    (λ h r. holds-same _ _ _ _ _ (sym (source_talk-stream c.args.rec.now.streams c.args.command.now c.in-Some.index c.stream.result.now (job_of r c.args.notes.now) (sym c.stream_index.ensures.index ∙ c.in-Some.is) c.stream.ensures.stream)) (h r))
+    (λ h r. holds-same _ _ _ _ _ (sym (source_talk-stream c.args.rec.now.streams c.args.command.now c.in-Some.index c.as_slice.result.now (job_of r c.args.notes.now) (sym c.stream_index.ensures.index ∙ c.in-Some.is) (c.stream.ensures.stream ∙ ap (λ xs. Some xs) (sym c.as_slice.ensures.items)))) (h r))
     c.inject_stream.ensures.done
 
 pub returns-in-Some-clause-begun : goal.returns-in-Some-clause-begun
 returns-in-Some-clause-begun g c r =
-    begins-same _ _ _ _ (sym (source_talk-stream c.args.rec.now.streams c.args.command.now c.in-Some.index c.stream.result.now (job_of r c.args.notes.now) (sym c.stream_index.ensures.index ∙ c.in-Some.is) c.stream.ensures.stream)) (c.inject_stream.ensures.begun r)
+    begins-same _ _ _ _ (sym (source_talk-stream c.args.rec.now.streams c.args.command.now c.in-Some.index c.as_slice.result.now (job_of r c.args.notes.now) (sym c.stream_index.ensures.index ∙ c.in-Some.is) (c.stream.ensures.stream ∙ ap (λ xs. Some xs) (sym c.as_slice.ensures.items)))) (c.inject_stream.ensures.begun r)
 
 -- a command that takes no stream
 none_of : (o : Option ℕ) → ((index : ℕ) → o ≡ Some index → ⊥) → o ≡ None

@@ -3,13 +3,12 @@ use Rattle.std.proofs.lemmas.Bool.Decides.{nat_tests}
 use Rattle.inp_model.specs.Injecting.{AreInTime}
 use Rattle.inp_script.specs.Noting.{AreNoted}
 use Rattle.inp_script.proofs.Batches.{take-in_time, drop-in_time, no_more}
-use Rattle.inp_script.proofs.Streams.{IsInjected, injected-none, injected-more, injected-refused, injected-so_far, injected-begun, injected-all}
+use Rattle.inp_script.proofs.Streams.{injected-none, injected-more, injected-refused, injected-so_far, injected-begun, injected-all}
 use Rattle.inp_script.proofs.source.inject_stream.Goals as goal
 
 pub loop-rest-init : goal.loop-rest-init
 loop-rest-init g c =
-    let told = g.E.Evdev.told c.args.dev.now in
-    subst (λ rest. IsInjected told told c.args.stream.now rest c.args.notes.now c.args.notes.now) (sym c.as_slice-rest.ensures.items) (injected-none told c.args.stream.now c.args.notes.now c.requires.in_time)
+    injected-none (g.E.Evdev.told c.args.dev.now) c.args.stream.now c.args.notes.now c.requires.in_time
 
 pub inject_all-requires-clause-moments : goal.inject_all-requires-clause-moments
 inject_all-requires-clause-moments g c =

@@ -1,5 +1,6 @@
-use Rattle.std.proofs.Common.{◌≡◌, ℕ, List, get_or, refl, sym, ap, subst, ◌∙◌, Some, None, OnOk}
-use Rattle.std.specs.Prelude.{Result, Ok, Err, slice_get, slice_set}
+use Rattle.std.proofs.Common.{◌≡◌, ℕ, List, refl, sym, ap, subst, ◌∙◌, Some, None, OnOk, arith}
+use Rattle.std.specs.Prelude.{Result, Ok, Err, slice_set}
+use Rattle.std.proofs.lemmas.Option.{slice_get_within}
 use Rattle.std.proofs.lemmas.Result.{on_ok_weaker}
 use Rattle.inp_model.specs.declared.no_memory.NoMemory.{NoMemory}
 use Rattle.inp_actors.specs.declared.actor_text.ActorText.{ActorText}
@@ -10,18 +11,10 @@ use Rattle.inp_script.specs.Job.{ActorView}
 use Rattle.inp_uinput.specs.UdevView.{UdevView, owned_view}
 use Rattle.inp_uinput.specs.OwnedFeeding.{IsFeedbackOf}
 use Rattle.inp_play.specs.declared.player.Player.{Player}
-use Rattle.inp_play.specs.Player.{stage_with, HasDevices, HasActors, IsPlayer, DoesOn}
-use Rattle.inp_play.proofs.PlayerLines.{IsFound, found, found-line, found-description, same_item, act_does, act_described, devices_stay, actors_stay}
+use Rattle.inp_play.specs.Player.{stage_of, stage_with, HasDevices, HasActors}
+use Rattle.inp_play.proofs.PlayerLines.{IsFound, found-line, found-description, same_item, act_does, act_described, devices_stay, actors_stay}
+use Rattle.inp_play.proofs.PlayerSteps.{IsDone, found_by, one-line}
 use Rattle.inp_play.proofs.player.Player.line.Goals as goal
-
--- Which line it is
-
-found_by : (r : RecordView) (p : Player) (number : ℕ) (line : Line) (text : ActorText) (a : ActorView) (device : UdevView) (lines : List Line) (actors : List ActorText) → IsRecord r → IsPlayer r p
-    → lines ≡ r.lines → slice_get lines number ≡ Some line → actors ≡ r.actors → slice_get actors line.actor ≡ Some text → a ≡ get_or p.actors.items line.actor a → device ≡ get_or p.devices.items text.device device
-    → IsFound r p.devices.items p.actors.items number line text a device
-found_by r p number line text a device lines actors keeps is same is_line these is_text is_actor is_device =
-    found r p.devices.items p.actors.items number line text a device keeps is.devices is.actors (ap (λ (ls : List Line). slice_get ls number) (sym same) ∙ is_line)
-    (ap (λ (texts : List ActorText). slice_get texts line.actor) (sym these) ∙ is_text) is_actor is_device
 
 pub act-requires : goal.act-requires
 act-requires c =
@@ -38,24 +31,21 @@ act-requires c =
 
 -- What the line leaves, where it was not refused
 
-record IsDone (r : RecordView) (number : ℕ) (old new : Player) : Type 0 where
-  done : DoesOn r number old new
-  player : IsPlayer r new
-
 done_by : (r : RecordView) (number : ℕ) (old new : Player) (line : Line) (text : ActorText) (a b : ActorView) (device after : UdevView) → IsRecord r → IsFound r old.devices.items old.actors.items number line text a device
     → new.devices.items ≡ slice_set old.devices.items text.device after → new.actors.items ≡ slice_set old.actors.items line.actor b → b ≡ record a { job = b.job; owning = b.owning }
-    → ActsLine owned_view IsFeedbackOf device after r None a line b → IsDone r number old new
+    → ActsLine owned_view IsFeedbackOf device after r None a line b → IsDone r number 1 old new
 done_by r number old new line text a b device after keeps f devices actors actor acts =
     let did = act_does r old.devices.items old.actors.items number line text a b device after keeps f acts in
     record {
       done = record {
-        line = line;
-        is_line = f.is_line;
+        some = omega arith;
+        within = omega (arith, slice_get_within r.lines number line f.is_line);
         rounds = did.0;
         does =
-            did.1
+            one-line r did.0 number (stage_of old) (stage_of new) line f.is_line
+            (did.1
             ∙ ap (λ (ds : List UdevView). Some (stage_with ds (slice_set old.actors.items line.actor b))) (sym devices)
-            ∙ ap (λ (bs : List ActorView). Some (stage_with new.devices.items bs)) (sym actors);
+            ∙ ap (λ (bs : List ActorView). Some (stage_with new.devices.items bs)) (sym actors));
       };
       player = record {
         devices = subst (HasDevices r) (sym devices) (devices_stay r old.devices.items text.device device after f.has_devices f.is_device (act_described r line a b device after acts));
@@ -67,7 +57,7 @@ done_by r number old new line text a b device after keeps f devices actors actor
 
 if_done : (result : Result (Unit {0}) NoMemory) (r : RecordView) (number : ℕ) (old new : Player) (line : Line) (text : ActorText) (a b : ActorView) (device after : UdevView) → IsRecord r → IsFound r old.devices.items old.actors.items number line text a device
     → new.devices.items ≡ slice_set old.devices.items text.device after → new.actors.items ≡ slice_set old.actors.items line.actor b → b ≡ record a { job = b.job; owning = b.owning }
-    → OnOk result (Acts owned_view IsFeedbackOf device after r None number a b) → OnOk result (IsDone r number old new)
+    → OnOk result (Acts owned_view IsFeedbackOf device after r None number a b) → OnOk result (IsDone r number 1 old new)
 if_done (Ok unit) r number old new line text a b device after keeps f devices actors actor did =
     done_by r number old new line text a b device after keeps f devices actors actor
     (subst (λ (l : Line). ActsLine owned_view IsFeedbackOf device after r None a l b) (same_item r.lines number did.line line did.is_line f.is_line) did.acts)
