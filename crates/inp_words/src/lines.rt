@@ -60,8 +60,8 @@ fn is_printed(byte: u8) -> bool
     33 <= byte && byte <= 126
 }
 
-/// Where the first byte of a line from a place on stands that is not printed; the line's length where there is none. The
-/// line is the front of a text, of which 16 bytes are looked at also where the line ends before.
+/// Where the first byte of a line from a place on stands that is not printed; the line's length where there
+/// is none. The line is the front of a text, of which 16 bytes are looked at also where the line ends before.
 #[inline(always)]
 fn piece_end(line: &[u8], text: &[u8], from: usize) -> usize
     requires within { from ≤ length line.now }
@@ -102,8 +102,8 @@ fn add_piece<'a>(
     Ok(())
 }
 
-/// Whether a line, which is the front of a text, is text; then its words are what the list has, in place of what it had. It
-/// takes memory where the list has no room for them.
+/// Whether a line, which is the front of a text, is text; then its words are what the list has, in place of
+/// what it had. It takes memory where the list has no room for them.
 pub fn text_words<'a>(
     line: &'a [u8],
     text: &[u8],
