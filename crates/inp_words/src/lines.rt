@@ -2,7 +2,7 @@
 ghost use Rattle.std.specs.Prelude.{◌≡◌, ◌≤◌, ◌<◌, ◌-◌, ◌++◌, IfOk, OnOk, map, not, true, false, length, take, drop, slice_index_or, [], ◌∷◌};
 ghost use Rattle.std.specs.List.{slice_split};
 ghost use Rattle.std.specs.Str.Lines.{strip_carriage_return};
-ghost use Rattle.inp_words.specs.Line.{is_blank, is_comment, is_line_feed, is_printed, is_text, is_text_byte, lines_behind, words_of, word_alone, ArePrinted};
+ghost use Rattle.inp_words.specs.Line.{is_blank, is_comment, is_line_feed, is_printed, is_text, lines_behind, words_of, word_alone, ArePrinted};
 
 use crate::lanes::printed_lanes;
 use inp_model::NoMemory;
