@@ -14,7 +14,9 @@ pub(crate) use rows;
 
 /// The number in the first row of `name`, if there is one.
 #[tactic(auto, unfolding(crate::specs::Table::number_in))]
-pub(crate) fn find_number<N: Copy>(rows: &[(&'static str, N)], name: &[u8]) -> Option<N>
+#[cold]
+#[inline(never)]
+fn find_number<N: Copy>(rows: &[(&'static str, N)], name: &[u8]) -> Option<N>
     ensures { result ≡ number_in (row_entries rows.now) name.now }
 {
     for &(text, number) in rows {
@@ -25,8 +27,9 @@ pub(crate) fn find_number<N: Copy>(rows: &[(&'static str, N)], name: &[u8]) -> O
     None
 }
 
-/// The number of `name`, whose row is looked for at `place` first, and else among all rows. Where it stands at `place`
-/// this takes one comparison.
+/// The number of `name`. Its row is looked for at `place` first, which takes one comparison, and else among
+/// all rows.
+#[inline(always)]
 pub(crate) fn number_at<N: Copy>(rows: &[(&'static str, N)], place: usize, name: &[u8]) -> Option<N>
     requires { GiveOwnNumbers rows.now }
     ensures { result ≡ number_in (row_entries rows.now) name.now }

@@ -41,6 +41,7 @@ pub fn code_of(text: &str) -> Option<(u16, u16)>
 }
 
 /// The same for bytes, which need not be text.
+#[inline(always)]
 pub fn code_named(name: &[u8]) -> Option<(u16, u16)>
     ensures code { result ≡ code_of name.now }
 {
@@ -52,6 +53,7 @@ pub fn code_named(name: &[u8]) -> Option<(u16, u16)>
 }
 
 /// Whether the first byte is an upper-case letter, as that of each name. A number is no name at one look.
+#[inline(always)]
 fn begins_name(word: &[u8]) -> bool
     ensures { result ≡ is_ascii_uppercase (slice_index_or word.now 0 0) }
 {

@@ -45,6 +45,7 @@ pub fn kind_of(text: &str) -> Option<u16>
 }
 
 /// The same for bytes, which need not be text.
+#[inline(always)]
 pub fn kind_named(name: &[u8]) -> Option<u16>
     ensures kind { result ≡ kind_of name.now }
 {
@@ -70,8 +71,9 @@ fn kind_names() -> &'static [&'static str]
     &NAMES
 }
 
-/// The slot of a type's name, made of its last two letters. Each type has one of its own. No answer rests on that: see
-/// `number_at`.
+/// The slot of a type's name, made of its last two letters. Each type has one of its own. No answer rests on
+/// that: see `number_at`.
+#[inline(always)]
 fn kind_slot(name: &[u8]) -> usize {
     match name {
         [.., before, last] => (usize::from(*before) * 27 + usize::from(*last) * 6) / 16 % 9,

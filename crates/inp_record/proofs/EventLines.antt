@@ -1,9 +1,8 @@
 -- The line by which a source injects an event.
-use Rattle.std.proofs.Common.{◌≡◌, ℕ, ◌-◌, ◌&&◌, Bool, false, true, not, if◌then◌else◌, List, bytes_eq, codes, [], ◌∷◌, ◌≤◌, length, Option, Some, Result, Err, refl, sym, ap, ◌∙◌, arith}
+use Rattle.std.proofs.Common.{◌≡◌, ℕ, ◌-◌, ◌&&◌, Bool, false, true, not, if◌then◌else◌, List, bytes_eq, codes, length, Option, Some, Err, refl, ap, ◌∙◌, arith}
 use Rattle.std.proofs.lemmas.Slice.Eq.{bytes_eq-Decides}
 use Rattle.inp_actors.specs.declared.role.Role as role
 use Rattle.inp_actors.specs.declared.role.Role.TheVariants as roles
-use Rattle.inp_record.specs.declared.cause.Cause.{Cause}
 use Rattle.inp_record.specs.declared.cause.Cause.TheVariants.{BadHeader}
 use Rattle.inp_record.specs.declared.context.Context.{Context}
 use Rattle.inp_record.specs.declared.keyword.Keyword as keyword
@@ -14,9 +13,7 @@ use Rattle.inp_record.specs.Keyword.{keyword_of}
 use Rattle.inp_record.specs.Place.{is_first_place}
 use Rattle.inp_record.specs.Verb.{command_row, verb_of}
 use Rattle.inp_record.specs.Words.{word, is_header, actor_from, action_of, action_by, action_with, command_of, item_of}
-use Rattle.inp_record.specs.declared.item.Item.{Item}
-use Rattle.inp_record.specs.Past.{Past, context_of}
-use Rattle.inp_record.specs.Meaning.{checked, placed, item_of_words, behind, behind_words}
+use Rattle.inp_record.specs.Meaning.{placed, item_of_words}
 use Rattle.inp_record.proofs.Keywords.{do_begins_action}
 use Rattle.inp_record.proofs.Rows.{verb_read, same_stream}
 
@@ -36,9 +33,3 @@ event_line c ws source first count does event actor =
     ∙ ap (λ (a : Option (ℕ × role.Role)). action_with c.streams a ws) actor
     ∙ ap (λ (v : Option verb.Verb). action_by c.streams (source, roles.Source) v ws) (event_verb ws count event)
     ∙ ap (action_of source) (same_stream c.streams roles.Source verbs.Event ws refl)
-
--- a line whose words say nothing is refused for their cause
-pub refused_behind : (past : Past) (c : Context) (ws : List (List ℕ)) (cause : Cause) → c ≡ context_of past → 1 ≤ length ws → item_of_words c ws ≡ Err cause → behind_words past ws ≡ Err cause
-refused_behind past c [] cause e some i = absurd (omega arith)
-refused_behind past c (w ∷ ws) cause e some i =
-    ap (λ (x : Context). behind past (checked x (item_of_words x (w ∷ ws)))) (sym e) ∙ ap (λ (m : Result Item Cause). behind past (checked c m)) i

@@ -41,6 +41,7 @@ fn some_word(word: &[u8]) -> Option<u32>
 }
 
 /// An event that a source injects.
+#[inline(always)]
 #[tactic(auto, unfolding(crate::specs::Words::command_of, crate::specs::Verb::command_row))]
 pub(crate) fn event_command(words: &[&[u8]]) -> Option<Command>
     requires { 7 ≤ length words.now }

@@ -98,6 +98,7 @@ fn item_of_words(context: &Context, alloc: Global, words: &[&[u8]]) -> Result<It
 }
 
 /// The source whose event a line injects, by its words, where it is such a line.
+#[inline(always)]
 fn event_source(context: &Context, words: &[&[u8]]) -> Option<u32>
     requires actors { length context.now.actors < 2 ^ 32 }
     ensures words { IfSome result (λ source. length words.now ≡ 7) }
@@ -117,6 +118,7 @@ fn event_source(context: &Context, words: &[&[u8]]) -> Option<u32>
 }
 
 /// Reads a line by which this source injects an event. It is of each version, and never one too many.
+#[inline(always)]
 fn read_event(context: &mut Context, source: u32, words: &[&[u8]]) -> Result<(), LineFault>
     requires room { IsWithinCounts context.old }
     requires words { length words.now ≡ 7 }
@@ -166,8 +168,8 @@ fn read_words(context: &mut Context, alloc: Global, words: &[&[u8]]) -> Result<(
     context.enter(alloc, item)
 }
 
-/// Reads a line, which is the front of a text. After a fault the context is given up. The list is lent for the words of the
-/// line.
+/// Reads a line, which is the front of a text. After a fault the context is given up. The list is lent for the
+/// words of the line.
 #[tactic(auto, unfolding(crate::specs::Meaning::behind_line))]
 pub(crate) fn read_line<'a>(
     context: &mut Context,

@@ -7,6 +7,8 @@ use crate::numbers::number;
 use inp_codes::{code_named, kind_named};
 
 /// The number of at most 65,535 that a word is.
+#[cold]
+#[inline(never)]
 fn number_word(word: &[u8]) -> Option<u16>
     ensures { result ≡ number 65535 word.now }
 {
@@ -17,6 +19,7 @@ fn number_word(word: &[u8]) -> Option<u16>
 }
 
 /// The type of an event that a word is: by its name in `inp_codes`, or by a number of at most 65,535.
+#[inline(always)]
 #[tactic(auto, unfolding(crate::specs::Code::kind_word))]
 pub fn kind_word(word: &[u8]) -> Option<u16>
     ensures kind { result ≡ kind_word word.now }
@@ -29,6 +32,7 @@ pub fn kind_word(word: &[u8]) -> Option<u16>
 
 /// The code of an event of type `kind` that a word is: by a name in `inp_codes` that belongs to the type, or by a number
 /// of at most 65,535.
+#[inline(always)]
 #[tactic(auto, unfolding(crate::specs::Code::code_word))]
 pub fn code_word(kind: u16, word: &[u8]) -> Option<u16>
     ensures code { result ≡ code_word kind word.now }

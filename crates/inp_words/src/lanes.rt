@@ -4,8 +4,8 @@ ghost use Rattle.inp_words.specs.Line.{is_printed, ArePrinted};
 
 use std::simd::prelude::*;
 
-/// How many printed bytes stand in front, among the 16 from a place on. Less 33, round the 256 values of a byte, the
-/// printed ones are below 94.
+/// How many printed bytes stand in front, among the 16 from a place on. Less 33, round the 256 values of a
+/// byte, the printed ones are below 94.
 #[inline(always)]
 pub(crate) fn printed_lanes(line: &[u8], at: usize) -> usize
     requires { at + 16 ≤ length line.now }

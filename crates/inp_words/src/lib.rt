@@ -2,7 +2,7 @@
 //!
 //! | Call | Gives |
 //! |---|---|
-//! | `text_words(b"do  s open", b"do  s open\n", &mut list)` | `true`, and the list has the words `do`, `s` and `open` |
+//! | `text_words(b"do  s open", text, &mut list)` | `true`, and the list has `do`, `s` and `open` |
 //! | `number(b"0x10", 99)` | `Some(16)` |
 //! | `signed_number(b"-0x10")` | `Some(-16)` |
 //! | `kind_word(b"EV_KEY")`, `kind_word(b"1")` | `Some(1)` |

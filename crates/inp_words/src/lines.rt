@@ -2,7 +2,7 @@
 ghost use Rattle.std.specs.Prelude.{◌≡◌, ◌≤◌, ◌<◌, ◌-◌, ◌++◌, IfOk, OnOk, map, not, true, false, length, take, drop, slice_index_or, [], ◌∷◌};
 ghost use Rattle.std.specs.List.{slice_split};
 ghost use Rattle.std.specs.Str.Lines.{strip_carriage_return};
-ghost use Rattle.inp_words.specs.Line.{is_blank, is_comment, is_line_feed, is_printed, is_text, is_text_byte, lines_behind, words_of, word_alone, ArePrinted};
+ghost use Rattle.inp_words.specs.Line.{is_blank, is_comment, is_line_feed, is_printed, is_text, lines_behind, words_of, word_alone, ArePrinted};
 
 use crate::lanes::printed_lanes;
 use inp_model::NoMemory;
@@ -60,8 +60,8 @@ fn is_printed(byte: u8) -> bool
     33 <= byte && byte <= 126
 }
 
-/// Where the first byte of a line from a place on stands that is not printed; the line's length where there is none. The
-/// line is the front of a text, of which 16 bytes are looked at also where the line ends before.
+/// Where the first byte of a line from a place on stands that is not printed; the line's length where there
+/// is none. The line is the front of a text, of which 16 bytes are looked at also where the line ends before.
 #[inline(always)]
 fn piece_end(line: &[u8], text: &[u8], from: usize) -> usize
     requires within { from ≤ length line.now }
@@ -102,8 +102,8 @@ fn add_piece<'a>(
     Ok(())
 }
 
-/// Whether a line, which is the front of a text, is text; then its words are what the list has, in place of what it had. It
-/// takes memory where the list has no room for them.
+/// Whether a line, which is the front of a text, is text; then its words are what the list has, in place of
+/// what it had. It takes memory where the list has no room for them.
 pub fn text_words<'a>(
     line: &'a [u8],
     text: &[u8],

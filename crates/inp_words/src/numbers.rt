@@ -43,7 +43,7 @@ const ROOMY: usize = 19;
 
 const _: () = prove!(9_999_999_999_999_999_999 < u64::MAX);
 
-/// The value of decimal digits, of which there is one or more, unless there are more than have room in any case.
+/// The value of decimal digits, unless there is none, or there are more than have room in any case.
 #[inline(always)]
 fn decimal(digits: &[u8]) -> Option<u64>
     ensures digits { IfSome result (λ value. is_numeral 10 digits.now ≡ true) }
@@ -71,6 +71,8 @@ fn is_hexadecimal(word: &[u8]) -> bool
 }
 
 /// The number that a word is, read the long way, in either base.
+#[cold]
+#[inline(never)]
 #[tactic(auto, unfolding(crate::specs::Number::number))]
 fn any_number(word: &[u8], most: u64) -> Option<u64>
     ensures value { result ≡ number most word.now }
@@ -84,7 +86,8 @@ fn any_number(word: &[u8], most: u64) -> Option<u64>
 }
 
 /// The number that a word is, if it is at most `most`: decimal digits, or `0x` and hexadecimal digits of either case.
-/// There may be leading zeros, and there is no sign (this project's choice). Most numbers are some decimal digits.
+/// There may be leading zeros, and there is no sign (this project's choice).
+#[inline]
 pub fn number(word: &[u8], most: u64) -> Option<u64>
     ensures value { result ≡ number most word.now }
     ensures bound { IfSome result (λ value. value ≤ most) }
@@ -97,6 +100,7 @@ pub fn number(word: &[u8], most: u64) -> Option<u64>
 }
 
 /// The number of 32 bits that a word is, behind a minus or none (this project's choice).
+#[inline(always)]
 pub fn signed_number(word: &[u8]) -> Option<i32>
     ensures value { result ≡ signed_number word.now }
 {

@@ -1,4 +1,5 @@
-//! Where the row of a code's name is looked for first. `bench/slots` finds the table and the order of the rows.
+//! Where the row of a code's name is looked for first. `bench/slots` finds the table and the order of the
+//! rows.
 
 /// How far the names of each part of the hashes are moved, so that no two names have one slot.
 static MOVED: [u8; 128] = [
@@ -12,8 +13,9 @@ static MOVED: [u8; 128] = [
 /// What the bytes of a name are multiplied by: it tells the names apart.
 const FACTOR: u64 = 0xff51_afd7_ed55_8ccd;
 
-/// The slot of a name, made of its first byte, the one in the middle, its last four and its length. Each name of the table
-/// has one of its own. No answer rests on that: see `number_at`.
+/// The slot of a name, made of its first byte, the one in the middle, its last four and its length. Each name
+/// of the table has one of its own. No answer rests on that: see `number_at`.
+#[inline(always)]
 pub(crate) fn name_slot(name: &[u8]) -> usize {
     let Some(last) = name.last_chunk::<4>() else {
         return 0;

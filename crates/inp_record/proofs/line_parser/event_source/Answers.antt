@@ -1,4 +1,4 @@
-use Rattle.std.proofs.Common.{◌≡◌, ℕ, Bor, List, length, Some, false, true, bytes_eq, codes, arith, rules}
+use Rattle.std.proofs.Common.{◌≡◌, ℕ, Bor, List, length, false, true, bytes_eq, codes, arith}
 use Rattle.std.proofs.lemmas.List.{length-map}
 use Rattle.inp_codes.specs.ByNumber.{texts}
 use Rattle.inp_record.specs.Place.{is_first_place}

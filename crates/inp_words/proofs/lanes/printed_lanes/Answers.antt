@@ -2,7 +2,7 @@ use Rattle.std.proofs.Common.{sym, ap, ◌∙◌, arith}
 use lib.Count.{count_trailing_zeros}
 use lib.Lanes.{chunk}
 use Rattle.std.proofs.lemmas.Simd.{length-chunk, leading_from_mask_l, trailing_mask_l}
-use Rattle.inp_words.proofs.Sixteen.{is_above, above_mask, IsRun, run_is}
+use Rattle.inp_words.proofs.Sixteen.{is_above, above_mask, run_is}
 use Rattle.inp_words.proofs.lanes.printed_lanes.Goals as goal
 
 pub returns-then-other-eq0 : goal.returns-then-other-eq0
