@@ -169,6 +169,13 @@ impl Udev {
         Fed::Took { at, count }
     }
 
+    /// The history: the accepted steps, oldest first.
+    pub fn history(&self) -> &[Step]
+        ensures history { result.now ≡ reverse (steps_in self.now.kept) }
+    {
+        self.device.history()
+    }
+
     /// The history, taken out of the device: its accepted steps, oldest first. It takes no memory.
     pub fn into_history(self) -> History
         ensures history { result ≡ reverse (steps_in self.kept) }
