@@ -132,11 +132,11 @@ injects-begun before after events old h = begins-same before after (stream_talk 
 
 -- a source keeps nothing of a joystick
 pub source-stick : (state : RoleState) → role_of state ≡ SourceRole → no_stick ≡ stick_of state
-source-stick (Source view) h = refl
-source-stick (Tap tap) h = absurd cc
-source-stick (Client reader view) h = absurd cc
+source-stick (Source caps view) h = refl
+source-stick (Tap caps tap) h = absurd cc
+source-stick (Client reader) h = absurd cc
 source-stick (Joy joy) h = absurd cc
-source-stick (Owner owner) h = absurd cc
+source-stick (Owner caps owner) h = absurd cc
 
 -- The end of a source
 

@@ -24,12 +24,12 @@ role_of (Joy joy) = JoyRole
 role_of (Owner caps owner) = OwnerRole
 
 -- the description of its device
-abbrev pub description_of : RoleState → Description
-description_of (Source caps view) = caps
-description_of (Tap caps tap) = caps
-description_of (Client reader) = reader.description
-description_of (Joy joy) = joy.description
-description_of (Owner caps owner) = caps
+abbrev pub role_description : RoleState → Description
+role_description (Source caps view) = caps
+role_description (Tap caps tap) = caps
+role_description (Client reader) = reader.description
+role_description (Joy joy) = joy.description
+role_description (Owner caps owner) = caps
 
 -- the client that it reads as; an owner reads as none
 abbrev pub role_reading : RoleState → Reading

@@ -4,7 +4,7 @@ ghost use Rattle.inp_script.specs.Owner.{first_owning};
 ghost use Rattle.inp_script.specs.Doing.{Begins, DoesCommand, IsCommandFor, command_talk};
 ghost use Rattle.inp_script.specs.Job.{first_reading, first_stick};
 ghost use Rattle.inp_script.specs.Ended.{HasDeviceSlots, ended_with};
-ghost use Rattle.inp_script.specs.RoleState.{role_of, description_of, role_reading, stick_of, owning_of, owning_in, job_in, IsSized};
+ghost use Rattle.inp_script.specs.RoleState.{role_of, role_description, role_reading, stick_of, owning_of, owning_in, job_in, IsSized};
 
 use crate::client::do_client_command;
 use crate::joystick::do_joystick_command;
@@ -41,7 +41,7 @@ impl RoleState {
     // What an actor of a role keeps before its first line. It is refused for memory alone.
     pub(crate) fn new(alloc: Global, caps: &Caps, role: Role) -> Result<RoleState, NoMemory>
         ensures role { IfOk result (λ state. role_of state ≡ role) }
-        ensures description { IfOk result (λ state. description_of state ≡ caps.now) }
+        ensures description { IfOk result (λ state. role_description state ≡ caps.now) }
         ensures reading { IfOk result (λ state. role_reading state ≡ first_reading caps.now) }
         ensures stick { IfOk result (λ state. stick_of state ≡ first_stick role caps.now) }
         ensures owning { IfOk result (λ state. owning_of state ≡ first_owning) }
@@ -79,16 +79,16 @@ impl RoleState {
         wait: Option<Waiting>,
     ) -> Result<(), NoMemory>
         requires command { IsCommandFor (role_of self.old) rec.now.streams command.now }
-        requires device { (E.told dev.old).description ≡ description_of self.old }
+        requires device { (E.told dev.old).description ≡ role_description self.old }
         requires sized { IsSized self.old }
         ensures done { OnOk result (DoesCommand (E.told dev.old) (E.told dev.new)
-            (role_of self.old) (description_of self.old) rec.now.streams wait command.now
+            (role_of self.old) (role_description self.old) rec.now.streams wait command.now
             (job_in self.old notes.old) (job_in self.new notes.new)) }
         ensures begun { (rounds : ℕ) × Begins (E.told dev.old) (E.told dev.new)
-            (command_talk (role_of self.old) (description_of self.old) rec.now.streams wait rounds
+            (command_talk (role_of self.old) (role_description self.old) rec.now.streams wait rounds
             command.now (job_in self.old notes.old)) }
         ensures role { role_of self.new ≡ role_of self.old }
-        ensures description { description_of self.new ≡ description_of self.old }
+        ensures description { role_description self.new ≡ role_description self.old }
         ensures owning { owning_of self.new ≡ owning_of self.old }
         ensures sized { IsSized self.new }
     {
@@ -105,7 +105,7 @@ impl RoleState {
     pub(crate) fn end(self, actor: u32, sight: Sights, stop: Stop) -> Ended
         requires sized { IsSized self }
         ensures ended { result ≡ ended_with self actor sight stop }
-        ensures cells { HasDeviceSlots (description_of self) result }
+        ensures cells { HasDeviceSlots (role_description self) result }
     {
         let view = match self {
             RoleState::Source { view, .. } => view,

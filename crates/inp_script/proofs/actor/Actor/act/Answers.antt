@@ -8,7 +8,7 @@ use Rattle.inp_script.specs.declared.role_state.RoleState.{RoleState}
 use Rattle.inp_script.specs.declared.role_state.RoleState.TheVariants.{Owner}
 use Rattle.inp_script.specs.Doing.{IsCommandFor}
 use Rattle.inp_script.specs.Job.{ActorView, Job}
-use Rattle.inp_script.specs.RoleState.{role_of, description_of, job_in, owning_in, owning_of}
+use Rattle.inp_script.specs.RoleState.{role_of, role_description, job_in, owning_in, owning_of}
 use Rattle.inp_script.proofs.Acting.{caller-of, owns-done, owns-begun, calls-done, calls-begun, still-actor}
 use Rattle.inp_script.proofs.LinesDone.{command-of}
 use Rattle.inp_script.proofs.actor.Actor.act.Goals as goal
@@ -26,7 +26,7 @@ returns-in-Owner g c =
     let owner : old.role ≡ OwnerRole = sym (ap (λ (a : ActorView). a.role) c.self.view_is) ∙ ap role_of c.in-Owner.is in
     let owning : owning_in c.in-Owner.owner ≡ old.owning = sym (ap owning_of c.in-Owner.is) ∙ ap (λ (a : ActorView). a.owning) c.self.view_is in
     let of_state : RoleState → ActorView =
-    λ s. record { actor = c.self.inside.actor; role = role_of s; description = description_of s; job = job_in s c.self.inside.notes; owning = owning_in c.do_command.new.self } in
+    λ s. record { actor = c.self.inside.actor; role = role_of s; description = role_description s; job = job_in s c.self.inside.notes; owning = owning_in c.do_command.new.self } in
     let new : ActorView = of_state (Owner c.in-Owner.caps c.do_command.new.self) in
     let actor : new ≡ record old { owning = new.owning } =
     ap of_state (sym c.in-Owner.is) ∙ ap (λ (a : ActorView). record a { owning = owning_in c.do_command.new.self }) c.self.view_is in
