@@ -175,11 +175,11 @@ impl Clients {
     }
 
     /// Chooses the clock by which an open client reads its events, at a moment in microseconds and at the place of the
-    /// step in the history. The description is not looked at: a client's offset is added when it reads.
+    /// step in the history. A client's offset is added when it reads.
     ///
     /// Where the clock is another one than before and the queue is not empty, all of it is lost: SYN_DROPPED stands in
     /// its place. So all of a queue is on the present clock.
-    pub fn set_clock(&mut self, _caps: &Caps, number: u32, clock: Clock, now: u64, place: u32)
+    pub fn set_clock(&mut self, number: u32, clock: Clock, now: u64, place: u32)
         requires open { has_client number self.old.list ≡ true }
         requires moment { now ≤ MOMENT_MAX }
         ensures set { self.new.list
@@ -253,17 +253,10 @@ impl Clients {
 
     /// Offers a frame to each open client, or to the holder of the grab alone, where there is one. A client that was
     /// revoked is offered none. Each client gets the events that its masks admit; each of them is kept once, whoever gets
-    /// it. The description is not looked at: a client's offset is added when it reads.
+    /// it. A client's offset is added when it reads.
     ///
     /// The frame ended at a moment in microseconds, and at the place of its step in the history. It takes no memory.
-    pub fn offer(
-        &mut self,
-        _caps: &Caps,
-        frame: &[Event],
-        now: u64,
-        place: u32,
-        holder: Option<u32>,
-    )
+    pub fn offer(&mut self, frame: &[Event], now: u64, place: u32, holder: Option<u32>)
         requires moment { now ≤ MOMENT_MAX }
         ensures offered { self.new.list
             ≡ map (after_offer frame.now now place holder) self.old.list }
