@@ -20,7 +20,7 @@ use Rattle.inp_client.specs.Client.{ClientView, new_client, with_events, is_offe
 use Rattle.inp_client.specs.Member.{Member, ring_of, client_in, cells_in, times_in, wanted, after_event, AreStored}
 use Rattle.inp_client.specs.Locations.{client_at, clients_in, AreLocated}
 use Rattle.inp_client.specs.Numbers.{loses_event, admitted_number, IsPutBehind}
-use Rattle.inp_client.specs.Offered.{IsEnteredTo, HasNumber, owing, member_at, seen_at, ring_at}
+use Rattle.inp_client.specs.Offered.{AreShared, IsEnteredTo, IsEventOffered, owing, member_at, seen_at, ring_at}
 use Rattle.inp_client.proofs.Locating.{client_at_found, located_after_write, members_after_write, members_long, member_in_location}
 use Rattle.inp_client.proofs.Sharing.{member_held, member_timed, member_ring, spare_some, others_stay, stored_after_write}
 
@@ -278,21 +278,36 @@ entered_all {cell} {holder} {number} {locations} {before} {slab} {first} {store}
         ∙ sym (get_or-map (after_event cell holder) (cells_in first (clients_in locations before)) j (client_in first (new_client 0 0)) e (omega (arith, in_j, long_before))
         ∙ ap (after_event cell holder) (get_or-map (client_in first) (clients_in locations before) j (new_client 0 0) (client_in first (new_client 0 0)) (omega (arith, in_j, length-map locations (λ s. client_at before s.key)))))
 
--- The event has one number, also where its cell was not there yet.
-pub numbered_all : {cell : Cell} {holder : Option ℕ} {number : ℕ} {locations : List Location} {before slab : Slab Member} {first store : StoreView} {count taken : ℕ} → IsEnteredTo count cell holder number locations before slab first store taken → length locations ≤ count
-    → (s : StoreView) → cells_in first (clients_in locations before) ≡ cells_in s (clients_in locations before) → HasNumber cell holder locations before slab s
-numbered_all {cell} {holder} {number} {locations} {before} {slab} {first} {store} {count} {taken} to past s same = record {
+-- a client among those with the cells of a store
+pub seen_is : (s : StoreView) (locations : List Location) (slab : Slab Member) (j : ℕ) → j < length locations
+    → get_or (cells_in s (clients_in locations slab)) j (new_client 0 0) ≡ seen_at s locations slab j
+seen_is s locations slab j in_j =
+    get_or-map (client_in s) (clients_in locations slab) j (new_client 0 0) (new_client 0 0)
+    (omega (arith, in_j, length-map locations (λ at. client_at slab at.key)))
+
+-- The event was offered, also as seen from a store that had no cell of it yet.
+pub event_offered : {cell : Cell} {holder : Option ℕ} {number : ℕ} {locations : List Location} {before slab : Slab Member}
+    {first store : StoreView} {count taken : ℕ} → IsEnteredTo count cell holder number locations before slab first store taken
+    → length locations ≤ count → (s after : StoreView)
+    → cells_in first (clients_in locations before) ≡ cells_in s (clients_in locations before)
+    → cells_in after (clients_in locations slab) ≡ cells_in store (clients_in locations slab)
+    → AreShared locations slab after → IsEventOffered cell holder locations before slab s after
+event_offered {cell} {holder} {number} {locations} {before} {slab} {first} {store} {count} {taken} to past s after same stay shared = record {
+  shared = shared;
+  clients = stay ∙ entered_all to past ∙ ap (map (after_event cell holder)) same;
   number = number;
   each = λ j in_j.
       let P : ClientView Cell → Type 0 = λ c. IsPutBehind (admitted_number c.masks cell.event number) (loses_event cell holder c) (ring_at locations before j) (ring_at locations slab j) in
       subst P (seen_same j in_j) (to.numbered j (omega arith) in_j);
+  wanted = to.wanted;
+  capacity = to.capacity;
 }
   where
-    seen : (t : StoreView) (j : ℕ) → j < length locations → get_or (cells_in t (clients_in locations before)) j (new_client 0 0) ≡ seen_at t locations before j
-    seen t j in_j = get_or-map (client_in t) (clients_in locations before) j (new_client 0 0) (new_client 0 0) (omega (arith, in_j, length-map locations (λ at. client_at before at.key)))
-
     seen_same : (j : ℕ) → j < length locations → seen_at first locations before j ≡ seen_at s locations before j
-    seen_same j in_j = sym (seen first j in_j) ∙ ap (λ (cs : List (ClientView Cell)). get_or cs j (new_client 0 0)) same ∙ seen s j in_j
+    seen_same j in_j =
+        sym (seen_is first locations before j in_j)
+        ∙ ap (λ (cs : List (ClientView Cell)). get_or cs j (new_client 0 0)) same
+        ∙ seen_is s locations before j in_j
 
 -- a flag counts one where it is set
 pub flag_counts : (b : Bool) → bool_byte b ≡ (if b then 1 else 0)

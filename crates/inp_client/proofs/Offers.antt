@@ -10,19 +10,20 @@ use Rattle.inp_ring.specs.declared.cell.Cell.{Cell}
 use Rattle.inp_ring.specs.declared.cell.Held.{Held}
 use Rattle.inp_ring.specs.Store.{StoreView, held_under, cell_in, held_cell, holders, holders_of, cell_count, held_by, held_more, event_of_cell, dropped_cell, IsIdle, IsIdleSlot, IsPut}
 use Rattle.inp_ring.proofs.Moves.{idle_none}
+use Rattle.inp_client.specs.declared.frame.Frame.{Frame}
 use Rattle.inp_client.specs.declared.location.Location.{Location}
 use Rattle.inp_client.specs.Masks.{MaskView, admits_of}
 use Rattle.inp_client.specs.Client.{ClientView, new_client, with_events, is_offered_to, cell_of_event, after_offer}
 use Rattle.inp_client.specs.Member.{Member, client_in, cells_in, times_in, wanted, after_event, AreStored}
 use Rattle.inp_client.specs.Locations.{client_at, clients_in}
 use Rattle.inp_client.specs.Numbers.{loses_event, loses, admitted_numbers, IsPutBehind}
-use Rattle.inp_client.specs.Offered.{AreShared, IsEnteredTo, HasNumber, HaveNumbers, seen_at, ring_at}
+use Rattle.inp_client.specs.Offered.{AreShared, IsEnteredTo, IsEventOffered, IsOffered, after_frame, seen_at, ring_at}
 use Rattle.inp_client.proofs.Lists.{map_over}
 use Rattle.inp_client.proofs.Sharing.{stored_stays, cells_stay, spare_some}
 use Rattle.inp_client.proofs.Calling.{kept_known}
 use Rattle.inp_client.proofs.Locating.{members_long}
 use Rattle.inp_client.proofs.Numbers.{put_none, put_then}
-use Rattle.inp_client.proofs.Offering.{owing_same, owing_other}
+use Rattle.inp_client.proofs.Offering.{owing_same, owing_other, seen_is}
 
 -- A new cell is in no ring.
 module _ {locations : List Location} {slab : Slab Member} {s after : StoreView} (shared : AreShared locations slab s) (number : ℕ) (cell : Cell) (new : held_under s number ≡ None) (put : IsPut s after number (held_by 0 cell)) where
@@ -146,9 +147,17 @@ after_offer-nil now place holder c = either (is_offered_to holder c)
     either true = refl
     either false = refl
 
--- what a client's ring had, and has once a frame was offered whose events have these numbers
-abbrev IsNumbered : List Event → ℕ → ℕ → Option ℕ → List ℕ → ClientView Cell → List ℕ → List ℕ → Type 0
-IsNumbered frame now place holder given c old new = IsPutBehind (admitted_numbers c.masks frame given) (loses frame now place holder c) old new
+-- a client that was offered an event of a frame, or some of its events
+abbrev after_one : Frame → Event → ClientView Cell → ClientView Cell
+after_one f e c = after_event (cell_of_event f.moment f.place e) f.holder c
+
+abbrev after_some : Frame → List Event → ClientView Cell → ClientView Cell
+after_some f events c = after_offer events f.moment f.place f.holder c
+
+-- what a client's ring had, and has once these events of a frame were offered, which have these numbers
+abbrev IsNumbered : Frame → List Event → List ℕ → ClientView Cell → List ℕ → List ℕ → Type 0
+IsNumbered f events given c old new =
+    IsPutBehind (admitted_numbers c.masks events given) (loses events f.moment f.place f.holder c) old new
 
 masks_stay : (cell : Cell) (holder : Option ℕ) (c : ClientView Cell) → (after_event cell holder c).masks ≡ c.masks
 masks_stay cell holder c = either (is_offered_to holder c && admits_of c.masks cell.event)
@@ -158,90 +167,94 @@ masks_stay cell holder c = either (is_offered_to holder c && admits_of c.masks c
     either false = refl
 
 -- so many events of a frame were offered
-pub record IsOfferedTo (frame : List Event) (now place : ℕ) (holder : Option ℕ) (locations : List Location) (before slab : Slab Member) (first store : StoreView) (i : ℕ) : Type 0 where
+pub record IsOfferedTo (f : Frame) (locations : List Location) (before slab : Slab Member) (first store : StoreView) (i : ℕ) : Type 0 where
   pub shared : AreShared locations slab store
-  pub rest : map (after_offer (drop i frame) now place holder) (cells_in store (clients_in locations slab)) ≡ map (after_offer frame now place holder) (cells_in first (clients_in locations before))
+  pub rest : map (after_some f (drop i f.events.now)) (cells_in store (clients_in locations slab))
+      ≡ map (after_frame f) (cells_in first (clients_in locations before))
   pub wanted : wanted (clients_in locations slab) ≡ wanted (clients_in locations before)
   pub capacity : slab.capacity ≡ before.capacity
   -- the numbers of these events; each event of the others has one too, whatever they are
-  pub within : i ≤ length frame
+  pub within : i ≤ length f.events.now
   pub given : List ℕ
   pub long : length given ≡ i
-  pub numbered : (j : ℕ) → j < length locations → (more new : List ℕ) → IsNumbered (drop i frame) now place holder more (seen_at store locations slab j) (ring_at locations slab j) new
-      → IsNumbered frame now place holder (given ++ more) (seen_at first locations before j) (ring_at locations before j) new
+  pub numbered : (j : ℕ) → j < length locations → (more new : List ℕ)
+      → IsNumbered f (drop i f.events.now) more (seen_at store locations slab j) (ring_at locations slab j) new
+      → IsNumbered f f.events.now (given ++ more) (seen_at first locations before j) (ring_at locations before j) new
 
-pub offered_none : (frame : List Event) (now place : ℕ) (holder : Option ℕ) (locations : List Location) (slab : Slab Member) (store : StoreView) → AreShared locations slab store → IsOfferedTo frame now place holder locations slab slab store store 0
-offered_none frame now place holder locations slab store shared = record {
-  shared = shared;
-  rest = refl;
-  wanted = refl;
-  capacity = refl;
-  within = omega arith;
-  given = [];
-  long = refl;
-  numbered = λ j in_j more new put. put;
-}
+module _ {f : Frame} {locations : List Location} {before slab : Slab Member} {first store : StoreView} {i : ℕ}
+    (to : IsOfferedTo f locations before slab first store i) where
+  pub offered_more : {next : Slab Member} {after : StoreView} (d : Event) → i < length f.events.now
+      → IsEventOffered (cell_of_event f.moment f.place (get_or f.events.now i d)) f.holder locations slab next store after
+      → IsOfferedTo f locations before next first after (i + 1)
+  offered_more {next} {after} d in_i has = record {
+    shared = has.shared;
+    rest =
+        ap (map (after_some f rest)) has.clients
+        ∙ sym (map_over (after_some f (e ∷ rest)) (after_one f e) (after_some f rest) clients
+        (λ j x in_j. after_offer-cons e rest f.moment f.place f.holder (get_or clients j x)))
+        ∙ ap (λ (es : List Event). map (after_some f es) clients) (sym (drop_more f.events.now i d in_i))
+        ∙ to.rest;
+    wanted = has.wanted ∙ to.wanted;
+    capacity = has.capacity ∙ to.capacity;
+    within = omega arith;
+    given = to.given ++ has.number ∷ [];
+    long = omega (arith, to.long, length_push to.given has.number);
+    numbered = λ j in_j more new put.
+        let Q : List ℕ → Type 0 = λ ns. IsNumbered f f.events.now ns (seen_at first locations before j) (ring_at locations before j) new in
+        let D : List Event → Type 0 = λ es. IsNumbered f es (has.number ∷ more) (seen_at store locations slab j) (ring_at locations slab j) new in
+        subst Q (sym (append_assoc to.given (has.number ∷ []) more))
+        (to.numbered j in_j (has.number ∷ more) new (subst D (sym (drop_more f.events.now i d in_i)) (put_both j in_j more new put)));
+  }
+    where
+      e : Event
+      e = get_or f.events.now i d
 
-pub offered_more : {frame : List Event} {now place : ℕ} {holder : Option ℕ} {locations : List Location} {before slab next : Slab Member} {first store after : StoreView} {i : ℕ} (d : Event) → IsOfferedTo frame now place holder locations before slab first store i → i < length frame
-    → AreShared locations next after → cells_in after (clients_in locations next) ≡ map (after_event (cell_of_event now place (get_or frame i d)) holder) (cells_in store (clients_in locations slab))
-    → wanted (clients_in locations next) ≡ wanted (clients_in locations slab) → next.capacity ≡ slab.capacity
-    → HasNumber (cell_of_event now place (get_or frame i d)) holder locations slab next store
-    → IsOfferedTo frame now place holder locations before next first after (i + 1)
-offered_more {frame} {now} {place} {holder} {locations} {before} {slab} {next} {first} {store} {after} {i} d to in_i shared offered wants capacity has = record {
-  shared = shared;
-  rest =
-      ap (map (after_offer (drop (i + 1) frame) now place holder)) offered
-      ∙ sym (map_over (after_offer (get_or frame i d ∷ drop (i + 1) frame) now place holder) (after_event (cell_of_event now place (get_or frame i d)) holder) (after_offer (drop (i + 1) frame) now place holder) (cells_in store (clients_in locations slab)) (λ j x in_j. after_offer-cons (get_or frame i d) (drop (i + 1) frame) now place holder (get_or (cells_in store (clients_in locations slab)) j x)))
-      ∙ ap (λ (es : List Event). map (after_offer es now place holder) (cells_in store (clients_in locations slab))) (sym (drop_more frame i d in_i))
-      ∙ to.rest;
-  wanted = wants ∙ to.wanted;
-  capacity = capacity ∙ to.capacity;
-  within = omega arith;
-  given = to.given ++ has.number ∷ [];
-  long = omega (arith, to.long, length_push to.given has.number);
-  numbered = λ j in_j more new put.
-      let Q : List ℕ → Type 0 = λ ns. IsNumbered frame now place holder ns (seen_at first locations before j) (ring_at locations before j) new in
-      let D : List Event → Type 0 = λ es. IsNumbered es now place holder (has.number ∷ more) (seen_at store locations slab j) (ring_at locations slab j) new in
-      subst Q (sym (append_assoc to.given (has.number ∷ []) more)) (to.numbered j in_j (has.number ∷ more) new (subst D (sym (drop_more frame i d in_i)) (put_both j in_j more new put)));
-}
-  where
-    seen : (t : StoreView) (sl : Slab Member) (j : ℕ) → j < length locations → get_or (cells_in t (clients_in locations sl)) j (new_client 0 0) ≡ seen_at t locations sl j
-    seen t sl j in_j = get_or-map (client_in t) (clients_in locations sl) j (new_client 0 0) (new_client 0 0) (omega (arith, in_j, length-map locations (λ at. client_at sl at.key)))
+      rest : List Event
+      rest = drop (i + 1) f.events.now
 
-    next_seen : (j : ℕ) → j < length locations → seen_at after locations next j ≡ after_event (cell_of_event now place (get_or frame i d)) holder (seen_at store locations slab j)
-    next_seen j in_j =
-        sym (seen after next j in_j)
-        ∙ ap (λ (cs : List (ClientView Cell)). get_or cs j (new_client 0 0)) offered
-        ∙ get_or-map (after_event (cell_of_event now place (get_or frame i d)) holder) (cells_in store (clients_in locations slab)) j (new_client 0 0) (new_client 0 0) (omega (arith, in_j, length-map (clients_in locations slab) (client_in store), length-map locations (λ at. client_at slab at.key)))
-        ∙ ap (after_event (cell_of_event now place (get_or frame i d)) holder) (seen store slab j in_j)
+      clients : List (ClientView Cell)
+      clients = cells_in store (clients_in locations slab)
 
-    put_both : (j : ℕ) → j < length locations → (more new : List ℕ) → IsNumbered (drop (i + 1) frame) now place holder more (seen_at after locations next j) (ring_at locations next j) new
-        → IsNumbered (get_or frame i d ∷ drop (i + 1) frame) now place holder (has.number ∷ more) (seen_at store locations slab j) (ring_at locations slab j) new
-    put_both j in_j more new put =
-        let c = seen_at store locations slab j in
-        let P : MaskView → ClientView Cell → Type 0 = λ m x. IsPutBehind (admitted_numbers m (drop (i + 1) frame) more) (loses (drop (i + 1) frame) now place holder x) (ring_at locations next j) new in
-        let masks : (seen_at after locations next j).masks ≡ c.masks = ap (λ (x : ClientView Cell). x.masks) (next_seen j in_j) ∙ masks_stay (cell_of_event now place (get_or frame i d)) holder c in
-        put_then (loses_event (cell_of_event now place (get_or frame i d)) holder c) (loses (drop (i + 1) frame) now place holder (after_event (cell_of_event now place (get_or frame i d)) holder c)) (has.each j in_j) (subst (λ (x : ClientView Cell). P c.masks x) (next_seen j in_j) (subst (λ (m : MaskView). P m (seen_at after locations next j)) masks put))
+      next_seen : (j : ℕ) → j < length locations → seen_at after locations next j ≡ after_one f e (seen_at store locations slab j)
+      next_seen j in_j =
+          sym (seen_is after locations next j in_j)
+          ∙ ap (λ (cs : List (ClientView Cell)). get_or cs j (new_client 0 0)) has.clients
+          ∙ get_or-map (after_one f e) clients j (new_client 0 0) (new_client 0 0)
+          (omega (arith, in_j, length-map (clients_in locations slab) (client_in store), length-map locations (λ at. client_at slab at.key)))
+          ∙ ap (after_one f e) (seen_is store locations slab j in_j)
 
--- each event has its number then
-pub numbered_all : {frame : List Event} {now place : ℕ} {holder : Option ℕ} {locations : List Location} {before slab : Slab Member} {first store : StoreView} {i : ℕ} → IsOfferedTo frame now place holder locations before slab first store i → length frame ≤ i
-    → HaveNumbers frame now place holder locations before slab first
-numbered_all {frame} {now} {place} {holder} {locations} {before} {slab} {first} {store} {i} to past = record {
-  given = to.given;
-  long = omega (arith, to.long, to.within);
-  each = λ j in_j.
-      let Q : List ℕ → Type 0 = λ ns. IsNumbered frame now place holder ns (seen_at first locations before j) (ring_at locations before j) (ring_at locations slab j) in
-      let D : List Event → Type 0 = λ es. IsNumbered es now place holder [] (seen_at store locations slab j) (ring_at locations slab j) (ring_at locations slab j) in
-      subst Q (append-nil to.given) (to.numbered j in_j [] (ring_at locations slab j) (subst D (sym (drop_all i frame past)) (put_none [] (ring_at locations slab j))));
-}
+      put_both : (j : ℕ) → j < length locations → (more new : List ℕ)
+          → IsNumbered f rest more (seen_at after locations next j) (ring_at locations next j) new
+          → IsNumbered f (e ∷ rest) (has.number ∷ more) (seen_at store locations slab j) (ring_at locations slab j) new
+      put_both j in_j more new put =
+          let c = seen_at store locations slab j in
+          let P : MaskView → ClientView Cell → Type 0 = λ m x.
+          IsPutBehind (admitted_numbers m rest more) (loses rest f.moment f.place f.holder x) (ring_at locations next j) new in
+          let masks : (seen_at after locations next j).masks ≡ c.masks =
+          ap (λ (x : ClientView Cell). x.masks) (next_seen j in_j) ∙ masks_stay (cell_of_event f.moment f.place e) f.holder c in
+          put_then (loses_event (cell_of_event f.moment f.place e) f.holder c) (loses rest f.moment f.place f.holder (after_one f e c)) (has.each j in_j)
+          (subst (λ (x : ClientView Cell). P c.masks x) (next_seen j in_j) (subst (λ (m : MaskView). P m (seen_at after locations next j)) masks put))
 
-pub offered_all : {frame : List Event} {now place : ℕ} {holder : Option ℕ} {locations : List Location} {before slab : Slab Member} {first store : StoreView} {i : ℕ} → IsOfferedTo frame now place holder locations before slab first store i → length frame ≤ i
-    → cells_in store (clients_in locations slab) ≡ map (after_offer frame now place holder) (cells_in first (clients_in locations before))
-offered_all {frame} {now} {place} {holder} {locations} {before} {slab} {first} {store} {i} to past =
-    same_each (cells_in store (clients_in locations slab))
-    ∙ ap (λ (es : List Event). map (after_offer es now place holder) (cells_in store (clients_in locations slab))) (sym (drop_all i frame past))
-    ∙ to.rest
-  where
-    same_each : (cs : List (ClientView Cell)) → cs ≡ map (after_offer [] now place holder) cs
-    same_each [] = refl
-    same_each (c ∷ cs) = ap (λ x. x ∷ cs) (sym (after_offer-nil now place holder c)) ∙ ap (λ xs. after_offer [] now place holder c ∷ xs) (same_each cs)
+  -- all events were
+  pub all_offered : length f.events.now ≤ i → IsOffered f locations before slab first store
+  all_offered past = record {
+    shared = to.shared;
+    clients =
+        same_each (cells_in store (clients_in locations slab))
+        ∙ ap (λ (es : List Event). map (after_some f es) (cells_in store (clients_in locations slab))) (sym (drop_all i f.events.now past))
+        ∙ to.rest;
+    given = to.given;
+    long = omega (arith, to.long, to.within);
+    each = λ j in_j.
+        let ring : List ℕ = ring_at locations slab j in
+        let Q : List ℕ → Type 0 = λ ns. IsNumbered f f.events.now ns (seen_at first locations before j) (ring_at locations before j) ring in
+        let D : List Event → Type 0 = λ es. IsNumbered f es [] (seen_at store locations slab j) ring ring in
+        subst Q (append-nil to.given) (to.numbered j in_j [] ring (subst D (sym (drop_all i f.events.now past)) (put_none [] ring)));
+    wanted = to.wanted;
+    capacity = to.capacity;
+  }
+    where
+      same_each : (cs : List (ClientView Cell)) → cs ≡ map (after_some f []) cs
+      same_each [] = refl
+      same_each (c ∷ cs) =
+          ap (λ x. x ∷ cs) (sym (after_offer-nil f.moment f.place f.holder c)) ∙ ap (λ xs. after_some f [] c ∷ xs) (same_each cs)

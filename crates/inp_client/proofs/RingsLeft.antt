@@ -11,15 +11,17 @@ use Rattle.inp_ring.specs.Store.{StoreView}
 use Rattle.inp_ring.specs.Ring.{times}
 use Rattle.inp_ring.proofs.Times.{times-append}
 use Rattle.inp_client.specs.declared.clients.Clients.TheInside.{Inside}
+use Rattle.inp_client.specs.declared.frame.Frame.{Frame}
 use Rattle.inp_client.specs.Client.{ClientView, new_client}
 use Rattle.inp_client.specs.Clients.{distinct}
 use Rattle.inp_client.specs.Member.{Member, client_in, numbers_in, HasFewer}
 use Rattle.inp_client.specs.Locations.{client_at, clients_in}
-use Rattle.inp_client.specs.Kept.{kept_view}
+use Rattle.inp_client.specs.Kept.{kept_view, AreKept}
 use Rattle.inp_client.specs.Numbers.{stored_of, loses, admitted_numbers, IsPutBehind, IsStoredOnce}
-use Rattle.inp_client.specs.Offered.{HaveNumbers, seen_at, ring_at}
+use Rattle.inp_client.specs.Offered.{IsOffered, after_frame, seen_at, ring_at}
 use Rattle.inp_client.proofs.Counting.{distinct_few, distinct_there, times-numbers_in}
 use Rattle.inp_client.proofs.Numbers.{stored_few}
+use Rattle.inp_client.proofs.Offering.{seen_is}
 use Rattle.slab.specs.Slab.{Slab}
 
 abbrev pub rings_of : List Member → List (List ℕ)
@@ -64,7 +66,7 @@ numbers_in-insert [] (suc i) new within none = absurd (omega (arith, within))
 numbers_in-insert (m ∷ ms) (suc i) new within none = ap (λ (q : List ℕ). m.ring.events ++ q) (numbers_in-insert ms i new (omega (arith, within)) none)
 
 -- A frame was offered.
-module _ {frame : List Event} {now place : ℕ} {holder : Option ℕ} (k : Inside) (slab : Slab Member) (store : StoreView) (have : HaveNumbers frame now place holder k.locations.items k.slab slab k.store) where
+module _ {f : Frame} (k : Inside) (slab : Slab Member) (store : StoreView) (is : IsOffered f k.locations.items k.slab slab k.store store) where
   abbrev next : Inside
   next = record k { slab = slab; store = store }
 
@@ -78,22 +80,36 @@ module _ {frame : List Event} {now place : ℕ} {holder : Option ℕ} (k : Insid
   ring_is s i in_i = get_or-map (λ (m : Member). m.ring.events) (clients_in k.locations.items s) i (new_client 0 0) [] (omega (arith, in_i, length-map k.locations.items (λ at. client_at s at.key)))
 
   client_is : (i : ℕ) → i < length k.locations.items → get_or (kept_view k).list i (new_client 0 0) ≡ seen_at k.store k.locations.items k.slab i
-  client_is i in_i = get_or-map (client_in k.store) (clients_in k.locations.items k.slab) i (new_client 0 0) (new_client 0 0) (omega (arith, in_i, length-map k.locations.items (λ at. client_at k.slab at.key)))
+  client_is i in_i = seen_is k.store k.locations.items k.slab i in_i
 
-  pub once_after_offer : IsStoredOnce frame now place holder (kept_view k) (kept_view next)
+  pub kept_after_offer : AreKept k → AreKept next
+  kept_after_offer kept = record {
+    located = is.shared.located;
+    few = kept.few;
+    slab_room = omega (arith, kept.slab_room, is.capacity);
+    location_room = kept.location_room;
+    stored = is.shared.stored;
+    none_idle = is.shared.none_idle;
+    counted = kept.counted ∙ sym is.wanted;
+  }
+
+  pub list_after_offer : (kept_view next).list ≡ map (after_frame f) (kept_view k).list
+  list_after_offer = is.clients
+
+  pub once_after_offer : IsStoredOnce f.events.now f.moment f.place f.holder (kept_view k) (kept_view next)
   once_after_offer = record {
-    given = have.given;
-    long = have.long;
+    given = is.given;
+    long = is.long;
     rings = (long_rings k.slab ∙ sym long_list, long_rings slab ∙ sym long_list);
     each = λ i in_i.
         let within : i < length k.locations.items = omega (arith, in_i, long_list) in
-        let P : ClientView Cell → List ℕ → List ℕ → Type 0 = λ c old new. IsPutBehind (admitted_numbers c.masks frame have.given) (loses frame now place holder c) old new in
+        let P : ClientView Cell → List ℕ → List ℕ → Type 0 = λ c old new. IsPutBehind (admitted_numbers c.masks f.events.now is.given) (loses f.events.now f.moment f.place f.holder c) old new in
         subst (λ (c : ClientView Cell). P c (get_or (kept_view k).rings i []) (get_or (kept_view next).rings i [])) (sym (client_is i within))
         (subst (λ (q : List ℕ). P (seen_at k.store k.locations.items k.slab i) q (get_or (kept_view next).rings i [])) (sym (ring_is k.slab i within))
-        (subst (λ (q : List ℕ). P (seen_at k.store k.locations.items k.slab i) (ring_at k.locations.items k.slab i) q) (sym (ring_is slab i within)) (have.each i within)));
+        (subst (λ (q : List ℕ). P (seen_at k.store k.locations.items k.slab i) (ring_at k.locations.items k.slab i) q) (sym (ring_is slab i within)) (is.each i within)));
   }
 
-  pub stored_after_offer : stored_of (kept_view next) ≤ stored_of (kept_view k) + length frame + count_by (loses frame now place holder) (kept_view k).list
+  pub stored_after_offer : stored_of (kept_view next) ≤ stored_of (kept_view k) + length f.events.now + count_by (loses f.events.now f.moment f.place f.holder) (kept_view k).list
   stored_after_offer = stored_few (kept_view k) (kept_view next) once_after_offer
 
 -- where no client is open nothing is put

@@ -17,13 +17,14 @@ use Rattle.inp_ring.specs.Ring.{times, cell_at, some_cell, AreFit, AreDifferent,
 use Rattle.inp_ring.proofs.Times.{once, times-append, times_push, once_same, once_other, AreDifferent_push}
 use Rattle.inp_ring.proofs.Moves.{idle_none}
 use Rattle.inp_ring.proofs.Rings.{queue_stays}
+use Rattle.inp_client.specs.declared.frame.Frame.{Frame}
 use Rattle.inp_client.specs.declared.location.Location.{Location}
 use Rattle.inp_client.specs.Masks.{MaskView, admits_of, full_masks}
 use Rattle.inp_client.specs.Client.{ClientView, new_client, with_events, is_offered_to, cell_of_event, after_offer}
 use Rattle.inp_client.specs.Member.{Member, ring_of, client_in, cells_in, times_in, wanted, after_event, AreStored}
 use Rattle.inp_client.specs.Numbers.{loses, admitted_numbers, IsPutBehind}
 use Rattle.inp_client.specs.Locations.{client_at, clients_in, AreLocated}
-use Rattle.inp_client.specs.Offered.{AreShared, FitsInOneRun, AreAdded, HaveNumbers, TakesFrame, takers_in, with_run, are_reports_apart, member_at, seen_at, ring_at}
+use Rattle.inp_client.specs.Offered.{AreShared, FitsInOneRun, AreAdded, IsOffered, TakesFrame, cells_of, takers_in, with_run, are_reports_apart, member_at, seen_at, ring_at}
 use Rattle.inp_client.proofs.MaskBits.{admits_of-full_masks}
 use Rattle.inp_client.proofs.Numbers.{put_behind, put_same, admitted_all}
 use Rattle.inp_client.proofs.Locating.{client_at_found, located_after_write, members_after_write, members_long, member_in_location}
@@ -336,13 +337,25 @@ module _ (holder : Option ℕ) (numbers : List ℕ) where
         wanted_same ms,
       )
 
-module _ {locations : List Location} {before : Slab Member} {first store : StoreView} {frame : List Event} (now place : ℕ) {takers : ℕ} {holder : Option ℕ} {numbers : List ℕ}
-    (shared : AreShared locations before first) (run : FitsInOneRun locations before first frame holder takers) (added : AreAdded first store (map (cell_of_event now place) frame) takers numbers) where
+module _ {locations : List Location} {before : Slab Member} {first store : StoreView} {f : Frame} {takers : ℕ} {numbers : List ℕ}
+    (shared : AreShared locations before first) (run : FitsInOneRun locations before first f takers) (added : AreAdded first store (cells_of f) takers numbers) where
+  abbrev frame : List Event
+  frame = f.events.now
+
+  abbrev now : ℕ
+  now = f.moment
+
+  abbrev place : ℕ
+  place = f.place
+
+  abbrev holder : Option ℕ
+  holder = f.holder
+
   abbrev ms : List Member
   ms = clients_in locations before
 
   abbrev cells : List Cell
-  cells = map (cell_of_event now place) frame
+  cells = cells_of f
 
   count_is : length numbers ≡ length frame
   count_is = added.long ∙ length-map frame (cell_of_event now place)
@@ -409,7 +422,7 @@ module _ {locations : List Location} {before : Slab Member} {first store : Store
             ∙ sym (taken_whole frame now place holder (client_in first m) h (takes h).0 run.apart (omega (arith, (takes h).1, length-map m.ring.events (cell_at first))))
         either false h = ap (λ (q : List Cell). with_events q (client_in first m)) stays ∙ sym (cond-false (is_offered_to holder (client_in first m)) _ _ h)
 
-  module _ {slab : Slab Member} (located : AreLocated locations slab) (members : clients_in locations slab ≡ map (with_run holder numbers) ms) (fits : now ≤ MOMENT_MAX) where
+  module _ {slab : Slab Member} (located : AreLocated locations slab) (members : clients_in locations slab ≡ map (with_run holder numbers) ms) (capacity : slab.capacity ≡ before.capacity) (fits : now ≤ MOMENT_MAX) where
     long_next : length (map (with_run holder numbers) ms) ≡ length ms
     long_next = length-map ms (with_run holder numbers)
 
@@ -440,7 +453,7 @@ module _ {locations : List Location} {before : Slab Member} {first store : Store
       room = omega (arith, shared.stored.room, added.room, wanted_same holder numbers ms);
     }
 
-    pub shared_with : AreShared locations slab store
+    shared_with : AreShared locations slab store
     shared_with = record {
       located = located;
       stored = let P : List Member → Type 0 = λ l. AreStored store l (λ n. 0) in subst P (sym members) stored_with;
@@ -450,8 +463,8 @@ module _ {locations : List Location} {before : Slab Member} {first store : Store
       ];
     }
 
-    pub offered_with : cells_in store (clients_in locations slab) ≡ map (after_offer frame now place holder) (cells_in first ms)
-    offered_with =
+    clients_with : cells_in store (clients_in locations slab) ≡ map (after_offer frame now place holder) (cells_in first ms)
+    clients_with =
         ap (cells_in store) members
         ∙ same_lists (cells_in store (map (with_run holder numbers) ms)) (map (after_offer frame now place holder) (cells_in first ms))
         (omega (arith, length-map (map (with_run holder numbers) ms) (client_in store), long_next, length-map (cells_in first ms) (after_offer frame now place holder), length-map ms (client_in first)))
@@ -464,14 +477,18 @@ module _ {locations : List Location} {before : Slab Member} {first store : Store
         ∙ ap (after_offer frame now place holder) (get_or-map (client_in first) ms j (new_client 0 0) (client_in first (new_client 0 0)) in_ms)))
 
     -- each event has the number of its cell
-    pub numbered_with : HaveNumbers frame now place holder locations before slab first
-    numbered_with = record {
+    pub offered_with : IsOffered f locations before slab first store
+    offered_with = record {
+      shared = shared_with;
+      clients = clients_with;
       given = numbers;
       long = count_is;
       each = λ j in_j.
           let P : List ℕ → Type 0 = λ q. IsPutBehind (admitted_numbers (seen_at first locations before j).masks frame numbers) (loses frame now place holder (seen_at first locations before j)) (ring_at locations before j) q in
           let in_ms : j < length ms = omega (arith, in_j, length-map locations (λ at. client_at before at.key)) in
           subst P (sym (ap (λ (l : List Member). (get_or l j (new_client 0 0)).ring.events) members ∙ ap (λ (m : Member). m.ring.events) (next_at j in_ms))) (put_at j in_ms);
+      wanted = ap wanted members ∙ wanted_same holder numbers ms;
+      capacity = capacity;
     }
       where
         put_at : (j : ℕ) → j < length ms → IsPutBehind (admitted_numbers (seen_at first locations before j).masks frame numbers) (loses frame now place holder (seen_at first locations before j)) (ring_at locations before j) (with_run holder numbers (member_at locations before j)).ring.events
@@ -483,6 +500,3 @@ module _ {locations : List Location} {before : Slab Member} {first store : Store
                 let P : List ℕ → Type 0 = λ g. IsPutBehind g (loses frame now place holder (client_in first (member_at locations before j))) (member_at locations before j).ring.events ((member_at locations before j).ring.events ++ numbers) in
                 subst P (sym (admitted_all (member_at locations before j).masks frame numbers whole.0 count_is)) (put_behind numbers (member_at locations before j).ring.events ((member_at locations before j).ring.events ++ numbers) _ (fits_whole frame now place holder (client_in first (member_at locations before j)) (omega (arith, whole.1, length-map (member_at locations before j).ring.events (cell_at first)))) refl)
             either false h = put_same (admitted_numbers (member_at locations before j).masks frame numbers) (member_at locations before j).ring.events (member_at locations before j).ring.events _ (loses_none frame now place holder (client_in first (member_at locations before j)) h) refl
-
-    pub wanted_with : wanted (clients_in locations slab) ≡ wanted ms
-    wanted_with = ap wanted members ∙ wanted_same holder numbers ms

@@ -1,19 +1,28 @@
 -- A frame is offered event by event: a cell for each, whose number comes into one ring after the other. A short frame
 -- that each of its clients admits whole, with room for it, may go in one run (`FitsInOneRun`): a cell for each event
 -- first, and then all their numbers into each ring.
-use Rattle.std.specs.Prelude.{◌≡◌, ◌≤◌, ◌<◌, ◌+◌, ◌&&◌, ◌++◌, ℕ, Bool, true, not, if◌then◌else◌, nat_eq, nat_lt, List, [], ◌∷◌, length, count_by, get_or, All, Option, None}
+use Rattle.std.specs.Prelude.{◌≡◌, ◌≤◌, ◌<◌, ◌+◌, ◌&&◌, ◌++◌, ℕ, Bool, true, not, if◌then◌else◌, nat_eq, nat_lt, List, [], ◌∷◌, length, map, count_by, get_or, All, Option, None}
 use Rattle.slab.specs.Slab.{Slab}
 use Rattle.inp_ring.specs.declared.cell.Cell.{Cell}
 use Rattle.inp_ring.specs.Store.{StoreView, held_under, holders, cell_count, held_by, IsIdle}
 use Rattle.inp_ring.specs.Ring.{times, queue_in, AreDifferent}
+use Rattle.inp_client.specs.declared.frame.Frame.{Frame}
 use Rattle.inp_client.specs.declared.location.Location.{Location}
 use Rattle.inp_model.specs.declared.event.Event.{Event}
 use Rattle.inp_model.specs.Event.{is_report}
 use Rattle.inp_client.specs.Masks.{full_masks}
-use Rattle.inp_client.specs.Client.{ClientView, new_client, with_events, is_offered_to}
-use Rattle.inp_client.specs.Member.{Member, client_in, wanted, after_event, AreStored}
+use Rattle.inp_client.specs.Client.{ClientView, new_client, with_events, is_offered_to, cell_of_event, after_offer}
+use Rattle.inp_client.specs.Member.{Member, client_in, cells_in, wanted, after_event, AreStored}
 use Rattle.inp_client.specs.Numbers.{loses_event, loses, admitted_number, admitted_numbers, IsPutBehind}
 use Rattle.inp_client.specs.Locations.{clients_in, AreLocated}
+
+-- the cells of a frame's events
+abbrev pub cells_of : Frame → List Cell
+cells_of f = map (cell_of_event f.moment f.place) f.events.now
+
+-- a client that was offered it
+abbrev pub after_frame : Frame → ClientView Cell → ClientView Cell
+after_frame f c = after_offer f.events.now f.moment f.place f.holder c
 
 -- clients in their locations, whose cells and no other are in a store
 pub record AreShared (locations : List Location) (slab : Slab Member) (store : StoreView) : Type 0 where
@@ -36,13 +45,13 @@ abbrev pub takers_in : Option ℕ → List Member → ℕ
 takers_in holder ms = count_by (is_offered_to holder) ms
 
 -- A frame can be put in one run into the rings of the clients that it is offered to, which are so many.
-pub record FitsInOneRun (locations : List Location) (slab : Slab Member) (store : StoreView) (frame : List Event) (holder : Option ℕ) (takers : ℕ) : Type 0 where
-  pub short : length frame ≤ 64
-  pub spare : length frame ≤ store.spare
-  pub apart : are_reports_apart true frame ≡ true
+pub record FitsInOneRun (locations : List Location) (slab : Slab Member) (store : StoreView) (f : Frame) (takers : ℕ) : Type 0 where
+  pub short : length f.events.now ≤ 64
+  pub spare : length f.events.now ≤ store.spare
+  pub apart : are_reports_apart true f.events.now ≡ true
   pub some : 0 < takers
-  pub takers_are : takers ≡ takers_in holder (clients_in locations slab)
-  pub all : All (TakesFrame holder (length frame)) (clients_in locations slab)
+  pub takers_are : takers ≡ takers_in f.holder (clients_in locations slab)
+  pub all : All (TakesFrame f.holder (length f.events.now)) (clients_in locations slab)
 
 -- cells were added, each with so many holders, under numbers that had none
 pub record AreAdded (old new : StoreView) (cells : List Cell) (count : ℕ) (numbers : List ℕ) : Type 0 where
@@ -92,14 +101,22 @@ pub record IsEnteredTo (count : ℕ) (cell : Cell) (holder : Option ℕ) (number
   pub capacity : slab.capacity ≡ before.capacity
 
 -- One event was offered to clients, whose cells were in a store: it has one number, whoever takes it.
-pub record HasNumber (cell : Cell) (holder : Option ℕ) (locations : List Location) (before slab : Slab Member) (first : StoreView) : Type 0 where
+pub record IsEventOffered (cell : Cell) (holder : Option ℕ) (locations : List Location) (before slab : Slab Member) (first store : StoreView) : Type 0 where
+  pub shared : AreShared locations slab store
+  pub clients : cells_in store (clients_in locations slab) ≡ map (after_event cell holder) (cells_in first (clients_in locations before))
   pub number : ℕ
   pub each : (j : ℕ) → j < length locations → IsPutBehind (admitted_number (seen_at first locations before j).masks cell.event number)
       (loses_event cell holder (seen_at first locations before j)) (ring_at locations before j) (ring_at locations slab j)
+  pub wanted : wanted (clients_in locations slab) ≡ wanted (clients_in locations before)
+  pub capacity : slab.capacity ≡ before.capacity
 
--- A frame was offered to clients, whose cells were in a store: each of its events has one number, whoever takes it.
-pub record HaveNumbers (frame : List Event) (now place : ℕ) (holder : Option ℕ) (locations : List Location) (before slab : Slab Member) (first : StoreView) : Type 0 where
+-- A frame was: each of its events has one number, whoever takes it.
+pub record IsOffered (f : Frame) (locations : List Location) (before slab : Slab Member) (first store : StoreView) : Type 0 where
+  pub shared : AreShared locations slab store
+  pub clients : cells_in store (clients_in locations slab) ≡ map (after_frame f) (cells_in first (clients_in locations before))
   pub given : List ℕ
-  pub long : length given ≡ length frame
-  pub each : (j : ℕ) → j < length locations → IsPutBehind (admitted_numbers (seen_at first locations before j).masks frame given)
-      (loses frame now place holder (seen_at first locations before j)) (ring_at locations before j) (ring_at locations slab j)
+  pub long : length given ≡ length f.events.now
+  pub each : (j : ℕ) → j < length locations → IsPutBehind (admitted_numbers (seen_at first locations before j).masks f.events.now given)
+      (loses f.events.now f.moment f.place f.holder (seen_at first locations before j)) (ring_at locations before j) (ring_at locations slab j)
+  pub wanted : wanted (clients_in locations slab) ≡ wanted (clients_in locations before)
+  pub capacity : slab.capacity ≡ before.capacity

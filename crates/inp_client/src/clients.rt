@@ -1,5 +1,5 @@
 //! The open clients of a device.
-ghost use Rattle.std.specs.Prelude.{◌≡◌, ◌≢◌, ℕ, ◌≤◌, ◌<◌, ◌+◌, ◌↔◌, ◌++◌, [], true, false, length, min, map, take, sum_by, count_by, All, Contains, Err, IfOk, IfSome, OnOk, OnErr};
+ghost use Rattle.std.specs.Prelude.{◌≡◌, ◌≢◌, ℕ, ◌≤◌, ◌<◌, ◌+◌, ◌↔◌, [], true, false, length, min, map, take, sum_by, count_by, All, Contains, Err, IfOk, OnOk, OnErr};
 ghost use Rattle.slab.specs.Slab.{ContainsKey};
 ghost use Rattle.inp_model.specs.declared.event.TheConstants.{EV_SYN};
 ghost use Rattle.inp_model.specs.declared.limits.TheConstants.{CLIENTS_MAX};
@@ -8,23 +8,22 @@ ghost use Rattle.inp_model.specs.Past.{has_mask, mask_words};
 ghost use Rattle.inp_model.specs.Queue.{visible};
 ghost use Rattle.inp_model.specs.Reply.{written};
 ghost use Rattle.inp_model.specs.Step.{Codes, Slots};
-ghost use Rattle.inp_ring.specs.Store.{event_of_cell, held_under, held_by, IsIdle};
-ghost use Rattle.inp_client.specs.Client.{new_client, cell_of_event, after_offer, after_take, after_flush, after_mask, after_clock, after_revoke};
+ghost use Rattle.inp_ring.specs.Store.{event_of_cell};
+ghost use Rattle.inp_client.specs.Client.{new_client, after_offer, after_take, after_flush, after_mask, after_clock, after_revoke};
 ghost use Rattle.inp_client.specs.Clients.{has_client, has_revoked_client, events_of, map_client, with_client, without_client};
 ghost use Rattle.inp_client.specs.Read.{clients_on};
 ghost use Rattle.inp_client.specs.Locations.{clients_in, AreLocated};
-ghost use Rattle.inp_client.specs.Member.{cells_in, wanted, after_event, AreStored};
-ghost use Rattle.inp_ring.specs.Ring.{times, AreDifferent};
+ghost use Rattle.inp_ring.specs.Ring.{times};
 ghost use Rattle.inp_client.specs.Numbers.{held_numbers, stored_of, held_places, loses, HoldNoneNew, IsStoredOnce};
-ghost use Rattle.inp_client.specs.Offered.{AreShared, IsEnteredTo, HasNumber, HaveNumbers, owing, FitsInOneRun, AreAdded, TakesFrame, takers_in, with_run, are_reports_apart};
 ghost use Rattle.inp_client.specs.declared.open_refused.OpenRefused.TheVariants.{TooMany};
 
 use crate::client::Client;
+use crate::frame::{Frame, offer_frame};
 use crate::location::{Location, index_of, place_for};
 use crate::open_refused::OpenRefused;
 use inp_caps::Caps;
 use inp_model::{CLIENTS_MAX, Clock, Event, MOMENT_MAX, NoMemory, Taken};
-use inp_ring::{Cell, Store};
+use inp_ring::Store;
 use slab::Slab;
 use std::alloc::Global;
 use std::marker::Model;
@@ -175,11 +174,11 @@ impl Clients {
     }
 
     /// Chooses the clock by which an open client reads its events, at a moment in microseconds and at the place of the
-    /// step in the history. The description is not looked at: a client's offset is added when it reads.
+    /// step in the history. A client's offset is added when it reads.
     ///
     /// Where the clock is another one than before and the queue is not empty, all of it is lost: SYN_DROPPED stands in
     /// its place. So all of a queue is on the present clock.
-    pub fn set_clock(&mut self, _caps: &Caps, number: u32, clock: Clock, now: u64, place: u32)
+    pub fn set_clock(&mut self, number: u32, clock: Clock, now: u64, place: u32)
         requires open { has_client number self.old.list ≡ true }
         requires moment { now ≤ MOMENT_MAX }
         ensures set { self.new.list
@@ -253,17 +252,10 @@ impl Clients {
 
     /// Offers a frame to each open client, or to the holder of the grab alone, where there is one. A client that was
     /// revoked is offered none. Each client gets the events that its masks admit; each of them is kept once, whoever gets
-    /// it. The description is not looked at: a client's offset is added when it reads.
+    /// it. A client's offset is added when it reads.
     ///
     /// The frame ended at a moment in microseconds, and at the place of its step in the history. It takes no memory.
-    pub fn offer(
-        &mut self,
-        _caps: &Caps,
-        frame: &[Event],
-        now: u64,
-        place: u32,
-        holder: Option<u32>,
-    )
+    pub fn offer(&mut self, frame: &[Event], now: u64, place: u32, holder: Option<u32>)
         requires moment { now ≤ MOMENT_MAX }
         ensures offered { self.new.list
             ≡ map (after_offer frame.now now place holder) self.old.list }
@@ -276,280 +268,14 @@ impl Clients {
         if self.locations.is_empty() {
             return;
         }
-        offer_frame(
-            &self.locations,
-            &mut self.slab,
-            &mut self.store,
-            frame,
-            now,
+        let frame = Frame {
+            events: frame,
+            moment: now,
             place,
             holder,
-        );
-    }
-}
-
-// A frame of at most so many events is put into the rings in one run.
-const RUN_MAX: usize = 64;
-
-// Offers a frame to the client in each location, in one run where it can be. There must be a client.
-fn offer_frame(
-    locations: &[Location],
-    slab: &mut Slab<Client>,
-    store: &mut Store,
-    frame: &[Event],
-    now: u64,
-    place: u32,
-    holder: Option<u32>,
-)
-    requires before { AreShared locations.now slab.old store.old }
-    requires some { 0 < length locations.now }
-    requires few { length locations.now ≤ CLIENTS_MAX }
-    requires moment { now ≤ MOMENT_MAX }
-    ensures after { AreShared locations.now slab.new store.new }
-    ensures offered { cells_in store.new (clients_in locations.now slab.new)
-        ≡ map (after_offer frame.now now place holder)
-        (cells_in store.old (clients_in locations.now slab.old)) }
-    ensures numbered { HaveNumbers frame.now now place holder
-        locations.now slab.old slab.new store.old }
-    ensures wanted { wanted (clients_in locations.now slab.new)
-        ≡ wanted (clients_in locations.now slab.old) }
-    ensures capacity { slab.new.capacity ≡ slab.old.capacity }
-{
-    match takers_of_all(locations, slab, store, frame, holder) {
-        Some(takers) => offer_run(locations, slab, store, frame, now, place, holder, takers),
-        None => offer_events(locations, slab, store, frame, now, place, holder),
-    }
-}
-
-// How many clients take a frame, where each that is offered it takes all of it. None tells nothing.
-fn takers_of_all(
-    locations: &[Location],
-    slab: &Slab<Client>,
-    store: &Store,
-    frame: &[Event],
-    holder: Option<u32>,
-) -> Option<u32>
-    requires located { AreLocated locations.now slab.now }
-    requires few { length locations.now ≤ CLIENTS_MAX }
-    ensures all { IfSome result (FitsInOneRun locations.now slab.now store.now frame.now holder) }
-{
-    if frame.len() > RUN_MAX || frame.len() > store.spare() as usize || !are_reports_apart(frame) {
-        return None;
-    }
-    let takers = takers_of(locations, slab, frame.len(), holder)?;
-    if takers == 0 {
-        return None;
-    }
-    Some(takers)
-}
-
-// Whether no SYN_REPORT of a frame stands first or behind another one.
-fn are_reports_apart(frame: &[Event]) -> bool
-    ensures apart { result ≡ are_reports_apart true frame.now }
-{
-    let mut behind = true;
-    for event in frame {
-        let is_report = event.is_report();
-        if is_report && behind {
-            return false;
-        }
-        behind = is_report;
-    }
-    true
-}
-
-// How many clients are offered a frame of so many events, where each of them takes all. None tells nothing.
-fn takers_of(
-    locations: &[Location],
-    slab: &Slab<Client>,
-    count: usize,
-    holder: Option<u32>,
-) -> Option<u32>
-    requires located { AreLocated locations.now slab.now }
-    requires few { length locations.now ≤ CLIENTS_MAX }
-    requires short { count ≤ 4096 }
-    ensures takers { IfSome result (λ takers.
-        takers ≡ takers_in holder (clients_in locations.now slab.now)) }
-    ensures all { IfSome result (λ takers.
-        All (TakesFrame holder count) (clients_in locations.now slab.now)) }
-{
-    let mut takers = 0;
-    for location in locations {
-        let client = &slab[location.key];
-        if !client.is_offered_to(holder) {
-            continue;
-        }
-        if !client.takes_all(count) {
-            return None;
-        }
-        takers += 1;
-    }
-    Some(takers)
-}
-
-// Puts a frame in one run into the ring of each client that is offered it, which all take all of it.
-fn offer_run(
-    locations: &[Location],
-    slab: &mut Slab<Client>,
-    store: &mut Store,
-    frame: &[Event],
-    now: u64,
-    place: u32,
-    holder: Option<u32>,
-    takers: u32,
-)
-    requires before { AreShared locations.now slab.old store.old }
-    requires run { FitsInOneRun locations.now slab.old store.old frame.now holder takers }
-    requires moment { now ≤ MOMENT_MAX }
-    ensures after { AreShared locations.now slab.new store.new }
-    ensures offered { cells_in store.new (clients_in locations.now slab.new)
-        ≡ map (after_offer frame.now now place holder)
-        (cells_in store.old (clients_in locations.now slab.old)) }
-    ensures numbered { HaveNumbers frame.now now place holder
-        locations.now slab.old slab.new store.old }
-    ensures wanted { wanted (clients_in locations.now slab.new)
-        ≡ wanted (clients_in locations.now slab.old) }
-    ensures capacity { slab.new.capacity ≡ slab.old.capacity }
-{
-    let mut numbers = [0; RUN_MAX];
-    add_cells(store, frame, now, place, takers, &mut numbers);
-    append_each(locations, slab, &numbers[..frame.len()], holder);
-}
-
-// Adds a cell for each event of a frame, which so many rings hold, and writes their numbers to the front of a buffer.
-fn add_cells(
-    store: &mut Store,
-    frame: &[Event],
-    now: u64,
-    place: u32,
-    holders: u32,
-    numbers: &mut [u32],
-)
-    requires spare { length frame.now ≤ store.old.spare }
-    requires room { length frame.now ≤ length numbers.old }
-    requires some { 0 < holders }
-    ensures added { AreAdded store.old store.new (map (cell_of_event now place) frame.now) holders
-        (take (length frame.now) numbers.new) }
-    ensures long { length numbers.new ≡ length numbers.old }
-{
-    for at in 0..frame.len() {
-        let cell = Cell {
-            event: frame[at],
-            now,
-            place,
         };
-        numbers[at] = store.add_held_by(cell, holders);
+        offer_frame(&self.locations, &mut self.slab, &mut self.store, &frame);
     }
-}
-
-// Puts the numbers of a frame's cells into the ring of each client that the frame is offered to.
-fn append_each(
-    locations: &[Location],
-    slab: &mut Slab<Client>,
-    numbers: &[u32],
-    holder: Option<u32>,
-)
-    requires located { AreLocated locations.now slab.old }
-    requires room { All (TakesFrame holder (length numbers.now))
-        (clients_in locations.now slab.old) }
-    requires different { All (λ m. AreDifferent (m.ring.events ++ numbers.now))
-        (clients_in locations.now slab.old) }
-    ensures located { AreLocated locations.now slab.new }
-    ensures members { clients_in locations.now slab.new
-        ≡ map (with_run holder numbers.now) (clients_in locations.now slab.old) }
-    ensures capacity { slab.new.capacity ≡ slab.old.capacity }
-{
-    for location in locations {
-        slab[location.key].append_all(numbers, holder);
-    }
-}
-
-// Offers the events of a frame to the client in each location, one by one. There must be a client.
-fn offer_events(
-    locations: &[Location],
-    slab: &mut Slab<Client>,
-    store: &mut Store,
-    frame: &[Event],
-    now: u64,
-    place: u32,
-    holder: Option<u32>,
-)
-    requires before { AreShared locations.now slab.old store.old }
-    requires some { 0 < length locations.now }
-    requires few { length locations.now ≤ CLIENTS_MAX }
-    requires moment { now ≤ MOMENT_MAX }
-    ensures after { AreShared locations.now slab.new store.new }
-    ensures offered { cells_in store.new (clients_in locations.now slab.new)
-        ≡ map (after_offer frame.now now place holder)
-        (cells_in store.old (clients_in locations.now slab.old)) }
-    ensures numbered { HaveNumbers frame.now now place holder
-        locations.now slab.old slab.new store.old }
-    ensures wanted { wanted (clients_in locations.now slab.new)
-        ≡ wanted (clients_in locations.now slab.old) }
-    ensures capacity { slab.new.capacity ≡ slab.old.capacity }
-{
-    for event in frame {
-        let cell = Cell {
-            event: *event,
-            now,
-            place,
-        };
-        offer_cell(locations, slab, store, cell, holder);
-    }
-}
-
-// Offers one event of a frame to the client in each location. Its cell stays where somebody takes it.
-fn offer_cell(
-    locations: &[Location],
-    slab: &mut Slab<Client>,
-    store: &mut Store,
-    cell: Cell,
-    holder: Option<u32>,
-)
-    requires before { AreShared locations.now slab.old store.old }
-    requires some { 0 < length locations.now }
-    requires few { length locations.now ≤ CLIENTS_MAX }
-    requires moment { cell.now ≤ MOMENT_MAX }
-    ensures after { AreShared locations.now slab.new store.new }
-    ensures offered { cells_in store.new (clients_in locations.now slab.new)
-        ≡ map (after_event cell holder) (cells_in store.old (clients_in locations.now slab.old)) }
-    ensures numbered { HasNumber cell holder locations.now slab.old slab.new store.old }
-    ensures wanted { wanted (clients_in locations.now slab.new)
-        ≡ wanted (clients_in locations.now slab.old) }
-    ensures capacity { slab.new.capacity ≡ slab.old.capacity }
-{
-    let number = store.add(cell);
-    let taken = enter_each(locations, slab, store, number, cell, holder);
-    if taken == 0 {
-        store.free(number);
-        return;
-    }
-    store.hold_many(number, taken);
-}
-
-// Puts the number of a cell that nobody holds into the ring of each client that takes it, and says how many do.
-fn enter_each(
-    locations: &[Location],
-    slab: &mut Slab<Client>,
-    store: &mut Store,
-    number: u32,
-    cell: Cell,
-    holder: Option<u32>,
-) -> u32
-    requires located { AreLocated locations.now slab.old }
-    requires stored { AreStored store.old (clients_in locations.now slab.old) (λ n. 0) }
-    requires only { (n : ℕ) → IsIdle store.old n → n ≡ number }
-    requires cell { held_under store.old number ≡ held_by 0 cell }
-    requires few { length locations.now ≤ CLIENTS_MAX }
-    requires moment { cell.now ≤ MOMENT_MAX }
-    ensures entered { IsEnteredTo (length locations.now) cell holder number locations.now
-        slab.old slab.new store.old store.new result }
-{
-    let mut taken = 0;
-    for location in locations {
-        taken += u32::from(slab[location.key].enter(store, number, cell.event, holder));
-    }
-    taken
 }
 
 // The key of an open client.

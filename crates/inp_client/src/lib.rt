@@ -32,6 +32,7 @@
 
 mod client;
 mod clients;
+mod frame;
 mod location;
 mod masks;
 mod open_refused;

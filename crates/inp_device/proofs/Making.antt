@@ -83,15 +83,14 @@ named_events history x old client ready named =
 
 -- a call that asks the core for nothing, and opens no client
 pub called : (history : List Step) (x : Step) (old new : Present) → IsReadyFor history x old → makes_no_events x ≡ true → is_open_step x ≡ false → is_end_step x ≡ false
-    → new.caps ≡ old.caps → new.core ≡ old.core → new.handler.caps ≡ old.handler.caps → new.handler.filters ≡ old.handler.filters → new.opens ≡ old.opens → new.ends ≡ old.ends
+    → new.caps ≡ old.caps → new.core ≡ old.core → new.handler.filters ≡ old.handler.filters → new.opens ≡ old.opens → new.ends ≡ old.ends
     → clients_on old.caps new.handler.clients.list ≡ clients_after old.caps (x ∷ reverse history) → new.handles.holder ≡ holder (x ∷ reverse history) → PresentStandsFor old.caps (x ∷ reverse history) new
-called history x old new ready none opening ending caps core handler filters opened ended clients grab =
+called history x old new ready none opening ending caps core filters opened ended clients grab =
     let past : List Step = reverse history in
     stands_called old.caps past x old new ready.stands (allowed old.caps past x ready.allowed) none
     (record {
       caps = caps;
       core = core;
-      handler = handler;
       filters = filters;
       clients = clients;
       holder = grab;
@@ -141,7 +140,7 @@ stands_in_core history x old new ready leaves free opening ending caps core made
       caps = caps;
       core = core;
       made = made;
-      handler = handler_stands old.caps past x old.handler new.handler (allowed old.caps past x ready.allowed) ready.stands.handler (ap (λ (h : Handler). h.caps) handler) (ap (λ (h : Handler). clients_on old.caps h.clients.list) handler ∙ clients_same history x old ready leaves)
+      handler = handler_stands old.caps past x old.handler new.handler (allowed old.caps past x ready.allowed) ready.stands.handler (ap (λ (h : Handler). clients_on old.caps h.clients.list) handler ∙ clients_same history x old ready leaves)
           (filters-left old.caps past x old.handler new.handler (ap (λ (h : Handler). h.filters) handler) ready.stands.handler.filters leaves);
       holder = grab ∙ holder_same history x old ready free;
       opens = opened ∙ ready.stands.opens ∙ sym (opens-keeps past x opening);
@@ -157,7 +156,6 @@ stands_ended history old new ready caps core handler grab opened ended =
     (record {
       caps = caps;
       core = core;
-      handler = ap (λ (h : Handler). h.caps) handler;
       filters = ap (λ (h : Handler). h.filters) handler;
       clients = ap (λ (h : Handler). clients_on old.caps h.clients.list) handler ∙ clients_same history End old ready refl;
       holder = grab ∙ holder_same history End old ready refl;
@@ -296,10 +294,10 @@ opens_few history old ready =
     let open_few : length (open_clients past) < CLIENTS_MAX = le_true CLIENTS_MAX (length (open_clients past)) (allowed old.caps past Open ready.allowed).few in
     omega (arith, open_few, length-on old.caps old.handler.clients.list, ap length ready.stands.handler.clients, length-map (open_clients past) (client_after old.caps past))
 
-pub made_open : (history : List Step) (old new : Present) (places : ℕ) → IsReadyFor history Open old → places ≡ ring old.caps → new.caps ≡ old.caps → new.core ≡ old.core → new.handler.caps ≡ old.handler.caps → new.handler.filters ≡ old.handler.filters
+pub made_open : (history : List Step) (old new : Present) (places : ℕ) → IsReadyFor history Open old → places ≡ ring old.caps → new.caps ≡ old.caps → new.core ≡ old.core → new.handler.filters ≡ old.handler.filters
     → new.handler.clients.list ≡ with_client (new_client old.opens places) old.handler.clients.list → new.handles.holder ≡ old.handles.holder → new.opens ≡ old.opens + 1 → new.ends ≡ old.ends
     → IsAcceptedStep history Open old (Opened (length history) old.opens places) [] [] [] [] new
-made_open history old new places ready ringed caps core handler filters clients grab opened ended =
+made_open history old new places ready ringed caps core filters clients grab opened ended =
     let past : List Step = reverse history in
     let more : opens past + 1 ≡ suc (opens past) = omega arith in
     let le : opens past ≤ opens past = omega arith in
@@ -311,7 +309,6 @@ made_open history old new places ready ringed caps core handler filters clients 
     (record {
       caps = caps;
       core = core;
-      handler = handler;
       filters = filters;
       clients = ap (clients_on old.caps) clients
           ∙ with_client-on old.caps (new_client old.opens places) old.handler.clients.list
@@ -326,13 +323,13 @@ made_open history old new places ready ringed caps core handler filters clients 
     }))
 
 -- nothing changed
-pub stands_same : (d : Description) (past : List Step) (old new : Present) → PresentStandsFor d past old → new.caps ≡ old.caps → new.core ≡ old.core → new.handler.caps ≡ old.handler.caps → new.handler.filters ≡ old.handler.filters → new.handler.clients ≡ old.handler.clients
+pub stands_same : (d : Description) (past : List Step) (old new : Present) → PresentStandsFor d past old → new.caps ≡ old.caps → new.core ≡ old.core → new.handler.filters ≡ old.handler.filters → new.handler.clients ≡ old.handler.clients
     → new.handles.holder ≡ old.handles.holder → new.opens ≡ old.opens → new.ends ≡ old.ends → PresentStandsFor d past new
-stands_same d past old new was caps core handler filters clients grab opened ended = record {
+stands_same d past old new was caps core filters clients grab opened ended = record {
   caps = caps ∙ was.caps;
   core = subst (CoreStandsFor d past) (sym core) was.core;
   made = subst (IsFor d) (sym core) was.made;
-  handler = record { caps = handler ∙ was.handler.caps; clients = ap (λ v. clients_on d v.list) clients ∙ was.handler.clients; filters = subst (λ (f : FilterView). FiltersStandFor d.filters (given_in d past) f.kept) (sym filters) was.handler.filters; masks = was.handler.masks; fresh = was.handler.fresh };
+  handler = record { clients = ap (λ v. clients_on d v.list) clients ∙ was.handler.clients; filters = subst (λ (f : FilterView). FiltersStandFor d.filters (given_in d past) f.kept) (sym filters) was.handler.filters; masks = was.handler.masks; fresh = was.handler.fresh };
   holder = grab ∙ was.holder;
   opens = opened ∙ was.opens;
   ends = ended ∙ was.ends;
@@ -435,7 +432,6 @@ stands_first d p caps core made handler grab opened ended = record {
   core = core;
   made = made;
   handler = record {
-    caps = handler.caps;
     clients = ap (λ (v : ClientsView). clients_on d v.list) handler.clients;
     filters = handler.filters;
     masks = λ client kind index h. refl;

@@ -135,7 +135,6 @@ record AreOffered (d : Description) (past : List Step) (x : Step) (given : List 
   clients : clients_on d new.clients.list ≡ map (after_offers d (map (frame_of past x) cs)) (clients_on d old.clients.list)
   grown : (new.clients ≡ old.clients) ⊎ AreGrown (left_count d past x cs) (length past) old.clients new.clients
   filters : FiltersStandFor d.filters (given_of (holder past) (moment_of x) given cs) new.filters.kept
-  caps : new.caps ≡ old.caps
 
 -- one frame
 module _ (d : Description) (past : List Step) (x : Step) (given : List Timed) (c : Cut) (old mid : Handler) (begun : IsBegun d past given old) (same : holder past ≡ None → given_before d (frame_of past x c) ≡ given) (first : IsAfterFrame old c.events (moment_of x) mid) where
@@ -185,7 +184,6 @@ took_all d past x given [] old new begun are took = record {
   clients = ap (λ (h : Handler). clients_on d h.clients.list) took ∙ sym (map_id (clients_on d old.clients.list));
   grown = inl (ap (λ (h : Handler). h.clients) took);
   filters = subst (λ (h : Handler). FiltersStandFor d.filters given h.filters.kept) (sym took) begun.filters;
-  caps = ap (λ (h : Handler). h.caps) took;
 }
 took_all d past x given (c ∷ cs) old new begun are took =
     let f : Frame = frame_of past x c in
@@ -197,7 +195,6 @@ took_all d past x given (c ∷ cs) old new begun are took =
           ∙ map_map (after_offers d (map (frame_of past x) cs)) (read_after_offer d (left (eaten d) f) (moment_of x) (length past) (holder past)) (clients_on d old.clients.list);
       grown = inr (frames_grown d past x c cs old.clients took.0.clients new.clients (first_grown d past x given c old took.0 begun (λ h. (are h).0) took.1) rest.grown);
       filters = rest.filters;
-      caps = rest.caps ∙ took.1.caps;
     }
 
 -- all frames of a step
@@ -205,7 +202,6 @@ pub record IsPassed (d : Description) (past : List Step) (x : Step) (old new : H
   pub clients : clients_on d new.clients.list ≡ map (after_offers d (frames_of_step d past x)) (clients_on d old.clients.list)
   pub grown : (new.clients ≡ old.clients) ⊎ AreGrown (offered_count d past x) (length past) old.clients new.clients
   pub filters : FiltersStandFor d.filters (given_in d (x ∷ past)) new.filters.kept
-  pub caps : new.caps ≡ old.caps
 
 pub passed_all : (d : Description) (past : List Step) (x : Step) (old new : Handler) → old.place ≡ length past → old.holder ≡ holder past → FiltersStandFor d.filters (given_in d past) old.filters.kept → TakesAll takes (moment_of x) (cuts_of_step d past x) old new → IsPassed d past x old new
 unfolding given_in
@@ -215,5 +211,4 @@ passed_all d past x old new place held was took =
       clients = all.clients;
       grown = all.grown;
       filters = subst (λ (given : List Timed). FiltersStandFor d.filters given new.filters.kept) (given_of-step d past x (holder past)) all.filters;
-      caps = all.caps;
     }

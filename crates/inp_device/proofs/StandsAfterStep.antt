@@ -70,9 +70,8 @@ MasksEnd-step d past (Mask client kind word bits) ok was = MasksEnd-mask past cl
 MasksEnd-step d past x ok was = was
 
 -- the handler stands for the past with the step
-pub handler_stands : (d : Description) (past : List Step) (x : Step) (old new : Handler) → IsAllowed d past x → HandlerStandsFor d past old → new.caps ≡ old.caps → clients_on d new.clients.list ≡ clients_after d (x ∷ past) → FiltersStandFor d.filters (given_in d (x ∷ past)) new.filters.kept → HandlerStandsFor d (x ∷ past) new
-handler_stands d past x old new ok was caps clients filters = record {
-  caps = caps ∙ was.caps;
+pub handler_stands : (d : Description) (past : List Step) (x : Step) (old new : Handler) → IsAllowed d past x → HandlerStandsFor d past old → clients_on d new.clients.list ≡ clients_after d (x ∷ past) → FiltersStandFor d.filters (given_in d (x ∷ past)) new.filters.kept → HandlerStandsFor d (x ∷ past) new
+handler_stands d past x old new ok was clients filters = record {
   clients = clients;
   filters = filters;
   masks = MasksEnd-step d past x ok was.masks;
@@ -172,7 +171,6 @@ ends-le (x ∷ past) = ends_more (is_end_step x) (ends past) (length past) (ends
 pub record Leaves (d : Description) (past : List Step) (x : Step) (old new : Present) : Type 0 where
   pub caps : new.caps ≡ old.caps
   pub core : new.core ≡ old.core
-  pub handler : new.handler.caps ≡ old.handler.caps
   pub filters : new.handler.filters ≡ old.handler.filters
   pub clients : clients_on d new.handler.clients.list ≡ clients_after d (x ∷ past)
   pub holder : new.handles.holder ≡ holder (x ∷ past)
@@ -184,7 +182,7 @@ stands_called d past x old new was ok none is = record {
   caps = is.caps ∙ was.caps;
   core = subst (CoreStandsFor d (x ∷ past)) (sym is.core) (CoreStandsFor-keeps d past x old.core none was.core);
   made = subst (IsFor d) (sym is.core) was.made;
-  handler = handler_stands d past x old.handler new.handler ok was.handler is.handler is.clients (filters-called d past x old.handler new.handler is.filters was.handler.filters none);
+  handler = handler_stands d past x old.handler new.handler ok was.handler is.clients (filters-called d past x old.handler new.handler is.filters was.handler.filters none);
   holder = is.holder;
   opens = is.opens;
   ends = is.ends;
@@ -210,7 +208,7 @@ stands_framed d past x old new begun was ok makes begins entered made caps handl
       caps = caps ∙ was.caps;
       core = entered.stands_for;
       made = made;
-      handler = handler_stands d past x old.handler new.handler ok was.handler (all.caps ∙ ap (λ (h : Handler). h.caps) begins) clients all.filters;
+      handler = handler_stands d past x old.handler new.handler ok was.handler clients all.filters;
       holder = handles ∙ was.holder ∙ sym (holder-keeps past x grab);
       opens = opened ∙ was.opens ∙ sym (opens-keeps past x opening);
       ends = ended ∙ was.ends ∙ sym (ends-keeps past x ending);

@@ -12,7 +12,6 @@ use Rattle.inp_device.specs.declared.handler.Handler.{Handler}
 
 -- no clients yet, and filters that were given nothing
 pub record IsFreshHandler (d : Description) (h : Handler) : Type 0 where
-  pub caps : h.caps ≡ d
   pub clients : h.clients ≡ record { list = []; rings = [] }
   pub filters : FiltersStandFor d.filters [] h.filters.kept
 
@@ -37,6 +36,5 @@ pub record IsAfterFrame (before : Handler) (events : List Event) (now : ℕ) (af
       → IsStoredOnce (offered_of before.holder fs now given events) now before.place before.holder before.clients after.clients
   pub filters : (fs : List Filter) (given : List Timed) → FiltersStandFor fs given before.filters.kept
       → FiltersStandFor fs (given_with before.holder now given events) after.filters.kept
-  pub caps : after.caps ≡ before.caps
   pub place : after.place ≡ before.place
   pub holder : after.holder ≡ before.holder

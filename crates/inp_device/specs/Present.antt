@@ -69,7 +69,6 @@ AreFresh past = (client : ℕ) → opens past ≤ client → IsFresh past client
 
 -- The handler stands for the clients of a past, with what they read of their cells, and for what came to the filters.
 pub record HandlerStandsFor (d : Description) (past : List Step) (h : Handler) : Type 0 where
-  pub caps : h.caps ≡ d
   pub clients : clients_on d h.clients.list ≡ clients_after d past
   pub filters : FiltersStandFor d.filters (given_in d past) h.filters.kept
   pub masks : MasksEnd past

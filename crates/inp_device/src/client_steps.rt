@@ -119,9 +119,7 @@ impl Present {
         ensures stored { StoresFew history.now (ToClock client clock now) self.old self.new }
     {
         let at = history.len() as u32;
-        self.handler
-            .clients
-            .set_clock(&self.caps, client, clock, now, at);
+        self.handler.clients.set_clock(client, clock, now, at);
         done(history)
     }
 

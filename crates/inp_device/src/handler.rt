@@ -14,7 +14,6 @@ use std::alloc::Global;
 /// The place and the holder of the grab are those of the step whose frames come next.
 #[derive(Drop)]
 pub struct Handler {
-    pub caps: Caps,
     pub clients: Clients,
     pub filters: FrameFilters,
     pub place: u32,
@@ -29,13 +28,11 @@ impl Frames for Handler {
     fn pass(&mut self, events: &[Event], now: u64) {
         let frame_is_whole = self.holder.is_some() || self.filters.is_empty();
         if frame_is_whole {
-            self.clients
-                .offer(&self.caps, events, now, self.place, self.holder);
+            self.clients.offer(events, now, self.place, self.holder);
         } else {
             self.filters.pass(events, now);
             let left = self.filters.left();
-            self.clients
-                .offer(&self.caps, left, now, self.place, self.holder);
+            self.clients.offer(left, now, self.place, self.holder);
         }
     }
 }
@@ -49,7 +46,6 @@ impl Handler {
         ensures fresh { IfOk result (λ handler. IsFreshHandler caps.now handler) }
     {
         Ok(Handler {
-            caps: caps.copy(),
             clients: Clients::new(alloc)?,
             filters: FrameFilters::new(alloc, caps)?,
             place: 0,

@@ -57,8 +57,8 @@ fn open_one(rt: &impl Abort, clients: &mut Clients, number: u32) -> Result<(), O
     clients.open(number, 64)
 }
 
-fn offer(clients: &mut Clients, caps: &Caps, frame: &[Event], now: u32, holder: Option<u32>) {
-    clients.offer(caps, frame, u64::from(now), 7, holder);
+fn offer(clients: &mut Clients, frame: &[Event], now: u32, holder: Option<u32>) {
+    clients.offer(frame, u64::from(now), 7, holder);
 }
 
 /// Reads all that a client may read, and says that it is this.
@@ -77,16 +77,9 @@ fn set_mask(rt: &impl Abort, clients: &mut Clients, number: u32, kind: u16, word
     clients.set_mask(number, kind, word, bits);
 }
 
-fn set_clock(
-    rt: &impl Abort,
-    clients: &mut Clients,
-    caps: &Caps,
-    number: u32,
-    clock: Clock,
-    now: u32,
-) {
+fn set_clock(rt: &impl Abort, clients: &mut Clients, number: u32, clock: Clock, now: u32) {
     assert!(rt; clients.is_open(number), "client {number}");
-    clients.set_clock(caps, number, clock, u64::from(now), 7);
+    clients.set_clock(number, clock, u64::from(now), 7);
 }
 
 /// Closes a client.
@@ -102,10 +95,10 @@ fn a_client_is_opened_under_any_number_that_is_not_open(rt: HostRuntime) -> Resu
     for number in [5, 2, u32::MAX, 0, 3] {
         open_one(&rt, &mut clients, number)?;
     }
-    offer(&mut clients, &caps, &[key(A, 1), REPORT], 1, None);
+    offer(&mut clients, &[key(A, 1), REPORT], 1, None);
     close_one(&rt, &mut clients, 2);
     open_one(&rt, &mut clients, 2)?;
-    offer(&mut clients, &caps, &[key(A, 0), REPORT], 2, None);
+    offer(&mut clients, &[key(A, 0), REPORT], 2, None);
     let fresh = [at(key(A, 0), 2), at(REPORT, 2)];
     expect(&rt, &mut clients, &caps, 2, &fresh);
     let all = [at(key(A, 1), 1), at(REPORT, 1), fresh[0], fresh[1]];
@@ -117,10 +110,10 @@ fn a_client_is_opened_under_any_number_that_is_not_open(rt: HostRuntime) -> Resu
 }
 
 /// Offers so many frames of A and a report to all clients, at the moments from 10 on.
-fn offer_frames(clients: &mut Clients, caps: &Caps, count: u8) {
+fn offer_frames(clients: &mut Clients, count: u8) {
     for frame in 0..count {
         let press = key(A, (frame % 2) as i32);
-        offer(clients, caps, &[press, REPORT], 10 + frame as u32, None);
+        offer(clients, &[press, REPORT], 10 + frame as u32, None);
     }
 }
 
@@ -131,15 +124,9 @@ fn an_event_is_kept_once_while_a_queue_holds_it(rt: HostRuntime) -> Result<(), F
     assert_eq!(rt; clients.stored(), 0);
     // The client 2 admits no key, and a report alone is left out of an empty queue.
     set_mask(&rt, &mut clients, 2, EV_KEY, 0, 0);
-    offer(&mut clients, &caps, &[key(A, 1), REPORT], 1, None);
+    offer(&mut clients, &[key(A, 1), REPORT], 1, None);
     assert_eq!(rt; clients.stored(), 2, "for the clients 0 and 1");
-    offer(
-        &mut clients,
-        &caps,
-        &[axis(0, 5), key(A, 0), REPORT],
-        2,
-        None,
-    );
+    offer(&mut clients, &[axis(0, 5), key(A, 0), REPORT], 2, None);
     assert_eq!(rt; clients.stored(), 5, "for all three");
 
     let all = [
@@ -159,7 +146,7 @@ fn an_event_is_kept_once_while_a_queue_holds_it(rt: HostRuntime) -> Result<(), F
 
     // The client 2 has a report at its end, so it takes no other one.
     open_one(&rt, &mut clients, 3)?;
-    offer(&mut clients, &caps, &[key(B, 1), REPORT], 3, None);
+    offer(&mut clients, &[key(B, 1), REPORT], 3, None);
     assert_eq!(rt; clients.stored(), 4);
     expect(
         &rt,
@@ -169,7 +156,7 @@ fn an_event_is_kept_once_while_a_queue_holds_it(rt: HostRuntime) -> Result<(), F
         &[at(axis(0, 5), 2), at(REPORT, 2)],
     );
     assert_eq!(rt; clients.stored(), 2);
-    offer(&mut clients, &caps, &[key(B, 0), REPORT], 4, Some(3));
+    offer(&mut clients, &[key(B, 0), REPORT], 4, Some(3));
     assert_eq!(rt; clients.stored(), 4, "two more for the client 3");
     Ok(())
 }
@@ -179,21 +166,21 @@ fn a_loss_is_kept_for_each_client_that_has_it(rt: HostRuntime) -> Result<(), Fai
     let caps = caps()?;
     let mut clients = three(&rt)?;
     // The client 0 has two frames more than the clients 1 and 2.
-    offer(&mut clients, &caps, &[key(B, 1), REPORT], 1, Some(0));
-    offer(&mut clients, &caps, &[key(B, 0), REPORT], 2, Some(0));
-    offer_frames(&mut clients, &caps, 29);
+    offer(&mut clients, &[key(B, 1), REPORT], 1, Some(0));
+    offer(&mut clients, &[key(B, 0), REPORT], 2, Some(0));
+    offer_frames(&mut clients, 29);
     assert_eq!(rt; clients.stored(), 62, "4 and 58 of the client 0");
-    offer(&mut clients, &caps, &[key(A, 1), REPORT], 50, None);
+    offer(&mut clients, &[key(A, 1), REPORT], 50, None);
     assert_eq!(rt; clients.stored(), 61, "60 of the others, and a loss");
     expect(&rt, &mut clients, &caps, 0, &[at(LOSS, 50), at(REPORT, 50)]);
     assert_eq!(rt; clients.stored(), 60);
 
     // The others fill up too, but for the client 2, which loses its queue with its clock.
-    set_clock(&rt, &mut clients, &caps, 2, Clock::Monotonic, 60);
+    set_clock(&rt, &mut clients, 2, Clock::Monotonic, 60);
     assert_eq!(rt; clients.stored(), 61, "60 of the client 1, and a loss");
-    offer(&mut clients, &caps, &[key(A, 0), REPORT], 70, None);
+    offer(&mut clients, &[key(A, 0), REPORT], 70, None);
     assert_eq!(rt; clients.stored(), 63);
-    offer(&mut clients, &caps, &[key(A, 1), REPORT], 71, None);
+    offer(&mut clients, &[key(A, 1), REPORT], 71, None);
     assert_eq!(rt; clients.stored(), 6, "two frames, and two losses");
     expect(&rt, &mut clients, &caps, 1, &[at(LOSS, 71), at(REPORT, 71)]);
     let left = [

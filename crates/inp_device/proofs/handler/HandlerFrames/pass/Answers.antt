@@ -31,7 +31,6 @@ returns-then-frame_is_whole c =
         once = λ fs given stands.
             subst (λ (es : List Event). IsStoredOnce es c.args.now h.place h.holder h.clients c.offer.new.self) (sym (whole_offered h.holder fs c.args.now given c.args.events.now (passes_by c fs given stands))) c.offer.ensures.once;
         filters = λ fs given stands. whole_given h.holder fs c.args.now given c.args.events.now h.filters.kept (passes_by c fs given stands) stands;
-        caps = refl;
         place = refl;
         holder = refl;
       };
@@ -60,7 +59,6 @@ returns-else-frame_is_whole c =
             c.offer-else-frame_is_whole.ensures.once;
         filters = λ fs given stands.
             subst (λ (o : Option ℕ). FiltersStandFor fs (given_with o c.args.now given c.args.events.now) c.pass.new.self.kept) (sym (is_free c)) (c.pass.ensures.stands fs given stands);
-        caps = refl;
         place = refl;
         holder = refl;
       };

@@ -20,7 +20,7 @@ returns c =
     let x = Close c.args.client in
     record {
       made = made_call history x old _ c.done.result refl c.done.ensures.done
-          (called history x old _ c.requires.ready refl refl refl refl refl refl refl refl refl
+          (called history x old _ c.requires.ready refl refl refl refl refl refl refl refl
           (ap (clients_on old.caps) c.close.ensures.closed ∙ without_client-on old.caps c.args.client old.handler.clients.list ∙ ap (without_client c.args.client) c.requires.ready.stands.handler.clients ∙ sym (clients_after-close old.caps (reverse history) c.args.client))
           (ap (λ (h : HandleState). h.holder) c.release.ensures.holder ∙ ap (λ (o : Option ℕ). holder_without c.args.client o) c.requires.ready.stands.holder ∙ holder-close (reverse history) c.args.client));
       stored = stored_fewer old.handler.clients c.close.new.self _ c.close.ensures.none_new;

@@ -15,7 +15,7 @@ returns c =
     let x = Discard c.args.client in
     record {
       made = made_alone history x old _ _ _ refl (discarded_at history old c.args.client c.discard-removed.result c.requires.ready c.discard-removed.ensures.count)
-          (called history x old _ c.requires.ready refl refl refl refl refl refl refl refl refl
+          (called history x old _ c.requires.ready refl refl refl refl refl refl refl refl
           (call_on_clock old.caps c.args.client _ _ old.handler.clients.list (on_take old.caps c.discard-removed.result) c.discard-removed.ensures.rest ∙ clients_discarded history old c.args.client c.discard-removed.result c.requires.ready c.discard-removed.ensures.count)
           (holder_same history x old c.requires.ready refl));
       stored = stored_none_new old.handler.clients c.discard-removed.new.self _ c.discard-removed.ensures.none_new;

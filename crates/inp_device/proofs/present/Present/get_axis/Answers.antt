@@ -16,7 +16,7 @@ returns c =
     record {
       made = made_alone history x old _ _ _ refl
           (axis_at history old c.args.code c.axis.result (c.axis.ensures.axis (reverse history) c.requires.ready.stands.core))
-          (called history x old _ c.requires.ready refl refl refl refl refl refl refl refl refl
+          (called history x old _ c.requires.ready refl refl refl refl refl refl refl refl
           (clients_same history x old c.requires.ready refl)
           (holder_same history x old c.requires.ready refl));
       stored = stored_kept old.handler.clients old.handler.clients _ refl;

@@ -22,7 +22,7 @@ returns c =
     record {
       made = made_alone history c.args.step old _ _ _ (accepted-bits old.caps (reverse history) c.args.step c.args.client c.args.kind c.requires.asks)
           (bits_at history old c.args.kind c.bits-words.result (c.bits-words.ensures.bits old.caps (reverse history) c.requires.ready.stands.core))
-          (called history c.args.step old _ c.requires.ready asks.events asks.opening asks.ending refl refl refl refl refl refl
+          (called history c.args.step old _ c.requires.ready asks.events asks.opening asks.ending refl refl refl refl refl
           (call_on_clock old.caps c.args.client _ _ old.handler.clients.list (on_flush old.caps (Codes c.args.kind)) c.flush.ensures.flushed ∙ clients_asked history c.args.step old c.args.client (Codes c.args.kind) c.requires.ready c.requires.asks.named c.requires.asks.whole)
           (holder_same history c.args.step old c.requires.ready asks.grab));
       stored = stored_none_new old.handler.clients c.flush.new.self _ c.flush.ensures.none_new;

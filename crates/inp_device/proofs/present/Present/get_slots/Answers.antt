@@ -24,7 +24,7 @@ returns c =
           (cells_at history x old c.tell_cells.result c.slots-count.result old.caps.slots values c.requires.ready c.tell_cells.ensures.told c.slots-count.ensures.slots)
           refl
           (c.write_column.ensures.written old.caps (raw old.caps (reverse history)) (subst (SlotsStandFor old.caps (raw old.caps (reverse history))) (sym c.slots.ensures.slots) c.requires.ready.stands.core.raw_events.slots))
-          (called history x old _ c.requires.ready refl refl refl refl refl refl refl refl refl
+          (called history x old _ c.requires.ready refl refl refl refl refl refl refl refl
           (clients_same history x old c.requires.ready refl)
           (holder_same history x old c.requires.ready refl));
       stored = stored_kept old.handler.clients old.handler.clients _ refl;

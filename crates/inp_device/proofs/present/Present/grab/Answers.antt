@@ -11,7 +11,7 @@ returns c =
     let x = Grab c.args.client in
     record {
       made = made_call history x old _ c.done.result refl c.done.ensures.done
-          (called history x old _ c.requires.ready refl refl refl refl refl refl refl refl refl
+          (called history x old _ c.requires.ready refl refl refl refl refl refl refl refl
           (clients_same history x old c.requires.ready refl)
           (holder_taken history old c.args.client c.grab.new.self c.grab.result c.requires.ready c.grab.ensures.free.1 c.grab.ensures.ok));
       stored = stored_kept old.handler.clients old.handler.clients _ refl;

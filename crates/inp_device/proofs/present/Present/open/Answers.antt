@@ -14,12 +14,12 @@ overflow_add-self c = omega (arith, opens_fit c.args.history.now Open c.args.sel
 
 pub returns-in-Ok : goal.returns-in-Ok
 returns-in-Ok c = record {
-  made = made_open c.args.history.now c.args.self.now _ c.ring-ring.result c.requires.ready c.ring-ring.ensures.ring refl refl refl refl c.in-Ok.ensures.ok refl refl refl;
+  made = made_open c.args.history.now c.args.self.now _ c.ring-ring.result c.requires.ready c.ring-ring.ensures.ring refl refl refl c.in-Ok.ensures.ok refl refl refl;
   stored = stored_same c.args.self.now.handler.clients c.open.new.self _ c.open.ensures.numbers;
 }
 
 pub returns-in-Err-NoMemory : goal.returns-in-Err-NoMemory
 returns-in-Err-NoMemory c = record {
-  made = (refl, refl, refl, stands_same c.args.self.now.caps (reverse c.args.history.now) c.args.self.now _ c.requires.ready.stands refl refl refl refl c.in-Err-NoMemory.ensures.err refl refl refl);
+  made = (refl, refl, refl, stands_same c.args.self.now.caps (reverse c.args.history.now) c.args.self.now _ c.requires.ready.stands refl refl refl c.in-Err-NoMemory.ensures.err refl refl refl);
   stored = ap stored_of c.in-Err-NoMemory.ensures.err;
 }

@@ -17,7 +17,7 @@ returns c =
       made = made_written history x old _ _ _ _ _ _ _
           (accepted-read history old c.args.client c.args.count c.take-taken.result c.requires.ready c.take-taken.ensures.count)
           refl c.take-taken.ensures.taken refl
-          (called history x old _ c.requires.ready refl refl refl refl refl refl refl refl refl
+          (called history x old _ c.requires.ready refl refl refl refl refl refl refl refl
           (call_on_clock old.caps c.args.client _ _ old.handler.clients.list (on_take old.caps c.take-taken.result) c.take-taken.ensures.rest ∙ clients_read history old c.args.client c.args.count c.take-taken.result c.requires.ready c.take-taken.ensures.count)
           (holder_same history x old c.requires.ready refl));
       stored = stored_none_new old.handler.clients c.take-taken.new.self _ c.take-taken.ensures.none_new;

@@ -19,7 +19,7 @@ returns c =
     let x = Revoke c.args.client in
     record {
       made = made_call history x old _ c.done.result refl c.done.ensures.done
-          (called history x old _ c.requires.ready refl refl refl refl refl refl refl refl refl
+          (called history x old _ c.requires.ready refl refl refl refl refl refl refl refl
           (call_on_clock old.caps c.args.client _ _ old.handler.clients.list (λ v. refl) c.revoke.ensures.revoked ∙ ap (map_client c.args.client after_revoke) c.requires.ready.stands.handler.clients ∙ sym (clients_after-revoke old.caps (reverse history) c.args.client))
           (ap (λ (h : HandleState). h.holder) c.release.ensures.holder ∙ ap (λ (o : Option ℕ). holder_without c.args.client o) c.requires.ready.stands.holder ∙ holder-revoke (reverse history) c.args.client));
       stored = stored_rings old.handler.clients c.revoke.new.self _ c.revoke.ensures.numbers;

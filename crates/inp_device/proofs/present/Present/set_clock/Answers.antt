@@ -19,7 +19,7 @@ returns c =
     let x = ToClock c.args.client c.args.clock c.args.now in
     record {
       made = made_call history x old _ c.done.result refl c.done.ensures.done
-          (called history x old _ c.requires.ready refl refl refl refl refl refl refl refl refl
+          (called history x old _ c.requires.ready refl refl refl refl refl refl refl refl
           (call_on_clock old.caps c.args.client _ _ old.handler.clients.list (on_clock old.caps c.args.clock c.args.now (length history)) c.set_clock.ensures.set ∙ ap (λ (n : ℕ). map_client c.args.client (read_after_clock old.caps c.args.clock c.args.now n) (shown old)) (sym (length-reverse history)) ∙ ap (map_client c.args.client (read_after_clock old.caps c.args.clock c.args.now (length (reverse history)))) c.requires.ready.stands.handler.clients ∙ sym (clients_after-clock old.caps (reverse history) c.args.client c.args.clock c.args.now))
           (holder_same history x old c.requires.ready refl));
       stored = stored_one old.handler.clients c.set_clock.new.self _ c.set_clock.ensures.stored;

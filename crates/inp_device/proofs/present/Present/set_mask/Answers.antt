@@ -29,7 +29,7 @@ returns c =
     let x = Mask c.args.client c.args.kind c.args.word c.args.bits in
     record {
       made = made_call history x old _ c.done.result refl c.done.ensures.done
-          (called history x old _ c.requires.ready refl refl refl refl refl refl refl refl refl
+          (called history x old _ c.requires.ready refl refl refl refl refl refl refl refl
           (call_on_clock old.caps c.args.client _ _ old.handler.clients.list (λ v. refl) c.set_mask.ensures.set ∙ ap (map_client c.args.client (after_mask c.args.kind c.args.word c.args.bits)) c.requires.ready.stands.handler.clients ∙ sym (clients_after-mask old.caps (reverse history) c.args.client c.args.kind c.args.word c.args.bits (has_word c)))
           (holder_same history x old c.requires.ready refl));
       stored = stored_rings old.handler.clients c.set_mask.new.self _ c.set_mask.ensures.numbers;

@@ -30,7 +30,7 @@ returns c =
           (cells_at history x old c.tell_cells.result (14 * c.slots-count.result) (14 * old.caps.slots) values c.requires.ready c.tell_cells.ensures.told (ap (λ (n : ℕ). 14 * n) c.slots-count.ensures.slots))
           refl
           (c.write_rows.ensures.written old.caps (raw old.caps (reverse history)) (subst (SlotsStandFor old.caps (raw old.caps (reverse history))) (sym c.slots.ensures.slots) c.requires.ready.stands.core.raw_events.slots))
-          (called history x old _ c.requires.ready refl refl refl refl refl refl refl refl refl
+          (called history x old _ c.requires.ready refl refl refl refl refl refl refl refl
           (call_on_clock old.caps c.args.client _ _ old.handler.clients.list (on_flush old.caps Slots) c.flush_slots.ensures.flushed ∙ clients_asked history x old c.args.client Slots c.requires.ready refl refl)
           (holder_same history x old c.requires.ready refl));
       stored = stored_none_new old.handler.clients c.flush_slots.new.self _ c.flush_slots.ensures.none_new;

@@ -11,7 +11,7 @@ returns c =
     let x = Ungrab c.args.client in
     record {
       made = made_call history x old _ c.done.result refl c.done.ensures.done
-          (called history x old _ c.requires.ready refl refl refl refl refl refl refl refl refl
+          (called history x old _ c.requires.ready refl refl refl refl refl refl refl refl
           (clients_same history x old c.requires.ready refl)
           (holder_given_up history old c.args.client c.ungrab.new.self c.ungrab.result c.requires.ready c.ungrab.ensures.grabber.1 c.ungrab.ensures.ok));
       stored = stored_kept old.handler.clients old.handler.clients _ refl;

@@ -1,6 +1,6 @@
 use Rattle.std.proofs.Common.{refl, ◌∙◌}
 use Rattle.inp_client.proofs.Offering.{entered_none, enter_absent, enter_spare, enter_held, entered_more, flag_counts}
-use Rattle.inp_client.proofs.clients.enter_each.Goals as goal
+use Rattle.inp_client.proofs.frame.enter_each.Goals as goal
 
 pub loop-location-init : goal.loop-location-init
 loop-location-init c = entered_none c.args.cell c.args.holder c.args.number c.args.locations.now c.args.slab.now c.args.store.now c.requires.located c.requires.stored c.requires.only c.requires.cell

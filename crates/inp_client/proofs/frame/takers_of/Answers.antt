@@ -1,6 +1,6 @@
 use Rattle.std.proofs.Common.{◌≡◌, true, false, refl, sym, ◌∙◌, arith}
 use Rattle.inp_client.proofs.Runs.{takers_same, takers_more, takes_more}
-use Rattle.inp_client.proofs.clients.takers_of.Goals as goal
+use Rattle.inp_client.proofs.frame.takers_of.Goals as goal
 
 pub loop-location-preserved-then-not-is_offered_to : goal.loop-location-preserved-then-not-is_offered_to
 loop-location-preserved-then-not-is_offered_to c =

@@ -7,7 +7,7 @@ use Rattle.inp_client.specs.Locations.{clients_in}
 use Rattle.inp_client.specs.Offered.{TakesFrame}
 use Rattle.inp_client.proofs.Locating.{members_long}
 use Rattle.inp_client.proofs.Runs.{appended_none, appended_more, appended_all, old_is, same_number}
-use Rattle.inp_client.proofs.clients.append_each.Goals as goal
+use Rattle.inp_client.proofs.frame.append_each.Goals as goal
 
 pub loop-location-init : goal.loop-location-init
 loop-location-init c = appended_none c.args.holder c.args.numbers.now c.args.locations.now c.args.slab.now c.requires.located

@@ -2,7 +2,7 @@ use Rattle.std.proofs.Common.{◌≡◌, ◌≤◌, take}
 use Rattle.std.specs.Prelude.{All}
 use Rattle.inp_client.specs.Locations.{clients_in}
 use Rattle.inp_client.specs.Offered.{TakesFrame, takers_in}
-use Rattle.inp_client.proofs.clients.takers_of.Given as goal
+use Rattle.inp_client.proofs.frame.takers_of.Given as goal
 
 abbrev pub invariant-loop-location : goal.invariant-loop-location
 invariant-loop-location l =
