@@ -6,9 +6,10 @@
 //! `docs/FORMATS.md` has the whole form, with an example of each line.
 //!
 //! How a line is read: [`parse`] cuts the text into lines and lends each to `read_line`, with the `Context` that the lines
-//! before it left: where the line stands, what the latest device gave, which actors there are. `item_of_words` says what
-//! the line's words are, an `Item`; then the context says whether that was said before, is one too many, or is refused by
-//! the description, and else takes it in.
+//! before it left: where the line stands, what the latest device gave, which actors there are. Most lines are events of
+//! sources, which `read_event` takes in at once. Of any other line `item_of_words` says what its words are, an `Item`;
+//! then the context says whether that was said before, is one too many, or is refused by the description, and else
+//! takes it in.
 //!
 //! Its contract: `meaning` of `specs/Meaning.antt` says what bytes mean, and [`parse`] gives just that, unless memory
 //! ran out (`IsParsing`). What came before a line is the list of the items before it, a past, and what the line depends on

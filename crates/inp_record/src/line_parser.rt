@@ -135,6 +135,35 @@ fn read_event(context: &mut Context, source: u32, words: &[&[u8]]) -> Result<(),
     }
 }
 
+/// Reads the words of a line, of which there is one, whatever it is.
+#[inline(never)]
+fn read_item(context: &mut Context, alloc: Global, words: &[&[u8]]) -> Result<(), LineFault>
+    requires some { 1 ≤ length words.now }
+    requires room { IsWithinCounts context.old }
+    requires actors { length context.old.actors + 1 < 2 ^ 32 }
+    requires text { AreText (texts words.now) }
+    ensures behind { (past : Past) → context.old ≡ context_of past
+        → IsBehind result (behind_words past (texts words.now)) context.new }
+    ensures room { OnOk result (IsWithinCounts context.new) }
+    ensures actors { OnOk result
+        (length context.new.actors ≤ length context.old.actors + 1) }
+{
+    let item = item_of_words(context, alloc, words)?;
+    if context.is_later_command(&item) {
+        return Err(LineFault::Refused(Cause::BadCommand));
+    }
+    if context.is_twice(&item) {
+        return Err(LineFault::Refused(Cause::Twice));
+    }
+    if context.is_too_many(&item) {
+        return Err(LineFault::Refused(Cause::TooMany));
+    }
+    if context.has_too_many_slots(&item) {
+        return Err(LineFault::Refused(Cause::Caps(CapsRefused::BadSlots)));
+    }
+    context.enter(alloc, item)
+}
+
 /// Reads the words of a line. Most lines inject an event.
 fn read_words(context: &mut Context, alloc: Global, words: &[&[u8]]) -> Result<(), LineFault>
     requires room { IsWithinCounts context.old }
@@ -152,20 +181,7 @@ fn read_words(context: &mut Context, alloc: Global, words: &[&[u8]]) -> Result<(
     if let Some(source) = event_source(context, words) {
         return read_event(context, source, words);
     }
-    let item = item_of_words(context, alloc, words)?;
-    if context.is_later_command(&item) {
-        return Err(LineFault::Refused(Cause::BadCommand));
-    }
-    if context.is_twice(&item) {
-        return Err(LineFault::Refused(Cause::Twice));
-    }
-    if context.is_too_many(&item) {
-        return Err(LineFault::Refused(Cause::TooMany));
-    }
-    if context.has_too_many_slots(&item) {
-        return Err(LineFault::Refused(Cause::Caps(CapsRefused::BadSlots)));
-    }
-    context.enter(alloc, item)
+    read_item(context, alloc, words)
 }
 
 /// Reads a line, which is the front of a text. After a fault the context is given up. The list is lent for the

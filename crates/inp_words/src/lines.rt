@@ -73,8 +73,9 @@ fn piece_end(line: &[u8], text: &[u8], from: usize) -> usize
 {
     let mut place = from;
     if text.len() - from >= 16 {
-        place = line.len().min(from + printed_lanes(text, from));
-        if place < from + 16 {
+        let run = printed_lanes(text, from);
+        place = line.len().min(from + run);
+        if run < 16 {
             return place;
         }
     }

@@ -54,10 +54,11 @@ fn decimal(digits: &[u8]) -> Option<u64>
     }
     let mut value: u64 = 0;
     for byte in digits {
-        if *byte < b'0' || b'9' < *byte {
+        let digit = byte.wrapping_sub(b'0');
+        if digit > 9 {
             return None;
         }
-        value = value * 10 + u64::from(*byte - b'0');
+        value = value * 10 + u64::from(digit);
     }
     Some(value)
 }

@@ -4,7 +4,7 @@ use Rattle.inp_record.proofs.Texts.{some_texts}
 use Rattle.inp_record.proofs.Entries.{entered_behind}
 use Rattle.inp_record.proofs.Inversions.{words_are}
 use Rattle.inp_record.proofs.SayableItems.{has_micros-read}
-use Rattle.inp_record.proofs.line_parser.read_words.Goals as goal
+use Rattle.inp_record.proofs.line_parser.read_item.Goals as goal
 
 pub enter-requires-clause-micros : goal.enter-requires-clause-micros
 enter-requires-clause-micros c =
