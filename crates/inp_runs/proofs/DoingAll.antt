@@ -1,9 +1,8 @@
 -- The lines of an actor, one after another, over any device.
-use Rattle.std.proofs.Common.{◌≡◌, ℕ, ◌+◌, ◌≤◌, Bool, true, false, cond, nat_eq, List, [], ◌∷◌, ◌++◌, length, take, refl, sym, ap, subst, ◌∙◌, inl, inr, Option, Some, None}
-use Rattle.std.specs.Prelude.{is_some, min, slice_get, ◌⊎◌}
-use Rattle.std.proofs.lemmas.List.{take_all, take_more}
-use Rattle.std.proofs.lemmas.List.Elements.{filter-append}
-use Rattle.std.proofs.lemmas.Option.{same_Some, slice_get_within, get_or_from_slice_get}
+use Rattle.std.proofs.Common.{◌≡◌, ℕ, ◌+◌, ◌≤◌, Bool, true, false, nat_eq, List, [], ◌∷◌, ◌++◌, length, take, refl, sym, ap, subst, ◌∙◌, inl, inr, Option, Some, None}
+use Rattle.std.specs.Prelude.{is_some, min, option_map, slice_get, ◌⊎◌}
+use Rattle.std.proofs.lemmas.List.{length-map, take_all, take_more}
+use Rattle.std.proofs.lemmas.Option.{same_Some, slice_get-map, slice_get_within, get_or_from_slice_get}
 use Rattle.inp_model.specs.Evdev.{EvdevView}
 use Rattle.inp_model.proofs.Leaves.{AreCalls-append, left-none, left-then}
 use Rattle.inp_actors.specs.declared.actor_text.ActorText.{ActorText}
@@ -16,16 +15,16 @@ use Rattle.inp_feedback.specs.declared.fed.TheConstants.{FEEDBACK_MAX}
 use Rattle.inp_feedback.specs.Feeding.{Feeding}
 use Rattle.inp_reader.specs.Talk.{finish}
 use Rattle.inp_script.specs.declared.waiting.Waiting.{Waiting}
-use Rattle.inp_script.specs.Acting.{FeedCall, AreFeedCalls, ActsLine, BeginsToAct, IsActedOn}
+use Rattle.inp_script.specs.Acting.{FeedCall, AreFeedCalls, Acts, ActsLine, BeginsToAct, IsActedOn}
 use Rattle.inp_script.specs.Doing.{HasActor, Holds, line_talk}
 use Rattle.inp_script.specs.Job.{ActorView, Job}
 use Rattle.inp_script.specs.Line.{end_talk}
 use Rattle.inp_script.specs.Owner.{MayHaveFed}
 use Rattle.inp_script.proofs.Holding.{holds-nothing, begins-left}
-use Rattle.inp_runs.specs.DoingAll.{AreActed, ActsIfOwn, EndsLines, ActsAll, DoesAll}
+use Rattle.inp_runs.specs.DoingAll.{AreNumbersOf, AreActed, EndsLines, ActsAll, DoesAll}
 use Rattle.inp_runs.specs.Job.{lines_by, last_talk, lines_talk}
 use Rattle.inp_runs.proofs.JobEnds.{owner-role}
-use Rattle.inp_runs.proofs.Listing.{eq_true, eq_false}
+use Rattle.inp_runs.proofs.Listing.{eq_same, option_map-some, slice_get-filter}
 use Rattle.inp_runs.proofs.MoreRounds.{lines-next}
 
 pub no-owner : (role : Role) → is_owner role ≡ false → role ≡ Owner → ⊥
@@ -88,36 +87,26 @@ module _ {S : Type 0} (told : S → EvdevView) (feeds : Feeding S) where
         subst (λ s. AreActed told feeds s after r wait more old new) h.0 (subst (λ (a : ActorView). AreActed told feeds between after r wait more a new) h.1 k)
     acted-append before between after (line ∷ lines) more old mid new h k = (h.0, h.1, h.2, acted-append h.0 between after lines more h.1 mid new h.3 k)
 
-    -- a line of the actor, and one of another actor
-    pub acted-own : (before after : S) (actor : ℕ) (line : Line) (old new : ActorView) → line.actor ≡ actor → ActsLine told feeds before after r wait old line new → AreActed told feeds before after r wait (lines_by actor (line ∷ [])) old new
-    unfolding AreActed
-    acted-own before after actor line old new own h =
-        subst (λ (b : Bool). AreActed told feeds before after r wait (cond b (line ∷ []) []) old new) (sym (eq_true line.actor actor own)) (after, new, h, (refl, refl))
-
-    pub acted-other : (s : S) (actor : ℕ) (line : Line) (a : ActorView) → (line.actor ≡ actor → ⊥) → AreActed told feeds s s r wait (lines_by actor (line ∷ [])) a a
-    acted-other s actor line a other =
-        subst (λ (b : Bool). AreActed told feeds s s r wait (cond b (line ∷ []) []) a a) (sym (eq_false line.actor actor other)) (acted-none s a)
-
     -- one line more
-    pub acted-more : (before between after : S) (actor i : ℕ) (old mid new : ActorView) → AreActed told feeds before between r wait (lines_by actor (take i r.lines)) old mid
-        → ActsIfOwn told feeds between after r wait i actor mid new → AreActed told feeds before after r wait (lines_by actor (take (i + 1) r.lines)) old new
-    acted-more before between after actor i old mid new h k =
-        let next : take (i + 1) r.lines ≡ take i r.lines ++ k.line ∷ [] =
-        take_more r.lines i k.line (slice_get_within r.lines i k.line k.is_line)
-        ∙ ap (λ (line : Line). take i r.lines ++ line ∷ []) (get_or_from_slice_get r.lines i k.line k.line k.is_line) in
-        subst (λ (lines : List Line). AreActed told feeds before after r wait lines old new)
-        (sym (ap (lines_by actor) next ∙ filter-append (λ (line : Line). nat_eq line.actor actor) (take i r.lines) (k.line ∷ [])))
-        (acted-append before between after (lines_by actor (take i r.lines)) (lines_by actor (k.line ∷ [])) old mid new h k.acts)
+    pub acted-more : (before between after : S) (own : List Line) (i number : ℕ) (line : Line) (old mid new : ActorView) → slice_get own i ≡ Some line → slice_get r.lines number ≡ Some line
+        → AreActed told feeds before between r wait (take i own) old mid → Acts told feeds between after r wait number mid new → AreActed told feeds before after r wait (take (i + 1) own) old new
+    unfolding AreActed
+    acted-more before between after own i number line old mid new is at h did =
+        let next : take (i + 1) own ≡ take i own ++ line ∷ [] =
+        take_more own i line (slice_get_within own i line is) ∙ ap (λ (l : Line). take i own ++ l ∷ []) (get_or_from_slice_get own i line line is) in
+        let same : did.line ≡ line = same_Some did.line line (sym did.is_line ∙ at) in
+        subst (λ (lines : List Line). AreActed told feeds before after r wait lines old new) (sym next)
+        (acted-append before between after (take i own) (line ∷ []) old mid new h (after, new, subst (λ (l : Line). ActsLine told feeds between after r wait mid l new) same did.acts, (refl, refl)))
 
     -- all lines, and what is asked then
-    pub acted-all : (before between after : S) (number i : ℕ) (old mid new : ActorView) → old.actor ≡ number → length r.lines ≤ i → AreActed told feeds before between r wait (lines_by number (take i r.lines)) old mid
+    pub acted-all : (before between after : S) (number i : ℕ) (old mid new : ActorView) → old.actor ≡ number → length (lines_by number r.lines) ≤ i → AreActed told feeds before between r wait (take i (lines_by number r.lines)) old mid
         → mid ≡ record old { job = mid.job; owning = mid.owning } → EndsLines told feeds between after wait mid new → ActsAll told feeds before after r wait old new
     acted-all before between after number i old mid new named all h still ends = record {
       between = between;
       mid = mid;
       lines =
           subst (λ (n : ℕ). AreActed told feeds before between r wait (lines_by n r.lines) old mid) (sym named)
-          (subst (λ (lines : List Line). AreActed told feeds before between r wait (lines_by number lines) old mid) (take_all i r.lines all) h);
+          (subst (λ (lines : List Line). AreActed told feeds before between r wait lines old mid) (take_all i (lines_by number r.lines) all) h);
       actor = still;
       ends = ends;
     }
@@ -180,6 +169,33 @@ pub its-role : (r : RecordView) (a : ActorView) (number : ℕ) (text : ActorText
 its-role r a number text h same is =
     let one : h.text ≡ text = same_Some h.text text (sym h.is_text ∙ ap (λ (n : ℕ). slice_get r.actors n) same ∙ is) in
     ap (λ (x : ActorText). x.role) (sym one) ∙ h.role
+
+-- An actor's lines by their numbers
+
+-- what stands at one of these numbers
+pub record IsOwnLine (r : RecordView) (actor i number : ℕ) : Type 0 where
+  pub line : Line
+  pub is_own : slice_get (lines_by actor r.lines) i ≡ Some line
+  pub is_line : slice_get r.lines number ≡ Some line
+  pub is_actor : line.actor ≡ actor
+
+pub own-line : (r : RecordView) (actor : ℕ) (numbers : List ℕ) (i number : ℕ) → AreNumbersOf r actor numbers → slice_get numbers i ≡ Some number → IsOwnLine r actor i number
+own-line r actor numbers i number are at =
+    let own : List Line = lines_by actor r.lines in
+    let both : option_map Some (slice_get own i) ≡ Some (slice_get r.lines number) =
+    sym (slice_get-map Some own i) ∙ sym (ap (λ (lines : List (Option Line)). slice_get lines i) are) ∙ slice_get-map (slice_get r.lines) numbers i ∙ ap (option_map (slice_get r.lines)) at in
+    let image = option_map-some Some (slice_get own i) (slice_get r.lines number) both in
+    record {
+      line = image.from;
+      is_own = image.is;
+      is_line = sym image.same;
+      is_actor = eq_same image.from.actor actor (slice_get-filter (λ (line : Line). nat_eq line.actor actor) r.lines i image.from image.is).passes;
+    }
+
+pub own-count : (r : RecordView) (actor : ℕ) (numbers : List ℕ) → AreNumbersOf r actor numbers → length (lines_by actor r.lines) ≡ length numbers
+own-count r actor numbers are =
+    let own : List Line = lines_by actor r.lines in
+    sym (length-map own Some) ∙ ap length (sym are) ∙ length-map numbers (slice_get r.lines)
 
 -- What is done when lines are done
 

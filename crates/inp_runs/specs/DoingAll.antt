@@ -1,5 +1,5 @@
 -- What it means that an actor did all its lines of a record (docs/RUNS.md, "Playing a record").
-use Rattle.std.specs.Prelude.{◌≡◌, ◌⊎◌, ℕ, List, [], ◌∷◌, Option, Some, slice_get}
+use Rattle.std.specs.Prelude.{◌≡◌, ◌⊎◌, ℕ, List, [], ◌∷◌, map, Option, Some, slice_get}
 use Rattle.inp_model.specs.Evdev.{EvdevView}
 use Rattle.inp_actors.specs.declared.line.Line.{Line}
 use Rattle.inp_actors.specs.declared.role.Role.TheVariants.{Source}
@@ -12,18 +12,16 @@ use Rattle.inp_script.specs.Doing.{Holds}
 use Rattle.inp_script.specs.Job.{ActorView, Job}
 use Rattle.inp_runs.specs.Job.{lines_by, last_talk, lines_talk}
 
+-- At these numbers of lines stand the lines of an actor and no others, in file order.
+abbrev pub AreNumbersOf : RecordView → ℕ → List ℕ → Type 0
+AreNumbersOf r actor numbers = map (slice_get r.lines) numbers ≡ map Some (lines_by actor r.lines)
+
 module _ {S : Type 0} (told : S → EvdevView) (feeds : Feeding S) where
   -- An actor did these lines, one after another.
   unfoldable pub AreActed : S → S → RecordView → Option Waiting → List Line → ActorView → ActorView → Type 0
   AreActed before after r wait [] old new = (after ≡ before) × (new ≡ old)
   AreActed before after r wait (line ∷ lines) old new =
       (between : S) × (mid : ActorView) × ActsLine told feeds before between r wait old line mid × AreActed between after r wait lines mid new
-
-  -- the same of the line of this number, if it is the one of the actor of this number
-  pub record ActsIfOwn (before after : S) (r : RecordView) (wait : Option Waiting) (number actor : ℕ) (old new : ActorView) : Type 0 where
-    pub line : Line
-    pub is_line : slice_get r.lines number ≡ Some line
-    pub acts : AreActed before after r wait (lines_by actor (line ∷ [])) old new
 
   -- An actor did what is asked of it when its lines are done: nothing, or the call of a source.
   abbrev pub EndsLines : S → S → Option Waiting → ActorView → ActorView → Type 0

@@ -1,3 +1,4 @@
+pub mod DealtLines
 pub mod CallsAt
 pub mod StepPlaces
 pub mod Numbers

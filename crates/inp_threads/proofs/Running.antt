@@ -9,14 +9,15 @@ use Rattle.inp_script.specs.declared.waiting.Waiting.{Waiting}
 use Rattle.inp_script.specs.Doing.{source_count}
 use Rattle.inp_port.specs.declared.port.PortOf.{PortOf}
 use Rattle.inp_threads.specs.declared.worker.Worker.{Worker}
-use Rattle.inp_threads.specs.Worker.{actor_number, IsReadyOn, IsReadyToWait}
+use Rattle.inp_threads.specs.Lines.{AreLinesDealt}
+use Rattle.inp_threads.specs.Worker.{actor_number, IsReadyOn, IsReadyToWork}
 
-module _ (port : PortOf UdevView UEntry) (r : RecordView) (device : ℕ) (waiting : Waiting) (sources : waiting.sources ≡ source_count r device) where
-  pub ready-to-wait : (workers : List Worker) → All (IsReadyOn port r device) workers → 1 ≤ waiting.idle
-      → (i : ℕ) (w : Worker) → i < length workers → w ≡ get_or workers i w → IsReadyToWait port r waiting w
-  ready-to-wait workers all bound i w within is =
+module _ (port : PortOf UdevView UEntry) (r : RecordView) (lists : List (List ℕ)) (dealt : AreLinesDealt r lists) (device : ℕ) (waiting : Waiting) (sources : waiting.sources ≡ source_count r device) where
+  pub ready-to-work : (workers : List Worker) → All (IsReadyOn port r device) workers → 1 ≤ waiting.idle
+      → (i : ℕ) (w : Worker) → i < length workers → w ≡ get_or workers i w → IsReadyToWork port r lists waiting w
+  ready-to-work workers all bound i w within is =
       let h : IsReadyOn port r device w = subst (IsReadyOn port r device) (sym is) (all i w within) in
-      record { ready = h.ready; waits = record { idle = bound; text = h.text; is_text = h.is_text; sources = sources ∙ ap (source_count r) (sym h.on_device) } }
+      record { ready = h.ready; waits = record { idle = bound; text = h.text; is_text = h.is_text; sources = sources ∙ ap (source_count r) (sym h.on_device) }; dealt = dealt }
 
 -- a vector of which all elements were changed in place
 pub changed : {A : Type 0} (n : ℕ) (items new : List A) → n ≡ length items → length new ≡ length items → take n (new ++ drop (length new) items) ≡ new

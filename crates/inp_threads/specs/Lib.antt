@@ -1,3 +1,4 @@
+pub mod Lines
 pub mod Owner
 pub mod Worker
 pub mod Joined

@@ -30,6 +30,7 @@ use Rattle.inp_port.specs.Entries.{steps_among, step_places, other_places}
 use Rattle.inp_port.specs.Port.{IsReadyAt, description_of}
 use Rattle.inp_uinput.specs.UdevView.{UdevView}
 use Rattle.inp_threads.specs.declared.worker.Worker.{Worker}
+use Rattle.inp_threads.specs.Lines.{AreLinesDealt}
 use Rattle.inp_threads.specs.Owner.{HasFedLines}
 
 module _ {K : Ghosts UdevView Description UEntry} where
@@ -79,10 +80,11 @@ pub record IsReadyWorker (port : PortOf UdevView UEntry) (r : RecordView) (w : W
   pub number : w.actor.actor ≡ w.number
   pub start : IsAtStart port r w.actor
 
--- The same, and its lines wait so.
-pub record IsReadyToWait (port : PortOf UdevView UEntry) (r : RecordView) (waiting : Waiting) (w : Worker) : Type 0 where
+-- The same, its lines wait so, and all lines are dealt.
+pub record IsReadyToWork (port : PortOf UdevView UEntry) (r : RecordView) (lists : List (List ℕ)) (waiting : Waiting) (w : Worker) : Type 0 where
   pub ready : IsReadyWorker port r w
   pub waits : IsWaiting r w.actor waiting
+  pub dealt : AreLinesDealt r lists
 
 -- The same, and its actor is one of the device of this number.
 pub record IsReadyOn (port : PortOf UdevView UEntry) (r : RecordView) (device : ℕ) (w : Worker) : Type 0 where

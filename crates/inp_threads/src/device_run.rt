@@ -1,8 +1,10 @@
 //! One device with its jobs.
 ghost use Rattle.std.specs.Prelude.{◌≤◌, ◌<◌, length, IfOk};
+ghost use Rattle.inp_threads.specs.Lines.{AreLinesDealt};
 ghost use Rattle.inp_threads.specs.Promise.{IsPromisedOf};
 
 use crate::gathered::{Gathered, gather};
+use crate::lines::LineLists;
 use crate::workers::{deal, run_all};
 use inp_actors::Record;
 use inp_edge::Gate;
@@ -18,11 +20,13 @@ pub(crate) fn run_device<R: Threads + Wait + Sync, G: Gate>(
     rt: &R,
     alloc: Global,
     rec: &Record,
+    lists: &LineLists,
     number: u32,
     idle: u32,
     gate: &G,
 ) -> Result<DeviceRun, NoMemory>
     requires bound { 1 ≤ idle }
+    requires lines { AreLinesDealt rec.now lists.now }
     requires device { number < length rec.now.devices }
     ensures promised { IfOk result (IsPromisedOf idle rec.now number) }
 {
@@ -32,7 +36,7 @@ pub(crate) fn run_device<R: Threads + Wait + Sync, G: Gate>(
     };
     let mut workers = deal(alloc, rec, number, &port, &mut pass)?;
     let ends = Vec::with_capacity(alloc, workers.len())?;
-    run_all(rt, &port, rec, number, idle, &mut workers, gate);
+    run_all(rt, &port, rec, lists, number, idle, &mut workers, gate);
     let Gathered {
         pass,
         ends,

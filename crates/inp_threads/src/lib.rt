@@ -15,8 +15,9 @@
 //!
 //! Each device, made by requests or not, is a `Udev` of `inp_uinput`, which keeps its steps and, between them, its
 //! owner's feedback calls. It is shared by a port, and each of its actors gets a pass that was split off the first one
-//! (`AreDealt` in `specs/Worker.antt`). Its thread does all its lines, and gives the pass back, whatever came of it
-//! (`IsWorked`), with a turn for each call that is no injection. A job passes the gate before each of its calls, an owner
+//! (`AreDealt` in `specs/Worker.antt`). The lines of the record are dealt to their actors in one walk over them
+//! (`AreLinesDealt` in `specs/Lines.antt`). An actor's thread does all its lines, and gives the pass back, whatever came of
+//! it (`IsWorked`), with a turn for each call that is no injection. A job passes the gate before each of its calls, an owner
 //! before each feedback call, and tells it its own number: a worker is lent any gate that knows this number (`JobGate`), so
 //! that no other one can be told. When and how often it is told, tests look at. The pass of an owner
 //! owns the places of its feedback calls alone (`HasFedLines` in `specs/Owner.antt`), any other one the places of its
@@ -30,6 +31,7 @@
 mod device_run;
 mod gathered;
 mod job_gate;
+mod lines;
 mod one_job;
 mod owned_client;
 mod playing;

@@ -4,6 +4,7 @@ ghost use Rattle.inp_runs.specs.Job.{ArePromised};
 ghost use Rattle.inp_threads.specs.Promise.{IsPromisedOf, IsToBeRun};
 
 use crate::device_run::run_device;
+use crate::lines::deal_lines;
 use inp_actors::Record;
 use inp_edge::Gate;
 use inp_model::NoMemory;
@@ -21,7 +22,7 @@ use std::thread::Threads;
 /// All devices are played side by side. Each device has a thread, and each of its actors one more. Where no thread can be
 /// made, jobs are done one after another. Before each call a job passes the gate, an owner before each feedback call.
 ///
-/// It takes the memory for all that each device may keep, of the actors, and of what they see. `NoMemory` comes where
+/// It takes the memory for all that each device may keep, for the numbers of the lines, of the actors, and of what they see. `NoMemory` comes where
 /// there is none, once all jobs have ended, and nothing that came of them is given then. Nothing says that the call
 /// returns.
 pub fn play_on_threads<R: Threads + Wait + Sync, G: Gate>(
@@ -34,6 +35,7 @@ pub fn play_on_threads<R: Threads + Wait + Sync, G: Gate>(
     requires bound { 1 ≤ idle }
     ensures promised { IfOk result (ArePromised (Some idle) rec.now) }
 {
+    let lists = deal_lines(alloc, rec)?;
     let mut outcomes = no_outcomes(alloc, rec.devices().len())?;
     let count = outcomes.len().max(1);
     thread::for_each_mut(
@@ -41,10 +43,10 @@ pub fn play_on_threads<R: Threads + Wait + Sync, G: Gate>(
         &mut outcomes,
         count,
         &|i, outcome: &mut Option<DeviceRun>|
-            requires { IsToBeRun idle rec.now i }
+            requires { IsToBeRun idle rec.now lists i }
             ensures { IfSome outcome.exit.now (IsPromisedOf idle rec.entry.now i) }
         {
-            *outcome = run_device(rt, alloc, rec, i as u32, idle, gate).ok();
+            *outcome = run_device(rt, alloc, rec, &lists, i as u32, idle, gate).ok();
         },
     );
     let devices = collect(alloc, outcomes)?;

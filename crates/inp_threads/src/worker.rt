@@ -1,9 +1,12 @@
 //! A job on a thread.
 ghost use Rattle.std.specs.Prelude.{◌≡◌, true, Some};
 ghost use Rattle.inp_script.specs.Doing.{IsWaiting};
+ghost use Rattle.inp_runs.specs.DoingAll.{AreNumbersOf};
+ghost use Rattle.inp_threads.specs.Lines.{AreLinesDealt};
 ghost use Rattle.inp_threads.specs.Worker.{IsAtStart, IsFreshPass, IsReadyWorker, IsWorked, actor_number};
 
 use crate::job_gate::JobGate;
+use crate::lines::LineLists;
 use crate::one_job::OneJob;
 use crate::owned_client::OwnedClient;
 use inp_actors::Record;
@@ -33,10 +36,12 @@ impl Worker {
         rt: &R,
         port: &UPort,
         rec: &Record,
+        lists: &LineLists,
         waiting: Waiting,
         gate: &J,
     )
         requires ready { IsReadyWorker port.now rec.now self.old }
+        requires lines { AreLinesDealt rec.now lists.now }
         requires waiting { IsWaiting rec.now self.old.actor waiting }
         requires known { J.knows gate.now (actor_number self.old) ≡ true }
         ensures worked { IsWorked port.now rec.now (Some waiting) self.new }
@@ -45,39 +50,47 @@ impl Worker {
         let Some(pass) = self.pass.take() else {
             return;
         };
-        self.work_by(rt, port, rec, waiting, gate, pass);
-    }
-
-    // The same by this pass.
-    fn work_by<R: Wait, J: JobGate>(
-        &mut self,
-        rt: &R,
-        port: &UPort,
-        rec: &Record,
-        waiting: Waiting,
-        gate: &J,
-        pass: Pass<Udev>,
-    )
-        requires fresh { IsFreshPass port.now pass }
-        requires start { IsAtStart port.now rec.now self.old.actor }
-        requires number { self.old.actor.actor ≡ self.old.number }
-        requires waiting { IsWaiting rec.now self.old.actor waiting }
-        requires known { J.knows gate.now self.old.number ≡ true }
-        ensures worked { IsWorked port.now rec.now (Some waiting) self.new }
-        ensures number { actor_number self.new ≡ actor_number self.old }
-    {
         let client = UClient {
             port,
             rt,
             pass,
             agains: 0,
         };
+        let lines = lists.get(self.number as usize).as_slice();
+        self.work_by(client, rec, lines, waiting, gate);
+    }
+
+    // The same by this client of the port, where these are the lines.
+    fn work_by<R: Wait, J: JobGate>(
+        &mut self,
+        client: UClient<R>,
+        rec: &Record,
+        lines: &[u32],
+        waiting: Waiting,
+        gate: &J,
+    )
+        requires fresh { IsFreshPass client.port.now client.pass }
+        requires start { IsAtStart client.port.now rec.now self.old.actor }
+        requires lines { AreNumbersOf rec.now self.old.number lines.now }
+        requires number { self.old.actor.actor ≡ self.old.number }
+        requires waiting { IsWaiting rec.now self.old.actor waiting }
+        requires known { J.knows gate.now self.old.number ≡ true }
+        ensures worked { IsWorked client.entry.port.now rec.now (Some waiting) self.new }
+        ensures number { actor_number self.new ≡ actor_number self.old }
+    {
         let one = OneJob {
             gate,
             job: self.number,
         };
         let mut dev = Gated::new(OwnedClient { client }, &one, self.number);
-        let done = do_lines(&mut self.actor, &mut dev, rec, self.number, Some(waiting));
+        let done = do_lines(
+            &mut self.actor,
+            &mut dev,
+            rec,
+            self.number,
+            lines,
+            Some(waiting),
+        );
         self.is_done = done.is_ok();
         self.pass = Some(dev.inner.client.pass);
     }

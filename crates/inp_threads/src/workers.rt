@@ -8,9 +8,11 @@ ghost use Rattle.inp_runs.specs.Job.{wait_of};
 ghost use Rattle.inp_turn.specs.Pass.{view_of};
 ghost use Rattle.inp_turn.specs.PassView.{whole_share};
 ghost use Rattle.inp_port.specs.Port.{IsReadyAt};
-ghost use Rattle.inp_threads.specs.Worker.{actor_number, IsPortOf, IsReadyOn, IsReadyToWait, AreDealt, AreDealtUpTo, IsWorked, IsWorkedFrom};
+ghost use Rattle.inp_threads.specs.Lines.{AreLinesDealt};
+ghost use Rattle.inp_threads.specs.Worker.{actor_number, IsPortOf, IsReadyOn, IsReadyToWork, AreDealt, AreDealtUpTo, IsWorked, IsWorkedFrom};
 
 use crate::job_gate::AnyJob;
+use crate::lines::LineLists;
 use crate::worker::Worker;
 use inp_actors::{ActorText, Record, Role};
 use inp_edge::Gate;
@@ -80,12 +82,14 @@ pub(crate) fn run_all<R: Threads + Wait + Sync, G: Gate>(
     rt: &R,
     port: &UPort,
     rec: &Record,
+    lists: &LineLists,
     device: u32,
     idle: u32,
     workers: &mut Vec<Worker>,
     gate: &G,
 )
     requires bound { 1 ≤ idle }
+    requires lines { AreLinesDealt rec.now lists.now }
     requires ready { All (IsReadyOn port.now rec.now device) workers.old.items }
     ensures worked { All (IsWorked port.now rec.now (wait_of (Some idle) rec.now device))
         workers.new.items }
@@ -101,11 +105,11 @@ pub(crate) fn run_all<R: Threads + Wait + Sync, G: Gate>(
         workers,
         count,
         &|_, worker: &mut Worker|
-            requires { IsReadyToWait port.now rec.now waiting worker.now }
+            requires { IsReadyToWork port.now rec.now lists.now waiting worker.now }
             ensures { IsWorkedFrom port.entry.now rec.entry.now waiting
                 worker.entry.now worker.exit.now }
         {
-            worker.work(rt, port, rec, waiting, &AnyJob { gate });
+            worker.work(rt, port, rec, lists, waiting, &AnyJob { gate });
         },
     );
 }

@@ -14,6 +14,7 @@ for_each_mut-requires-clause-accepts g c κs within =
     λ i p below is. (
       record {
         bound = c.requires.bound;
+        dealt = c.in_ok-lists.ensures.dealt;
         within = omega (arith, below, ap length c.deref_mut.ensures.value, c.in_ok-outcomes.ensures.count, c.len.ensures.length, ap length c.devices.ensures.devices);
         few = c.devices.ensures.record.few_devices;
       },

@@ -2,7 +2,7 @@ use Rattle.std.proofs.Common.{◌≡◌, ℕ, ◌<◌, List, length, get_or, map
 use Rattle.std.specs.Prelude.{All}
 use Rattle.inp_threads.specs.declared.worker.Worker.{Worker}
 use Rattle.inp_threads.specs.Worker.{actor_number, IsReadyOn, IsWorkedFrom}
-use Rattle.inp_threads.proofs.Running.{ready-to-wait, changed, same-numbers}
+use Rattle.inp_threads.proofs.Running.{ready-to-work, changed, same-numbers}
 use Rattle.inp_threads.proofs.workers.run_all.Goals as goal
 
 pub for_each_mut-requires-clause-accepts : goal.for_each_mut-requires-clause-accepts
@@ -11,7 +11,7 @@ for_each_mut-requires-clause-accepts g c κs within =
     let r = c.args.rec.now in
     let all : All (IsReadyOn port r c.args.device) c.deref_mut.result.now = subst (All (IsReadyOn port r c.args.device)) (sym c.deref_mut.ensures.value) c.requires.ready in
     λ i p below is. (
-      ready-to-wait port r c.args.device (record { idle = c.args.idle; sources = c.source_count.result }) c.source_count.ensures c.deref_mut.result.now all c.requires.bound i p.now below is,
+      ready-to-work port r c.args.lists.now c.requires.lines c.args.device (record { idle = c.args.idle; sources = c.source_count.result }) c.source_count.ensures c.deref_mut.result.now all c.requires.bound i p.now below is,
       (record { shared = c.type_bounds.sync-R.shared }, record { shared = c.type_bounds.sync-G.shared }),
     )
 

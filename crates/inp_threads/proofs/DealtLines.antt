@@ -1,0 +1,65 @@
+-- The lines of a record are dealt to its actors, one after another.
+use Rattle.std.proofs.Common.{◌≡◌, ◌⊎◌, ℕ, zero, suc, ◌+◌, ◌<◌, ◌≤◌, Bool, true, false, cond, nat_eq, List, [], ◌∷◌, ◌++◌, length, take, sym, ap, ◌∙◌, inl, inr, Option, Some, replicate, get_or}
+use Rattle.std.specs.Prelude.{map, slice_get}
+use Rattle.std.proofs.lemmas.List.{append-nil, map-append, length-replicate, length-set, take_all, take_more}
+use Rattle.std.proofs.lemmas.List.Elements.{filter-append}
+use Rattle.std.proofs.lemmas.Option.{slice_get-get_or, slice_get_within, get_or_from_slice_get}
+use Rattle.inp_actors.specs.declared.line.Line.{Line}
+use Rattle.inp_actors.specs.Record.{RecordView}
+use Rattle.inp_runs.specs.Job.{lines_by}
+use Rattle.inp_runs.proofs.Listing.{eq_true, eq_false, slice_get-set}
+use Rattle.inp_threads.specs.Lines.{AreLinesDealt, HasLineMore}
+
+module _ (r : RecordView) where
+  -- the first so many lines are dealt
+  pub record AreFirstDealt (n : ℕ) (lists : List (List ℕ)) : Type 0 where
+    pub count : length lists ≡ length r.actors
+    pub each : (actor : ℕ) (numbers : List ℕ) → slice_get lists actor ≡ Some numbers → map (slice_get r.lines) numbers ≡ map Some (lines_by actor (take n r.lines))
+
+  in-none : (n k : ℕ) (numbers : List ℕ) → slice_get (replicate n []) k ≡ Some numbers → numbers ≡ []
+  in-none zero k numbers is = absurd cc
+  in-none (suc n) zero numbers is = cc
+  in-none (suc n) (suc k) numbers is = in-none n k numbers is
+
+  pub none-dealt : (n : ℕ) (lists : List (List ℕ)) → lists ≡ replicate n [] → n ≡ length r.actors → AreFirstDealt 0 lists
+  none-dealt n lists is long = record {
+    count = ap length is ∙ length-replicate n [] ∙ long;
+    each = λ actor numbers at. ap (map (slice_get r.lines)) (in-none n actor numbers (sym (ap (λ (ls : List (List ℕ)). slice_get ls actor) is) ∙ at));
+  }
+
+  -- the lines of an actor among those up to one more
+  next : (n : ℕ) (line : Line) (actor : ℕ) → slice_get r.lines n ≡ Some line → lines_by actor (take (n + 1) r.lines) ≡ lines_by actor (take n r.lines) ++ cond (nat_eq line.actor actor) (line ∷ []) []
+  next n line actor is =
+      ap (lines_by actor) (take_more r.lines n line (slice_get_within r.lines n line is) ∙ ap (λ (l : Line). take n r.lines ++ l ∷ []) (get_or_from_slice_get r.lines n line line is))
+      ∙ filter-append (λ (l : Line). nat_eq l.actor actor) (take n r.lines) (line ∷ [])
+
+  pub one-more : (n : ℕ) (line : Line) (lists new : List (List ℕ)) → AreFirstDealt n lists → slice_get r.lines n ≡ Some line → line.actor < length lists → HasLineMore lists new line.actor n → AreFirstDealt (n + 1) new
+  one-more n line lists new h is within more =
+      let numbers : List ℕ = get_or lists line.actor [] in
+      let at : slice_get lists line.actor ≡ Some numbers = slice_get-get_or lists line.actor [] within in
+      let longer = numbers ++ n ∷ [] in
+      record {
+        count = ap length (more numbers at) ∙ length-set lists line.actor longer ∙ h.count;
+        each = λ actor xs there.
+            by actor xs numbers at (slice_get-set lists line.actor actor numbers longer xs at (sym (ap (λ (ys : List (List ℕ)). slice_get ys actor) (more numbers at)) ∙ there));
+      }
+    where
+      own : (actor : ℕ) (b : Bool) → nat_eq line.actor actor ≡ b → lines_by actor (take (n + 1) r.lines) ≡ lines_by actor (take n r.lines) ++ cond b (line ∷ []) []
+      own actor b same = next n line actor is ∙ ap (λ (x : Bool). lines_by actor (take n r.lines) ++ cond x (line ∷ []) []) same
+
+      by : (actor : ℕ) (xs numbers : List ℕ) → slice_get lists line.actor ≡ Some numbers → ((actor ≡ line.actor) × (xs ≡ numbers ++ n ∷ [])) ⊎ ((actor ≡ line.actor → ⊥) × (slice_get lists actor ≡ Some xs))
+          → map (slice_get r.lines) xs ≡ map Some (lines_by actor (take (n + 1) r.lines))
+      by actor xs numbers at (inl (same, longer)) =
+          let before = h.each actor numbers (ap (slice_get lists) same ∙ at) in
+          ap (map (slice_get r.lines)) longer ∙ map-append (slice_get r.lines) numbers (n ∷ []) ∙ ap (λ (ls : List (Option Line)). ls ++ slice_get r.lines n ∷ []) before
+          ∙ ap (λ (l : Option Line). map Some (lines_by actor (take n r.lines)) ++ l ∷ []) is
+          ∙ sym (map-append Some (lines_by actor (take n r.lines)) (line ∷ []))
+          ∙ ap (map Some) (sym (own actor true (eq_true line.actor actor (sym same))))
+      by actor xs numbers at (inr (other, there)) =
+          h.each actor xs there ∙ ap (map Some) (sym (own actor false (eq_false line.actor actor (λ e. other (sym e))) ∙ append-nil (lines_by actor (take n r.lines))))
+
+  pub all-dealt : (n : ℕ) (lists : List (List ℕ)) → AreFirstDealt n lists → length r.lines ≤ n → AreLinesDealt r lists
+  all-dealt n lists h all = record {
+    count = h.count;
+    each = λ actor numbers is. h.each actor numbers is ∙ ap (λ (ls : List Line). map Some (lines_by actor ls)) (take_all n r.lines all);
+  }
