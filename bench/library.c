@@ -2,7 +2,7 @@
  * Calls of the library over and over, for `bench/library` to count instructions by: library WHAT TIMES.
  *
  * WHAT is 0 for nothing but the device, 1 for an injected event, 2 for two of them and a read of both, 3 for two of them and
- * the reader's two events, and 4 for a key of the reader's state.
+ * the reader's two events, 4 for a key of the reader's state, and 5 for two of them and a step that reads both.
  */
 #include "inputplay.h"
 
@@ -16,14 +16,14 @@ int main(int argc, char **argv) {
     inputplay_handle h = INPUTPLAY_NOTHING;
     inputplay_event events[64];
     inputplay_reply reply;
-    uint32_t a, b;
+    uint32_t a, b, c;
     int32_t value;
     if (inputplay_device_new((const uint8_t *)TEXT, strlen(TEXT), 0, &h, &a, &b))
         return 1;
     inputplay_step_t open = {.step = INPUTPLAY_OPEN}, read = {.step = INPUTPLAY_READ, .count = 64};
     if (what == 3)
         inputplay_reader_start(&h, &a, &b);
-    if (what == 2)
+    if (what == 2 || what == 5)
         inputplay_step(&h, &open, &reply, events, 0, &value, 0);
     for (int i = 0; i < times; i++) {
         if (what == 4) {
@@ -35,6 +35,8 @@ int main(int argc, char **argv) {
         if (what >= 2)
             inputplay_inject(&h, 0, 0, 0, 1000, &a, &b);
         if (what == 2)
+            inputplay_read(&h, 0, events, 64, &a, &b, &c);
+        if (what == 5)
             inputplay_step(&h, &read, &reply, events, 64, &value, 0);
         if (what == 3) {
             inputplay_reader_next(&h, INPUTPLAY_NORMAL, events, &a);

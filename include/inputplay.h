@@ -277,6 +277,30 @@ uint32_t inputplay_inject_all(inputplay_handle *handle, const inputplay_stamped 
                               uint32_t *count);
 
 /**
+ * A client reads events, as many as are there and fit (read). It is an INPUTPLAY_READ that costs less.
+ *
+ * @param events, event_count room for the events, for at most INPUTPLAY_READ_MAX
+ * @param at the place of the read, or the history's length where it was not entered
+ * @param count how many events stand at the front of the array. Where it is 0 and `why` is 0 nothing was there (-EAGAIN), or
+ * there was no room
+ * @param why 0, or why the read was refused
+ *
+ * @return INPUTPLAY_OK, INPUTPLAY_BAD_HANDLE or INPUTPLAY_BAD_ARGUMENT: there is room for more
+ */
+uint32_t inputplay_read(inputplay_handle *handle, uint32_t client, inputplay_event *events, size_t event_count, uint32_t *at,
+                        uint32_t *count, uint32_t *why);
+
+/**
+ * Copies the steps that the device accepted, from a place on, as many as fit. What clients read is not kept.
+ *
+ * @param from the place of the first one, from 0
+ * @param left how many there are from there on
+ *
+ * @return INPUTPLAY_OK, INPUTPLAY_BAD_HANDLE or INPUTPLAY_BAD_ARGUMENT: the device accepted fewer
+ */
+uint32_t inputplay_history(inputplay_handle *handle, size_t from, inputplay_step_t *steps, size_t step_count, size_t *left);
+
+/**
  * The owner of the device takes the first of the events that wait for it (a read of /dev/uinput): what clients wrote to its
  * lights, sounds and settings. The last INPUTPLAY_FEEDBACK_MAX wait.
  *

@@ -138,7 +138,7 @@ class Rust(Library):
         variables = {**os.environ, "INPUTPLAY_LIB_DIR": str(BUILT), "CARGO_TARGET_DIR": str(self.folder / "target")}
         done = run(["cargo", "test", "--offline", "-q"], cwd=self.folder / "rust", env=variables)
         self.assertEqual(0, done.returncode, done.stdout + done.stderr)
-        self.assertIn("8 passed; 0 failed", done.stdout)
+        self.assertIn("9 passed; 0 failed", done.stdout)
 
 
 class Python(Library):

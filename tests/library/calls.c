@@ -39,6 +39,7 @@ static void no_device(inputplay_handle *h) {
     inputplay_event event;
     int32_t value = 77;
     uint32_t a = 77, b = 77;
+    size_t left = 77;
     memset(&reply, 77, sizeof reply);
     SAME(INPUTPLAY_BAD_HANDLE, inputplay_step(h, &open, &reply, &event, 1, &value, 1));
     SAME(INPUTPLAY_BAD_HANDLE, inputplay_inject(h, 1, 30, 1, 0, &a, &b));
@@ -48,8 +49,11 @@ static void no_device(inputplay_handle *h) {
     SAME(INPUTPLAY_BAD_HANDLE, inputplay_reader_value(h, 1, 30, &value));
     SAME(INPUTPLAY_BAD_HANDLE, inputplay_reader_slot_value(h, 0, 0x39, &value));
     SAME(INPUTPLAY_BAD_HANDLE, inputplay_reader_state(h, &a, &b, &value));
+    SAME(INPUTPLAY_BAD_HANDLE, inputplay_read(h, 0, &event, 1, &a, &b, &a));
+    SAME(INPUTPLAY_BAD_HANDLE, inputplay_history(h, 0, &open, 1, &left));
     SAME(77, a);
     SAME(77, b);
+    SAME(77, left);
     SAME(77, value);
     SAME(77 * 0x1010101, reply.reply);
     SAME(before.kind, h->kind);
@@ -141,6 +145,53 @@ static void stepping(inputplay_handle *h) {
     step = asked(INPUTPLAY_GET_AXIS, 0, 0);
     SAME(INPUTPLAY_OK, inputplay_step(h, &step, &reply, events, 4, cells, 28));
     SAME(255, reply.info.maximum);
+}
+
+/* A read without a reply, and the steps of the history from a place on. */
+static void taking(void) {
+    inputplay_handle h = INPUTPLAY_NOTHING;
+    static inputplay_event events[5000];
+    inputplay_step_t steps[3], open = asked(INPUTPLAY_OPEN, 0, 0);
+    inputplay_reply reply;
+    int32_t cell;
+    uint32_t line, cause, at = 77, count = 77, why = 77;
+    size_t left = 77;
+    memset(events, 77, sizeof events);
+    memset(steps, 77, sizeof steps);
+    SAME(INPUTPLAY_OK, inputplay_device_new(bytes_of(PAD), strlen(PAD), 0, &h, &line, &cause));
+    SAME(INPUTPLAY_OK, inputplay_step(&h, &open, &reply, events, 0, &cell, 0));
+    SAME(INPUTPLAY_BAD_ARGUMENT, inputplay_read(&h, 0, events, 4097, &at, &count, &why));
+    SAME(77, at);
+    SAME(INPUTPLAY_OK, inputplay_read(&h, 0, events, 4096, &at, &count, &why));
+    SAME(1, at);
+    SAME(0, count);
+    SAME(0, why);
+    SAME(INPUTPLAY_OK, inputplay_inject(&h, 1, 30, 1, 5, &at, &why));
+    SAME(INPUTPLAY_OK, inputplay_inject(&h, 0, 0, 0, 6, &at, &why));
+    SAME(INPUTPLAY_OK, inputplay_read(&h, 0, events, 1, &at, &count, &why));
+    SAME(3, at);
+    SAME(1, count);
+    SAME(30, events[0].code);
+    SAME(6, events[0].time);
+    SAME(77 * 0x101, events[1].type);
+    SAME(INPUTPLAY_OK, inputplay_read(&h, 9, events, 1, &at, &count, &why));
+    SAME(4, at);
+    SAME(0, count);
+    SAME(INPUTPLAY_BAD_CLIENT, why);
+    SAME(INPUTPLAY_OK, inputplay_history(&h, 2, steps, 1, &left));
+    SAME(2, left);
+    SAME(INPUTPLAY_INJECT, steps[0].step);
+    SAME(6, steps[0].now);
+    SAME(77 * 0x1010101, steps[1].step);
+    SAME(INPUTPLAY_OK, inputplay_history(&h, 1, steps, 3, &left));
+    SAME(3, left);
+    SAME(30, steps[0].code);
+    SAME(INPUTPLAY_READ, steps[2].step);
+    SAME(1, steps[2].count);
+    SAME(INPUTPLAY_OK, inputplay_history(&h, 4, steps, 3, &left));
+    SAME(0, left);
+    SAME(INPUTPLAY_BAD_ARGUMENT, inputplay_history(&h, 5, steps, 3, &left));
+    inputplay_free(&h);
 }
 
 static void reading(inputplay_handle *h) {
@@ -321,6 +372,7 @@ int main(void) {
     reading(&h);
     joying(&h);
     inputplay_free(&h);
+    taking();
     injecting();
     loading();
     migrating();

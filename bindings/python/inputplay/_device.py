@@ -1,6 +1,6 @@
 """Devices, their clients and their readers."""
 
-from ctypes import byref, c_int32, c_uint8, c_uint32
+from ctypes import byref, c_int32, c_size_t, c_uint8, c_uint32
 from enum import IntEnum
 from struct import unpack
 from typing import Iterable, Iterator, List, NamedTuple, Optional, Set, Tuple, Union
@@ -254,6 +254,26 @@ class Device(Kept):
             raise StepRefused(Why.LOG_FULL, at.value)
         return [event_of(event) for event in raw[: taken.value]]
 
+    def read(self, client: int, count: int = 64) -> List[Event]:
+        """At most so many events of a client of this number; none where nothing is there."""
+        raw, at, taken, why = (RawEvent * max(count, 1))(), c_uint32(), c_uint32(), c_uint32()
+        check(
+            library.inputplay_read(
+                byref(self._handle), client, raw, count, byref(at), byref(taken), byref(why)
+            )
+        )
+        if why.value:
+            raise StepRefused(why.value, at.value)
+        return [event_of(event) for event in raw[: taken.value]]
+
+    def history(self, first: int = 0) -> List[Step]:
+        """The steps that the device accepted, from this place on, each with the fields of inputplay_step_t."""
+        left = c_size_t()
+        check(library.inputplay_history(byref(self._handle), first, (Step * 1)(), 0, byref(left)))
+        steps = (Step * max(left.value, 1))()
+        check(library.inputplay_history(byref(self._handle), first, steps, left.value, byref(left)))
+        return list(steps[: left.value])
+
     def joystick(self) -> "Joystick":
         """Starts the device's joystick client, as the kernel's joydev is one."""
         return Joystick(self)
@@ -278,7 +298,7 @@ class Client:
 
     def read(self, count: int = 64) -> List[Event]:
         """At most so many events; none where nothing is there."""
-        return self.device.must(Steps.READ, client=self.number, count=count).events
+        return self.device.read(self.number, count)
 
     def _codes(self, step: int) -> Set[int]:
         words = self.device.must(step, client=self.number).words

@@ -86,6 +86,8 @@ ARGUMENTS = {
     ],
     "inputplay_inject": [HANDLE, c_uint16, c_uint16, c_int32, c_uint64, U32, U32],
     "inputplay_inject_all": [HANDLE, POINTER(Stamped), c_size_t, U32, U32],
+    "inputplay_read": [HANDLE, c_uint32, POINTER(RawEvent), c_size_t, U32, U32, U32],
+    "inputplay_history": [HANDLE, c_size_t, POINTER(Step), c_size_t, POINTER(c_size_t)],
     "inputplay_feedback": [HANDLE, POINTER(RawEvent), c_size_t, U32, U32, U32],
     "inputplay_joy_start": [HANDLE, U32, U32],
     "inputplay_joy_read": [HANDLE, BYTES, U32, U32],

@@ -96,6 +96,17 @@ class Devices(unittest.TestCase):
             self.assertEqual([Event(Type.EV_LED, 1, 1)], pad.feedback())
             self.assertEqual([], pad.feedback())
 
+    def test_its_history_is_what_it_accepted(self):
+        self.pad.inject("KEY_A", 1, now=9)
+        self.assertEqual([], self.pad.open().read())
+        steps = inputplay.Steps
+        self.assertEqual([steps.INJECT, steps.OPEN], [step.step for step in self.pad.history()])
+        self.assertEqual([(1, 30, 1, 9)], [(s.type, s.code, s.value, s.now) for s in self.pad.history()[:1]])
+        self.assertEqual([steps.OPEN], [step.step for step in self.pad.history(1)])
+        self.assertEqual([], self.pad.history(2))
+        with self.assertRaises(inputplay.CallRefused):
+            self.pad.history(3)
+
     def test_what_is_closed_is_refused(self):
         with Device(PAD) as pad:
             reader = pad.reader()

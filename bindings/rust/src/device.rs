@@ -18,12 +18,10 @@ pub const NO_CLIENT: u32 = u32::MAX;
 
 const OPEN: u32 = 2;
 const CLOSE: u32 = 3;
-const READ: u32 = 4;
 const GET_KEYS: u32 = 6;
 const GRAB: u32 = 15;
 const UNGRAB: u32 = 16;
 const STEP_REFUSED: u32 = 8;
-const TOOK: u32 = 2;
 
 /// How a reader is asked for its next event.
 #[derive(Clone, Copy, Debug, PartialEq, Eq)]
@@ -127,8 +125,8 @@ impl Device {
         Ok(reply)
     }
 
-    fn must(&mut self, step: &Step, events: &mut [Event]) -> Result<Reply, Error> {
-        let reply = self.step(step, events, &mut [])?;
+    fn must(&mut self, step: &Step) -> Result<Reply, Error> {
+        let reply = self.step(step, &mut [], &mut [])?;
         if reply.reply == STEP_REFUSED {
             check_step(reply.why)?;
         }
@@ -213,35 +211,59 @@ impl Device {
 
     /// Opens a client.
     pub fn open(&mut self) -> Result<Client, Error> {
-        let reply = self.must(&Step { step: OPEN, ..Step::default() }, &mut [])?;
+        let reply = self.must(&Step { step: OPEN, ..Step::default() })?;
         Ok(Client(reply.client))
     }
 
     /// Reads events, as many as are there and fit, and gives their number.
     pub fn read(&mut self, client: Client, events: &mut [Event]) -> Result<usize, Error> {
-        let count = events.len().min(4096) as u32;
-        let reply = self.must(&Step { step: READ, client: client.0, count, ..Step::default() }, events)?;
-        Ok(if reply.reply == TOOK { reply.count as usize } else { 0 })
+        let (mut at, mut taken, mut why) = (0, 0, 0);
+        let room = events.len().min(4096);
+        // SAFETY: the array is at least as long as it says, and the others are places of their own.
+        check(unsafe {
+            sys::inputplay_read(
+                &mut self.handle,
+                client.0,
+                events.as_mut_ptr(),
+                room,
+                &mut at,
+                &mut taken,
+                &mut why,
+            )
+        })?;
+        check_step(why)?;
+        Ok(taken as usize)
+    }
+
+    /// Copies the steps that the device accepted, from a place on, as many as fit, and gives how many there are from there on;
+    /// `None` where it accepted fewer.
+    pub fn history(&mut self, from: usize, steps: &mut [Step]) -> Option<usize> {
+        let mut left = 0;
+        // SAFETY: the array is as long as it says, and the others are places of their own.
+        let status = unsafe {
+            sys::inputplay_history(&mut self.handle, from, steps.as_mut_ptr(), steps.len(), &mut left)
+        };
+        check(status).ok().map(|()| left)
     }
 
     /// Which keys are down, as bits. The client's queued key events go.
     pub fn keys(&mut self, client: Client) -> Result<[u64; 12], Error> {
-        Ok(self.must(&Step { step: GET_KEYS, client: client.0, ..Step::default() }, &mut [])?.words)
+        Ok(self.must(&Step { step: GET_KEYS, client: client.0, ..Step::default() })?.words)
     }
 
     /// Takes the grab.
     pub fn grab(&mut self, client: Client) -> Result<(), Error> {
-        self.must(&Step { step: GRAB, client: client.0, ..Step::default() }, &mut []).map(|_| ())
+        self.must(&Step { step: GRAB, client: client.0, ..Step::default() }).map(|_| ())
     }
 
     /// Gives up the grab.
     pub fn ungrab(&mut self, client: Client) -> Result<(), Error> {
-        self.must(&Step { step: UNGRAB, client: client.0, ..Step::default() }, &mut []).map(|_| ())
+        self.must(&Step { step: UNGRAB, client: client.0, ..Step::default() }).map(|_| ())
     }
 
     /// Closes a client.
     pub fn close(&mut self, client: Client) -> Result<(), Error> {
-        self.must(&Step { step: CLOSE, client: client.0, ..Step::default() }, &mut []).map(|_| ())
+        self.must(&Step { step: CLOSE, client: client.0, ..Step::default() }).map(|_| ())
     }
 
     /// Opens a client for the reader and asks for its whole state; gives the client's number.

@@ -88,6 +88,8 @@ extern "C" {
     pub fn inputplay_step(handle: *mut Handle, step: *const Step, reply: *mut Reply, events: *mut Event, event_count: usize, cells: *mut i32, cell_count: usize) -> u32;
     pub fn inputplay_inject(handle: *mut Handle, kind: u16, code: u16, value: i32, now: u64, at: *mut u32, why: *mut u32) -> u32;
     pub fn inputplay_inject_all(handle: *mut Handle, events: *const Stamped, event_count: usize, from: *mut u32, count: *mut u32) -> u32;
+    pub fn inputplay_read(handle: *mut Handle, client: u32, events: *mut Event, event_count: usize, at: *mut u32, count: *mut u32, why: *mut u32) -> u32;
+    pub fn inputplay_history(handle: *mut Handle, from: usize, steps: *mut Step, step_count: usize, left: *mut usize) -> u32;
     pub fn inputplay_feedback(handle: *mut Handle, events: *mut Event, event_count: usize, at: *mut u32, count: *mut u32, full: *mut u32) -> u32;
     pub fn inputplay_joy_start(handle: *mut Handle, client: *mut u32, why: *mut u32) -> u32;
     pub fn inputplay_joy_read(handle: *mut Handle, record: *mut u8, told: *mut u32, place: *mut u32) -> u32;

@@ -1,7 +1,7 @@
 //! The library through this crate: a flooded reader, a grab, refusals, and a whole record.
 
 use inputplay::{
-    Cause, Device, Error, JoyRead, Mode, Next, NotMade, Phase, Record, Refusal, Stamped, EV_ABS, EV_KEY,
+    Cause, Device, Error, JoyRead, Mode, Next, NotMade, Phase, Record, Refusal, Stamped, Step, EV_ABS, EV_KEY,
 };
 
 const PAD: &str = "inputrecord 1\ndevice pad\ncap EV_KEY KEY_A\naxis ABS_X 0 0 255 0 0 0\nlog 1000\nsource s\n";
@@ -64,6 +64,18 @@ fn a_record_takes_the_bytes_of_its_streams() {
     let mut name = [0; 8];
     assert_eq!((record.file(0, &mut name), &name), (Some(4), b"keys\0\0\0\0"));
     assert_eq!(record.file(1, &mut name), None);
+}
+
+#[test]
+fn a_history_is_what_the_device_accepted() {
+    let mut pad = Device::new(PAD, 0).unwrap();
+    press(&mut pad, 1);
+    let mut steps = [Step::default(); 3];
+    assert_eq!(pad.history(1, &mut steps), Some(1));
+    assert_eq!((steps[0].step, steps[0].kind, steps[0].now), (0, 0, 5));
+    assert_eq!(pad.history(0, &mut steps), Some(2));
+    assert_eq!((steps[0].kind, steps[0].code, steps[0].value), (EV_KEY, KEY_A, 1));
+    assert_eq!(pad.history(3, &mut steps), None);
 }
 
 #[test]

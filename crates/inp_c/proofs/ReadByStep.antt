@@ -44,7 +44,7 @@ counted d past x given (inr lacks) =
 -- No more than there is room for
 
 -- how many a step asks for
-abbrev asked_count : Step → ℕ
+abbrev pub asked_count : Step → ℕ
 asked_count (Read client count) = count
 asked_count _ = 0
 
@@ -64,7 +64,7 @@ few_other d past x given e none (inr lacks) =
     let P : Answer → Type 0 = λ a. length a.events ≤ 0 in
     subst P (sym lacks.2) (omega arith)
 
-few : (d : Description) (past : List Step) (x : Step) (given : Answer) → IsAnswer d past x given → length given.events ≤ asked_count x
+pub few : (d : Description) (past : List Step) (x : Step) (given : Answer) → IsAnswer d past x given → length given.events ≤ asked_count x
 few d past (Read client count) given h = few_read d past client count given (is_accepted given.reply) refl h
 few d past x given h = few_other d past x given refl (omega arith) h
 

@@ -9,6 +9,8 @@ pub mod Status
 pub mod Stepping
 pub mod ReaderCalls
 pub mod ToldStep
+pub mod History
+pub mod ClientRead
 pub mod Viewing
 pub mod Injecting
 pub mod Feeding

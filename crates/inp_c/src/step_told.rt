@@ -103,7 +103,7 @@ fn step_with(step: u32, client: u32, event: Event, moment: u64) -> CStep
 }
 
 /// A step, as C has it.
-fn c_step(step: Step) -> CStep
+pub(crate) fn c_step(step: Step) -> CStep
     ensures { result ≡ told_step step }
 {
     match step {

@@ -113,7 +113,7 @@ fn has_room(caps: &Caps, step: Step, events: usize, cells: usize) -> bool
 }
 
 /// Copies what was read to the front of C's array.
-fn copy_read(device: &KeptDevice, reply: Reply, events: &mut [CEvent])
+pub(crate) fn copy_read(device: &KeptDevice, reply: Reply, events: &mut [CEvent])
     requires fits { read_count reply ≤ length events.old }
     requires few { read_count reply ≤ READ_MAX }
     ensures { events.new

@@ -1,4 +1,4 @@
-use Rattle.std.proofs.Common.{◌≡◌, ◌∙◌, sym, ap}
+use Rattle.std.proofs.Common.{◌∙◌, sym, ap}
 use Rattle.inp_uinput.specs.UdevView.{UdevView}
 use Rattle.inp_c.proofs.kept_device.KeptDevice.new.Goals as goal
 
