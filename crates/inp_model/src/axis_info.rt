@@ -2,6 +2,7 @@
 
 /// The description of an absolute axis, with its value (evdev's `struct input_absinfo`).
 #[derive(Clone, Copy, Debug, PartialEq, Eq)]
+#[repr(C)]
 pub struct AxisInfo {
     /// The value.
     pub value: i32,

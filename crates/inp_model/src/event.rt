@@ -131,6 +131,7 @@ const _: () = prove!(REP_MAX == 0x01);
 
 /// One input event: what happened, without a time (the kernel's `struct input_event`).
 #[derive(Clone, Copy, Debug, PartialEq, Eq)]
+#[repr(C)]
 pub struct Event {
     /// The type, as `EV_KEY`; `type` is a word of the language.
     pub kind: u16,

@@ -9,6 +9,7 @@ const _: () = prove!(MOMENT_MAX == 9_000_000 * 1_000_000_000);
 
 /// An event with the moment at which it is injected.
 #[derive(Clone, Copy, Debug, PartialEq, Eq)]
+#[repr(C)]
 pub struct Stamped {
     /// The event.
     pub event: Event,

@@ -4,6 +4,7 @@ use crate::Event;
 
 /// An event as a client reads it (evdev's `struct input_event`).
 #[derive(Clone, Copy, Debug, PartialEq, Eq)]
+#[repr(C)]
 pub struct Taken {
     /// The event.
     pub event: Event,
