@@ -1,8 +1,8 @@
 /* The job of crates/bench_turn in plain C: threads that make steps on one device, or on a device each.
  *
- * usage: plain_turn mutex|spin THREADS DEVICES STEPS
+ * usage: plain_turn mutex|spin THREADS DEVICES STEPS IN_TURN
  *
- * Each device has a lock on cache lines of its own. A mutex is that of the C library. A spin lock is one word that a try
+ * A thread makes IN_TURN of its steps while it has the lock. Each device has a lock on cache lines of its own. A mutex is that of the C library. A spin lock is one word that a try
  * sets by a compare-exchange; after a try that fails the thread yields once, then twice, four times, up to 64 times. Nothing
  * here is proved.
  */
@@ -20,7 +20,7 @@ typedef struct {
     atomic_uint taken;
     _Alignas(LINE) Device *device;
 } Shared;
-typedef struct { pthread_t thread; Shared *shared; uint32_t steps; } Job;
+typedef struct { pthread_t thread; Shared *shared; uint32_t steps, in_turn; } Job;
 
 static int spins;
 
@@ -41,11 +41,13 @@ static void unlock(Shared *s) {
 /* Presses and releases the key, with a report behind each. */
 static void *make_steps(void *of) {
     Job *job = of;
-    for (uint32_t k = 0; k < job->steps; k++) {
-        Step s = { .tag = INJECT, .event = { EV_SYN, SYN_REPORT, 0 } };
-        if (k % 2 == 0) s.event = (Event){ EV_KEY, KEY_A, k % 4 == 0 };
+    for (uint32_t k = 0; k < job->steps; k += job->in_turn) {
         lock(job->shared);
-        step(job->shared->device, s, NULL, NULL);
+        for (uint32_t i = 0; i < job->in_turn; i++) {
+            Step s = { .tag = INJECT, .event = { EV_SYN, SYN_REPORT, 0 } };
+            if ((k + i) % 2 == 0) s.event = (Event){ EV_KEY, KEY_A, (k + i) % 4 == 0 };
+            step(job->shared->device, s, NULL, NULL);
+        }
         unlock(job->shared);
     }
     return NULL;
@@ -64,21 +66,22 @@ static Shared *new_shared(void) {
 static uint32_t number(const char *word, uint32_t least, uint32_t most) {
     char *end;
     unsigned long n = strtoul(word, &end, 10);
-    if (*end || n < least || n > most) { puts("usage: plain_turn mutex|spin THREADS DEVICES STEPS"); exit(2); }
+    if (*end || n < least || n > most) { puts("usage: plain_turn mutex|spin THREADS DEVICES STEPS IN_TURN"); exit(2); }
     return (uint32_t)n;
 }
 
 int main(int argc, char **argv) {
     static Job jobs[THREADS_MAX];
     static Shared *all[THREADS_MAX];
-    if (argc != 5 || (strcmp(argv[1], "mutex") && strcmp(argv[1], "spin"))) number("", 1, 0);
+    if (argc != 6 || (strcmp(argv[1], "mutex") && strcmp(argv[1], "spin"))) number("", 1, 0);
     spins = !strcmp(argv[1], "spin");
     uint32_t threads = number(argv[2], 1, THREADS_MAX), devices = number(argv[3], 1, threads), entered = 0;
     uint32_t steps = number(argv[4], 0, STEPS_MAX);
-    if (threads / devices * steps > LOG) number("", 1, 0);
+    uint32_t in_turn = number(argv[5], 1, STEPS_MAX);
+    if (threads / devices * steps > LOG || steps % in_turn) number("", 1, 0);
     for (uint32_t i = 0; i < devices; i++) all[i] = new_shared();
     for (uint32_t i = 0; i < threads; i++) {
-        jobs[i] = (Job){ .shared = all[i % devices], .steps = steps };
+        jobs[i] = (Job){ .shared = all[i % devices], .steps = steps, .in_turn = in_turn };
         if (pthread_create(&jobs[i].thread, NULL, make_steps, &jobs[i])) return 1;
     }
     for (uint32_t i = 0; i < threads; i++) pthread_join(jobs[i].thread, NULL);

@@ -1,7 +1,8 @@
 //! Threads that make steps on devices: what `bench/turn` times.
 //!
-//! The words are THREADS DEVICES STEPS. The threads share the devices in equal parts, and each makes STEPS steps on its
-//! device. Then the program prints how many there were of each, and how many steps all the histories have.
+//! The words are THREADS DEVICES STEPS IN_TURN. The threads share the devices in equal parts, and each makes STEPS steps on
+//! its device, IN_TURN of them in one turn. Then the program prints how many there were of each, and how many steps all the
+//! histories have.
 #![tactic(auto)]
 
 mod load;
@@ -17,15 +18,16 @@ fn main(rt: HostRuntime) -> io::Result<ExitCode> {
     let alloc: Global = rt.alloc();
     let mut args = env::args(&rt)?;
     let _name = args.next();
-    let load = Load::read(args.next(), args.next(), args.next());
+    let load = Load::read(args.next(), args.next(), args.next(), args.next());
     let Some(load) = load else {
-        println!(rt; "usage: bench_turn THREADS DEVICES STEPS")?;
+        println!(rt; "usage: bench_turn THREADS DEVICES STEPS IN_TURN")?;
         return Ok(ExitCode::from(2));
     };
     let Load {
         threads,
         devices,
         steps,
+        ..
     } = load;
     let Some(entered) = run_all(&rt, alloc, &load) else {
         println!(rt; "out of memory")?;
