@@ -73,7 +73,7 @@ def lemmas(text):
 
 def files_of_crates():
     """The files of all crates, each with its crate's name."""
-    for kind in ("src/**/*.rt", "specs/*.antt", "proofs/**/*.antt"):
+    for kind in ("src/**/*.rt", "specs/**/*.antt", "proofs/**/*.antt"):
         for path in sorted(TOP.glob(f"crates/*/{kind}")):
             yield path.relative_to(TOP / "crates").parts[0], path
 
@@ -106,7 +106,7 @@ def below(crate, stands_on):
 def facts():
     """The facts that the definitions and the lemmas of each crate have."""
     found = {}
-    for kind in ("specs/*.antt", "proofs/**/*.antt"):
+    for kind in ("specs/**/*.antt", "proofs/**/*.antt"):
         for path in TOP.glob(f"crates/*/{kind}"):
             found.setdefault(path.relative_to(TOP / "crates").parts[0], set()).update(PROVED.findall(path.read_text()))
     return found
@@ -155,21 +155,21 @@ def quoted(text):
 # which code follows a talk, an example is computed, or queries are spoken of and no talk is.
 WALK = "inp_reader/proofs/NextWalk.antt"
 UNFOLDED = {
-    "read_talk": {"inp_reader/proofs/Computing.antt", "inp_reader/proofs/SaysSessions.antt"},
+    "read_talk": {"inp_reader/proofs/Computation.antt", "inp_reader/proofs/SaysSessions.antt"},
     "sync_talk": {
-        "inp_reader/proofs/Computing.antt",
+        "inp_reader/proofs/Computation.antt",
         "inp_reader/proofs/StandsAfterTalks.antt",
         "inp_reader/proofs/session/Session/synchronise/Answers.antt",
     },
     "ask_each": {
-        "inp_reader/proofs/Computing.antt",
+        "inp_reader/proofs/Computation.antt",
         "inp_reader/proofs/SaysInTurn.antt",
         "inp_reader/proofs/StandsAfterTalks.antt",
         "inp_reader/proofs/Talks.antt",
     },
     "queries": {
-        "inp_reader/proofs/Agreeing.antt",
-        "inp_reader/proofs/Computing.antt",
+        "inp_reader/proofs/AgreedViews.antt",
+        "inp_reader/proofs/Computation.antt",
         "inp_reader/proofs/asker/Asker/query_all/Answers.antt",
         "inp_tool/proofs/MadeBounds.antt",
     },
@@ -334,7 +334,7 @@ class Names(unittest.TestCase):
             (crate, name)
             for crate in repository.crates
             for path in repository.paths(crate, "specs", "antt")
-            if not path.endswith("Examples.antt")
+            if not path.endswith("Examples.antt") and "/examples/" not in path
             for name in repository.file(crate, path).items
         ]
         self.assertGreater(len(names), 1_500)
@@ -421,7 +421,7 @@ class Links(unittest.TestCase):
 
 class Sections(unittest.TestCase):
     def test_each_section_that_a_crate_or_a_page_cites_is_there(self):
-        files = [path for kind in ("src/**/*.rt", "specs/*.antt", "proofs/**/*.antt") for path in TOP.glob(f"crates/*/{kind}")]
+        files = [path for kind in ("src/**/*.rt", "specs/**/*.antt", "proofs/**/*.antt") for path in TOP.glob(f"crates/*/{kind}")]
         there = {page.stem: sections(page) for page in sorted(TOP.glob("docs/*.md"))}
         missing, count = [], 0
         for path in files + PAGES:

@@ -1,7 +1,7 @@
 -- What a record holds, and what it keeps (docs/FORMATS.md, "The record").
 use Rattle.std.specs.Prelude.{◌≡◌, ℕ, ◌^◌, ◌<◌, ◌≤◌, true, List, length, flat_map, slice_get, Some}
 use Rattle.std.specs.List.{range_with_len}
-use Rattle.inp_model.specs.Injecting.{AreInTime}
+use Rattle.inp_model.specs.Injection.{AreInTime}
 use Rattle.inp_model.specs.declared.stamped.Stamped.{Stamped}
 use Rattle.inp_actors.specs.declared.device_text.DeviceText.{DeviceText}
 use Rattle.inp_actors.specs.declared.actor_text.TheConstants.{ACTORS_MAX}

@@ -2,7 +2,7 @@
 ghost use Rattle.std.specs.Prelude.{◌≡◌, ◌<◌, ◌≤◌, length, slice_get, slice_set, Some};
 ghost use Rattle.inp_model.specs.declared.stamped.TheConstants.{MOMENT_MAX};
 ghost use Rattle.inp_actors.specs.Record.{IsRecord};
-ghost use Rattle.inp_model.specs.Injecting.{AreInTime};
+ghost use Rattle.inp_model.specs.Injection.{AreInTime};
 
 use crate::{Actors, Devices, Lines};
 use inp_model::{Items, Stamped};

@@ -1,3 +1,3 @@
-mod Computing
+mod Computation
 mod Numbers
 mod Taken

@@ -25,15 +25,14 @@
 #![tactic(auto)]
 
 mod command;
+pub mod examples;
 mod number;
 mod request;
 mod usage_line;
-mod word_examples;
 mod words_fault;
 mod words_parser;
 
 pub use request::Request;
 pub use usage_line::usage;
-pub use word_examples::examples;
 pub use words_fault::WordsFault;
 pub use words_parser::read_words;

@@ -11,14 +11,14 @@ use Rattle.inp_model.specs.declared.reply.Reply.{Reply}
 use Rattle.inp_model.specs.declared.reply.Reply.TheVariants.{Refused}
 use Rattle.inp_model.specs.declared.reply.Refusal.TheVariants.{LogFull}
 use Rattle.inp_model.specs.Description.{Description}
-use Rattle.inp_model.specs.Injecting.{AreInTime, entered_count}
+use Rattle.inp_model.specs.Injection.{AreInTime, entered_count}
 use Rattle.inp_model.specs.Reply.{Answer, answer, answer_by, alone, done_answer}
 use Rattle.inp_model.specs.Run.{place_of}
 use Rattle.inp_model.specs.Evdev.{agains_after}
 use Rattle.inp_feedback.specs.declared.u_entry.UEntry.{UEntry}
 use Rattle.inp_feedback.specs.UEntry.{steps_in, kept_after_step, kept_after_events}
 use Rattle.inp_c.specs.Told.{told_refusal}
-use Rattle.inp_c.specs.Injecting.{inject_cause}
+use Rattle.inp_c.specs.Injection.{inject_cause}
 
 -- one event that is in time
 pub one_in_time : (stamped : Stamped) → stamped.now ≤ MOMENT_MAX → AreInTime (stamped ∷ [])

@@ -1,6 +1,6 @@
 pub mod Values
 mod Pointer
-mod Copying
+mod Copies
 mod ReadByStep
 mod Along
 mod Timely

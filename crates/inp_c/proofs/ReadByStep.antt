@@ -16,7 +16,7 @@ use Rattle.inp_model.proofs.Refused.{refused-not_accepted}
 use Rattle.inp_reader.proofs.ReadCounts.{few-taken}
 use Rattle.inp_actors.specs.declared.command.TheConstants.{READ_MAX}
 use Rattle.inp_c.specs.Status.{has_room}
-use Rattle.inp_c.specs.Stepping.{read_count}
+use Rattle.inp_c.specs.Steps.{read_count}
 
 -- As many as the reply tells
 

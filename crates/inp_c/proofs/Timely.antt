@@ -6,10 +6,10 @@ use Rattle.std.proofs.lemmas.List.{length-map}
 use Rattle.std.proofs.Math.Seq.{take-append_seam}
 use Rattle.inp_model.specs.declared.stamped.Stamped.{Stamped}
 use Rattle.inp_model.specs.declared.stamped.TheConstants.{MOMENT_MAX}
-use Rattle.inp_model.specs.Injecting.{AreInTime}
+use Rattle.inp_model.specs.Injection.{AreInTime}
 use Rattle.inp_model.specs.Reply.{written}
 use Rattle.inp_c.specs.declared.c_stamped.CStamped.{CStamped}
-use Rattle.inp_c.specs.Injecting.{stamped_of_c, are_timely}
+use Rattle.inp_c.specs.Injection.{stamped_of_c, are_timely}
 
 both : (a b : Bool) → (a && b) ≡ true → (a ≡ true) × (b ≡ true)
 both true true h = (refl, refl)

@@ -11,7 +11,7 @@ use Rattle.inp_c.specs.declared.kept_device.KeptDevice.{KeptDevice}
 use Rattle.inp_c.specs.declared.c_event.CEvent.{CEvent}
 use Rattle.inp_c.specs.declared.status.TheConstants.{BAD_HANDLE}
 use Rattle.inp_c.specs.Status.{argument_status}
-use Rattle.inp_c.specs.Stepping.{IsDeviceAnswer, read_count}
+use Rattle.inp_c.specs.Steps.{IsDeviceAnswer, read_count}
 use Rattle.inp_c.specs.Told.{told_event, told_refusal}
 
 -- a call that wants a device, and an array that is no longer than the greatest read

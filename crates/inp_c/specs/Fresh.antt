@@ -5,9 +5,9 @@ use Rattle.inp_uinput.specs.UdevView.{UdevView}
 use Rattle.inp_recon.specs.View.{first_view}
 use Rattle.inp_reader.specs.declared.reader.TheConstants.{NO_CLIENT}
 use Rattle.inp_reader.specs.declared.phase.Phase.TheVariants.{Plain}
-use Rattle.inp_reader.specs.Reading.{ReaderView}
+use Rattle.inp_reader.specs.Reader.{ReaderView}
 use Rattle.inp_joy.specs.Codes.{startup_len}
-use Rattle.inp_joy.specs.Joying.{JoyView}
+use Rattle.inp_joy.specs.Joy.{JoyView}
 use Rattle.inp_joy.specs.Picture.{blank_picture}
 
 abbrev pub fresh_udev : Description → UdevView

@@ -2,11 +2,11 @@
 use Rattle.std.specs.Prelude.{◌≡◌, ℕ, List, [], Option, Some}
 use Rattle.inp_reader.specs.declared.started.Started.{Started}
 use Rattle.inp_reader.specs.Says.{Says}
-use Rattle.inp_reader.specs.Leaving.{LeavesMade}
+use Rattle.inp_reader.specs.LeftEvdev.{LeavesMade}
 use Rattle.inp_joy.specs.declared.joy_read.JoyRead.{JoyRead}
 use Rattle.inp_joy.specs.declared.joy_read.JoyRead.TheVariants.{Record, Frame, Again, NoDevice, Closed, Full, More}
 use Rattle.inp_joy.specs.declared.picture.Picture.{Picture}
-use Rattle.inp_joy.specs.Joying.{joy_start}
+use Rattle.inp_joy.specs.Joy.{joy_start}
 use Rattle.inp_joy.specs.Picture.{seen_as}
 use Rattle.inp_joy.specs.Reads.{IsJoyRead, agains_after_read}
 use Rattle.inp_c.specs.declared.kept.Kept.{Kept}

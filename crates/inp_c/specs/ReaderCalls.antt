@@ -9,9 +9,9 @@ use Rattle.inp_reader.specs.declared.next.Next.{Next}
 use Rattle.inp_reader.specs.declared.next.Next.TheVariants.{Success, Dropped, Sync, Again, Synced, NoDevice, Closed, Full}
 use Rattle.inp_reader.specs.declared.started.Started.{Started}
 use Rattle.inp_reader.specs.declared.started.Started.TheVariants.{Opened, Refused}
-use Rattle.inp_reader.specs.Reading.{start_talk, next_talk, with_sync_needed}
+use Rattle.inp_reader.specs.Reader.{start_talk, next_talk, with_sync_needed}
 use Rattle.inp_reader.specs.Says.{Says}
-use Rattle.inp_reader.specs.Leaving.{LeavesMade, agains_after_next}
+use Rattle.inp_reader.specs.LeftEvdev.{LeavesMade, agains_after_next}
 use Rattle.inp_c.specs.declared.kept.Kept.{Kept}
 use Rattle.inp_c.specs.declared.kept.Kept.TheVariants.{Device}
 use Rattle.inp_c.specs.declared.kept_device.KeptDevice.{KeptDevice}

@@ -1,7 +1,7 @@
 //! An event with its moment, as C has it.
 ghost use Rattle.std.specs.Prelude.{◌≡◌, ◌≤◌, length, map};
 ghost use Rattle.inp_model.specs.Reply.{written};
-ghost use Rattle.inp_c.specs.Injecting.{stamped_of_c, are_timely};
+ghost use Rattle.inp_c.specs.Injection.{stamped_of_c, are_timely};
 
 use inp_model::{Event, MOMENT_MAX, Stamped};
 use std::mem::size_of;

@@ -4,7 +4,7 @@ ghost use Rattle.inp_model.specs.Run.{place_of};
 ghost use Rattle.inp_actors.specs.declared.command.TheConstants.{READ_MAX};
 ghost use Rattle.inp_c.specs.Contents.{contents};
 ghost use Rattle.inp_c.specs.ClientRead.{read_status, TellsRead, IsToldRead};
-ghost use Rattle.inp_c.specs.Stepping.{read_count};
+ghost use Rattle.inp_c.specs.Steps.{read_count};
 ghost use Rattle.inp_c.specs.Told.{told_refusal};
 
 use crate::c_event::CEvent;
@@ -13,7 +13,7 @@ use crate::handle::Handle;
 use crate::kept::Kept;
 use crate::kept_device::KeptDevice;
 use crate::status::{BAD_ARGUMENT, BAD_HANDLE, OK};
-use crate::stepping::copy_read;
+use crate::steps::copy_read;
 use inp_actors::READ_MAX;
 use inp_model::{Reply, Step};
 use std::alloc::Global;

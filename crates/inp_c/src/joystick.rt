@@ -7,7 +7,7 @@ ghost use Rattle.inp_c.specs.Joystick.{IsToldJoyStart, IsToldJoyRead, IsJoyPictu
 use crate::c_picture::{CPicture, c_picture};
 use crate::handle::Handle;
 use crate::kept::Kept;
-use crate::reading::start_refusal;
+use crate::reader::start_refusal;
 use crate::status::{BAD_HANDLE, OK};
 use inp_joy::JoyRead;
 use std::alloc::Global;

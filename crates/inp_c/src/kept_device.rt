@@ -52,10 +52,10 @@ pub struct KeptDevice {
 
 impl KeptDevice {
     ghost use Rattle.inp_model.specs.Reply.{HasRoom};
-    ghost use Rattle.inp_c.specs.Stepping.{IsKeptStep};
+    ghost use Rattle.inp_c.specs.Steps.{IsKeptStep};
     ghost use Rattle.inp_c.specs.ReaderCalls.{IsKeptStart, IsKeptNext};
     ghost use Rattle.inp_c.specs.Fresh.{fresh_udev, IsFreshReader, IsFreshJoy};
-    ghost use Rattle.inp_c.specs.Injecting.{stamped_of_c, are_timely, IsKeptInjectAll};
+    ghost use Rattle.inp_c.specs.Injection.{stamped_of_c, are_timely, IsKeptInjectAll};
     ghost use Rattle.inp_c.specs.Joystick.{IsKeptJoyStart, IsKeptJoyRead};
 
     /// A device of this description that keeps nothing yet, with a reader that has not started.

@@ -1,4 +1,4 @@
-mod Computing
+mod Computation
 mod Filters
 pub mod PlainLines
 pub mod WordsAgain

@@ -7,7 +7,7 @@ use Rattle.std.proofs.lemmas.List.Recursion.{and_at}
 use Rattle.inp_codes.specs.Table.{NamedNumber}
 use Rattle.inp_codes.specs.KindNames.{kind_entries, kind_of}
 use Rattle.inp_codes.specs.CodeNames.{code_entries, code_of, is_same_code}
-use Rattle.inp_codes.proofs.Computing.{event_codes}
+use Rattle.inp_codes.proofs.Computation.{event_codes}
 use Rattle.inp_codes.proofs.CodeNamesLemmas.{is_same_code-true}
 use Rattle.inp_codes.proofs.TableLemmas.{Contains-number_in}
 use Rattle.inp_words.specs.Number.{number, signed_number}

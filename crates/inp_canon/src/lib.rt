@@ -14,9 +14,8 @@
 
 mod commands;
 mod devices;
+pub mod examples;
 mod info_text;
 mod text;
-mod text_examples;
 
 pub use text::print;
-pub use text_examples::examples;

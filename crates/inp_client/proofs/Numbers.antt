@@ -13,7 +13,7 @@ use Rattle.inp_client.specs.Masks.{MaskView, admits_of, full_masks}
 use Rattle.inp_client.specs.Client.{ClientView, new_client}
 use Rattle.inp_client.specs.Clients.{ClientsView, distinct}
 use Rattle.inp_client.specs.Numbers.{held_numbers, stored_of, loses, admitted_numbers, IsPutBehind, IsStoredOnce}
-use Rattle.inp_client.proofs.Counting.{distinct_few, distinct_there}
+use Rattle.inp_client.proofs.CellCounts.{distinct_few, distinct_there}
 use Rattle.inp_client.proofs.MaskBits.{admits_of-full_masks}
 
 -- nothing was put

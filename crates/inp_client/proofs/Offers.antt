@@ -19,11 +19,11 @@ use Rattle.inp_client.specs.Locations.{client_at, clients_in}
 use Rattle.inp_client.specs.Numbers.{loses_event, loses, admitted_numbers, IsPutBehind}
 use Rattle.inp_client.specs.Offered.{AreShared, IsEnteredTo, IsEventOffered, IsOffered, after_frame, seen_at, ring_at}
 use Rattle.inp_client.proofs.Lists.{map_over}
-use Rattle.inp_client.proofs.Sharing.{stored_stays, cells_stay, spare_some}
-use Rattle.inp_client.proofs.Calling.{kept_known}
-use Rattle.inp_client.proofs.Locating.{members_long}
+use Rattle.inp_client.proofs.OtherClients.{stored_stays, cells_stay, spare_some}
+use Rattle.inp_client.proofs.OneClient.{kept_known}
+use Rattle.inp_client.proofs.Locations.{members_long}
 use Rattle.inp_client.proofs.Numbers.{put_none, put_then}
-use Rattle.inp_client.proofs.Offering.{owing_same, owing_other, seen_is}
+use Rattle.inp_client.proofs.OfferedCells.{owing_same, owing_other, seen_is}
 
 -- A new cell is in no ring.
 module _ {locations : List Location} {slab : Slab Member} {s after : StoreView} (shared : AreShared locations slab s) (number : ℕ) (cell : Cell) (new : held_under s number ≡ None) (put : IsPut s after number (held_by 0 cell)) where

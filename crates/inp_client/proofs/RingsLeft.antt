@@ -19,9 +19,9 @@ use Rattle.inp_client.specs.Locations.{client_at, clients_in}
 use Rattle.inp_client.specs.Kept.{kept_view, AreKept}
 use Rattle.inp_client.specs.Numbers.{stored_of, loses, admitted_numbers, IsPutBehind, IsStoredOnce}
 use Rattle.inp_client.specs.Offered.{IsOffered, after_frame, seen_at, ring_at}
-use Rattle.inp_client.proofs.Counting.{distinct_few, distinct_there, times-numbers_in}
+use Rattle.inp_client.proofs.CellCounts.{distinct_few, distinct_there, times-numbers_in}
 use Rattle.inp_client.proofs.Numbers.{stored_few}
-use Rattle.inp_client.proofs.Offering.{seen_is}
+use Rattle.inp_client.proofs.OfferedCells.{seen_is}
 use Rattle.slab.specs.Slab.{Slab}
 
 abbrev pub rings_of : List Member → List (List ℕ)

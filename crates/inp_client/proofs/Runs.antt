@@ -27,7 +27,7 @@ use Rattle.inp_client.specs.Locations.{client_at, clients_in, AreLocated}
 use Rattle.inp_client.specs.Offered.{AreShared, FitsInOneRun, AreAdded, IsOffered, TakesFrame, cells_of, takers_in, with_run, are_reports_apart, member_at, seen_at, ring_at}
 use Rattle.inp_client.proofs.MaskBits.{admits_of-full_masks}
 use Rattle.inp_client.proofs.Numbers.{put_behind, put_same, admitted_all}
-use Rattle.inp_client.proofs.Locating.{client_at_found, located_after_write, members_after_write, members_long, member_in_location}
+use Rattle.inp_client.proofs.Locations.{client_at_found, located_after_write, members_after_write, members_long, member_in_location}
 
 -- A frame whose reports are apart
 

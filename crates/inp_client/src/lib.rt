@@ -25,7 +25,7 @@
 //!
 //! Only [`Clients::new`] and [`Clients::open`] take memory. Before it makes a ring of S places, an open has the store grow
 //! by S + 1 cells. A ring holds at most S - 1 numbers, and while a frame is offered event by event there is at most one cell
-//! more that no ring has; so there is always room for one cell (`proofs/Sharing.antt`, `spare_some`). A frame goes in one
+//! more that no ring has; so there is always room for one cell (`proofs/OtherClients.antt`, `spare_some`). A frame goes in one
 //! run, with a cell for each event first, only where the store has as many to spare (`proofs/Runs.antt`).
 //! Lemmas for callers are in `proofs/ClientLists.antt`, `proofs/OnClock.antt` and `proofs/MaskBits.antt`.
 #![tactic(auto)]

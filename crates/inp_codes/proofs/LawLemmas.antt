@@ -7,7 +7,7 @@ use Rattle.inp_codes.specs.CodeNames.{code_entries, name_of, code_of, is_same_co
 use Rattle.inp_codes.specs.KindNames.{kind_entries, kind_name, kind_of, KindNamesAreEntries, KindsAreOneToOne, KindNamesAreWords}
 use Rattle.inp_codes.specs.Table.{is_word_byte, is_name_word}
 use Rattle.inp_codes.proofs.CodeNamesLemmas.{is_same_code-true}
-use Rattle.inp_codes.proofs.Computing.{event_codes}
+use Rattle.inp_codes.proofs.Computation.{event_codes}
 use Rattle.inp_codes.proofs.TableLemmas.{names_found, numbers_found, name_in-iff_entry, name_in-iff_number, is_name_word-name_in}
 
 -- the table of types finds the name and the number of each of its entries, and each name is a word

@@ -1,6 +1,6 @@
 pub mod ByNameLemmas
 pub mod ByNumberLemmas
 pub mod CodeNamesLemmas
-pub mod Computing
+pub mod Computation
 pub mod LawLemmas
 pub mod TableLemmas

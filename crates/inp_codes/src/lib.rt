@@ -26,8 +26,7 @@ mod by_name;
 mod by_number;
 mod codes;
 mod kinds;
-mod laws;
+pub mod laws;
 
 pub use codes::{code_named, code_of, name_of};
 pub use kinds::{kind_name, kind_named, kind_of};
-pub use laws::{codes_are_one_to_one, kinds_are_one_to_one};

@@ -19,7 +19,7 @@ use Rattle.inp_model.specs.Left.{given_in}
 use Rattle.inp_model.proofs.Allowed.{IsAllowed, named_open, mask_kind, mask_word}
 use Rattle.inp_model.proofs.Opens.{is_open-lt}
 use Rattle.inp_frames.specs.Core.{CoreStandsFor, IsFor, IsEntered}
-use Rattle.inp_frames.proofs.Keeping.{makes_no_events, CoreStandsFor-keeps}
+use Rattle.inp_frames.proofs.KeptCore.{makes_no_events, CoreStandsFor-keeps}
 use Rattle.inp_filter.specs.FilterState.{FiltersStandFor}
 use Rattle.inp_ring.specs.declared.cell.Cell.{Cell}
 use Rattle.inp_ring.specs.Store.{cell_taken}
@@ -34,8 +34,8 @@ use Rattle.inp_device.specs.Present.{client_after, clients_after, MasksEnd, IsFr
 use Rattle.inp_device.proofs.MaskWords.{MasksEnd-mask}
 use Rattle.inp_device.proofs.Offers.{after_offers}
 use Rattle.inp_device.proofs.Calls.{clients_after-frames, makes_events}
-use Rattle.inp_device.proofs.Growing.{tells_loss, is_lost, AreGrown, stored_grown, stored_kept}
-use Rattle.inp_device.proofs.Passing.{takes, IsPassed, passed_all, filters-called}
+use Rattle.inp_device.proofs.Growth.{tells_loss, is_lost, AreGrown, stored_grown, stored_kept}
+use Rattle.inp_device.proofs.PassedFrames.{takes, IsPassed, passed_all, filters-called}
 
 -- Clients that no step named
 

@@ -5,7 +5,7 @@ ghost use Rattle.inp_model.specs.declared.limits.TheConstants.{LOG_MAX};
 ghost use Rattle.inp_model.specs.declared.stamped.TheConstants.{MOMENT_MAX};
 ghost use Rattle.inp_model.specs.declared.step.Step.TheVariants.{Inject};
 ghost use Rattle.inp_model.specs.History.{IsHistory};
-ghost use Rattle.inp_model.specs.Injecting.{AreInTime, entered_count, history_with};
+ghost use Rattle.inp_model.specs.Injection.{AreInTime, entered_count, history_with};
 ghost use Rattle.inp_model.specs.Passed.{goes_to_device};
 ghost use Rattle.inp_model.specs.Past.{is_inhibited, open_clients};
 ghost use Rattle.inp_model.specs.Queue.{queue};

@@ -1,6 +1,6 @@
-pub mod Computing
+pub mod Computation
 pub mod Lists
-pub mod Waiting
+pub mod WaitingEvents
 pub mod Woven
 pub mod Few
 pub mod Numbers

@@ -2,6 +2,6 @@ pub mod UEntry
 pub mod Sent
 pub mod Feedback
 pub mod Kept
-pub mod Feeding
+pub mod Feeds
 pub mod Laws
 pub mod Examples

@@ -1,6 +1,6 @@
 //! What answers feedback calls.
 ghost use Rattle.std.specs.Prelude.{◌≤◌, length, take};
-ghost use Rattle.inp_feedback.specs.Feeding.{Feeding, taken_count};
+ghost use Rattle.inp_feedback.specs.Feeds.{Feeding, taken_count};
 
 use crate::Fed;
 use inp_model::Event;

@@ -20,15 +20,14 @@
 //! buffers and the limit of calls.
 #![tactic(auto)]
 
+pub mod examples;
 mod fed;
 mod feedback_call;
 mod feeds;
 pub mod laws;
-mod short_lists;
 mod u_entry;
 
 pub use fed::{FEEDBACK_MAX, Fed};
 pub use feedback_call::FeedbackCall;
 pub use feeds::Feeds;
-pub use short_lists::examples;
 pub use u_entry::UEntry;

@@ -1,4 +1,4 @@
-pub mod Computing
+pub mod Computation
 pub mod StandsAfterEvents
 pub mod Rows
 pub mod LetThrough

@@ -27,13 +27,12 @@
 mod bounce;
 mod chord;
 mod eat;
+pub mod examples;
 mod filter_state;
 mod filters;
 mod hold;
 mod keys;
 pub mod laws;
 mod norepeat;
-mod short_frames;
 
 pub use filters::Filters;
-pub use short_frames::examples;

@@ -1,6 +1,6 @@
-mod Passing
-mod Handling
-mod Cutting
-mod Entering
-mod Releasing
-pub mod Keeping
+mod PassedEvents
+mod HandledEvents
+mod Cuts
+mod EnteredSteps
+mod Releases
+pub mod KeptCore

@@ -1,4 +1,4 @@
 pub mod Batch
 pub mod Core
 pub mod Frames
-pub mod Handling
+pub mod HandledEvents

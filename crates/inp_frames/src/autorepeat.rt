@@ -4,7 +4,7 @@
 ghost use Rattle.std.specs.Prelude.{◌≡◌, ◌≤◌, ◌*◌, ◌^◌, unsigned_abs};
 ghost use Rattle.inp_model.specs.declared.stamped.TheConstants.{MOMENT_MAX};
 ghost use Rattle.inp_model.specs.Timer.{repeats_keys, first_timer, timer_disarmed, timer_rearmed, timer_at_key, timer_at_events};
-ghost use Rattle.inp_frames.specs.Handling.{timer_at_event, timer_at_frame};
+ghost use Rattle.inp_frames.specs.HandledEvents.{timer_at_event, timer_at_frame};
 
 use inp_caps::Caps;
 use inp_model::{EV_KEY, EV_REP, Event, Timer};

@@ -1,7 +1,7 @@
 //! Which slots have a contact.
 ghost use Rattle.std.specs.Prelude.{◌≡◌, ◌<◌, ◌≤◌, ℕ, false, length, slice_index_or};
 ghost use Rattle.inp_model.specs.declared.limits.TheConstants.{SLOTS_MAX};
-ghost use Rattle.inp_frames.specs.Handling.{has_contact_at};
+ghost use Rattle.inp_frames.specs.HandledEvents.{has_contact_at};
 
 use inp_bits::Bits;
 use inp_model::ABS_MT_TRACKING_ID;

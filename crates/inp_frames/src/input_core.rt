@@ -15,7 +15,7 @@ ghost use Rattle.inp_bits.specs.Bits.{true_indices};
 ghost use Rattle.inp_slots.specs.Slots.{SlotValues};
 ghost use Rattle.inp_frames.specs.declared.frames.TheConstants.{FRAME_MAX};
 ghost use Rattle.inp_frames.specs.Core.{IsFor, StandsAfter, CoreStandsFor, IsEntered};
-ghost use Rattle.inp_frames.specs.Handling.{Handles, may_repeat, lift_events, release_events};
+ghost use Rattle.inp_frames.specs.HandledEvents.{Handles, may_repeat, lift_events, release_events};
 
 use crate::Frames;
 use crate::autorepeat::{first_timer, micros, timer_at_frame, timer_disarmed, timer_rearmed};

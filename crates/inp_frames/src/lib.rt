@@ -50,7 +50,7 @@
 //! for which histories it stands. A new one stands for the empty history, and after each call it stands for the history
 //! with one step more, for each history that it stood for. The frames that the step ends are the model's, and each is
 //! passed on once, in order; a step that ends no frame leaves the taker as it was (`IsEntered`). [`Core::is_for_device`]
-//! tells beforehand whether an event goes to the device itself. `proofs/Keeping.antt`
+//! tells beforehand whether an event goes to the device itself. `proofs/KeptCore.antt`
 //! is for whoever keeps a core beside the clients of a device: a step that is none of the core's ends no frame, and the
 //! core stands for the history with it as it is. A raw event takes the same time whatever came before, an inhibition
 //! takes time for each slot and each key that is down, and memory is taken when the core is made and never again.

@@ -5,9 +5,9 @@ use Rattle.std.proofs.lemmas.List.{take_all, take_at}
 use Rattle.std.proofs.lemmas.List.Elements.{filter-append}
 use Rattle.inp_model.specs.declared.event.TheConstants.{EV_KEY, EV_ABS}
 use Rattle.inp_model.specs.Description.{Description, supports}
-use Rattle.inp_reader.specs.Reading.{axes_among}
+use Rattle.inp_reader.specs.Reader.{axes_among}
 use Rattle.inp_joy.specs.Codes.{codes_among, buttons, axes}
-use Rattle.inp_model.proofs.Injecting.{range-append}
+use Rattle.inp_model.proofs.Injection.{range-append}
 
 -- Lists of at most 64
 

@@ -12,7 +12,7 @@ use Rattle.inp_joy.specs.declared.joy_read.JoyRead.TheVariants.{Frame, More}
 use Rattle.inp_joy.specs.declared.joy_record.JoyRecord.{JoyRecord}
 use Rattle.inp_joy.specs.declared.turn_end.TurnEnd.{TurnEnd}
 use Rattle.inp_joy.specs.declared.turn_end.TurnEnd.TheVariants.{Hands, Stops, GoesOn}
-use Rattle.inp_joy.specs.Joying.{Joying, JoyTurn, gives, goes_on, hand_out_record, joy_read_of, is_lost, joy_record_of, record_or_on, joying_after_next}
+use Rattle.inp_joy.specs.Joy.{Joying, JoyTurn, gives, goes_on, hand_out_record, joy_read_of, is_lost, joy_record_of, record_or_on, joying_after_next}
 use Rattle.inp_joy.specs.Kept.{turn_of_end, IsTurnEndLess}
 use Rattle.inp_joy.specs.Reads.{IsReadLess}
 

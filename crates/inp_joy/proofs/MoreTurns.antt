@@ -7,7 +7,7 @@ use Rattle.inp_reader.specs.Talk.{Talk, finish, and_then, EndsWith}
 use Rattle.inp_reader.proofs.Calls.{IsSplit, split-and_then, finished}
 use Rattle.inp_reader.proofs.Talks.{LeadsTo-append, LeadsTo-and_then}
 use Rattle.inp_joy.specs.declared.joy_read.JoyRead.TheVariants.{More}
-use Rattle.inp_joy.specs.Joying.{Joying, JoyAnswer, JoyTurn, gives, goes_on, stop_with, is_long, turn_talk, with_count, after_turn, turns}
+use Rattle.inp_joy.specs.Joy.{Joying, JoyAnswer, JoyTurn, gives, goes_on, stop_with, is_long, turn_talk, with_count, after_turn, turns}
 
 pub turns-longer : (d : Description) (n m k : ℕ) (j : Joying) (calls : List Call) (a : JoyAnswer) → n ≤ m → EndsWith (turns d n k j) calls (Some a) → EndsWith (turns d m k j) calls (Some a)
 unfolding turns

@@ -19,13 +19,13 @@ use Rattle.inp_reader.specs.declared.next.Next.{Next}
 use Rattle.inp_reader.specs.declared.next.Next.TheVariants.{Success, Dropped, Sync, Again, Synced, NoDevice, Closed, Full}
 use Rattle.inp_reader.specs.declared.started.Started.{Started}
 use Rattle.inp_reader.specs.declared.started.Started.TheVariants.{Opened as StartedOn, Refused}
-use Rattle.inp_reader.specs.Reading.{Reading, start_stop_of, after_queries, start_talk, ask_each, queries, stop_of as reader_stop, sync_talk, next_talk, hand_synthesised, after_full_sync, after_failed_sync}
-use Rattle.inp_reader.specs.Standing.{is_needed}
+use Rattle.inp_reader.specs.Reader.{Reading, start_stop_of, after_queries, start_talk, ask_each, queries, stop_of as reader_stop, sync_talk, next_talk, hand_synthesised, after_full_sync, after_failed_sync}
+use Rattle.inp_reader.specs.ReaderPlace.{is_needed}
 use Rattle.inp_reader.specs.Talk.{EndsWith}
 use Rattle.inp_reader.proofs.Calls.{AreAccepted}
 use Rattle.inp_reader.proofs.Meets.{Any, AnyAnswer, any-run, Runs, meets-always, meets-ends}
 use Rattle.inp_reader.proofs.NextWalk.{sync-meets, Queried, start-meets, Renewed, NextRules, Handed, needed-meets, next-ends, stop-cases}
-use Rattle.inp_joy.specs.Joying.{joy_read_of, is_lost}
+use Rattle.inp_joy.specs.Joy.{joy_read_of, is_lost}
 
 -- In Normal mode, where no synchronisation is needed
 

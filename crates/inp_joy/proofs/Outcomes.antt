@@ -8,14 +8,14 @@ use Rattle.inp_model.specs.Event.{is_report}
 use Rattle.inp_model.specs.Evdev.{EvdevView}
 use Rattle.inp_reader.specs.declared.next.Next.{Next}
 use Rattle.inp_reader.specs.declared.next.Next.TheVariants.{Success, Dropped, Sync, Again as NothingVisible, Synced, NoDevice as Revoked, Closed as NotOpen, Full as FullHistory}
-use Rattle.inp_reader.specs.Reading.{Reading, ReaderView}
-use Rattle.inp_reader.specs.Showing.{AnswerShows, ShowsTheDevice}
+use Rattle.inp_reader.specs.Reader.{Reading, ReaderView}
+use Rattle.inp_reader.specs.TrueView.{AnswerShows, ShowsTheDevice}
 use Rattle.inp_joy.specs.declared.joy_read.JoyRead.{JoyRead}
 use Rattle.inp_joy.specs.declared.joy_read.JoyRead.TheVariants.{Frame, Again, NoDevice, Closed, Full, More}
 use Rattle.inp_joy.specs.declared.joy_record.JoyRecord.{JoyRecord}
 use Rattle.inp_joy.specs.declared.turn_end.TurnEnd.{TurnEnd}
 use Rattle.inp_joy.specs.declared.turn_end.TurnEnd.TheVariants.{Hands, Stops, GoesOn}
-use Rattle.inp_joy.specs.Joying.{Joying, JoyTurn, gives, goes_on, hand_out_record, joy_read_of, joy_record_of, record_or_on, joying_after_next}
+use Rattle.inp_joy.specs.Joy.{Joying, JoyTurn, gives, goes_on, hand_out_record, joy_read_of, joy_record_of, record_or_on, joying_after_next}
 use Rattle.inp_joy.specs.Kept.{turn_of_end, TurnEndShows, TurnEndPictures}
 use Rattle.inp_joy.specs.Picture.{picture_of_view}
 use Rattle.inp_joy.specs.Reads.{PicturesTheDevice}

@@ -11,7 +11,7 @@ use Rattle.inp_recon.specs.View.{first_view}
 use Rattle.inp_joy.specs.declared.joy_record.JoyRecord.{JoyRecord}
 use Rattle.inp_joy.specs.Codes.{buttons, axes, startup_len}
 use Rattle.inp_joy.specs.JoyRecord.{within_16_bits, startup_button, startup_axis}
-use Rattle.inp_joy.specs.Joying.{map_numbered, startup, startup_buttons, startup_axes}
+use Rattle.inp_joy.specs.Joy.{map_numbered, startup, startup_buttons, startup_axes}
 use Rattle.inp_joy.specs.Picture.{PictureView, blank_picture, picture_after, picture_after_all, up_to_64, picture_by, is_down_in, value_in, picture_of_view}
 use Rattle.inp_joy.proofs.CodeLists.{length-buttons, length-axes}
 use Rattle.inp_joy.proofs.Startups.{length-startup}

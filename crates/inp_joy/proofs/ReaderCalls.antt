@@ -5,11 +5,11 @@ use Rattle.inp_model.specs.Evdev.{EvdevView}
 use Rattle.inp_reader.specs.declared.call_made.CallMade.{CallMade}
 use Rattle.inp_reader.specs.declared.mode.Mode.{Mode}
 use Rattle.inp_reader.specs.declared.next.Next.{Next}
-use Rattle.inp_reader.specs.Leaving.{LeavesMade}
-use Rattle.inp_reader.specs.Reading.{Reading, ReaderView, next_talk}
+use Rattle.inp_reader.specs.LeftEvdev.{LeavesMade}
+use Rattle.inp_reader.specs.Reader.{Reading, ReaderView, next_talk}
 use Rattle.inp_reader.specs.Says.{Says}
-use Rattle.inp_reader.specs.Showing.{AnswerShows}
-use Rattle.inp_reader.specs.Standing.{StandsAt, Stands, IsAlone}
+use Rattle.inp_reader.specs.TrueView.{AnswerShows}
+use Rattle.inp_reader.specs.ReaderPlace.{StandsAt, Stands, IsAlone}
 use Rattle.inp_reader.proofs.UseAlone.{alone-first, alone-then}
 use Rattle.inp_reader.proofs.LeftByCalls.{leaves_made-none, leaves_made-then}
 use Rattle.inp_reader.proofs.StandsByCalls.{client-next}

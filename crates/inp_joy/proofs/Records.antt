@@ -22,7 +22,7 @@ use Rattle.inp_joy.specs.declared.joy_read.JoyRead.TheVariants.{Record, Frame, A
 use Rattle.inp_joy.specs.declared.joy_record.JoyRecord.{JoyRecord}
 use Rattle.inp_joy.specs.JoyRecord.{bytes_of_record, record_in, within_16_bits, startup_button, startup_axis}
 use Rattle.inp_joy.specs.Codes.{buttons, axes, number_among}
-use Rattle.inp_joy.specs.Joying.{Joying, JoyAnswer, JoyTurn, gives, goes_on, hand_out_record, next_in_startup, map_numbered, startup, last_value, record_of_key, record_of_axis, joy_record_of, record_or_on, event_or_on, joy_read_of, event_handed_out, stop_or_event, joying_after_next, stop_or_startup, turns, with_reading}
+use Rattle.inp_joy.specs.Joy.{Joying, JoyAnswer, JoyTurn, gives, goes_on, hand_out_record, next_in_startup, map_numbered, startup, last_value, record_of_key, record_of_axis, joy_record_of, record_or_on, event_or_on, joy_read_of, event_handed_out, stop_or_event, joying_after_next, stop_or_startup, turns, with_reading}
 use Rattle.inp_joy.specs.Picture.{PictureView, is_down_in, value_in}
 use Rattle.inp_joy.proofs.TurnCases.{Synchronises, TurnCase, of_startup, of_sync, of_loss, of_next, turn-case, turns-all}
 

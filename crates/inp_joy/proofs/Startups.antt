@@ -9,7 +9,7 @@ use Rattle.inp_recon.specs.declared.view.View.{View}
 use Rattle.inp_joy.specs.declared.joy_record.JoyRecord.{JoyRecord}
 use Rattle.inp_joy.specs.Codes.{buttons, axes, startup_len}
 use Rattle.inp_joy.specs.JoyRecord.{within_16_bits, startup_button, startup_axis}
-use Rattle.inp_joy.specs.Joying.{startup, startup_buttons, startup_axes}
+use Rattle.inp_joy.specs.Joy.{startup, startup_buttons, startup_axes}
 use Rattle.inp_joy.specs.Picture.{is_down_in, value_in}
 use Rattle.inp_joy.proofs.Lists.{slice_get-left, slice_get-right, map_numbered-get, length-map_numbered}
 

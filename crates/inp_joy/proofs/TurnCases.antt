@@ -7,13 +7,13 @@ use Rattle.inp_model.specs.Reply.{is_accepted}
 use Rattle.inp_model.specs.Run.{Call}
 use Rattle.inp_reader.specs.declared.mode.Mode.TheVariants.{Normal, Sync as Synchronising}
 use Rattle.inp_reader.specs.declared.next.Next.{Next}
-use Rattle.inp_reader.specs.Reading.{Reading, next_talk}
-use Rattle.inp_reader.specs.Standing.{is_needed}
+use Rattle.inp_reader.specs.Reader.{Reading, next_talk}
+use Rattle.inp_reader.specs.ReaderPlace.{is_needed}
 use Rattle.inp_reader.specs.Talk.{Talk, finish, ask, LeadsTo, EndsWith}
 use Rattle.inp_reader.proofs.Calls.{IsSplit, split-and_then, finished}
 use Rattle.inp_joy.specs.declared.joy_read.JoyRead.TheVariants.{More}
 use Rattle.inp_joy.specs.declared.joy_record.JoyRecord.{JoyRecord}
-use Rattle.inp_joy.specs.Joying.{Joying, JoyAnswer, JoyTurn, gives, goes_on, hand_out_record, next_in_startup, startup, is_long, is_lost, joy_read_of, joying_after_next, stop_or_startup, joying_after_sync, sync_turn, after_normal, event_turn, record_or_turn, turn_talk, with_count, after_turn, turns, stop_with, with_reading}
+use Rattle.inp_joy.specs.Joy.{Joying, JoyAnswer, JoyTurn, gives, goes_on, hand_out_record, next_in_startup, startup, is_long, is_lost, joy_read_of, joying_after_next, stop_or_startup, joying_after_sync, sync_turn, after_normal, event_turn, record_or_turn, turn_talk, with_count, after_turn, turns, stop_with, with_reading}
 
 -- The calls are those of a synchronisation, and the turn comes to what its answer says.
 pub record Synchronises (d : Description) (j : Joying) (calls : List Call) (t : JoyTurn) : Type 0 where

@@ -15,8 +15,8 @@ use Rattle.inp_reader.specs.declared.next.Next.{Next}
 use Rattle.inp_reader.specs.declared.next.Next.TheVariants.{Success, Dropped, Sync, Again as NothingVisible, Synced, NoDevice as Revoked, Closed as NotOpen, Full as FullHistory}
 use Rattle.inp_reader.specs.declared.started.Started.{Started}
 use Rattle.inp_reader.specs.declared.started.Started.TheVariants.{Opened, Refused}
-use Rattle.inp_reader.specs.Reading.{Reading, next_talk}
-use Rattle.inp_reader.specs.Standing.{is_needed}
+use Rattle.inp_reader.specs.Reader.{Reading, next_talk}
+use Rattle.inp_reader.specs.ReaderPlace.{is_needed}
 use Rattle.inp_reader.specs.Talk.{finish, EndsWith}
 use Rattle.inp_reader.proofs.Calls.{IsSplit, split-and_then, finished, AreAccepted}
 use Rattle.inp_joy.specs.declared.joy_read.JoyRead.{JoyRead}
@@ -25,7 +25,7 @@ use Rattle.inp_joy.specs.declared.joy_record.JoyRecord.{JoyRecord}
 use Rattle.inp_joy.specs.declared.turn_end.TurnEnd.{TurnEnd}
 use Rattle.inp_joy.specs.declared.turn_end.TurnEnd.TheVariants.{Hands, Stops, GoesOn}
 use Rattle.inp_joy.specs.Codes.{startup_len}
-use Rattle.inp_joy.specs.Joying.{Joying, JoyAnswer, JoyTurn, gives, goes_on, hand_out_record, stop_with, with_reading, with_startup, without_startup, next_in_startup, is_startup_over, joying_after_start, startup, joy_read_of, is_lost, joy_record_of, record_or_on, event_handed_out, joying_after_event, stop_or_event, joying_after_next, stop_or_startup, joying_after_sync, sync_turn, after_normal, event_turn, record_or_turn, turn_talk}
+use Rattle.inp_joy.specs.Joy.{Joying, JoyAnswer, JoyTurn, gives, goes_on, hand_out_record, stop_with, with_reading, with_startup, without_startup, next_in_startup, is_startup_over, joying_after_start, startup, joy_read_of, is_lost, joy_record_of, record_or_on, event_handed_out, joying_after_event, stop_or_event, joying_after_next, stop_or_startup, joying_after_sync, sync_turn, after_normal, event_turn, record_or_turn, turn_talk}
 use Rattle.inp_joy.specs.Kept.{turn_of_end}
 use Rattle.inp_joy.specs.Picture.{PictureView, picture_after_if, picture_of_view}
 use Rattle.inp_joy.specs.Reads.{IsPictured}

@@ -4,7 +4,7 @@ use Rattle.std.specs.Prelude.{ℕ, ◌+◌, ◌-◌, nat_eq, List, ◌++◌, len
 use Rattle.std.specs.List.{range_with_len, position}
 use Rattle.inp_model.specs.declared.event.TheConstants.{EV_KEY, KEY_MAX}
 use Rattle.inp_model.specs.Description.{Description, supports}
-use Rattle.inp_reader.specs.Reading.{plain_axes}
+use Rattle.inp_reader.specs.Reader.{plain_axes}
 use Rattle.inp_joy.specs.declared.code_list.TheConstants.{BTN_MISC, BTN_JOYSTICK}
 
 -- the supported codes of a type among so many from the first on, ascending

@@ -6,14 +6,14 @@ use Rattle.inp_model.specs.declared.step.Step.{Step}
 use Rattle.inp_model.specs.declared.step.Step.TheVariants.{Inject, Read, Discard, GetAxis}
 use Rattle.inp_model.specs.declared.reply.Reply.TheVariants.{Took, Discarded, Axis}
 use Rattle.inp_model.specs.Description.{Description, no_info}
-use Rattle.inp_model.specs.Examples.{report}
+use Rattle.inp_model.specs.examples.Frames.{report}
 use Rattle.inp_reader.specs.declared.call_made.CallMade.{CallMade}
 use Rattle.inp_reader.specs.Examples.{played, new_reading, slider, slides, axis}
 use Rattle.inp_reader.specs.Says.{calls_kept}
 use Rattle.inp_joy.specs.declared.joy_read.JoyRead.{JoyRead}
 use Rattle.inp_joy.specs.declared.joy_read.JoyRead.TheVariants.{Record, Frame, Again, More}
 use Rattle.inp_joy.specs.Codes.{startup_len}
-use Rattle.inp_joy.specs.Joying.{Joying, joy_start, turns, stop_with}
+use Rattle.inp_joy.specs.Joy.{Joying, joy_start, turns, stop_with}
 use Rattle.inp_joy.specs.Picture.{blank_picture, up_to_64}
 use Rattle.inp_joy.specs.Reads.{bytes_after}
 

@@ -5,18 +5,18 @@ use Rattle.inp_model.specs.Description.{Description}
 use Rattle.inp_model.specs.Evdev.{EvdevView}
 use Rattle.inp_reader.specs.declared.call_made.CallMade.{CallMade}
 use Rattle.inp_reader.specs.KeptViews.{IsKeptView}
-use Rattle.inp_reader.specs.Leaving.{LeavesMade}
-use Rattle.inp_reader.specs.Reading.{Reading, ReaderView}
+use Rattle.inp_reader.specs.LeftEvdev.{LeavesMade}
+use Rattle.inp_reader.specs.Reader.{Reading, ReaderView}
 use Rattle.inp_reader.specs.Says.{Says}
-use Rattle.inp_reader.specs.Showing.{ShowsTheDevice}
-use Rattle.inp_reader.specs.Standing.{StandsAt, IsAlone}
+use Rattle.inp_reader.specs.TrueView.{ShowsTheDevice}
+use Rattle.inp_reader.specs.ReaderPlace.{StandsAt, IsAlone}
 use Rattle.inp_joy.specs.declared.joy.Joy.TheInside.{Inside}
 use Rattle.inp_joy.specs.declared.joy_read.JoyRead.TheVariants.{Record, Frame, More}
 use Rattle.inp_joy.specs.declared.joy_state.JoyState.{JoyState}
 use Rattle.inp_joy.specs.declared.turn_end.TurnEnd.{TurnEnd}
 use Rattle.inp_joy.specs.declared.turn_end.TurnEnd.TheVariants.{Hands, Stops, GoesOn}
 use Rattle.inp_joy.specs.Codes.{buttons, axes, startup_len}
-use Rattle.inp_joy.specs.Joying.{Joying, JoyView, JoyAnswer, JoyTurn, gives, goes_on, stop_with, is_long, turns}
+use Rattle.inp_joy.specs.Joy.{Joying, JoyView, JoyAnswer, JoyTurn, gives, goes_on, stop_with, is_long, turns}
 use Rattle.inp_joy.specs.Picture.{seen_as}
 use Rattle.inp_joy.specs.Reads.{IsPictured, PicturesTheDevice, IsReadLess, agains_after_read}
 

@@ -11,7 +11,7 @@ use Rattle.inp_recon.specs.View.{IsSizedFor, view_after_event}
 use Rattle.inp_joy.specs.declared.joy_record.JoyRecord.{JoyRecord}
 use Rattle.inp_joy.specs.JoyRecord.{bytes_of_record, record_in}
 use Rattle.inp_joy.specs.Codes.{startup_len}
-use Rattle.inp_joy.specs.Joying.{startup, joy_record_of}
+use Rattle.inp_joy.specs.Joy.{startup, joy_record_of}
 use Rattle.inp_joy.specs.Picture.{blank_picture, picture_after_all, picture_after_if, picture_of_view, picture_of_device}
 
 -- a startup has a record of each button and axis

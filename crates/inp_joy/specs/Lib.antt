@@ -1,7 +1,7 @@
 pub mod JoyRecord
 pub mod Codes
 pub mod Picture
-pub mod Joying
+pub mod Joy
 pub mod Reads
 pub mod Kept
 pub mod Laws

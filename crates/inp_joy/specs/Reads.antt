@@ -11,14 +11,14 @@ use Rattle.inp_recon.specs.ClientView.{past_before_read, read_up_to}
 use Rattle.inp_recon.specs.Faithful.{IsReportAt, IsFollowed}
 use Rattle.inp_reader.specs.declared.call_made.CallMade.{CallMade}
 use Rattle.inp_reader.specs.Says.{Says}
-use Rattle.inp_reader.specs.Showing.{index_handed_out}
-use Rattle.inp_reader.specs.Standing.{StandsAt, is_needed}
+use Rattle.inp_reader.specs.TrueView.{index_handed_out}
+use Rattle.inp_reader.specs.ReaderPlace.{StandsAt, is_needed}
 use Rattle.inp_joy.specs.declared.joy_read.JoyRead.{JoyRead}
 use Rattle.inp_joy.specs.declared.joy_read.JoyRead.TheVariants.{Frame, Again, More}
 use Rattle.inp_joy.specs.declared.joy_record.JoyRecord.{JoyRecord}
 use Rattle.inp_joy.specs.JoyRecord.{bytes_of_record}
 use Rattle.inp_joy.specs.Picture.{picture_after_all, picture_of_view, picture_of_device}
-use Rattle.inp_joy.specs.Joying.{Joying, JoyView, startup, turns}
+use Rattle.inp_joy.specs.Joy.{Joying, JoyView, startup, turns}
 
 -- the caller's eight bytes: the record that was handed out, or what they were
 abbrev pub bytes_after : Option JoyRecord → List ℕ → List ℕ

@@ -3,12 +3,12 @@ ghost use Rattle.std.specs.Prelude.{◌≡◌, ◌≤◌, true, [], length, IfOk
 ghost use Rattle.inp_reader.specs.declared.phase.Phase.TheVariants.{Plain};
 ghost use Rattle.inp_reader.specs.declared.reader.TheConstants.{NO_CLIENT};
 ghost use Rattle.inp_reader.specs.Effort.{effort};
-ghost use Rattle.inp_reader.specs.Leaving.{LeavesMade};
+ghost use Rattle.inp_reader.specs.LeftEvdev.{LeavesMade};
 ghost use Rattle.inp_reader.specs.Says.{Says};
-ghost use Rattle.inp_reader.specs.Standing.{IsAlone, has_opened};
+ghost use Rattle.inp_reader.specs.ReaderPlace.{IsAlone, has_opened};
 ghost use Rattle.inp_recon.specs.View.{first_view};
 ghost use Rattle.inp_joy.specs.Codes.{startup_len};
-ghost use Rattle.inp_joy.specs.Joying.{joy_start};
+ghost use Rattle.inp_joy.specs.Joy.{joy_start};
 ghost use Rattle.inp_joy.specs.Picture.{blank_picture, seen_as};
 ghost use Rattle.inp_joy.specs.Reads.{IsJoyRead, IsPictured, IsReadLess, JoyStands, ReadPictures, agains_after_read};
 
@@ -29,14 +29,14 @@ use std::marker::Model;
 /// then what happens to them. Where events were lost it synchronises, and begins with a startup again.
 ///
 /// Each call is lent the device, which must be of the description that the client was made for. A contract sees a joystick
-/// client as its description, what it keeps (`Joying` of `specs/Joying.antt`), and the calls that it made last.
+/// client as its description, what it keeps (`Joying` of `specs/Joy.antt`), and the calls that it made last.
 #[derive(Drop)]
 pub struct Joy {
     state: JoyState,
 }
 
 impl Model for Joy {
-    ghost use Rattle.inp_joy.specs.Joying.{JoyView};
+    ghost use Rattle.inp_joy.specs.Joy.{JoyView};
 
     ghost Value = { JoyView };
 

@@ -6,7 +6,7 @@
 //! view, on `inp_model` for events and the trait `Evdev`, on `inp_caps` for the description and on `inp_bits` for words of
 //! truth values.
 //!
-//! Its contract: `specs/Joying.antt` says what `start` and `read` ask of an evdev, one step by the answers before it,
+//! Its contract: `specs/Joy.antt` says what `start` and `read` ask of an evdev, one step by the answers before it,
 //! and what they answer, hand out and keep (a `Talk` of `inp_reader`). [`Joy::start`] and [`Joy::read`] promise that
 //! the calls they made are those of that talk, of `read` in some number of turns, and that the answer, the record and
 //! what is kept are its result (`Says`, `IsJoyRead`). Without a record the caller's bytes stay. A `read` ends. The count
@@ -25,13 +25,13 @@
 #![tactic(auto)]
 
 mod code_list;
+pub mod examples;
 mod joy;
 mod joy_read;
 mod joy_record;
 mod joy_state;
 pub mod laws;
 mod picture;
-mod rows;
 mod stops;
 mod turn_end;
 mod views;
@@ -41,4 +41,3 @@ pub use joy::Joy;
 pub use joy_read::JoyRead;
 pub use joy_record::{JS_EVENT_AXIS, JS_EVENT_BUTTON, JS_EVENT_INIT, JoyRecord};
 pub use picture::Picture;
-pub use rows::examples;

@@ -1,6 +1,6 @@
 //! What an answer of a reader is to a joystick client.
 ghost use Rattle.std.specs.Prelude.{◌≡◌};
-ghost use Rattle.inp_joy.specs.Joying.{joy_read_of, is_lost, event_handed_out};
+ghost use Rattle.inp_joy.specs.Joy.{joy_read_of, is_lost, event_handed_out};
 
 use crate::JoyRead;
 use inp_model::Taken;

@@ -28,11 +28,10 @@
 //! the events of a finger, the moments, and how many events a frame and how many lines each actor has.
 #![tactic(auto)]
 
+pub mod examples;
 mod frame;
-mod generated_examples;
 mod generated_record;
 mod pad;
 
-pub use generated_examples::examples;
 pub use generated_record::{FRAMES_MAX, make};
 pub use pad::BTN_TOUCH;

@@ -1,9 +1,9 @@
 pub mod Allowed
-pub mod Computing
+pub mod Computation
 pub mod Descriptions
-pub mod Injecting
+pub mod Injection
 pub mod Leaves
 pub mod Opens
 pub mod Refused
 pub mod Removal
-pub mod Telling
+pub mod Told

@@ -18,13 +18,6 @@ pub mod History
 pub mod Run
 pub mod Evdev
 pub mod Leaves
-pub mod Injecting
+pub mod Injection
 pub mod DeviceView
-pub mod Examples
-pub mod QueryExamples
-pub mod SlotExamples
-pub mod ClientExamples
-pub mod RepeatExamples
-pub mod AxisExamples
-pub mod FilterExamples
-pub mod InjectingExamples
+pub mod examples

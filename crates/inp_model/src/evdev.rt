@@ -4,7 +4,7 @@ ghost use Rattle.inp_model.specs.declared.stamped.TheConstants.{MOMENT_MAX};
 ghost use Rattle.inp_model.specs.Step.{moment_of};
 ghost use Rattle.inp_model.specs.Reply.{HasRoom};
 ghost use Rattle.inp_model.specs.Evdev.{EvdevView, IsEvdevCall};
-ghost use Rattle.inp_model.specs.Injecting.{AreInTime, IsInjectAll};
+ghost use Rattle.inp_model.specs.Injection.{AreInTime, IsInjectAll};
 
 use crate::{Injected, Reply, Stamped, Step, Taken};
 

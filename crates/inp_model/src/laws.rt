@@ -3,7 +3,7 @@ ghost use Rattle.std.specs.Prelude.{List, ◌∷◌};
 ghost use Rattle.inp_model.specs.declared.injected.Injected.{Injected};
 ghost use Rattle.inp_model.specs.declared.stamped.Stamped.{Stamped};
 ghost use Rattle.inp_model.specs.Evdev.{EvdevView};
-ghost use Rattle.inp_model.specs.Injecting.{IsInjectAll, calls_of};
+ghost use Rattle.inp_model.specs.Injection.{IsInjectAll, calls_of};
 ghost use Rattle.inp_model.specs.Leaves.{AreCalls};
 
 /// What a call leaves that injects events, at least one, is what calls leave that inject them one by one, up to the first

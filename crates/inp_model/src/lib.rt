@@ -28,15 +28,15 @@ mod axis_info;
 mod clock;
 mod evdev;
 mod event;
+pub mod examples;
 mod filter;
 mod injected;
 mod items;
-mod laws;
+pub mod laws;
 mod limits;
 mod multi_touch;
 mod no_memory;
 mod reply;
-mod short_histories;
 mod stamped;
 mod step;
 mod taken;
@@ -53,7 +53,6 @@ pub use event::{
 pub use filter::Filter;
 pub use injected::Injected;
 pub use items::{History, Items};
-pub use laws::injected_events_are_calls;
 pub use limits::{
     BOUNCE_MAX, CLIENTS_MAX, FILTERS_MAX, FUZZ_MAX, HINT_MAX, HINT_MIN, LOG_MAX, SLOTS_MAX,
 };
@@ -65,10 +64,6 @@ pub use multi_touch::{
 };
 pub use no_memory::NoMemory;
 pub use reply::{Refusal, Reply};
-pub use short_histories::{
-    axis_examples, client_examples, examples, filter_examples, injecting_examples, query_examples,
-    repeat_examples, slot_examples,
-};
 pub use stamped::{MOMENT_MAX, Stamped};
 pub use step::Step;
 pub use taken::Taken;

@@ -11,8 +11,8 @@ use Rattle.inp_model.specs.Description.{Description, ring}
 use Rattle.inp_model.specs.Queue.{event_of, visible, queue}
 use Rattle.inp_model.specs.Reply.{Answer, answer, refused, past_after, is_accepted}
 use Rattle.inp_model.proofs.Allowed.{allowed}
-use Rattle.inp_losses.proofs.Causes.{queue-room}
-use Rattle.inp_joy.specs.Joying.{Joying, joy_start, joy_started}
+use Rattle.inp_runs.proofs.losses.Causes.{queue-room}
+use Rattle.inp_joy.specs.Joy.{Joying, joy_start, joy_started}
 use Rattle.inp_recon.specs.declared.view.View.{View}
 use Rattle.inp_reader.specs.declared.mode.Mode.{Mode}
 use Rattle.inp_reader.specs.declared.phase.Phase.{Phase}
@@ -20,8 +20,8 @@ use Rattle.inp_reader.specs.declared.phase.Phase.TheVariants.{Plain, Needed}
 use Rattle.inp_reader.specs.declared.started.Started.{Started}
 use Rattle.inp_reader.specs.declared.next.Next.{Next}
 use Rattle.inp_reader.specs.declared.next.Next.TheVariants.{Success, Dropped, Sync, Again, Synced, NoDevice, Closed, Full}
-use Rattle.inp_reader.specs.Reading.{Reading, queries, start_talk, next_talk, stop_of}
-use Rattle.inp_reader.specs.Standing.{is_needed}
+use Rattle.inp_reader.specs.Reader.{Reading, queries, start_talk, next_talk, stop_of}
+use Rattle.inp_reader.specs.ReaderPlace.{is_needed}
 use Rattle.inp_reader.specs.Talk.{Talk, finish, ask, and_then, talk_with}
 use Rattle.inp_reader.proofs.Meets.{Meets, Any, meets-then, meets-weaker}
 use Rattle.inp_reader.proofs.NextWalk.{AskRules, Queried, start-meets, asked-meets, sync-by_parts, Renewed, NextRules, next-meets, stop-cases}

@@ -14,18 +14,18 @@ use Rattle.inp_actors.specs.declared.role.Role.TheVariants.{Source, Client, Tap,
 use Rattle.inp_actors.specs.Record.{RecordView, IsRecord}
 use Rattle.inp_feedback.specs.UEntry.{steps_in}
 use Rattle.inp_uinput.specs.UdevView.{UdevView}
-use Rattle.inp_script.specs.declared.ended.Ended.{Ended}
+use Rattle.inp_script.specs.declared.end.ended.Ended.{Ended}
 use Rattle.inp_script.specs.declared.run.DeviceRun.{DeviceRun}
-use Rattle.inp_script.specs.Doing.{HasActor}
+use Rattle.inp_script.specs.DoneLine.{HasActor}
 use Rattle.inp_script.specs.Ended.{ended_as, ended_of}
 use Rattle.inp_script.specs.Job.{ActorView}
 use Rattle.inp_script.specs.Runs.{is_on_device}
-use Rattle.inp_order.specs.Play.{Stage, jobs_on, run_of, runs_of}
-use Rattle.inp_order.proofs.Promised.{there-is}
-use Rattle.inp_play.specs.declared.gathering.DeviceEnds.{DeviceEnds}
-use Rattle.inp_play.specs.Gathering.{actor_of, first_ends, with_end, HasEndMore, run_with, ends_of, all_ends}
+use Rattle.inp_runs.specs.Play.{Stage, jobs_on, run_of, runs_of}
+use Rattle.inp_runs.proofs.order.Promised.{there-is}
+use Rattle.inp_play.specs.declared.gathered_runs.DeviceEnds.{DeviceEnds}
+use Rattle.inp_play.specs.GatheredRuns.{actor_of, first_ends, with_end, HasEndMore, run_with, ends_of, all_ends}
 use Rattle.inp_play.specs.Player.{pasts_of, stage_with, HasDevices, HasActors}
-use Rattle.inp_play.proofs.PlayerMaking.{slice_get-numbered}
+use Rattle.inp_play.proofs.FirstPlayer.{slice_get-numbered}
 use Rattle.inp_play.proofs.PlayerLines.{same_item, length-devices}
 
 -- before the first actor

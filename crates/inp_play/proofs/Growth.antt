@@ -16,15 +16,15 @@ use Rattle.inp_actors.specs.Record.{RecordView}
 use Rattle.inp_reader.specs.declared.reader.TheConstants.{NO_CLIENT}
 use Rattle.inp_reader.specs.Talk.{Talk, EndsWith, talk_with}
 use Rattle.inp_script.specs.declared.stop.Stop.{Stop}
-use Rattle.inp_script.specs.Doing.{command_talk, unless_stopped, line_talk}
+use Rattle.inp_script.specs.DoneLine.{command_talk, unless_stopped, line_talk}
 use Rattle.inp_script.specs.Job.{Job, ActorView}
 use Rattle.inp_script.specs.Line.{step_of}
-use Rattle.inp_order.specs.Play.{Stage, after_line, after_lines}
-use Rattle.inp_order.proofs.Calls.{AreExact, exact-talk}
+use Rattle.inp_runs.specs.Play.{Stage, after_line, after_lines}
+use Rattle.inp_runs.proofs.order.Calls.{AreExact, exact-talk}
 use Rattle.inp_script.proofs.LineWalk.{OfJob}
 use Rattle.inp_play.proofs.Follows.{meets-with, Grows, Within, HasQueries, follow-length, start-length, joy_start-length, call-length, tap_call-length}
 use Rattle.inp_play.proofs.Limits.{Stays, NoStop, stays-with, stays-start, stays-joy_start, stays-follow, stays-call, stays-tap_call}
-use Rattle.inp_order.proofs.LineDone.{IsLinePlayed, line-done}
+use Rattle.inp_runs.proofs.order.LineDone.{IsLinePlayed, line-done}
 
 -- Commands
 

@@ -4,6 +4,6 @@ pub mod Limits
 pub mod Growth
 pub mod RunLines
 pub mod PlayerLines
-pub mod PlayerMaking
+pub mod FirstPlayer
 pub mod Gathered
 pub mod PlayerSteps

@@ -9,13 +9,13 @@ use Rattle.inp_model.specs.declared.reply.Reply.TheVariants.{Refused as StepRefu
 use Rattle.inp_model.specs.declared.reply.Refusal.TheVariants.{NoDevice as Revoked, LogFull}
 use Rattle.inp_model.specs.Description.{Description}
 use Rattle.inp_model.specs.Reply.{Answer, Case, answer, answer_by, accepted, first_reply, refusals, is_full, past_after, is_accepted}
-use Rattle.inp_joy.specs.Joying.{Joying, joy_start, joy_started}
+use Rattle.inp_joy.specs.Joy.{Joying, joy_start, joy_started}
 use Rattle.inp_recon.specs.declared.view.View.{View}
 use Rattle.inp_reader.specs.declared.mode.Mode.{Mode}
 use Rattle.inp_reader.specs.declared.started.Started.{Started}
 use Rattle.inp_reader.specs.declared.next.Next.{Next}
 use Rattle.inp_reader.specs.declared.next.Next.TheVariants.{Success, Dropped, Sync, Full}
-use Rattle.inp_reader.specs.Reading.{Reading, queries, start_stop_of, start_talk, stop_of, next_talk}
+use Rattle.inp_reader.specs.Reader.{Reading, queries, start_stop_of, start_talk, stop_of, next_talk}
 use Rattle.inp_reader.specs.Talk.{Talk, finish, ask, and_then, talk_with}
 use Rattle.inp_script.specs.declared.sight.Sight.{Sight}
 use Rattle.inp_script.specs.declared.sight.Sight.TheVariants.{Took, Made}

@@ -30,22 +30,22 @@ use Rattle.inp_feedback.specs.Kept.{calls_in}
 use Rattle.inp_feedback.proofs.Few.{room-enough, room-enough-taken, room-enough-kept}
 use Rattle.inp_feedback.proofs.Woven.{kept-woven}
 use Rattle.inp_uinput.specs.UdevView.{UdevView, device_of, owned_view}
-use Rattle.inp_uinput.specs.OwnedFeeding.{IsFeedbackOf}
+use Rattle.inp_uinput.specs.OwnedFeeds.{IsFeedbackOf}
 use Rattle.inp_uinput.proofs.Tied.{untied-calls, tied-calls}
 use Rattle.inp_reader.specs.Talk.{Talk, talk_with}
-use Rattle.inp_script.specs.Acting.{ActsLine}
-use Rattle.inp_script.specs.Doing.{HasActor, Holds, IsLineOf, unless_stopped, line_talk, inject_talk}
+use Rattle.inp_script.specs.ActorLine.{ActsLine}
+use Rattle.inp_script.specs.DoneLine.{HasActor, Holds, IsLineOf, unless_stopped, line_talk, inject_talk}
 use Rattle.inp_script.specs.declared.stop.Stop.{Stop}
 use Rattle.inp_script.specs.Job.{Job, ActorView}
 use Rattle.inp_script.specs.Line.{stream_talk}
 use Rattle.inp_script.specs.Owner.{Owning, after_feedback, IsFed, FeedsUnless, FeedsLine}
-use Rattle.inp_order.specs.Play.{Stage, feedback_calls_after, after_talk, unless_owner_stopped, by_command, after_line, after_lines, after_line_of}
+use Rattle.inp_runs.specs.Play.{Stage, feedback_calls_after, after_talk, unless_owner_stopped, by_command, after_line, after_lines, after_line_of}
 use Rattle.inp_play.specs.Player.{stage_with, pasts_of, feedback_calls_of, HasDevices, HasActors}
-use Rattle.inp_order.proofs.Alone.{device-alone}
-use Rattle.inp_order.proofs.LineDone.{set_same}
+use Rattle.inp_runs.proofs.order.Alone.{device-alone}
+use Rattle.inp_runs.proofs.order.LineDone.{set_same}
 use Rattle.inp_play.specs.Run.{inject_line}
 use Rattle.inp_play.proofs.RunLines.{injects-lines}
-use Rattle.inp_runs.proofs.Memory.{GivesUp, gives_up-line, gives_up-stream}
+use Rattle.inp_runs.proofs.memory.Memory.{GivesUp, gives_up-line, gives_up-stream}
 
 -- Lists
 

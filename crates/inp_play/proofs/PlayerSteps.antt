@@ -12,9 +12,9 @@ use Rattle.inp_script.specs.Job.{ActorView}
 use Rattle.inp_uinput.specs.UdevView.{UdevView}
 use Rattle.inp_play.specs.declared.player.Player.{Player}
 use Rattle.inp_play.proofs.PlayerLines.{IsFound, found}
-use Rattle.inp_order.specs.Play.{Stage, first_stage, after_line, after_lines, runs_of, play, IsPlay}
+use Rattle.inp_runs.specs.Play.{Stage, first_stage, after_line, after_lines, runs_of, play, IsPlay}
 use Rattle.inp_play.specs.Player.{stage_of, IsPlayer, DoesOn, HasDone}
-use Rattle.inp_order.proofs.Rounds.{after_lines-more}
+use Rattle.inp_runs.proofs.order.Rounds.{after_lines-more}
 
 -- Which line it is, and what it finds
 

@@ -9,7 +9,7 @@ use Rattle.inp_model.specs.declared.stamped.TheConstants.{MOMENT_MAX}
 use Rattle.inp_model.specs.declared.step.Step.{Step}
 use Rattle.inp_model.specs.declared.reply.Reply.TheVariants.{Refused}
 use Rattle.inp_model.specs.declared.reply.Refusal.TheVariants.{LogFull}
-use Rattle.inp_model.specs.Injecting.{AreInTime, inject_of}
+use Rattle.inp_model.specs.Injection.{AreInTime, inject_of}
 use Rattle.inp_model.specs.Reply.{Answer, answer_by, done_answer, is_accepted, is_full, past_after}
 use Rattle.inp_actors.specs.declared.actor_text.ActorText.{ActorText}
 use Rattle.inp_actors.specs.declared.line.Line.{Line}
@@ -20,12 +20,12 @@ use Rattle.inp_actors.specs.Record.{RecordView, IsRecord}
 use Rattle.inp_reader.specs.Talk.{Talk, finish, talk_with}
 use Rattle.inp_script.specs.declared.stop.Stop.{Stop}
 use Rattle.inp_script.specs.declared.stop.Stop.TheVariants.{Full}
-use Rattle.inp_script.specs.Doing.{unless_stopped, inject_talk, line_talk}
+use Rattle.inp_script.specs.DoneLine.{unless_stopped, inject_talk, line_talk}
 use Rattle.inp_script.specs.Job.{Job, ActorView}
 use Rattle.inp_script.specs.Line.{after_call, call_talk, stream_talk}
-use Rattle.inp_order.specs.Play.{Stage, after_talk, after_line, after_line_of, after_lines}
-use Rattle.inp_order.proofs.LineDone.{set_same}
-use Rattle.inp_runs.proofs.Listing.{slice_get-set_same}
+use Rattle.inp_runs.specs.Play.{Stage, after_talk, after_line, after_line_of, after_lines}
+use Rattle.inp_runs.proofs.order.LineDone.{set_same}
+use Rattle.inp_runs.proofs.Lists.{slice_get-set_same}
 use Rattle.inp_play.specs.Run.{inject_line}
 
 -- Which lines they are

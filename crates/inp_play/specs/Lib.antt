@@ -1,3 +1,3 @@
 pub mod Player
-pub mod Gathering
+pub mod GatheredRuns
 pub mod Run

@@ -8,10 +8,10 @@ use Rattle.inp_feedback.specs.declared.feedback_call.FeedbackCall.{FeedbackCall}
 use Rattle.inp_feedback.specs.UEntry.{steps_in}
 use Rattle.inp_feedback.specs.Kept.{calls_in}
 use Rattle.inp_uinput.specs.UdevView.{UdevView}
-use Rattle.inp_script.specs.Doing.{HasActor}
+use Rattle.inp_script.specs.DoneLine.{HasActor}
 use Rattle.inp_script.specs.Job.{ActorView}
 use Rattle.inp_play.specs.declared.player.Player.{Player}
-use Rattle.inp_order.specs.Play.{Stage, first_actor, first_stage, after_lines}
+use Rattle.inp_runs.specs.Play.{Stage, first_actor, first_stage, after_lines}
 
 -- the steps that devices accepted, and the feedback calls that they keep, newest first
 abbrev pub pasts_of : List UdevView → List (List Step)

@@ -2,10 +2,10 @@
 ghost use Rattle.std.specs.Prelude.{◌≡◌, ◌<◌, length, map, OnOk, IfOk};
 ghost use Rattle.inp_script.specs.Ended.{played_of};
 ghost use Rattle.inp_runs.specs.Job.{AreDescribed};
-ghost use Rattle.inp_order.specs.Play.{first_stage, runs_of};
+ghost use Rattle.inp_runs.specs.Play.{first_stage, runs_of};
 ghost use Rattle.inp_play.specs.Player.{stage_of, first_device, first_actors, HasActors, IsPlayer, DoesOn};
 
-use crate::gathering::{device_runs, histories, number_of, push_end};
+use crate::gathered_runs::{device_runs, histories, number_of, push_end};
 use crate::run::{NO_STAMPED, RUN_MAX, gather};
 use inp_actors::Record;
 use inp_model::{NoMemory, Stamped};

@@ -11,7 +11,7 @@ use Rattle.inp_model.specs.declared.reply.Reply.{Reply}
 use Rattle.inp_model.specs.declared.taken.Taken.{Taken}
 use Rattle.inp_model.specs.Description.{Description}
 use Rattle.inp_model.specs.History.{IsHistory}
-use Rattle.inp_model.specs.Injecting.{inject_of, entered_count, history_with}
+use Rattle.inp_model.specs.Injection.{inject_of, entered_count, history_with}
 use Rattle.inp_model.specs.Reply.{is_accepted, past_after, IsDeviceStep}
 use Rattle.inp_turn.specs.declared.pass_view.PassView.{PassView}
 use Rattle.inp_turn.specs.PassView.{OwnsSeen}

@@ -10,7 +10,7 @@ use Rattle.inp_model.specs.History.{IsHistory}
 use Rattle.inp_model.specs.Reply.{Answer, IsAnswer, is_accepted}
 use Rattle.inp_model.specs.Run.{Call, place_of, HasPlace, next_place}
 use Rattle.inp_model.specs.Evdev.{agains_after, IsCall, IsEvdevCall}
-use Rattle.inp_model.proofs.Telling.{given_place, called_by}
+use Rattle.inp_model.proofs.Told.{given_place, called_by}
 use Rattle.inp_turn.specs.declared.pass_view.PassView.{PassView}
 use Rattle.inp_turn.specs.PassView.{added_places, OwnsSeen}
 use Rattle.inp_turn.proofs.Prefixes.{prefix-refl, prefix-trans, prefix-length}

@@ -10,7 +10,7 @@ use Rattle.inp_model.specs.declared.stamped.Stamped.{Stamped}
 use Rattle.inp_model.specs.declared.step.Step.{Step}
 use Rattle.inp_model.specs.Description.{Description}
 use Rattle.inp_model.specs.History.{IsHistory}
-use Rattle.inp_model.specs.Injecting.{inject_of, IsInjectAll}
+use Rattle.inp_model.specs.Injection.{inject_of, IsInjectAll}
 use Rattle.inp_turn.specs.declared.pass_view.PassView.{PassView}
 use Rattle.inp_turn.specs.PassView.{added_places, OwnsSeen, view_after_take, view_after_give}
 use Rattle.inp_turn.proofs.Prefixes.{prefix-trans}

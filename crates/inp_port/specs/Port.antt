@@ -7,7 +7,7 @@ use Rattle.inp_model.specs.declared.reply.Reply.{Reply}
 use Rattle.inp_model.specs.declared.taken.Taken.{Taken}
 use Rattle.inp_model.specs.Description.{Description}
 use Rattle.inp_model.specs.Evdev.{EvdevView, IsEvdevCall, agains_after}
-use Rattle.inp_model.specs.Injecting.{IsInjectAll}
+use Rattle.inp_model.specs.Injection.{IsInjectAll}
 use Rattle.inp_turn.specs.declared.kept.Kept.{Ghosts}
 use Rattle.inp_turn.specs.declared.pass.Pass.{Pass}
 use Rattle.inp_turn.specs.declared.shared.Shared.{Shared}

@@ -9,7 +9,7 @@ use Rattle.inp_model.specs.declared.taken.Taken.{Taken}
 use Rattle.inp_model.specs.Description.{Description}
 use Rattle.inp_model.specs.History.{IsHistory}
 use Rattle.inp_model.specs.Reply.{IsDeviceStep, past_after, is_accepted}
-use Rattle.inp_model.specs.Injecting.{inject_of, entered_count}
+use Rattle.inp_model.specs.Injection.{inject_of, entered_count}
 use Rattle.inp_port.specs.Entries.{steps_among, past_of, Grown, GrownBy}
 
 module _ {E : Type 0} (made : E → Option Step) where

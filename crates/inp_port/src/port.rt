@@ -4,7 +4,7 @@ ghost use mathlib.Core.List.{IsPrefix};
 ghost use Rattle.inp_model.specs.declared.stamped.TheConstants.{MOMENT_MAX};
 ghost use Rattle.inp_model.specs.Step.{moment_of};
 ghost use Rattle.inp_model.specs.Reply.{HasRoom, is_accepted};
-ghost use Rattle.inp_model.specs.Injecting.{AreInTime};
+ghost use Rattle.inp_model.specs.Injection.{AreInTime};
 ghost use Rattle.inp_turn.specs.Pass.{view_of};
 ghost use Rattle.inp_turn.specs.PassView.{whole_share, first_pass_view, view_after_split, split_off_view, view_after_join, AreApart, IsEachAddedOnce};
 

@@ -4,7 +4,7 @@ ghost use Rattle.inp_model.specs.declared.stamped.TheConstants.{MOMENT_MAX};
 ghost use Rattle.inp_model.specs.declared.step.Step.{Step};
 ghost use Rattle.inp_model.specs.Step.{moment_of};
 ghost use Rattle.inp_model.specs.Reply.{HasRoom};
-ghost use Rattle.inp_model.specs.Injecting.{AreInTime};
+ghost use Rattle.inp_model.specs.Injection.{AreInTime};
 ghost use Rattle.inp_port.specs.Served.{IsServed, IsServedAll};
 
 use inp_caps::Caps;

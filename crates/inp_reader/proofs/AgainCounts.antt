@@ -18,9 +18,9 @@ use Rattle.inp_reader.specs.declared.mode.Mode.{Mode}
 use Rattle.inp_reader.specs.declared.call_made.CallMade.{CallMade}
 use Rattle.inp_reader.specs.declared.next.Next.{Next}
 use Rattle.inp_reader.specs.declared.started.Started.{Started}
-use Rattle.inp_reader.specs.Leaving.{agains_after_next}
-use Rattle.inp_reader.specs.Standing.{is_read}
-use Rattle.inp_reader.specs.Reading.{Reading, queries, start_talk, next_talk, stop_of}
+use Rattle.inp_reader.specs.LeftEvdev.{agains_after_next}
+use Rattle.inp_reader.specs.ReaderPlace.{is_read}
+use Rattle.inp_reader.specs.Reader.{Reading, queries, start_talk, next_talk, stop_of}
 use Rattle.inp_reader.specs.Says.{Says}
 use Rattle.inp_reader.proofs.Meets.{Any, IsCallOn, says-meets}
 use Rattle.inp_reader.proofs.NextWalk.{OfQueries, each-query, sync_steps, each-sync, AskRules, asked-meets, sync-meets, Queried, start-meets, Renewed, NextRules, next-says}

@@ -20,9 +20,9 @@ use Rattle.inp_model.specs.History.{IsHistory}
 use Rattle.inp_recon.proofs.Folds.{view_after_events-append}
 use Rattle.inp_recon.proofs.Sizes.{IsSizedFor-first_view}
 use Rattle.inp_recon.proofs.ViewSteps.{client_view-sized}
-use Rattle.inp_reader.specs.Reading.{queries}
+use Rattle.inp_reader.specs.Reader.{queries}
 use Rattle.inp_recon.specs.Synchronised.{is_start}
-use Rattle.inp_reader.specs.Standing.{is_use, is_use_of, calls_since, steps_of, view_after_answers, taken_by_calls, taken_events, is_read, AreReads}
+use Rattle.inp_reader.specs.ReaderPlace.{is_use, is_use_of, calls_since, steps_of, view_after_answers, taken_by_calls, taken_events, is_read, AreReads}
 use Rattle.inp_reader.proofs.Calls.{AreAnswered, AreAccepted}
 use Rattle.inp_recon.proofs.Each.{Each}
 use Rattle.inp_reader.proofs.AgainCounts.{IsNoRead, no_read-queries}

@@ -10,7 +10,7 @@ use Rattle.inp_recon.specs.Cells.{slot_count}
 use Rattle.inp_recon.proofs.Sizes.{IsSizedFor-after_events}
 use Rattle.inp_reader.specs.Synthesis.{where_below, with_report, to_slot, in_slots, bit_event, bit_changes, bits_differ_at, value_at, differs_at, axis_event, axis_changes, class_changes, is_replaced, lift, lifts, changes_in, is_changed, cell_changes, slot_changes, synth}
 use Rattle.inp_reader.specs.Laws.{AreOfOneDevice}
-use Rattle.inp_reader.proofs.Synthesising.{where_below-more, where_below-skip}
+use Rattle.inp_reader.proofs.SynthesisedEvents.{where_below-more, where_below-skip}
 use Rattle.inp_reader.proofs.Classes.{tells_ints}
 use Rattle.inp_reader.proofs.Slots.{slots-of, changes_in-places}
 

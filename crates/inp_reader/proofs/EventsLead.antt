@@ -5,7 +5,7 @@ use Rattle.inp_recon.specs.declared.view.View.{View}
 use Rattle.inp_recon.specs.View.{view_after_events}
 use Rattle.inp_reader.specs.Synthesis.{where_below, to_slot, with_report, is_replaced, lifts, is_changed, class_changes, cell_changes, slot_changes, synth}
 use Rattle.inp_reader.specs.Laws.{AreOfOneDevice}
-use Rattle.inp_reader.proofs.Synthesising.{last_slot}
+use Rattle.inp_reader.proofs.SynthesisedEvents.{last_slot}
 use Rattle.inp_reader.proofs.Parts.{leads-with_report, EachChanges-with_report}
 use Rattle.inp_reader.proofs.Classes.{LeadsTheView, LeadsTheView-behind, leads-classes}
 use Rattle.inp_reader.proofs.Slots.{with_slots, LeadsTheView-to_slot, LeadsTheView-cells, ended, length-ended, LeadsTheView-lifts}

@@ -9,7 +9,7 @@ use Rattle.inp_model.specs.Reply.{is_accepted}
 use Rattle.inp_model.specs.Run.{Call, place_of}
 use Rattle.inp_model.proofs.Leaves.{own-grown, calls-leave, AreCalls-append}
 use Rattle.inp_reader.specs.declared.call_made.CallMade.{CallMade}
-use Rattle.inp_reader.specs.Leaving.{accepted_places, LeavesMade}
+use Rattle.inp_reader.specs.LeftEvdev.{accepted_places, LeavesMade}
 use Rattle.inp_reader.specs.Talk.{Talk}
 use Rattle.inp_reader.specs.Says.{kept_call, calls_kept, Says}
 use Rattle.inp_reader.proofs.Talks.{calls_kept-append}

@@ -16,7 +16,7 @@ use Rattle.inp_model.specs.Reply.{Answer, IsAnswer, refused, is_accepted, is_ful
 use Rattle.inp_model.specs.Run.{Call, place_of, next_place}
 use Rattle.inp_model.proofs.Allowed.{allowed}
 use Rattle.inp_model.proofs.Refused.{accepted-unrefused}
-use Rattle.inp_model.proofs.Telling.{given_place}
+use Rattle.inp_model.proofs.Told.{given_place}
 use Rattle.inp_recon.specs.declared.view.View.{View}
 use Rattle.inp_recon.specs.View.{IsSizedFor, view_after_event}
 use Rattle.inp_reader.specs.declared.call_made.CallMade.{CallMade}
@@ -25,7 +25,7 @@ use Rattle.inp_reader.specs.declared.mode.Mode.TheVariants.{Sync as Synchronisin
 use Rattle.inp_reader.specs.declared.phase.Phase.{Phase}
 use Rattle.inp_reader.specs.declared.phase.Phase.TheVariants.{Plain, Needed}
 use Rattle.inp_reader.specs.declared.next.Next.{Next}
-use Rattle.inp_reader.specs.Reading.{Reading, stop_of, as_plain, after_full_sync, after_failed_sync, next_talk}
+use Rattle.inp_reader.specs.Reader.{Reading, stop_of, as_plain, after_full_sync, after_failed_sync, next_talk}
 use Rattle.inp_reader.specs.Effort.{steps_left, most_events, held_back, effort, IsLess, is_idle}
 use Rattle.inp_reader.specs.Says.{Says}
 use Rattle.inp_reader.specs.Synthesis.{synth}

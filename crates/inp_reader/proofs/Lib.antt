@@ -1,11 +1,11 @@
-pub mod Computing
+pub mod Computation
 pub mod Talks
 pub mod SaysInTurn
 pub mod Queues
 pub mod Runs
 pub mod Axes
 pub mod SaysSessions
-pub mod Synthesising
+pub mod SynthesisedEvents
 pub mod Puts
 pub mod Parts
 pub mod Classes
@@ -14,8 +14,8 @@ pub mod EventsLead
 pub mod Counts
 pub mod UnsetSlotAxes
 pub mod TalkResults
-pub mod Synchronising
-pub mod Answering
+pub mod SynthesisedViews
+pub mod QueryAnswers
 pub mod LeftByCalls
 pub mod Calls
 pub mod Meets
@@ -26,7 +26,7 @@ pub mod StandsAfterTalks
 pub mod Supported
 pub mod SpareAgrees
 pub mod RunsStand
-pub mod Agreeing
+pub mod AgreedViews
 pub mod TalksKeepSpare
 pub mod RefusedStarts
 pub mod StandsByCalls

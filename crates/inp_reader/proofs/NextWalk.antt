@@ -28,8 +28,8 @@ use Rattle.inp_reader.specs.declared.phase.Phase.TheVariants.{Plain, Needed, Han
 use Rattle.inp_reader.specs.declared.next.Next.{Next}
 use Rattle.inp_reader.specs.declared.next.Next.TheVariants.{Success, Dropped, Sync, Synced, Again, NoDevice, Closed, Full}
 use Rattle.inp_reader.specs.declared.started.Started.{Started}
-use Rattle.inp_reader.specs.Reading.{Reading, only_if, axes_among, plain_axes, bit_queries, axis_queries, slot_queries, queries, ask_each, start_stop_of, after_queries, after_open, start_talk, stop_of, hand_out_event, hand_out, after_read, read_or_hand_out, read_talk, hand_synthesised, handing, as_plain, after_full_sync, after_failed_sync, go_on, go_on_after, sync_talk, talk_in, next_talk}
-use Rattle.inp_reader.specs.Standing.{is_needed}
+use Rattle.inp_reader.specs.Reader.{Reading, only_if, axes_among, plain_axes, bit_queries, axis_queries, slot_queries, queries, ask_each, start_stop_of, after_queries, after_open, start_talk, stop_of, hand_out_event, hand_out, after_read, read_or_hand_out, read_talk, hand_synthesised, handing, as_plain, after_full_sync, after_failed_sync, go_on, go_on_after, sync_talk, talk_in, next_talk}
+use Rattle.inp_reader.specs.ReaderPlace.{is_needed}
 use Rattle.inp_reader.specs.Says.{Says}
 use Rattle.inp_reader.specs.Talk.{Talk, finish, EndsWith}
 use Rattle.inp_reader.proofs.Meets.{Meets, Any, AnyAnswer, meets-then, meets-if, Asks, meets-asks, Runs, meets-ends, IsCallOn, says-meets}

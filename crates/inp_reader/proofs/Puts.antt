@@ -2,7 +2,7 @@
 use Rattle.std.proofs.Common.{◌≡◌, ℕ, zero, suc, ◌+◌, ◌<◌, ◌≤◌, Bool, true, false, cond, List, [], ◌∷◌, ◌++◌, length, take, drop, get_or, set, refl, sym, ap, ◌∙◌, subst, arith, append-nil, append_assoc, add-one, length-append, length-drop}
 use Rattle.std.proofs.lemmas.List.{drop_more, take_more, set_at, get_or_at, length-take-le, drop_all, take_all, get_or-set_same}
 use Rattle.inp_reader.specs.Synthesis.{where_below}
-use Rattle.inp_reader.proofs.Synthesising.{where_below-more}
+use Rattle.inp_reader.proofs.SynthesisedEvents.{where_below-more}
 
 -- ---- what holds of each of some indices
 

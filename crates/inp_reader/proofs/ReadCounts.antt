@@ -15,7 +15,7 @@ use Rattle.inp_model.specs.Reply.{Answer, IsAnswer, accepted, is_accepted, finds
 use Rattle.inp_model.specs.Run.{place_of}
 use Rattle.inp_model.proofs.Allowed.{allowed}
 use Rattle.inp_model.proofs.Refused.{accepted-unrefused}
-use Rattle.inp_reader.specs.Asking.{MakesRead}
+use Rattle.inp_reader.specs.ReaderCalls.{MakesRead}
 use Rattle.inp_reader.proofs.ClientViews.{accepted-answer}
 
 -- An accepted read is answered from its client's queue

@@ -11,10 +11,10 @@ use Rattle.inp_model.specs.Run.{Call}
 use Rattle.inp_recon.specs.declared.view.View.{View}
 use Rattle.inp_reader.specs.declared.call_made.CallMade.{CallMade}
 use Rattle.inp_reader.specs.declared.started.Started.{Started}
-use Rattle.inp_reader.specs.Reading.{Reading, ask_each, queries, start_talk, start_stop_of, after_open, after_queries}
+use Rattle.inp_reader.specs.Reader.{Reading, ask_each, queries, start_talk, start_stop_of, after_open, after_queries}
 use Rattle.inp_reader.specs.Says.{Says, kept_call, calls_kept}
-use Rattle.inp_reader.specs.Standing.{has_opened}
-use Rattle.inp_reader.specs.Starting.{opened_by, client_opened, after_refused_query}
+use Rattle.inp_reader.specs.ReaderPlace.{has_opened}
+use Rattle.inp_reader.specs.FailedStart.{opened_by, client_opened, after_refused_query}
 use Rattle.inp_reader.specs.Talk.{Talk, finish, LeadsTo, EndsWith}
 use Rattle.inp_reader.proofs.Calls.{IsSplit, split-and_then, finished}
 

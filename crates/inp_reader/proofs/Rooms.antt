@@ -11,8 +11,8 @@ use Rattle.inp_model.specs.Evdev.{EvdevView}
 use Rattle.inp_recon.specs.declared.view.View.{View}
 use Rattle.inp_recon.specs.Synchronised.{has_axis}
 use Rattle.inp_reader.specs.declared.call_made.CallMade.{CallMade}
-use Rattle.inp_reader.specs.Asking.{asked_result}
-use Rattle.inp_reader.specs.Reading.{Reading, sync_talk}
+use Rattle.inp_reader.specs.ReaderCalls.{asked_result}
+use Rattle.inp_reader.specs.Reader.{Reading, sync_talk}
 use Rattle.inp_reader.specs.RoomyEvents.{code_total}
 use Rattle.inp_reader.specs.Says.{Says}
 use Rattle.inp_reader.specs.Spare.{IsSpare}

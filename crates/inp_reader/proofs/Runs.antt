@@ -10,7 +10,7 @@ use Rattle.inp_recon.specs.Synchronised.{is_dropped}
 use Rattle.inp_recon.specs.View.{view_after_events}
 use Rattle.inp_reader.specs.declared.phase.Phase.{Phase}
 use Rattle.inp_reader.specs.declared.phase.Phase.TheVariants.{Needed}
-use Rattle.inp_reader.specs.Reading.{Reading, first_run, has_loss, is_plain_phase, queued_run, after_run}
+use Rattle.inp_reader.specs.Reader.{Reading, first_run, has_loss, is_plain_phase, queued_run, after_run}
 
 -- the run is a front part of its queue, and behind it stands the rest
 pub run-front : (most : ℕ) (q : List Taken) → first_run most q ++ drop (length (first_run most q)) q ≡ q

@@ -13,9 +13,9 @@ use Rattle.inp_recon.specs.View.{first_view, view_after_event, view_after_events
 use Rattle.inp_recon.proofs.Folds.{view_after_events-append}
 use Rattle.inp_reader.specs.declared.phase.Phase.{Phase}
 use Rattle.inp_reader.specs.declared.phase.Phase.TheVariants.{Needed}
-use Rattle.inp_reader.specs.Reading.{Reading, has_loss, queued_run, after_run}
+use Rattle.inp_reader.specs.Reader.{Reading, has_loss, queued_run, after_run}
 use Rattle.inp_reader.specs.Spare.{IsSpare, is_event_of, HasSpare}
-use Rattle.inp_reader.specs.Standing.{StandsAt, IsInStep, is_needed, taken_events, view_after_answers}
+use Rattle.inp_reader.specs.ReaderPlace.{StandsAt, IsInStep, is_needed, taken_events, view_after_answers}
 use Rattle.inp_reader.proofs.Runs.{queue-run}
 use Rattle.inp_reader.proofs.SpareAgrees.{IsSpare-after_event}
 

@@ -11,11 +11,11 @@ use Rattle.inp_recon.specs.declared.view.View.{View}
 use Rattle.inp_recon.specs.View.{view_after_answer}
 use Rattle.inp_reader.specs.declared.call_made.CallMade.{CallMade}
 use Rattle.inp_reader.specs.Talk.{Talk, finish, ask, and_then, LeadsTo}
-use Rattle.inp_reader.specs.Asking.{Asks, asked_result}
-use Rattle.inp_reader.specs.Reading.{ask_each, only_if}
+use Rattle.inp_reader.specs.ReaderCalls.{Asks, asked_result}
+use Rattle.inp_reader.specs.Reader.{ask_each, only_if}
 use Rattle.inp_model.specs.Leaves.{AreCalls}
 use Rattle.inp_reader.specs.Says.{kept_call, calls_kept, Says}
-use Rattle.inp_reader.proofs.Answering.{view-answered}
+use Rattle.inp_reader.proofs.QueryAnswers.{view-answered}
 use Rattle.inp_model.proofs.Leaves.{AreCalls-append}
 use Rattle.inp_reader.proofs.Talks.{LeadsTo-append, LeadsTo-and_then, EndsWith-ask_each, EndsWith-stop, calls_kept-append, told as told_view, stopped_at}
 

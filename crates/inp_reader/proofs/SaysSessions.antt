@@ -18,8 +18,8 @@ use Rattle.inp_reader.specs.declared.next.Next.{Next}
 use Rattle.inp_reader.specs.declared.started.Started.{Started}
 use Rattle.inp_reader.specs.declared.started.Started.TheVariants.{Opened as StartedOn}
 use Rattle.inp_reader.specs.Talk.{Talk, finish, ask, and_then}
-use Rattle.inp_reader.specs.Asking.{MakesRead}
-use Rattle.inp_reader.specs.Reading.{Reading, ask_each, read_or_hand_out, read_talk, after_read, hand_out, stop_of, start_stop_of, after_open, after_queries, start_talk, go_on, go_on_after, after_full_sync, after_failed_sync}
+use Rattle.inp_reader.specs.ReaderCalls.{MakesRead}
+use Rattle.inp_reader.specs.Reader.{Reading, ask_each, read_or_hand_out, read_talk, after_read, hand_out, stop_of, start_stop_of, after_open, after_queries, start_talk, go_on, go_on_after, after_full_sync, after_failed_sync}
 use Rattle.inp_reader.specs.Says.{Says, kept_call}
 use Rattle.inp_reader.proofs.SaysInTurn.{says-nothing, says-then, says-call}
 

@@ -23,13 +23,13 @@ use Rattle.inp_model.specs.Left.{eaten}
 use Rattle.inp_model.specs.History.{IsHistory}
 use Rattle.inp_recon.specs.Faithful.{IsDeviceState, AreFaithful}
 use Rattle.inp_recon.proofs.Sizes.{IsSizedFor-first_view, length-axes_after_event, length-cells_after_event}
-use Rattle.inp_reader.specs.Reading.{Reading, queries}
-use Rattle.inp_reader.specs.Showing.{index_handed_out, ShowsTheDevice}
+use Rattle.inp_reader.specs.Reader.{Reading, queries}
+use Rattle.inp_reader.specs.TrueView.{index_handed_out, ShowsTheDevice}
 use Rattle.inp_recon.specs.Synchronised.{has_axis}
 use Rattle.inp_reader.specs.Spare.{IsSpare}
-use Rattle.inp_reader.specs.Standing.{calls_since, steps_of, view_after_answers, taken_by_calls, taken_events}
+use Rattle.inp_reader.specs.ReaderPlace.{calls_since, steps_of, view_after_answers, taken_by_calls, taken_events}
 use Rattle.inp_reader.proofs.StandsAfterTalks.{IsHandedOut}
-use Rattle.inp_reader.proofs.Agreeing.{Compared, AgreeBut, agree-answers, keys-spared, switches-spared, leds-spared, slots-spared, plain-asked}
+use Rattle.inp_reader.proofs.AgreedViews.{Compared, AgreeBut, agree-answers, keys-spared, switches-spared, leds-spared, slots-spared, plain-asked}
 use Rattle.inp_reader.proofs.Calls.{AreAnswered, AreAccepted}
 use Rattle.inp_reader.proofs.ClientViews.{view_at_start, taken_at_start, took-since, length-took, view_at-behind, taken-behind, since-good, good-first, sized-at-start}
 use Rattle.inp_recon.proofs.ViewSteps.{length-rows}

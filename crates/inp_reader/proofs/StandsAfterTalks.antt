@@ -26,9 +26,9 @@ use Rattle.inp_reader.specs.declared.phase.Phase.TheVariants.{Plain, Needed, Han
 use Rattle.inp_reader.specs.declared.next.Next.{Next}
 use Rattle.inp_reader.specs.declared.next.Next.TheVariants.{Success}
 use Rattle.inp_reader.specs.declared.started.Started.{Started}
-use Rattle.inp_reader.specs.Reading.{Reading, ask_each, queries, start_talk, next_talk, sync_talk, after_open, after_queries, start_stop_of, stop_of, as_plain, after_full_sync, after_failed_sync}
+use Rattle.inp_reader.specs.Reader.{Reading, ask_each, queries, start_talk, next_talk, sync_talk, after_open, after_queries, start_stop_of, stop_of, as_plain, after_full_sync, after_failed_sync}
 use Rattle.inp_recon.specs.Synchronised.{is_discard_of, is_start}
-use Rattle.inp_reader.specs.Standing.{is_use_of, calls_since, steps_of, view_after_answers, taken_by_calls, taken_events, is_read, AreReads, IsInStep, is_needed, has_opened}
+use Rattle.inp_reader.specs.ReaderPlace.{is_use_of, calls_since, steps_of, view_after_answers, taken_by_calls, taken_events, is_read, AreReads, IsInStep, is_needed, has_opened}
 use Rattle.inp_reader.specs.Talk.{Talk, finish, LeadsTo, EndsWith}
 use Rattle.inp_model.proofs.Refused.{refused-not_accepted}
 use Rattle.inp_reader.proofs.Calls.{IsSplit, split-and_then, finished, AreAnswered, AreAccepted}

@@ -15,11 +15,11 @@ use Rattle.inp_reader.specs.declared.mode.Mode.{Mode}
 use Rattle.inp_reader.specs.declared.next.Next.{Next}
 use Rattle.inp_reader.specs.declared.next.Next.TheVariants.{Success}
 use Rattle.inp_reader.specs.declared.started.Started.{Started}
-use Rattle.inp_reader.specs.Reading.{Reading, start_talk, next_talk, sync_talk}
+use Rattle.inp_reader.specs.Reader.{Reading, start_talk, next_talk, sync_talk}
 use Rattle.inp_reader.specs.Says.{Says}
 use Rattle.inp_reader.specs.Spare.{IsSpare, HasSpare}
-use Rattle.inp_reader.specs.Showing.{AnswerShows}
-use Rattle.inp_reader.specs.Standing.{StandsAt, IsAlone, has_opened}
+use Rattle.inp_reader.specs.TrueView.{AnswerShows}
+use Rattle.inp_reader.specs.ReaderPlace.{StandsAt, IsAlone, has_opened}
 use Rattle.inp_reader.specs.Talk.{LeadsTo, EndsWith}
 use Rattle.inp_recon.proofs.FaithfulHistories.{faithful_by_reads}
 use Rattle.inp_recon.proofs.FaithfulReads.{reads-faithful}
@@ -27,7 +27,7 @@ use Rattle.inp_reader.proofs.ShowsDevice.{shows-device}
 use Rattle.inp_reader.proofs.Meets.{Any, AnyAnswer, any-run, meets-always}
 use Rattle.inp_reader.proofs.NextWalk.{Renewed, NextRules, next-ends}
 use Rattle.inp_reader.proofs.TalksKeepSpare.{says-keeps_next}
-use Rattle.inp_reader.proofs.Agreeing.{spare-made_anew}
+use Rattle.inp_reader.proofs.AgreedViews.{spare-made_anew}
 use Rattle.inp_reader.proofs.PastsAtCalls.{AreMet, says-met}
 use Rattle.inp_reader.proofs.StandsAfterTalks.{HandsOut, IsOpenInStep, Leaves, StoodOrOpened, stands-after-next, stands-after-start}
 

@@ -7,7 +7,7 @@ use Rattle.inp_model.specs.Description.{Description}
 use Rattle.inp_model.specs.Evdev.{EvdevView}
 use Rattle.inp_recon.specs.declared.view.View.{View}
 use Rattle.inp_reader.specs.declared.mode.Mode.{Mode}
-use Rattle.inp_reader.specs.Reading.{Reading, queries, start_talk, sync_talk, next_talk}
+use Rattle.inp_reader.specs.Reader.{Reading, queries, start_talk, sync_talk, next_talk}
 use Rattle.inp_reader.specs.KeptViews.{IsKeptView, KeepsTheView}
 use Rattle.inp_reader.proofs.Meets.{Meets, Any, IsCallOn, says-meets}
 use Rattle.inp_reader.proofs.NextWalk.{AskRules, asked-meets, sync-meets, Queried, start-meets, Renewed, NextRules, next-says}

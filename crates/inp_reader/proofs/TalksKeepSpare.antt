@@ -18,7 +18,7 @@ use Rattle.inp_reader.specs.declared.mode.Mode.{Mode}
 use Rattle.inp_reader.specs.declared.phase.Phase.TheVariants.{Needed}
 use Rattle.inp_reader.specs.declared.next.Next.{Next}
 use Rattle.inp_reader.specs.declared.started.Started.{Started}
-use Rattle.inp_reader.specs.Reading.{Reading, queries, sync_talk, start_talk, next_talk}
+use Rattle.inp_reader.specs.Reader.{Reading, queries, sync_talk, start_talk, next_talk}
 use Rattle.inp_reader.specs.Spare.{IsSpare, is_event_of, HasSpare}
 use Rattle.inp_reader.specs.Says.{Says}
 use Rattle.inp_reader.specs.Talk.{EndsWith}

@@ -9,8 +9,8 @@ use Rattle.inp_model.specs.Evdev.{EvdevView}
 use Rattle.inp_model.specs.Run.{Call, HasPlace, IsLegalFrom, place_of, next_place}
 use Rattle.inp_model.proofs.Leaves.{slice_get-longer}
 use Rattle.inp_reader.specs.declared.call_made.CallMade.{CallMade}
-use Rattle.inp_reader.specs.Leaving.{LeavesMade, accepted_places}
-use Rattle.inp_reader.specs.Standing.{IsAlone, is_use_of}
+use Rattle.inp_reader.specs.LeftEvdev.{LeavesMade, accepted_places}
+use Rattle.inp_reader.specs.ReaderPlace.{IsAlone, is_use_of}
 use Rattle.inp_reader.proofs.Calls.{IsPlaceOf, place-known, place-least}
 use Rattle.inp_reader.proofs.LeftByCalls.{accepted_places-append}
 

@@ -10,7 +10,7 @@ use Rattle.inp_model.specs.declared.reply.Refusal.TheVariants.{LogFull}
 use Rattle.inp_model.specs.Description.{Description, one_key, no_info}
 use Rattle.inp_model.specs.Event.{syn_dropped}
 use Rattle.inp_model.specs.Run.{Call}
-use Rattle.inp_model.specs.Examples.{report, at, stroke}
+use Rattle.inp_model.specs.examples.Frames.{report, at, stroke}
 use Rattle.inp_recon.specs.View.{first_view}
 use Rattle.inp_reader.specs.declared.mode.Mode.{Mode}
 use Rattle.inp_reader.specs.declared.mode.Mode.TheVariants.{Normal, Sync as Synchronising}
@@ -21,7 +21,7 @@ use Rattle.inp_reader.specs.declared.next.Next.{Next}
 use Rattle.inp_reader.specs.declared.next.Next.TheVariants.{Dropped, Sync, Again, Synced, NoDevice, Closed}
 use Rattle.inp_reader.specs.declared.call_made.CallMade.{CallMade}
 use Rattle.inp_reader.specs.Talk.{Talk, talk_with, calls_with}
-use Rattle.inp_reader.specs.Reading.{Reading, start_talk, next_talk}
+use Rattle.inp_reader.specs.Reader.{Reading, start_talk, next_talk}
 use Rattle.inp_reader.specs.Says.{calls_kept}
 
 -- a talk on a one-thread device: its calls, the past after them and its result

@@ -16,7 +16,7 @@ use Rattle.inp_reader.specs.declared.next.Next.TheVariants.{Sync, Synced}
 use Rattle.inp_reader.specs.Talk.{Talk}
 use Rattle.inp_reader.specs.Synthesis.{value_at}
 use Rattle.inp_reader.specs.Laws.{AreOfOneDevice}
-use Rattle.inp_reader.specs.Reading.{Reading, start_talk, next_talk}
+use Rattle.inp_reader.specs.Reader.{Reading, start_talk, next_talk}
 use Rattle.inp_reader.specs.Says.{Says}
 
 -- A view as a reader of such devices keeps it: sized for their slots, and with the axes whose values belong to slots at

@@ -7,7 +7,7 @@ use Rattle.inp_model.specs.Evdev.{EvdevView}
 use Rattle.inp_reader.specs.declared.asker.Asker.{Asker}
 use Rattle.inp_reader.specs.declared.session.Session.{Session}
 use Rattle.inp_reader.specs.declared.reader.Reader.TheInside.{Inside}
-use Rattle.inp_reader.specs.Reading.{Reading, ReaderView}
+use Rattle.inp_reader.specs.Reader.{Reading, ReaderView}
 use Rattle.inp_reader.specs.RoomyEvents.{synthesised_most}
 use Rattle.inp_reader.specs.Spare.{HasSpare}
 

@@ -10,7 +10,7 @@ use Rattle.inp_model.specs.Description.{Description, has_kind, supports}
 use Rattle.inp_recon.specs.declared.view.View.{View}
 use Rattle.inp_recon.specs.Synchronised.{has_axis}
 use Rattle.inp_recon.specs.View.{key_count, code_count, IsSizedFor}
-use Rattle.inp_reader.specs.Reading.{Reading}
+use Rattle.inp_reader.specs.Reader.{Reading}
 
 -- a view in which all that the device cannot have is as in a new one
 pub record IsSpare (d : Description) (v : View) : Type 0 where

@@ -3,11 +3,11 @@ use Rattle.std.specs.Prelude.{◌≡◌, pos, true, List, [], ◌∷◌, ◌++�
 use Rattle.inp_model.specs.declared.step.Step.{Step}
 use Rattle.inp_model.specs.declared.step.Step.TheVariants.{Open, Read, Discard, GetKeys, GetAxis}
 use Rattle.inp_model.specs.Description.{Description, one_key}
-use Rattle.inp_model.specs.Examples.{key, report, at, stroke}
+use Rattle.inp_model.specs.examples.Frames.{key, report, at, stroke}
 use Rattle.inp_recon.specs.View.{first_view, view_after_events}
 use Rattle.inp_reader.specs.declared.mode.Mode.TheVariants.{Normal, Sync as Synchronising}
 use Rattle.inp_reader.specs.Examples.{after_all, slider, slides}
-use Rattle.inp_reader.specs.Standing.{calls_since, steps_of, taken_by_calls, view_after_answers, StandsAt}
+use Rattle.inp_reader.specs.ReaderPlace.{calls_since, steps_of, taken_by_calls, view_after_answers, StandsAt}
 
 -- what client 0 asked and read since its start
 abbrev pub steps_since : Description → List Step → List Step

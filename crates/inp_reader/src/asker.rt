@@ -4,8 +4,8 @@ ghost use Rattle.inp_model.specs.declared.stamped.TheConstants.{MOMENT_MAX};
 ghost use Rattle.inp_model.specs.declared.step.Step.TheVariants.{Discard};
 ghost use Rattle.inp_model.specs.Step.{moment_of};
 ghost use Rattle.inp_model.specs.Reply.{HasRoom};
-ghost use Rattle.inp_reader.specs.Asking.{Asks, AsksAnAxis, asked_result};
-ghost use Rattle.inp_reader.specs.Reading.{queries, bit_queries, axis_queries, plain_axes, only_if, ask_each, axes_among};
+ghost use Rattle.inp_reader.specs.ReaderCalls.{Asks, AsksAnAxis, asked_result};
+ghost use Rattle.inp_reader.specs.Reader.{queries, bit_queries, axis_queries, plain_axes, only_if, ask_each, axes_among};
 ghost use Rattle.inp_reader.specs.Says.{Says, kept_call};
 ghost use Rattle.inp_reader.specs.Session.{IsReady};
 

@@ -4,7 +4,7 @@ ghost use Rattle.inp_model.specs.declared.limits.TheConstants.{SLOTS_MAX};
 ghost use Rattle.inp_model.specs.declared.stamped.TheConstants.{MOMENT_MAX};
 ghost use Rattle.inp_model.specs.Step.{moment_of};
 ghost use Rattle.inp_model.specs.Reply.{HasRoom};
-ghost use Rattle.inp_reader.specs.Asking.{MakesCall};
+ghost use Rattle.inp_reader.specs.ReaderCalls.{MakesCall};
 
 use inp_model::{Evdev, NoMemory, Reply, SLOT_VALUES, Step, Taken};
 use std::alloc::Global;

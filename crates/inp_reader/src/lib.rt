@@ -6,7 +6,7 @@
 //! the new one. It stands on `inp_model` for events, steps and the trait `Evdev` of whatever makes steps on a device, on
 //! `inp_caps` for the description, on `inp_recon` for views and on `inp_bits` for their lists of codes.
 //!
-//! Its contract: `specs/Reading.antt` says what `start` and `next` ask of an evdev, one step by the answers before it,
+//! Its contract: `specs/Reader.antt` says what `start` and `next` ask of an evdev, one step by the answers before it,
 //! and what they answer and leave (a `Talk`, `specs/Talk.antt`). [`Reader::start`] and [`Reader::next`] promise that
 //! the calls they made are those of that talk, and that the answer and the reader are its result (`Says`,
 //! `specs/Says.antt`). [`Reader::force_sync`] and each accessor say exactly what they do, and so does [`Reader::new`],
@@ -22,20 +22,20 @@
 //!
 //! What follows from the calls is said beside it:
 //!
-//! - `specs/Leaving.antt`: what they leave, in one record (`LeavesMade`). They are a legal run of the history that is seen
+//! - `specs/LeftEvdev.antt`: what they leave, in one record (`LeavesMade`). They are a legal run of the history that is seen
 //!   afterwards; the device and what was seen before stay, the caller's own places grow by theirs, and a history of
 //!   accepted steps stays one. The count of answers Again rises where `next` answers so.
-//! - `specs/Starting.antt`: what a refused start leaves. One that was refused at its open leaves all that the reader
+//! - `specs/FailedStart.antt`: what a refused start leaves. One that was refused at its open leaves all that the reader
 //!   keeps (`open_refused`). Where a query behind the open was refused the client is the new one, nothing is queued,
 //!   the view is as before, and the reader is to synchronise (`query_refused`).
 //! - `specs/Effort.antt`: an answer of `next` leaves less to do, and Again no more (`IsLess`), by which a caller's loop
 //!   ends. Of the stops nothing is said, nor of a Sync call with nothing to synchronise.
-//! - `specs/Standing.antt`: a reader *stands* at the end of a history of accepted steps where, since its client was opened
+//! - `specs/ReaderPlace.antt`: a reader *stands* at the end of a history of accepted steps where, since its client was opened
 //!   or last removed what was visible, it asked for the whole state once and then read; what it handed out and what it has
 //!   queued are all that it read, in order; and its view is what the answers and the events that it handed out make of a new
 //!   view. It stands after a start that opened a client, and each later call keeps it so, as long as nobody else uses its
 //!   client.
-//! - `specs/Showing.antt`: at each report that it hands out its view is then the device's state at the end of that frame,
+//! - `specs/TrueView.antt`: at each report that it hands out its view is then the device's state at the end of that frame,
 //!   where its client could follow the device up to there.
 //!
 //! For the crates above there are lemmas of two calls, one after the other: what both leave (`leaves_made-then`,
@@ -51,13 +51,13 @@ mod calls_made;
 mod cell_buffer;
 mod changes;
 mod event_list;
+pub mod examples;
 pub mod laws;
 mod mode;
 mod next;
 mod phase;
 mod queue;
 mod reader;
-mod rows;
 mod run;
 mod session;
 mod started;
@@ -70,5 +70,4 @@ pub use mode::Mode;
 pub use next::Next;
 pub use phase::Phase;
 pub use reader::{NO_CLIENT, Reader};
-pub use rows::examples;
 pub use started::Started;

@@ -1,7 +1,7 @@
 //! The events that a reader has read and not handed out.
 ghost use Rattle.std.specs.Prelude.{◌≡◌, ◌≤◌, ◌↔◌, [], ◌∷◌, drop, IsTrue, IfSome, IfNone, length};
 ghost use Rattle.inp_model.specs.declared.step.Step.TheVariants.{Read};
-ghost use Rattle.inp_reader.specs.Asking.{MakesRead};
+ghost use Rattle.inp_reader.specs.ReaderCalls.{MakesRead};
 
 use crate::CallMade;
 use inp_model::{Evdev, Event, Reply, Step, Taken};

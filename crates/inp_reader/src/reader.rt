@@ -4,13 +4,13 @@ ghost use Rattle.inp_model.specs.declared.multi_touch.TheConstants.{SLOT_VALUES}
 ghost use Rattle.inp_recon.specs.View.{first_view};
 ghost use Rattle.inp_reader.specs.declared.phase.Phase.TheVariants.{Plain};
 ghost use Rattle.inp_reader.specs.Says.{Says};
-ghost use Rattle.inp_reader.specs.Leaving.{LeavesMade, agains_after_next};
+ghost use Rattle.inp_reader.specs.LeftEvdev.{LeavesMade, agains_after_next};
 ghost use Rattle.inp_reader.specs.Effort.{effort, IsLess, is_idle};
-ghost use Rattle.inp_reader.specs.Standing.{Stands, IsAlone, is_needed, has_opened};
-ghost use Rattle.inp_reader.specs.Showing.{AnswerShows};
+ghost use Rattle.inp_reader.specs.ReaderPlace.{Stands, IsAlone, is_needed, has_opened};
+ghost use Rattle.inp_reader.specs.TrueView.{AnswerShows};
 ghost use Rattle.inp_model.specs.Evdev.{EvdevView};
-ghost use Rattle.inp_reader.specs.Reading.{start_talk, next_talk, queued_run, after_run, with_sync_needed};
-ghost use Rattle.inp_reader.specs.Starting.{client_opened, after_refused_query};
+ghost use Rattle.inp_reader.specs.Reader.{start_talk, next_talk, queued_run, after_run, with_sync_needed};
+ghost use Rattle.inp_reader.specs.FailedStart.{client_opened, after_refused_query};
 
 use crate::asker::Asker;
 use crate::cell_buffer::CellBuffer;
@@ -45,7 +45,7 @@ pub struct Reader {
 }
 
 impl Model for Reader {
-    ghost use Rattle.inp_reader.specs.Reading.{ReaderView};
+    ghost use Rattle.inp_reader.specs.Reader.{ReaderView};
 
     ghost Value = { ReaderView };
 

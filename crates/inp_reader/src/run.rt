@@ -1,6 +1,6 @@
 //! The events that a reader hands out in one go.
 ghost use Rattle.std.specs.Prelude.{◌≡◌, ℕ, length, take};
-ghost use Rattle.inp_reader.specs.Reading.{Reading, first_run, has_loss, queued_run};
+ghost use Rattle.inp_reader.specs.Reader.{Reading, first_run, has_loss, queued_run};
 
 use crate::stops::is_dropped;
 use inp_model::Taken;

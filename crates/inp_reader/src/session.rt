@@ -1,12 +1,12 @@
 //! What a reader keeps, and what it does.
 ghost use Rattle.std.specs.Prelude.{◌≡◌, ◌≤◌, ◌<◌, ◌+◌, false, [], ◌++◌, length};
 ghost use Rattle.inp_model.specs.declared.step.Step.TheVariants.{Read};
-ghost use Rattle.inp_reader.specs.Asking.{MakesRead, asked_result};
-ghost use Rattle.inp_reader.specs.Reading.{ask_each, queries, start_talk, after_queries, after_read, queued_run, after_run, read_talk, hand_out, handing, as_plain, after_sync, sync_talk, go_on, go_on_after, plain_talk, next_talk, with_sync_needed};
+ghost use Rattle.inp_reader.specs.ReaderCalls.{MakesRead, asked_result};
+ghost use Rattle.inp_reader.specs.Reader.{ask_each, queries, start_talk, after_queries, after_read, queued_run, after_run, read_talk, hand_out, handing, as_plain, after_sync, sync_talk, go_on, go_on_after, plain_talk, next_talk, with_sync_needed};
 ghost use Rattle.inp_reader.specs.Says.{Says, kept_call};
 ghost use Rattle.inp_reader.specs.Session.{reading_of, IsSession};
 ghost use Rattle.inp_reader.specs.Spare.{IsSpare};
-ghost use Rattle.inp_reader.specs.Standing.{is_needed};
+ghost use Rattle.inp_reader.specs.ReaderPlace.{is_needed};
 ghost use Rattle.inp_reader.specs.Talk.{ask, finish, and_then};
 
 use crate::asker::Asker;

@@ -2,7 +2,7 @@
 ghost use Rattle.std.specs.Prelude.{◌≡◌};
 ghost use Rattle.inp_model.specs.declared.reply.Reply.TheVariants.{Refused};
 ghost use Rattle.inp_recon.specs.Synchronised.{is_dropped};
-ghost use Rattle.inp_reader.specs.Reading.{stop_of, start_stop_of};
+ghost use Rattle.inp_reader.specs.Reader.{stop_of, start_stop_of};
 
 use crate::{Next, Started};
 use inp_model::{EV_SYN, Event, Refusal, Reply, SYN_DROPPED};

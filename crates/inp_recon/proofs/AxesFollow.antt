@@ -36,7 +36,7 @@ use Rattle.inp_recon.proofs.DescriptionSteps.{items-are_events, start-undescribe
 use Rattle.inp_recon.proofs.Steps.{raw-step, queue-step, frames-step, start-same, start-before, receives-before}
 use Rattle.inp_recon.proofs.FlagClasses.{kind_asked}
 use Rattle.inp_recon.proofs.AxisPasses.{sets_axis, value_of, axis_after, unkind-idle, multi_touch-idle, axis-unviewed, axis-passes}
-use Rattle.inp_recon.proofs.Following.{Spares, AreWhole, IsClear, call-keeps, Stands, stands}
+use Rattle.inp_recon.proofs.FollowedValues.{Spares, AreWhole, IsClear, call-keeps, Stands, stands}
 use Rattle.inp_recon.proofs.ViewSteps.{get-after_events, get-follows, get_or-with_value_at}
 
 -- another query spares the axis

@@ -30,10 +30,10 @@ use Rattle.inp_recon.specs.Undisturbed.{is_up_to, is_whole_for, described_from, 
 use Rattle.inp_recon.specs.Faithful.{IsReportAt, IsFollowedWith, AreReadsFaithful}
 use Rattle.inp_recon.proofs.Each.{Each, Each-weaker, and-left, and-right, Each-from_all, all-left, all-right}
 use Rattle.inp_recon.proofs.Over.{over, over-idle, IsIdle}
-use Rattle.inp_recon.proofs.Queueing.{Promised}
+use Rattle.inp_recon.proofs.QueuedValues.{Promised}
 use Rattle.inp_recon.proofs.FrameEntries.{Receives}
 use Rattle.inp_recon.proofs.FrameSteps.{Says}
-use Rattle.inp_recon.proofs.Following.{AreWholeTo, IsBehind, FollowsReports}
+use Rattle.inp_recon.proofs.FollowedValues.{AreWholeTo, IsBehind, FollowsReports}
 use Rattle.inp_recon.proofs.Sizes.{IsSizedFor-after_events}
 use Rattle.inp_recon.proofs.ViewSteps.{length-rows, client_view_with-sized}
 use Rattle.inp_recon.proofs.AxisPasses.{axis_after}

@@ -23,14 +23,14 @@ use Rattle.inp_recon.specs.Synchronised.{Part, asks_for, has_asked, taken_since_
 use Rattle.inp_recon.specs.Undisturbed.{is_viewed}
 use Rattle.inp_recon.proofs.Each.{Each, Each-weaker, Each-map, and-left}
 use Rattle.inp_recon.proofs.Over.{over, over-idle, IsIdle}
-use Rattle.inp_recon.proofs.Queueing.{ReportsIdle, flush-idle}
+use Rattle.inp_recon.proofs.QueuedValues.{ReportsIdle, flush-idle}
 use Rattle.inp_recon.proofs.EventKinds.{report-unviewed, unviewed-other}
 use Rattle.inp_recon.proofs.LastWrite.{set_by, pending-again}
 use Rattle.inp_recon.proofs.CallsLeft.{left_in_queue}
 use Rattle.inp_recon.proofs.FrameEntries.{Receives}
 use Rattle.inp_recon.proofs.FlagPasses.{sets_flag, PassesFlag, StepsFlag, flag-passes, unsupported-same, unsupported-each}
 use Rattle.inp_recon.proofs.QueueEvents.{taken-events}
-use Rattle.inp_recon.proofs.Following.{Spares, Stands, stands}
+use Rattle.inp_recon.proofs.FollowedValues.{Spares, Stands, stands}
 use Rattle.inp_recon.proofs.ViewSteps.{get-after_events, get-follows, get_or-with_value_at}
 
 -- a class of flags: its type, how the device has it, and how a view has it and is told it

@@ -14,7 +14,7 @@ use Rattle.inp_recon.specs.Undisturbed.{is_viewed, all_come, is_whole_for}
 use Rattle.inp_recon.proofs.Each.{Each, and-left, and-right}
 use Rattle.inp_recon.proofs.Over.{over, IsIdle}
 use Rattle.inp_recon.proofs.EventKinds.{of_reports}
-use Rattle.inp_recon.proofs.Cutting.{IsNoReport}
+use Rattle.inp_recon.proofs.Cuts.{IsNoReport}
 
 -- the client is open and not revoked
 pub record Receives (past : List Step) (client : ℕ) : Type 0 where

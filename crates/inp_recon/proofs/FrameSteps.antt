@@ -14,9 +14,9 @@ use Rattle.inp_recon.specs.Synchronised.{has_no_loss}
 use Rattle.inp_recon.specs.Undisturbed.{is_viewed, is_whole_for}
 use Rattle.inp_recon.proofs.Each.{Each}
 use Rattle.inp_recon.proofs.Over.{over, over-append, IsIdle}
-use Rattle.inp_recon.proofs.Queueing.{ReportsIdle, put_all-grows, put_all-append, Promised, Promised-put, Promised-put_all}
+use Rattle.inp_recon.proofs.QueuedValues.{ReportsIdle, put_all-grows, put_all-append, Promised, Promised-put, Promised-put_all}
 use Rattle.inp_recon.proofs.EventKinds.{report-unviewed}
-use Rattle.inp_recon.proofs.Cutting.{IsNoReport, NoCut, OneCut, cut_cases, over-no_cut, over-one_cut}
+use Rattle.inp_recon.proofs.Cuts.{IsNoReport, NoCut, OneCut, cut_cases, over-no_cut, over-one_cut}
 use Rattle.inp_recon.proofs.FrameEntries.{Receives, Each-left_from, over-entries, quiet_entries, entries_split}
 
 -- all that is passed for items

@@ -8,7 +8,7 @@ use Rattle.inp_model.specs.Event.{is_report}
 use Rattle.inp_model.specs.Passed.{passed}
 use Rattle.inp_model.specs.Cut.{pending}
 use Rattle.inp_recon.proofs.Over.{over, over-append}
-use Rattle.inp_recon.proofs.Cutting.{NoCut, OneCut, cut_cases}
+use Rattle.inp_recon.proofs.Cuts.{NoCut, OneCut, cut_cases}
 
 -- an event on the value sets it
 abbrev pub set_by : {V : Type 0} → (Event → Bool) → (Event → V) → V → Event → V

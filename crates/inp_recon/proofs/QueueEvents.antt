@@ -16,9 +16,9 @@ use Rattle.inp_model.specs.Left.{Eats, left}
 use Rattle.inp_model.specs.Queue.{Entry, event_of, entry, entries_of_with, entries_with, is_offered, visible, queue_with, taken_by_with}
 use Rattle.inp_recon.specs.Synchronised.{is_dropped}
 use Rattle.inp_recon.proofs.Each.{Each, Each-append, Each-take, and-left}
-use Rattle.inp_recon.proofs.Queueing.{put_all-each}
+use Rattle.inp_recon.proofs.QueuedValues.{put_all-each}
 use Rattle.inp_recon.proofs.EventKinds.{of_losses}
-use Rattle.inp_recon.proofs.Cutting.{NoCut, OneCut, cut_cases}
+use Rattle.inp_recon.proofs.Cuts.{NoCut, OneCut, cut_cases}
 use Rattle.inp_recon.proofs.CallsLeft.{left_in_queue}
 use Rattle.inp_recon.proofs.FrameEntries.{Each-left_from}
 use Rattle.inp_recon.proofs.Steps.{queue-step, left-each}

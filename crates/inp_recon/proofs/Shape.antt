@@ -16,8 +16,8 @@ use Rattle.inp_model.proofs.Removal.{stays, report_stays_after, flush_from, flus
 use Rattle.inp_model.specs.Queue.{Entry, event_of, entry_dropped_at, is_empty, ends_in_report, put, put_all, visible, flush, entry, entries_of_with, entries_with, queue_with}
 use Rattle.inp_recon.specs.Synchronised.{is_dropped, has_no_loss, is_start}
 use Rattle.inp_recon.proofs.Each.{and-right}
-use Rattle.inp_recon.proofs.Queueing.{put_all-append}
-use Rattle.inp_recon.proofs.Cutting.{NoCut, OneCut, cut_cases}
+use Rattle.inp_recon.proofs.QueuedValues.{put_all-append}
+use Rattle.inp_recon.proofs.Cuts.{NoCut, OneCut, cut_cases}
 use Rattle.inp_recon.proofs.CallsLeft.{LeftBy, ByRead, ByLoss, ByFlush, ByNone, KeepsLosses, left_by, left_in_queue}
 use Rattle.inp_recon.proofs.FrameEntries.{entries_split}
 use Rattle.inp_recon.proofs.FrameSteps.{frames_by, offered_to}

@@ -11,7 +11,7 @@ use Rattle.inp_model.specs.Cut.{pending, cut_events, at_frame}
 use Rattle.inp_recon.specs.View.{slot_after_event}
 use Rattle.inp_recon.proofs.Over.{over, over-append}
 use Rattle.inp_recon.proofs.EventKinds.{report-unviewed}
-use Rattle.inp_recon.proofs.Cutting.{NoCut, OneCut, cut_cases, passed-report}
+use Rattle.inp_recon.proofs.Cuts.{NoCut, OneCut, cut_cases, passed-report}
 use Rattle.inp_recon.proofs.SlotPasses.{SlotCell, both, sets_cell, cell_then, cell-unviewed, cell-passes}
 
 abbrev pub pair : ℤ → ℤ → SlotCell

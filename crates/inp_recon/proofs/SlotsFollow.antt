@@ -24,7 +24,7 @@ use Rattle.inp_recon.specs.ClientView.{client_view_with}
 use Rattle.inp_recon.specs.Synchronised.{AllSlots, asks_for, has_asked, taken_since_start_with, has_no_loss}
 use Rattle.inp_recon.proofs.Each.{and-left, and-right}
 use Rattle.inp_recon.proofs.Over.{over, IsIdle}
-use Rattle.inp_recon.proofs.Queueing.{ReportsIdle, flush-idle}
+use Rattle.inp_recon.proofs.QueuedValues.{ReportsIdle, flush-idle}
 use Rattle.inp_recon.proofs.EventKinds.{report-unviewed}
 use Rattle.inp_recon.proofs.CallsLeft.{left_in_queue}
 use Rattle.inp_recon.proofs.FrameEntries.{Receives}
@@ -33,7 +33,7 @@ use Rattle.inp_recon.proofs.AxesFollow.{no_abs_query}
 use Rattle.inp_recon.proofs.SlotPasses.{SlotCell, both, cell_then, single_touch-idle, kind-idle, cell-unviewed, cell_now, cell-passes}
 use Rattle.inp_recon.proofs.SlotCells.{rows-cell, get-with_cell}
 use Rattle.inp_recon.proofs.SlotBatch.{pair, cell_told, cell-pending}
-use Rattle.inp_recon.proofs.Following.{Spares, Stands, stands}
+use Rattle.inp_recon.proofs.FollowedValues.{Spares, Stands, stands}
 use Rattle.inp_recon.proofs.ViewSteps.{get-after_events, get-follows}
 
 slots_only : (client : ℕ) (x : Step) → asks_for AllSlots client x ≡ false → is_same (client_of x) client ≡ true → query_of x ≡ Some Slots → ⊥

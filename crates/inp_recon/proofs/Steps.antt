@@ -14,8 +14,8 @@ use Rattle.inp_model.specs.Left.{Eats}
 use Rattle.inp_model.specs.Queue.{Entry, event_of, visible, entry, entries_of_with, entries_with, queue_with, is_offered}
 use Rattle.inp_recon.specs.Synchronised.{is_dropped, is_start, is_query_of, start_place, sync_place}
 use Rattle.inp_recon.proofs.Each.{Each, Each-append, Each-weaker, Each-drop}
-use Rattle.inp_recon.proofs.Queueing.{put_all-each, flush-each}
-use Rattle.inp_recon.proofs.Cutting.{NoCut, OneCut, cut_cases}
+use Rattle.inp_recon.proofs.QueuedValues.{put_all-each, flush-each}
+use Rattle.inp_recon.proofs.Cuts.{NoCut, OneCut, cut_cases}
 use Rattle.inp_recon.proofs.CallsLeft.{LeftBy, ByRead, ByLoss, ByFlush, ByNone, left_by, left_in_queue}
 use Rattle.inp_recon.proofs.FrameEntries.{Receives}
 use Rattle.inp_recon.proofs.FrameSteps.{frames_by, offered_to}

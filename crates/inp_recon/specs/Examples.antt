@@ -6,8 +6,8 @@ use Rattle.inp_model.specs.declared.step.Step.TheVariants.{GetKeys, GetSounds, G
 use Rattle.inp_model.specs.declared.reply.Reply.TheVariants.{Bits, Axis, Cells, Refused}
 use Rattle.inp_model.specs.declared.reply.Refusal.TheVariants.{LogFull}
 use Rattle.inp_model.specs.Description.{no_info}
-use Rattle.inp_model.specs.Examples.{report}
-use Rattle.inp_model.specs.SlotExamples.{touchpad, touch, slot, x, y, id}
+use Rattle.inp_model.specs.examples.Frames.{report}
+use Rattle.inp_model.specs.examples.Slots.{touchpad, touch, slot, x, y, id}
 use Rattle.inp_recon.specs.declared.view.View.{View}
 use Rattle.inp_recon.specs.View.{first_view, view_after_events, view_after_answer}
 

@@ -15,10 +15,10 @@ use Rattle.inp_model.specs.Passed.{announced}
 use Rattle.inp_model.specs.Frame.{place}
 use Rattle.inp_model.specs.Queue.{Entry, event_of, taken_by}
 use Rattle.inp_model.specs.Reply.{refused, rows, alone}
-use Rattle.inp_model.specs.Examples.{key, report, of_kind}
-use Rattle.inp_model.specs.QueryExamples.{key_b, move, inject, GivesOn}
-use Rattle.inp_model.specs.ClientExamples.{without_a}
-use Rattle.inp_model.specs.SlotExamples.{touchpad, slot, x, y, id}
+use Rattle.inp_model.specs.examples.Frames.{key, report, of_kind}
+use Rattle.inp_model.specs.examples.Queries.{key_b, move, inject, GivesOn}
+use Rattle.inp_model.specs.examples.Clients.{without_a}
+use Rattle.inp_model.specs.examples.Slots.{touchpad, slot, x, y, id}
 use Rattle.inp_recon.specs.declared.view.View.{View}
 use Rattle.inp_recon.specs.View.{view_after_events}
 use Rattle.inp_recon.specs.ClientView.{client_view, past_before_read, read_up_to, view_at}

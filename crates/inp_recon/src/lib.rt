@@ -26,11 +26,10 @@
 #![tactic(auto)]
 
 mod cells;
+pub mod examples;
 mod flags;
 pub mod laws;
 mod view;
-mod view_examples;
 
 pub use cells::Cells;
 pub use view::View;
-pub use view_examples::{examples, faithful_examples};

@@ -18,7 +18,7 @@ use Rattle.inp_actors.specs.declared.role.Role as role
 use Rattle.inp_actors.specs.declared.role.Role.TheVariants as roles
 use Rattle.inp_actors.specs.Command.{is_command_of, is_in_range, is_source, is_owner, is_reading, stream_of}
 use Rattle.inp_actors.specs.Record.{streams_of, IsRecord}
-use Rattle.inp_model.specs.Injecting.{AreInTime}
+use Rattle.inp_model.specs.Injection.{AreInTime}
 use Rattle.inp_record.specs.declared.item.Item as item
 use Rattle.inp_record.specs.declared.item.Item.TheVariants.{Header, Device, Actor, Action}
 use Rattle.std.proofs.lemmas.Bool.{not-false}

@@ -3,7 +3,7 @@ pub mod CanonLines
 pub mod CanonLists
 pub mod CanonPasts
 pub mod CanonRecords
-pub mod Computing
+pub mod Computation
 pub mod DescriptionAgain
 pub mod DescriptionLines
 pub mod Entries
@@ -18,7 +18,7 @@ pub mod Lines
 pub mod MadeDescriptions
 pub mod Options
 pub mod RaisedPasts
-pub mod Reading
+pub mod LineByLine
 pub mod RoundTrip
 pub mod Rows
 pub mod Sayable

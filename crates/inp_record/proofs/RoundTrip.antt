@@ -19,7 +19,7 @@ use Rattle.inp_record.specs.Place.{is_first_place}
 use Rattle.inp_record.specs.Past.{Past, with_latest, devices_of, first_context, after, context_of}
 use Rattle.inp_record.specs.Meaning.{behind_lines, record_of_past, record_of_context, meaning}
 use Rattle.inp_record.specs.Spelling.{item_words, description_items, actor_items, device_items, action_item_of, RoundTrips}
-use Rattle.inp_record.proofs.Reading.{meaning_read, headed}
+use Rattle.inp_record.proofs.LineByLine.{meaning_read, headed}
 use Rattle.inp_record.proofs.Sayable.{is_action_item, after_all, WereAccepted}
 use Rattle.inp_record.proofs.CanonItems.{AreBehindActors, behind_items, context_behind, items_read}
 use Rattle.inp_record.proofs.CanonPasts.{meaning_of_past}

@@ -13,7 +13,7 @@ use Rattle.inp_model.specs.declared.stamped.TheConstants.{MOMENT_MAX}
 use Rattle.inp_actors.specs.declared.line.Line.{Line}
 use Rattle.inp_actors.specs.Command.{stream_of, first_of}
 use Rattle.inp_actors.specs.Record.{streams_of}
-use Rattle.inp_model.specs.Injecting.{AreInTime}
+use Rattle.inp_model.specs.Injection.{AreInTime}
 use Rattle.inp_stream.specs.declared.stream_refused.StreamRefused.{StreamRefused}
 use Rattle.inp_stream.specs.declared.stream_refused.StreamRefused.TheVariants.{Short, BadTime}
 use Rattle.inp_stream.specs.Stream.{record_len, microseconds_of, moment_in, event_in, decoded}

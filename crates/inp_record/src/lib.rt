@@ -31,6 +31,7 @@
 mod cause;
 mod command_parser;
 mod context;
+pub mod examples;
 mod item;
 mod item_parser;
 mod keyword;
@@ -41,7 +42,6 @@ mod loader;
 mod parser;
 mod place;
 mod printer;
-mod record_examples;
 mod refused;
 mod verb;
 
@@ -54,5 +54,4 @@ pub use line_numbers::line_number;
 pub use loader::load;
 pub use parser::parse;
 pub use printer::print;
-pub use record_examples::examples;
 pub use refused::{LoadFault, ParseFault, Refused};

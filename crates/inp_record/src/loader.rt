@@ -1,6 +1,6 @@
 //! The streams of a record.
 ghost use Rattle.std.specs.Prelude.{◌≡◌, ◌<◌, length, IfOk, IsSome, Some};
-ghost use Rattle.inp_model.specs.Injecting.{AreInTime};
+ghost use Rattle.inp_model.specs.Injection.{AreInTime};
 ghost use Rattle.inp_stream.specs.Form.{time_len};
 ghost use Rattle.inp_record.specs.Stream.{stamps_of, form_of, stream_at, AreStamps, IsLoaded};
 

@@ -1,3 +1,3 @@
 pub mod Actors
 pub mod AxisCounts
-pub mod Computing
+pub mod Computation

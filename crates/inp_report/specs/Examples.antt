@@ -8,9 +8,9 @@ use Rattle.inp_model.specs.declared.reply.Reply.TheVariants.{Done, Opened, Took 
 use Rattle.inp_model.specs.declared.reply.Refusal.TheVariants.{LogFull}
 use Rattle.inp_model.specs.Description.{Description, one_key}
 use Rattle.inp_model.specs.Event.{syn_dropped}
-use Rattle.inp_model.specs.Examples.{at, key, report as syn_report}
-use Rattle.inp_model.specs.QueryExamples.{desk}
-use Rattle.inp_model.specs.SlotExamples.{touchpad, touch}
+use Rattle.inp_model.specs.examples.Frames.{at, key, report as syn_report}
+use Rattle.inp_model.specs.examples.Queries.{desk}
+use Rattle.inp_model.specs.examples.Slots.{touchpad, touch}
 use Rattle.inp_feedback.specs.declared.fed.Fed.TheVariants.{Took as FeedTook, Full as FeedFull}
 use Rattle.inp_feedback.specs.Examples.{caps_lock}
 use Rattle.inp_joy.specs.Examples.{stick, trigger}

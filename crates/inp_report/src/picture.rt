@@ -3,7 +3,7 @@ ghost use Rattle.std.specs.Prelude.{◌≡◌, ◌≤◌, ◌-◌, ◌++◌, len
 ghost use Rattle.inp_bits.specs.Bits.{true_indices, word_bits};
 ghost use Rattle.inp_joy.specs.Codes.{axes};
 ghost use Rattle.inp_joy.specs.Picture.{seen_as};
-ghost use Rattle.inp_reader.specs.Reading.{axes_among};
+ghost use Rattle.inp_reader.specs.Reader.{axes_among};
 ghost use Rattle.inp_report.specs.JoyReport.{spaced_number, spaced_value, buttons_line, values_line, picture_text};
 
 use crate::words::{push_numbered, push_spaced};

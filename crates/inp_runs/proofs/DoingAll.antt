@@ -12,19 +12,19 @@ use Rattle.inp_actors.specs.declared.role.Role.TheVariants.{Source, Client, Tap,
 use Rattle.inp_actors.specs.Command.{is_owner}
 use Rattle.inp_actors.specs.Record.{RecordView}
 use Rattle.inp_feedback.specs.declared.fed.TheConstants.{FEEDBACK_MAX}
-use Rattle.inp_feedback.specs.Feeding.{Feeding}
+use Rattle.inp_feedback.specs.Feeds.{Feeding}
 use Rattle.inp_reader.specs.Talk.{finish}
 use Rattle.inp_script.specs.declared.waiting.Waiting.{Waiting}
-use Rattle.inp_script.specs.Acting.{FeedCall, AreFeedCalls, Acts, ActsLine, BeginsToAct, IsActedOn}
-use Rattle.inp_script.specs.Doing.{HasActor, Holds, line_talk}
+use Rattle.inp_script.specs.ActorLine.{FeedCall, AreFeedCalls, Acts, ActsLine, BeginsToAct, IsActedOn}
+use Rattle.inp_script.specs.DoneLine.{HasActor, Holds, line_talk}
 use Rattle.inp_script.specs.Job.{ActorView, Job}
 use Rattle.inp_script.specs.Line.{end_talk}
 use Rattle.inp_script.specs.Owner.{MayHaveFed}
-use Rattle.inp_script.proofs.Holding.{holds-nothing, begins-left}
+use Rattle.inp_script.proofs.TalkCalls.{holds-nothing, begins-left}
 use Rattle.inp_runs.specs.DoingAll.{AreNumbersOf, AreActed, EndsLines, ActsAll, DoesAll}
 use Rattle.inp_runs.specs.Job.{lines_by, last_talk, lines_talk}
 use Rattle.inp_runs.proofs.JobEnds.{owner-role}
-use Rattle.inp_runs.proofs.Listing.{eq_same, option_map-some, slice_get-filter}
+use Rattle.inp_runs.proofs.Lists.{eq_same, option_map-some, slice_get-filter}
 use Rattle.inp_runs.proofs.MoreRounds.{lines-next}
 
 pub no-owner : (role : Role) → is_owner role ≡ false → role ≡ Owner → ⊥

@@ -21,7 +21,7 @@ use Rattle.inp_actors.specs.Record.{RecordView, IsRecord}
 use Rattle.inp_recon.specs.View.{IsSizedFor}
 use Rattle.inp_recon.proofs.FaithfulHistories.{faithful_by_reads}
 use Rattle.inp_recon.proofs.FaithfulReads.{reads-faithful}
-use Rattle.inp_losses.proofs.Causes.{all_taken-caused}
+use Rattle.inp_runs.proofs.losses.Causes.{all_taken-caused}
 use Rattle.inp_reader.specs.Talk.{Talk, EndsWith}
 use Rattle.inp_reader.proofs.Calls.{IsPlaceOf}
 use Rattle.inp_reader.proofs.LessEffort.{place-below}
@@ -36,16 +36,16 @@ use Rattle.inp_runs.specs.Job.{lines_by, lines_talk, entries_at, AreTold, IsJob,
 use Rattle.inp_runs.specs.JobViews.{AreReportsSeen}
 use Rattle.inp_runs.specs.Owner.{rooms_of, HasOwned, IsOwner}
 use Rattle.inp_runs.proofs.Entries.{entries, told-counts}
-use Rattle.inp_runs.proofs.Folded.{its_lines, view-folded}
+use Rattle.inp_runs.proofs.views.Folded.{its_lines, view-folded}
 use Rattle.inp_runs.proofs.JobEnds.{IsEndOf, OwnersCountNothing, is_stick, is_feeding, is_other, joy-role, owner-role, jobs-kept, joys-kept, owners-kept, job-end_of, joy-end_of, owner-end_of, cells-of, split-sums, sum-ends, end-numbers}
-use Rattle.inp_runs.proofs.JobSizes.{job-sized}
+use Rattle.inp_runs.proofs.memory.JobSizes.{job-sized}
 use Rattle.inp_runs.proofs.JobTold.{job-told}
-use Rattle.inp_runs.proofs.JobViews.{IsShown, job-shown}
-use Rattle.inp_runs.proofs.LeftByTalks.{AreAnswered}
-use Rattle.inp_runs.proofs.Listing.{IsAt, IsImage, filter-same, map-filter, option_map-some, slice_get-filter}
-use Rattle.inp_runs.proofs.OwnerTalks.{owner-silent}
-use Rattle.inp_runs.proofs.Memory.{answered-memory, gives_up-lines, talk-answered}
-use Rattle.inp_runs.proofs.Owners.{AreCallsOf, Counts, HasOwners, calls-of, counts-place, has-one, history-of-jobs, short-history}
+use Rattle.inp_runs.proofs.views.JobViews.{IsShown, job-shown}
+use Rattle.inp_runs.proofs.memory.LeftByTalks.{AreAnswered}
+use Rattle.inp_runs.proofs.Lists.{IsAt, IsImage, filter-same, map-filter, option_map-some, slice_get-filter}
+use Rattle.inp_runs.proofs.owners.OwnerTalks.{owner-silent}
+use Rattle.inp_runs.proofs.memory.Memory.{answered-memory, gives_up-lines, talk-answered}
+use Rattle.inp_runs.proofs.owners.Owners.{AreCallsOf, Counts, HasOwners, calls-of, counts-place, has-one, history-of-jobs, short-history}
 
 -- One actor
 

@@ -13,7 +13,7 @@ use Rattle.inp_script.specs.Job.{ActorView, JobView, JoyJobView, OwnerView, job_
 use Rattle.inp_runs.specs.Done.{calls_at}
 use Rattle.inp_runs.specs.Job.{entries_at, joy_entries_at}
 use Rattle.inp_runs.proofs.Entries.{entries}
-use Rattle.inp_runs.proofs.Listing.{IsAt, IsImage, option_map-some, slice_get-filter, sum_by-kept}
+use Rattle.inp_runs.proofs.Lists.{IsAt, IsImage, option_map-some, slice_get-filter, sum_by-kept}
 
 -- an actor is a joystick, it is an owner, and it is neither
 abbrev pub is_stick : ActorView → Bool

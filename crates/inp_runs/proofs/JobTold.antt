@@ -11,15 +11,15 @@ use Rattle.inp_recon.proofs.Sizes.{IsSizedFor-first_view}
 use Rattle.inp_reader.specs.Talk.{Talk, EndsWith}
 use Rattle.inp_script.specs.declared.sight.Sight.{Sight}
 use Rattle.inp_script.specs.declared.waiting.Waiting.{Waiting}
-use Rattle.inp_script.specs.Doing.{line_talk}
+use Rattle.inp_script.specs.DoneLine.{line_talk}
 use Rattle.inp_script.specs.Job.{Job, first_job}
 use Rattle.inp_script.specs.Legal.{is_call_entry}
 use Rattle.inp_reader.proofs.Calls.{finished, split-and_then}
 use Rattle.inp_script.proofs.LineTold.{line-told, end-told}
 use Rattle.inp_script.proofs.Told.{Tells, tells-then, same-told}
 use Rattle.inp_runs.specs.Job.{on_job, last_talk, lines_talk, AreTold}
-use Rattle.inp_runs.proofs.LeftByTalks.{AreAnswered, leaves-ends}
-use Rattle.inp_runs.proofs.LineTalks.{IsKept, IsKeptIfSome, leaves-lines}
+use Rattle.inp_runs.proofs.memory.LeftByTalks.{AreAnswered, leaves-ends}
+use Rattle.inp_runs.proofs.memory.LineTalks.{IsKept, IsKeptIfSome, leaves-lines}
 
 -- Where lines wait
 

@@ -8,7 +8,7 @@ use Rattle.inp_actors.specs.declared.line.Line.{Line}
 use Rattle.inp_actors.specs.declared.role.Role.{Role}
 use Rattle.inp_reader.specs.Talk.{Talk, finish, and_then, EndsWith}
 use Rattle.inp_reader.proofs.Talks.{LeadsTo-append, LeadsTo-and_then}
-use Rattle.inp_script.specs.Doing.{line_talk}
+use Rattle.inp_script.specs.DoneLine.{line_talk}
 use Rattle.inp_script.specs.Job.{Job}
 use Rattle.inp_reader.proofs.Calls.{finished, split-and_then}
 use Rattle.inp_runs.specs.Job.{lines_by, on_job, lines_talk}

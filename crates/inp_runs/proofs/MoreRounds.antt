@@ -12,7 +12,7 @@ use Rattle.inp_reader.specs.Talk.{Talk, finish, and_then, EndsWith}
 use Rattle.inp_script.specs.declared.stop.Stop.{Stop}
 use Rattle.inp_script.specs.declared.waiting.Waiting.{Waiting}
 use Rattle.inp_script.specs.Client.{Going, Turn, goes_on, ends_with, is_done, next_round, on_turn, rounds, hand_talk, client_talk}
-use Rattle.inp_script.specs.Doing.{command_talk, unless_stopped, line_talk}
+use Rattle.inp_script.specs.DoneLine.{command_talk, unless_stopped, line_talk}
 use Rattle.inp_script.specs.Job.{Job}
 use Rattle.inp_script.proofs.JoyLonger.{ends-then, joystick-longer}
 use Rattle.inp_reader.proofs.Calls.{finished, split-and_then}

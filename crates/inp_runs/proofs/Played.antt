@@ -16,7 +16,7 @@ use Rattle.inp_script.specs.Runs.{is_on_device, is_joystick, is_owning, actors_o
 use Rattle.inp_runs.specs.Done.{IsRunAsPromised}
 use Rattle.inp_runs.specs.Job.{lines_by, IsRun, ArePromised, joys_on, wait_of}
 use Rattle.inp_runs.specs.Owner.{rooms_of, IsOwner}
-use Rattle.inp_runs.proofs.Listing.{IsAt, IsImage, eq_false, filter-all, filter-none, option_map-some, slice_get-filter}
+use Rattle.inp_runs.proofs.Lists.{IsAt, IsImage, eq_false, filter-all, filter-none, option_map-some, slice_get-filter}
 use Rattle.std.proofs.lemmas.Bool.{eqb-true}
 
 -- Parts of what came of each device, whose numbers are these of a device's number

@@ -4,11 +4,11 @@ use Rattle.inp_model.specs.Evdev.{EvdevView}
 use Rattle.inp_actors.specs.declared.line.Line.{Line}
 use Rattle.inp_actors.specs.declared.role.Role.TheVariants.{Source}
 use Rattle.inp_actors.specs.Record.{RecordView}
-use Rattle.inp_feedback.specs.Feeding.{Feeding}
+use Rattle.inp_feedback.specs.Feeds.{Feeding}
 use Rattle.inp_reader.specs.Talk.{finish}
 use Rattle.inp_script.specs.declared.waiting.Waiting.{Waiting}
-use Rattle.inp_script.specs.Acting.{ActsLine}
-use Rattle.inp_script.specs.Doing.{Holds}
+use Rattle.inp_script.specs.ActorLine.{ActsLine}
+use Rattle.inp_script.specs.DoneLine.{Holds}
 use Rattle.inp_script.specs.Job.{ActorView, Job}
 use Rattle.inp_runs.specs.Job.{lines_by, last_talk, lines_talk}
 

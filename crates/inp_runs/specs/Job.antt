@@ -23,7 +23,7 @@ use Rattle.inp_script.specs.declared.run.Run.{Run}
 use Rattle.inp_script.specs.declared.sight.Sight.{Sight}
 use Rattle.inp_script.specs.declared.sight.Sight.TheVariants.{Call, Took}
 use Rattle.inp_script.specs.declared.waiting.Waiting.{Waiting}
-use Rattle.inp_script.specs.Doing.{line_talk, source_count}
+use Rattle.inp_script.specs.DoneLine.{line_talk, source_count}
 use Rattle.inp_script.specs.Fold.{IsFolded}
 use Rattle.inp_script.specs.Job.{Job, JobView, JoyJobView, OwnerView, first_job, job_end, joy_end}
 use Rattle.inp_script.specs.Legal.{sight_of_calls, is_call_entry, LeavesOut}

@@ -6,3 +6,6 @@ pub mod Job
 pub mod Done
 pub mod DoingAll
 pub mod OwnerExamples
+pub mod LossCauses
+pub mod Play
+pub mod Promised

@@ -5,7 +5,7 @@ use Rattle.inp_model.specs.declared.step.Step.{Step}
 use Rattle.inp_model.specs.Description.{Description}
 use Rattle.inp_recon.specs.Synchronised.{is_dropped}
 use Rattle.inp_model.specs.Queue.{Entry, took}
-use Rattle.inp_losses.specs.Losses.{IsCausedAt, IsCaused}
+use Rattle.inp_runs.specs.LossCauses.{IsCausedAt, IsCaused}
 use Rattle.inp_script.specs.declared.sight.Sight.{Sight}
 use Rattle.inp_script.specs.declared.sight.Sight.TheVariants.{Took}
 use Rattle.inp_runs.specs.JobViews.{reads_as}

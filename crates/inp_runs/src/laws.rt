@@ -3,6 +3,9 @@ ghost use Rattle.inp_runs.specs.OwnerExamples.{TakesTheBellOnce, StopsAtItsLimit
 ghost use Rattle.inp_runs.specs.IndexExamples.{CountsBehindTheLastRead, TellsEqualEventsApart, CountsAcceptedReadsOfItsClient};
 ghost use Rattle.inp_runs.specs.Done.{AllAsPromised, DevicesDoneArePromised, OwnersLinesAreCalls};
 ghost use Rattle.inp_runs.specs.Job.{JobsShowTheDevice};
+ghost use Rattle.inp_runs.specs.LossCauses.{AreQueuedCaused, AreTakenCaused};
+ghost use Rattle.inp_runs.specs.Play.{HasOnePlay};
+ghost use Rattle.inp_runs.specs.Promised.{EachPlayIsPromised};
 
 /// What comes of a device whose actors did all their lines is promised, in whatever order their steps were made. It does
 /// nothing: its contract is the point.
@@ -43,4 +46,27 @@ pub fn owners_on_a_short_row()
 /// Each line of an owner of a record is a feedback call. It does nothing: its contract is the point.
 pub fn owners_lines_are_calls()
     ensures calls { OwnersLinesAreCalls }
+{}
+
+/// A client loses events for two causes alone. It does nothing: its contract is the point.
+///
+/// For every description, every list of steps and every client: let a `SYN_DROPPED` be queued for the client, or taken by
+/// it. Then the step at its place did one of two things (`IsCausedAt`).
+///
+/// - It ended frames, and one of their events came to the client's ring while all places but one were taken
+///   (`MeetsFullRing`).
+/// - It changed the client's clock to another one while events were queued (`ChangesClock`).
+pub fn losses()
+    ensures queued { AreQueuedCaused }
+    ensures taken { AreTakenCaused }
+{}
+
+/// Two plays of one record give the same. It does nothing: its contract is the point.
+pub fn at_most_one_play()
+    ensures one_play { HasOnePlay }
+{}
+
+/// What comes of a record whose lines are done in file order is promised. It does nothing: its contract is the point.
+pub fn each_play_is_promised()
+    ensures promised { EachPlayIsPromised }
 {}

@@ -17,7 +17,7 @@ use Rattle.inp_reader.specs.declared.mode.Mode.{Mode}
 use Rattle.inp_reader.specs.declared.next.Next.{Next}
 use Rattle.inp_reader.specs.declared.next.Next.TheVariants.{Success, Dropped, Sync}
 use Rattle.inp_reader.specs.declared.started.Started.{Started}
-use Rattle.inp_reader.specs.Reading.{Reading, queries, start_talk, stop_of, next_talk}
+use Rattle.inp_reader.specs.Reader.{Reading, queries, start_talk, stop_of, next_talk}
 use Rattle.inp_reader.specs.Talk.{EndsWith}
 use Rattle.inp_reader.proofs.AgainCounts.{IsNoRead, no_read-queries, not_again}
 use Rattle.inp_reader.proofs.Meets.{Any, Runs, meets-ends}

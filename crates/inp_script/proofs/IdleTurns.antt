@@ -13,7 +13,7 @@ use Rattle.inp_actors.specs.declared.role.Role.{Role}
 use Rattle.inp_reader.specs.declared.next.Next.{Next}
 use Rattle.inp_reader.specs.declared.next.Next.TheVariants.{Success, Dropped, Sync, Again, Synced, NoDevice, Closed, Full}
 use Rattle.inp_reader.specs.declared.started.Started.{Started}
-use Rattle.inp_reader.specs.Reading.{Reading, stop_of, after_failed_sync, start_talk, next_talk}
+use Rattle.inp_reader.specs.Reader.{Reading, stop_of, after_failed_sync, start_talk, next_talk}
 use Rattle.inp_model.specs.Leaves.{AreCalls}
 use Rattle.inp_reader.specs.Talk.{EndsWith}
 use Rattle.inp_script.specs.declared.sight.Sight.{Sight}
@@ -22,7 +22,7 @@ use Rattle.inp_script.specs.declared.stop.Stop.{Stop}
 use Rattle.inp_script.specs.declared.stop.Stop.TheVariants.{Idle, Full as FullHistory}
 use Rattle.inp_script.specs.declared.waiting.Waiting.{Waiting}
 use Rattle.inp_script.specs.Client.{Going, goes_on, ends_with, job_after_start, handed, one_less, is_done, patience, after_again, turn_after, after_next, mode_of, with_sight, with_stop}
-use Rattle.inp_script.specs.Doing.{DoesLine, line_talk}
+use Rattle.inp_script.specs.DoneLine.{DoesLine, line_talk}
 use Rattle.inp_script.specs.Job.{Job, ActorView}
 use Rattle.inp_script.specs.Legal.{CountsTurns}
 use Rattle.inp_script.specs.Sight.{stop_after, stop_after_start}

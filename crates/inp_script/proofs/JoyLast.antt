@@ -9,12 +9,12 @@ use Rattle.inp_model.specs.Run.{Call}
 use Rattle.inp_joy.specs.declared.joy_read.JoyRead.{JoyRead}
 use Rattle.inp_joy.specs.declared.joy_read.JoyRead.TheVariants.{Again, NoDevice, Closed, Full}
 use Rattle.inp_joy.specs.declared.joy_record.JoyRecord.{JoyRecord}
-use Rattle.inp_joy.specs.Joying.{Joying, JoyAnswer, JoyTurn, gives, goes_on, joy_read_of, event_handed_out, joy_record_of, record_or_on, event_or_on, stop_or_event, joying_after_next, stop_or_startup, turns, with_reading}
+use Rattle.inp_joy.specs.Joy.{Joying, JoyAnswer, JoyTurn, gives, goes_on, joy_read_of, event_handed_out, joy_record_of, record_or_on, event_or_on, stop_or_event, joying_after_next, stop_or_startup, turns, with_reading}
 use Rattle.inp_joy.proofs.TurnCases.{Synchronises, TurnCase, of_startup, of_sync, of_loss, of_next, turn-case, turns-all}
 use Rattle.inp_reader.specs.declared.mode.Mode.TheVariants.{Normal, Sync as Synchronising}
 use Rattle.inp_reader.specs.declared.next.Next.{Next}
 use Rattle.inp_reader.specs.declared.next.Next.TheVariants.{Success, Dropped, Sync, Again as ReaderAgain, Synced, NoDevice as Revoked, Closed as NotOpen, Full as FullHistory}
-use Rattle.inp_reader.specs.Reading.{next_talk}
+use Rattle.inp_reader.specs.Reader.{next_talk}
 use Rattle.inp_reader.specs.Talk.{EndsWith}
 use Rattle.inp_script.proofs.LastAgain.{EndsIn, ends_in-behind, next-last}
 

@@ -6,7 +6,7 @@ use Rattle.inp_actors.specs.declared.command.Command.{Command}
 use Rattle.inp_actors.specs.declared.command.Command.TheVariants.{Open, Read}
 use Rattle.inp_joy.specs.declared.joy_read.JoyRead.{JoyRead}
 use Rattle.inp_joy.specs.declared.joy_read.JoyRead.TheVariants.{Record as HandedOut, Frame, Again, NoDevice, Closed, Full, More}
-use Rattle.inp_joy.specs.Joying.{Joying, JoyAnswer, turns}
+use Rattle.inp_joy.specs.Joy.{Joying, JoyAnswer, turns}
 use Rattle.inp_joy.proofs.MoreTurns.{turns-longer}
 use Rattle.inp_reader.specs.Says.{calls_kept}
 use Rattle.inp_reader.specs.Talk.{Talk, finish, and_then, EndsWith}

@@ -7,7 +7,7 @@ use Rattle.inp_model.proofs.Leaves.{AreCalls-append, description-kept}
 use Rattle.inp_joy.specs.declared.joy_read.JoyRead.{JoyRead}
 use Rattle.inp_joy.specs.declared.joy_read.JoyRead.TheVariants.{Record as HandedOut, Frame, Again, NoDevice, Closed, Full, More}
 use Rattle.inp_joy.specs.declared.joy_record.JoyRecord.{JoyRecord}
-use Rattle.inp_joy.specs.Joying.{Joying, JoyAnswer, turns}
+use Rattle.inp_joy.specs.Joy.{Joying, JoyAnswer, turns}
 use Rattle.inp_joy.specs.Reads.{IsJoyRead, IsReadLess, bytes_after}
 use Rattle.inp_joy.proofs.MoreTurns.{turns-longer}
 use Rattle.inp_joy.proofs.Records.{HandsOutAsSaid, turns-said}
@@ -15,19 +15,19 @@ use Rattle.inp_reader.specs.declared.call_made.CallMade.{CallMade}
 use Rattle.inp_reader.specs.Says.{calls_kept}
 use Rattle.inp_reader.specs.Talk.{Talk, finish, and_then, LeadsTo, EndsWith}
 use Rattle.inp_reader.proofs.Talks.{LeadsTo-append, LeadsTo-and_then}
-use Rattle.inp_script.specs.declared.joystick.AfterRead.{AfterRead}
-use Rattle.inp_script.specs.declared.joystick.AfterRead.TheVariants.{Hands, GoesOn, Ends}
+use Rattle.inp_script.specs.declared.role.joystick.AfterRead.{AfterRead}
+use Rattle.inp_script.specs.declared.role.joystick.AfterRead.TheVariants.{Hands, GoesOn, Ends}
 use Rattle.inp_script.specs.declared.notes.Notes.{Notes}
 use Rattle.inp_script.specs.declared.sight.Sight.{Sight}
 use Rattle.inp_script.specs.declared.sight.Sight.TheVariants.{Again as NothingVisible, Record}
 use Rattle.inp_script.specs.declared.stop.Stop.{Stop}
 use Rattle.inp_script.specs.declared.stop.Stop.TheVariants.{Full as FullHistory}
 use Rattle.inp_script.specs.Client.{with_sight, with_stop}
-use Rattle.inp_script.specs.Doing.{Holds, Begins}
+use Rattle.inp_script.specs.DoneLine.{Holds, Begins}
 use Rattle.inp_script.specs.Job.{Job}
 use Rattle.inp_script.specs.Joystick.{Reach, handed_out, line_ends, record_sight, after_joy_read, after_turns, read_on, on_reach, read_records}
-use Rattle.inp_script.specs.Noting.{joy_job}
-use Rattle.inp_script.specs.Reaching.{Leads, after_bytes, then_reads, HasRead, BeginsRead, LeavesLess, ReadsOn, BeginsReading, ReadsRecords}
+use Rattle.inp_script.specs.Notes.{joy_job}
+use Rattle.inp_script.specs.JoyProgress.{Leads, after_bytes, then_reads, HasRead, BeginsRead, LeavesLess, ReadsOn, BeginsReading, ReadsRecords}
 use Rattle.inp_script.specs.Sight.{made_sight, noted}
 use Rattle.inp_script.proofs.Noted.{noted-ends}
 

@@ -10,7 +10,7 @@ use Rattle.inp_model.specs.Run.{Call}
 use Rattle.inp_actors.specs.declared.command.Command.{Command}
 use Rattle.inp_joy.specs.declared.joy_read.JoyRead.{JoyRead}
 use Rattle.inp_joy.specs.declared.joy_read.JoyRead.TheVariants.{Full}
-use Rattle.inp_joy.specs.Joying.{JoyAnswer, turns}
+use Rattle.inp_joy.specs.Joy.{JoyAnswer, turns}
 use Rattle.inp_reader.specs.declared.started.Started.{Started}
 use Rattle.inp_reader.specs.declared.started.Started.TheVariants.{Refused}
 use Rattle.inp_reader.specs.Talk.{EndsWith}

@@ -7,7 +7,7 @@ use Rattle.inp_joy.specs.declared.joy_read.JoyRead.{JoyRead}
 use Rattle.inp_joy.specs.declared.joy_read.JoyRead.TheVariants.{Again}
 use Rattle.inp_joy.specs.declared.joy_record.JoyRecord.{JoyRecord}
 use Rattle.inp_joy.specs.JoyRecord.{bytes_of_record}
-use Rattle.inp_joy.specs.Joying.{Joying, JoyAnswer, joy_start, turns}
+use Rattle.inp_joy.specs.Joy.{Joying, JoyAnswer, joy_start, turns}
 use Rattle.inp_joy.proofs.Records.{HandsOutAsSaid, turns-said}
 use Rattle.inp_reader.specs.declared.started.Started.{Started}
 use Rattle.inp_reader.specs.Talk.{Talk, finish, EndsWith}

@@ -7,7 +7,7 @@ use Rattle.inp_actors.specs.declared.command.Command.{Command}
 use Rattle.inp_actors.specs.declared.command.Command.TheVariants.{Open, Read}
 use Rattle.inp_joy.specs.declared.joy_read.JoyRead.{JoyRead}
 use Rattle.inp_joy.specs.declared.joy_read.JoyRead.TheVariants.{Frame, Again, Full, More}
-use Rattle.inp_joy.specs.Joying.{JoyAnswer, turns}
+use Rattle.inp_joy.specs.Joy.{JoyAnswer, turns}
 use Rattle.inp_reader.proofs.Meets.{Meets, Any, meets-then}
 use Rattle.inp_script.specs.declared.sight.Sight.{Sight}
 use Rattle.inp_script.specs.declared.sight.Sight.TheVariants.{Again as NothingVisible}

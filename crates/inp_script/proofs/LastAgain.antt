@@ -10,7 +10,7 @@ use Rattle.inp_recon.specs.declared.view.View.{View}
 use Rattle.inp_reader.specs.declared.mode.Mode.{Mode}
 use Rattle.inp_reader.specs.declared.next.Next.{Next}
 use Rattle.inp_reader.specs.declared.next.Next.TheVariants.{Again}
-use Rattle.inp_reader.specs.Reading.{Reading, stop_of, next_talk}
+use Rattle.inp_reader.specs.Reader.{Reading, stop_of, next_talk}
 use Rattle.inp_reader.specs.Talk.{EndsWith}
 use Rattle.inp_reader.proofs.Meets.{Any, Runs}
 use Rattle.inp_reader.proofs.NextWalk.{sync-meets, Renewed, NextRules, next-ends, stop-cases}

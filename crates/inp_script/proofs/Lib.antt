@@ -1,11 +1,11 @@
-pub mod Computing
-pub mod Holding
+pub mod Computation
+pub mod TalkCalls
 pub mod IdleTurns
 pub mod Batches
 pub mod Streams
 pub mod Commands
 pub mod Replies
-pub mod Tapping
+pub mod TapCalls
 pub mod Noted
 pub mod Turns
 pub mod QueuedRuns
@@ -28,5 +28,5 @@ pub mod ClientFolds
 pub mod JoyFolds
 pub mod LineFolds
 pub mod LinesDone
-pub mod Acting
+pub mod ActorLines
 pub mod Endings

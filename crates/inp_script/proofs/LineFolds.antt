@@ -22,14 +22,14 @@ use Rattle.inp_reader.specs.declared.mode.Mode.{Mode}
 use Rattle.inp_reader.specs.declared.next.Next.{Next}
 use Rattle.inp_reader.specs.declared.next.Next.TheVariants.{Success, Dropped, Sync, Again}
 use Rattle.inp_reader.specs.declared.started.Started.{Started}
-use Rattle.inp_reader.specs.Reading.{Reading, start_talk, next_talk}
+use Rattle.inp_reader.specs.Reader.{Reading, start_talk, next_talk}
 use Rattle.inp_model.specs.Leaves.{AreCalls}
 use Rattle.inp_reader.specs.Talk.{Talk, finish, EndsWith}
 use Rattle.inp_script.specs.declared.sight.Sight.{Sight}
 use Rattle.inp_script.specs.declared.sight.Sight.TheVariants.{Call as Called, Again as AgainSight}
 use Rattle.inp_script.specs.declared.waiting.Waiting.{Waiting}
 use Rattle.inp_script.specs.Client.{Going, Turn, start_job, start_ends, job_after_start, after_next, mode_of, next_round, forced}
-use Rattle.inp_script.specs.Doing.{line_talk, DoesLine}
+use Rattle.inp_script.specs.DoneLine.{line_talk, DoesLine}
 use Rattle.inp_script.specs.JoyFold.{joy_fold}
 use Rattle.inp_script.specs.Fold.{Folding, settled, after_first_call, client_fold, tap_fold, IsFolded, StaysFolded}
 use Rattle.inp_script.specs.Job.{Job, ActorView, first_job}

@@ -13,7 +13,7 @@ use Rattle.inp_actors.specs.declared.role.Role.{Role}
 use Rattle.inp_recon.specs.declared.view.View.{View}
 use Rattle.inp_reader.specs.declared.mode.Mode.{Mode}
 use Rattle.inp_reader.specs.declared.next.Next.{Next}
-use Rattle.inp_reader.specs.Reading.{Reading, stop_of, start_talk, next_talk}
+use Rattle.inp_reader.specs.Reader.{Reading, stop_of, start_talk, next_talk}
 use Rattle.inp_reader.specs.Talk.{Talk, EndsWith}
 use Rattle.inp_reader.proofs.Meets.{Listed, listed-run, Meets, Any, meets-ends, meets-keeps, meets-weaker}
 use Rattle.inp_reader.proofs.NextWalk.{sync-meets, Renewed, NextRules, next-meets, stop-cases}
@@ -22,7 +22,7 @@ use Rattle.inp_script.specs.declared.sight.Sight.TheVariants.{Took, Made, Again 
 use Rattle.inp_script.specs.declared.stop.Stop.{Stop}
 use Rattle.inp_script.specs.declared.waiting.Waiting.{Waiting}
 use Rattle.inp_script.specs.Client.{mode_of, after_next}
-use Rattle.inp_script.specs.Doing.{line_talk}
+use Rattle.inp_script.specs.DoneLine.{line_talk}
 use Rattle.inp_script.specs.Job.{Job}
 use Rattle.inp_script.specs.Legal.{is_call_entry}
 use Rattle.inp_script.specs.Line.{after_call, end_talk}

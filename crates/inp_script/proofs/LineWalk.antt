@@ -14,7 +14,7 @@ use Rattle.inp_reader.specs.declared.next.Next.{Next}
 use Rattle.inp_reader.specs.declared.next.Next.TheVariants.{Success, Dropped, Sync, Again, Synced, NoDevice, Closed, Full}
 use Rattle.inp_reader.specs.declared.started.Started.{Started}
 use Rattle.inp_reader.specs.declared.reader.TheConstants.{NO_CLIENT}
-use Rattle.inp_reader.specs.Reading.{Reading, start_talk, next_talk}
+use Rattle.inp_reader.specs.Reader.{Reading, start_talk, next_talk}
 use Rattle.inp_reader.specs.Talk.{Talk, finish, ask, EndsWith}
 use Rattle.inp_reader.proofs.Meets.{Meets, Any, meets-then, meets-if, Runs, ends-meet}
 use Rattle.inp_script.specs.declared.sight.Sight.{Sight}
@@ -23,7 +23,7 @@ use Rattle.inp_script.specs.declared.stop.Stop.{Stop}
 use Rattle.inp_script.specs.declared.stop.Stop.TheVariants.{Idle, Full as FullStop}
 use Rattle.inp_script.specs.declared.waiting.Waiting.{Waiting}
 use Rattle.inp_script.specs.Client.{Going, Turn, goes_on, ends_with, start_job, start_ends, job_after_start, handed, one_less, is_done, patience, after_again, turn_after, after_next, mode_of, with_sight, with_stop, forced, next_round, on_turn, rounds, hand_talk, client_talk}
-use Rattle.inp_script.specs.Doing.{command_talk, unless_stopped, line_talk}
+use Rattle.inp_script.specs.DoneLine.{command_talk, unless_stopped, line_talk}
 use Rattle.inp_script.specs.Job.{Job}
 use Rattle.inp_script.specs.Joystick.{joystick_talk}
 use Rattle.inp_script.specs.Line.{step_of, after_call, call_if, stream_talk, stream_numbered, source_talk, end_talk, after_tap_call, tap_call_if}

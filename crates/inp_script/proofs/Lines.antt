@@ -13,21 +13,21 @@ use Rattle.inp_actors.specs.declared.line.Line.{Line}
 use Rattle.inp_actors.specs.declared.role.Role.{Role}
 use Rattle.inp_actors.specs.declared.role.Role.TheVariants.{Source as SourceRole}
 use Rattle.inp_actors.specs.Command.{is_command_of, is_in_range, stream_of}
-use Rattle.inp_model.specs.Injecting.{AreInTime}
+use Rattle.inp_model.specs.Injection.{AreInTime}
 use Rattle.inp_actors.specs.Record.{RecordView, IsRecord, streams_of}
-use Rattle.inp_reader.specs.Reading.{Reading}
+use Rattle.inp_reader.specs.Reader.{Reading}
 use Rattle.inp_reader.specs.Talk.{Talk, finish}
 use Rattle.inp_script.specs.declared.notes.Notes.{Notes}
 use Rattle.inp_script.specs.declared.stop.Stop.{Stop}
 use Rattle.inp_script.specs.declared.waiting.Waiting.{Waiting}
-use Rattle.inp_script.specs.declared.role_state.RoleState.{RoleState}
-use Rattle.inp_script.specs.declared.role_state.RoleState.TheVariants.{Source, Tap, Client, Joy, Owner}
-use Rattle.inp_script.specs.Doing.{Holds, Begins, DoesCommand, DoesLine, BeginsLine, IsCommandFor, HasStream, command_talk, unless_stopped, line_talk, inject_talk}
+use Rattle.inp_script.specs.declared.role.state.RoleState.{RoleState}
+use Rattle.inp_script.specs.declared.role.state.RoleState.TheVariants.{Source, Tap, Client, Joy, Owner}
+use Rattle.inp_script.specs.DoneLine.{Holds, Begins, DoesCommand, DoesLine, BeginsLine, IsCommandFor, HasStream, command_talk, unless_stopped, line_talk, inject_talk}
 use Rattle.inp_script.specs.Job.{Job, Stick, ActorView, no_stick}
 use Rattle.inp_script.specs.Line.{stream_numbered, stream_talk, end_talk, call_talk}
-use Rattle.inp_script.specs.Noting.{job_with, IsStepMade, IsNoted}
+use Rattle.inp_script.specs.Notes.{job_with, IsStepMade, IsNoted}
 use Rattle.inp_script.specs.RoleState.{role_of, stick_of}
-use Rattle.inp_script.proofs.Holding.{holds-nothing, holds-same, begins-same}
+use Rattle.inp_script.proofs.TalkCalls.{holds-nothing, holds-same, begins-same}
 use Rattle.inp_script.proofs.Streams.{holds-noted, begins-call_if}
 
 -- Each stream that a line names is there

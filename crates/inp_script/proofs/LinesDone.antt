@@ -9,7 +9,7 @@ use Rattle.inp_actors.specs.declared.role.Role.TheVariants.{Source}
 use Rattle.inp_actors.specs.Command.{is_command_of}
 use Rattle.inp_actors.specs.Record.{RecordView, IsRecord}
 use Rattle.inp_script.specs.declared.waiting.Waiting.{Waiting}
-use Rattle.inp_script.specs.Doing.{DoesCommand, DoesLine, HasActor, Holds, IsCommandFor, IsLineOf}
+use Rattle.inp_script.specs.DoneLine.{DoesCommand, DoesLine, HasActor, Holds, IsCommandFor, IsLineOf}
 use Rattle.inp_script.specs.Fold.{StaysFolded}
 use Rattle.inp_script.specs.Job.{ActorView, Job}
 use Rattle.inp_script.specs.Legal.{CountsTurns, GainsPlaces, StaysLegal}

@@ -11,7 +11,7 @@ use Rattle.inp_model.specs.Description.{Description}
 use Rattle.inp_model.specs.Past.{ends}
 use Rattle.inp_model.specs.Queue.{taken_by}
 use Rattle.inp_model.specs.Reply.{Answer, Case, answer, answer_by, refused, first_reply, refusals, accepted, alone, taken_of, is_accepted, IsAnswer}
-use Rattle.inp_script.specs.Noting.{count_taken}
+use Rattle.inp_script.specs.Notes.{count_taken}
 use Rattle.inp_script.specs.Sight.{lacks_memory}
 
 -- an answer to a step that is refused, though not for want of memory

@@ -9,10 +9,10 @@ use Rattle.inp_model.proofs.Leaves.{AreCalls-append}
 use Rattle.inp_reader.proofs.Talks.{LeadsTo-append, LeadsTo-and_then}
 use Rattle.inp_script.specs.declared.waiting.Waiting.{Waiting}
 use Rattle.inp_script.specs.Client.{Going, Turn, goes_on, ends_with, is_done, next_round, on_turn, rounds, hand_talk}
-use Rattle.inp_script.specs.Doing.{Holds, Begins, HandsOut}
-use Rattle.inp_script.specs.Handing.{IsAdvanced}
+use Rattle.inp_script.specs.DoneLine.{Holds, Begins, HandsOut}
+use Rattle.inp_script.specs.Rounds.{IsAdvanced}
 use Rattle.inp_script.specs.Job.{Job}
-use Rattle.inp_script.proofs.Holding.{holds-nothing, begins-same}
+use Rattle.inp_script.proofs.TalkCalls.{holds-nothing, begins-same}
 
 -- so many rounds were made, and the line goes on from here
 pub record Passed (before now : EvdevView) (d : Description) (wait : Option Waiting) (skips : Bool) (start here : Going) : Type 0 where

@@ -6,19 +6,19 @@ use Rattle.inp_model.specs.declared.step.Step.{Step}
 use Rattle.inp_model.specs.declared.reply.Reply.{Reply}
 use Rattle.inp_model.specs.Evdev.{EvdevView}
 use Rattle.inp_model.specs.Leaves.{AreCalls}
-use Rattle.inp_model.specs.Injecting.{AreInTime, entered_call, full_call, calls_of}
+use Rattle.inp_model.specs.Injection.{AreInTime, entered_call, full_call, calls_of}
 use Rattle.inp_model.specs.Reply.{Answer}
 use Rattle.inp_model.specs.Run.{Call}
 use Rattle.inp_model.proofs.Leaves.{AreCalls-append}
-use Rattle.inp_reader.specs.Reading.{Reading}
+use Rattle.inp_reader.specs.Reader.{Reading}
 use Rattle.inp_reader.specs.Talk.{Talk, finish, LeadsTo}
 use Rattle.inp_reader.proofs.Talks.{LeadsTo-append}
 use Rattle.inp_script.specs.declared.notes.Notes.{Notes}
-use Rattle.inp_script.specs.Doing.{Holds, Begins}
+use Rattle.inp_script.specs.DoneLine.{Holds, Begins}
 use Rattle.inp_script.specs.Job.{Job, Stick}
 use Rattle.inp_script.specs.Line.{after_call, call_talk, call_if, stream_talk}
-use Rattle.inp_script.specs.Noting.{job_of, job_with, IsStepMade, IsNoted, notes_after, AreMade, AreNoted}
-use Rattle.inp_script.proofs.Holding.{holds-one, begins-one, begins-same}
+use Rattle.inp_script.specs.Notes.{job_of, job_with, IsStepMade, IsNoted, notes_after, AreMade, AreNoted}
+use Rattle.inp_script.proofs.TalkCalls.{holds-one, begins-one, begins-same}
 
 -- a call that was noted leaves the job that the definition says
 pub noted-job : (before after : EvdevView) (x : Step) (reply : Reply) (old new : Notes) (r : Reading) (stick : Stick) (n : IsNoted before after x reply old new) → after_call (job_with r stick old) x n.answer ≡ job_with r stick new

@@ -5,9 +5,9 @@ use Rattle.std.proofs.Math.Nat.{mul-le-mul_right}
 use Rattle.std.proofs.lemmas.Bool.{cond_both}
 use Rattle.inp_reader.specs.declared.next.Next.{Next}
 use Rattle.inp_reader.specs.declared.next.Next.TheVariants.{Success, Dropped, Sync, Again, Synced, NoDevice, Closed, Full}
-use Rattle.inp_script.specs.declared.client.Progress.{Progress}
-use Rattle.inp_script.specs.declared.client.Turn.{Turn as KeptTurn}
-use Rattle.inp_script.specs.declared.client.Turn.TheVariants.{GoesOn, Ends}
+use Rattle.inp_script.specs.declared.role.client.Progress.{Progress}
+use Rattle.inp_script.specs.declared.role.client.Turn.{Turn as KeptTurn}
+use Rattle.inp_script.specs.declared.role.client.Turn.TheVariants.{GoesOn, Ends}
 use Rattle.inp_script.specs.declared.sight.Sight.TheVariants.{Took, Made, Again as Nothing}
 use Rattle.inp_script.specs.declared.stop.Stop.TheVariants.{Idle}
 use Rattle.inp_script.specs.declared.waiting.Waiting.{Waiting}
@@ -16,7 +16,7 @@ use Rattle.inp_reader.specs.declared.phase.Phase.{Phase}
 use Rattle.inp_reader.specs.declared.phase.Phase.TheVariants.{Plain, Needed, Handing}
 use Rattle.inp_reader.specs.Effort.{IsLess, is_idle}
 use Rattle.inp_script.specs.Effort.{idle_of, total_effort, Shrinks}
-use Rattle.inp_script.specs.Going.{going, turn_of}
+use Rattle.inp_script.specs.Progress.{going, turn_of}
 use Rattle.inp_script.specs.Job.{Job}
 
 -- a line never asks its reader for nothing

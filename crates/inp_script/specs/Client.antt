@@ -10,7 +10,7 @@ use Rattle.inp_reader.specs.declared.phase.Phase.TheVariants.{Plain, Needed, Han
 use Rattle.inp_reader.specs.declared.next.Next.{Next}
 use Rattle.inp_reader.specs.declared.next.Next.TheVariants.{Success, Dropped, Sync, Again as NothingVisible, Synced, NoDevice, Closed, Full as FullHistory}
 use Rattle.inp_reader.specs.declared.started.Started.{Started}
-use Rattle.inp_reader.specs.Reading.{Reading, start_talk, next_talk, with_sync_needed}
+use Rattle.inp_reader.specs.Reader.{Reading, start_talk, next_talk, with_sync_needed}
 use Rattle.inp_reader.specs.Talk.{Talk, finish, and_then}
 use Rattle.inp_script.specs.declared.sight.Sight.{Sight}
 use Rattle.inp_script.specs.declared.sight.Sight.TheVariants.{Took, Made, Again}

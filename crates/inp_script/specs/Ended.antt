@@ -5,10 +5,10 @@ use Rattle.inp_model.specs.declared.step.Step.{Step}
 use Rattle.inp_model.specs.Description.{Description}
 use Rattle.inp_actors.specs.declared.role.Role.{Role}
 use Rattle.inp_actors.specs.declared.role.Role.TheVariants.{Joy as JoyRole, Owner as OwnerRole}
-use Rattle.inp_script.specs.declared.ended.Ended.{Ended}
-use Rattle.inp_script.specs.declared.ended.Ended.TheVariants.{Job as JobEnded, Joy as JoyEnded, Owner as OwnerEnded}
-use Rattle.inp_script.specs.declared.role_state.RoleState.{RoleState}
-use Rattle.inp_script.specs.declared.role_state.RoleState.TheVariants.{Joy, Owner}
+use Rattle.inp_script.specs.declared.end.ended.Ended.{Ended}
+use Rattle.inp_script.specs.declared.end.ended.Ended.TheVariants.{Job as JobEnded, Joy as JoyEnded, Owner as OwnerEnded}
+use Rattle.inp_script.specs.declared.role.state.RoleState.{RoleState}
+use Rattle.inp_script.specs.declared.role.state.RoleState.TheVariants.{Joy, Owner}
 use Rattle.inp_script.specs.declared.run.DeviceRun.{DeviceRun}
 use Rattle.inp_script.specs.declared.run.Played.{Played}
 use Rattle.inp_script.specs.declared.sight.Sight.{Sight}

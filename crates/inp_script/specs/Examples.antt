@@ -7,7 +7,7 @@ use Rattle.inp_model.specs.declared.reply.Reply.TheVariants.{Done, Opened, Took 
 use Rattle.inp_model.specs.declared.reply.Refusal.TheVariants.{LogFull, BadClient, NoDevice}
 use Rattle.inp_model.specs.Description.{Description, one_key, no_info}
 use Rattle.inp_model.specs.Event.{syn_dropped}
-use Rattle.inp_model.specs.Examples.{key, report, at}
+use Rattle.inp_model.specs.examples.Frames.{key, report, at}
 use Rattle.inp_actors.specs.declared.command.Command.{Command}
 use Rattle.inp_actors.specs.declared.command.Command.TheVariants.{Event, Open, Read, Next as ToNext, Skip, Follow, Force}
 use Rattle.inp_actors.specs.declared.role.Role.{Role}
@@ -25,9 +25,9 @@ use Rattle.inp_script.specs.declared.sight.Sight.{Sight}
 use Rattle.inp_script.specs.declared.sight.Sight.TheVariants.{Call, Took, Made, Again, Record}
 use Rattle.inp_script.specs.declared.stop.Stop.TheVariants.{Idle, Full}
 use Rattle.inp_script.specs.declared.waiting.Waiting.{Waiting}
-use Rattle.inp_script.specs.Doing.{line_talk}
+use Rattle.inp_script.specs.DoneLine.{line_talk}
 use Rattle.inp_script.specs.Job.{Job, first_job}
-use Rattle.inp_feedback.specs.Feeding.{Feeding}
+use Rattle.inp_feedback.specs.Feeds.{Feeding}
 use Rattle.inp_script.specs.Owner.{Owning, FeedsLine, first_owning}
 
 -- a device, and the jobs of a source and of another actor

@@ -4,13 +4,13 @@ use Rattle.inp_model.specs.Description.{Description}
 use Rattle.inp_actors.specs.declared.role.Role.{Role}
 use Rattle.inp_actors.specs.declared.role.Role.TheVariants.{Joy}
 use Rattle.inp_joy.specs.Codes.{startup_len}
-use Rattle.inp_joy.specs.Joying.{Joying}
+use Rattle.inp_joy.specs.Joy.{Joying}
 use Rattle.inp_joy.specs.Picture.{PictureView, blank_picture}
 use Rattle.inp_recon.specs.declared.view.View.{View}
 use Rattle.inp_recon.specs.View.{first_view}
 use Rattle.inp_reader.specs.declared.phase.Phase.TheVariants.{Plain}
 use Rattle.inp_reader.specs.declared.reader.TheConstants.{NO_CLIENT}
-use Rattle.inp_reader.specs.Reading.{Reading}
+use Rattle.inp_reader.specs.Reader.{Reading}
 use Rattle.inp_script.specs.declared.fed_sight.FedSight.{FedSight}
 use Rattle.inp_script.specs.declared.sight.Sight.{Sight}
 use Rattle.inp_script.specs.declared.stop.Stop.{Stop}

@@ -9,7 +9,7 @@ use Rattle.inp_model.specs.Description.{Description}
 use Rattle.inp_model.specs.Reply.{is_accepted}
 use Rattle.inp_joy.specs.JoyRecord.{record_in}
 use Rattle.inp_joy.specs.Picture.{PictureView, blank_picture, picture_after}
-use Rattle.inp_reader.specs.Reading.{queries}
+use Rattle.inp_reader.specs.Reader.{queries}
 use Rattle.inp_script.specs.declared.sight.Sight.{Sight}
 use Rattle.inp_script.specs.declared.sight.Sight.TheVariants.{Call, Took, Made, Again, Record}
 

@@ -7,7 +7,7 @@ use Rattle.inp_joy.specs.declared.joy_read.JoyRead.{JoyRead}
 use Rattle.inp_joy.specs.declared.joy_read.JoyRead.TheVariants.{Record as HandedOut, Frame, Again, NoDevice, Closed, Full as FullHistory, More}
 use Rattle.inp_joy.specs.declared.joy_record.JoyRecord.{JoyRecord}
 use Rattle.inp_joy.specs.JoyRecord.{bytes_of_record}
-use Rattle.inp_joy.specs.Joying.{Joying, JoyAnswer, joy_start, turns}
+use Rattle.inp_joy.specs.Joy.{Joying, JoyAnswer, joy_start, turns}
 use Rattle.inp_reader.specs.declared.started.Started.{Started}
 use Rattle.inp_reader.specs.Talk.{Talk, finish, and_then}
 use Rattle.inp_script.specs.declared.sight.Sight.{Sight}

@@ -1,7 +1,7 @@
 -- How the parts of what came of a job are kept.
-use Rattle.inp_script.specs.declared.job_end.JobEnd.TheInside.{Inside}
-use Rattle.inp_script.specs.declared.joy_end.JoyEnd.TheInside as joystick
-use Rattle.inp_script.specs.declared.owner_end.OwnerEnd.TheInside as owner
+use Rattle.inp_script.specs.declared.end.job.JobEnd.TheInside.{Inside}
+use Rattle.inp_script.specs.declared.end.joystick.JoyEnd.TheInside as joystick
+use Rattle.inp_script.specs.declared.end.owner.OwnerEnd.TheInside as owner
 use Rattle.inp_joy.specs.Picture.{seen_as}
 use Rattle.inp_script.specs.Job.{JobView, JoyJobView, OwnerView}
 

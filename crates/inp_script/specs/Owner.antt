@@ -3,7 +3,7 @@ use Rattle.std.specs.Prelude.{◌≡◌, ℕ, ◌⊎◌, List, [], ◌∷◌, �
 use Rattle.inp_model.specs.declared.event.Event.{Event}
 use Rattle.inp_feedback.specs.declared.fed.Fed.{Fed}
 use Rattle.inp_feedback.specs.declared.fed.Fed.TheVariants.{Took, Full}
-use Rattle.inp_feedback.specs.Feeding.{Feeding}
+use Rattle.inp_feedback.specs.Feeds.{Feeding}
 use Rattle.inp_script.specs.declared.fed_sight.FedSight.{FedSight}
 use Rattle.inp_script.specs.declared.fed_sight.FedSight.TheVariants.{Answer, Event as Given}
 use Rattle.inp_script.specs.declared.stop.Stop.{Stop}

@@ -6,13 +6,13 @@ use Rattle.inp_actors.specs.declared.role.Role.{Role}
 use Rattle.inp_actors.specs.declared.role.Role.TheVariants.{Source as SourceRole, Client as ClientRole, Tap as TapRole, Joy as JoyRole, Owner as OwnerRole}
 use Rattle.inp_reader.specs.declared.phase.Phase.TheVariants.{Plain}
 use Rattle.inp_reader.specs.declared.reader.TheConstants.{NO_CLIENT}
-use Rattle.inp_reader.specs.Reading.{Reading}
+use Rattle.inp_reader.specs.Reader.{Reading}
 use Rattle.inp_script.specs.declared.notes.Notes.{Notes}
-use Rattle.inp_script.specs.declared.owner.Owner as owner
-use Rattle.inp_script.specs.declared.role_state.RoleState.{RoleState}
-use Rattle.inp_script.specs.declared.role_state.RoleState.TheVariants.{Source, Tap, Client, Joy, Owner}
+use Rattle.inp_script.specs.declared.role.owner.Owner as owner
+use Rattle.inp_script.specs.declared.role.state.RoleState.{RoleState}
+use Rattle.inp_script.specs.declared.role.state.RoleState.TheVariants.{Source, Tap, Client, Joy, Owner}
 use Rattle.inp_script.specs.Job.{Job, Stick, no_stick, first_reading}
-use Rattle.inp_script.specs.Noting.{job_with}
+use Rattle.inp_script.specs.Notes.{job_with}
 use Rattle.inp_script.specs.Owner.{Owning, first_owning}
 use Rattle.inp_script.specs.Tap.{tap_reading, IsSizedTap}
 

@@ -1,13 +1,13 @@
 //! An actor of a record at work.
 ghost use Rattle.inp_model.specs.declared.step.Step.{Step as AStep};
 ghost use Rattle.std.specs.Prelude.{◌≡◌, ◌<◌, false, List, length, OnOk, IfOk, IfSome, Some};
-ghost use Rattle.inp_model.specs.Injecting.{AreInTime};
+ghost use Rattle.inp_model.specs.Injection.{AreInTime};
 ghost use Rattle.inp_model.specs.Leaves.{IsLeft};
 ghost use Rattle.inp_actors.specs.declared.role.Role.TheVariants.{Source};
 ghost use Rattle.inp_actors.specs.Command.{is_owner};
-ghost use Rattle.inp_script.specs.Acting.{Acts, BeginsToAct};
+ghost use Rattle.inp_script.specs.ActorLine.{Acts, BeginsToAct};
 ghost use Rattle.inp_script.specs.Owner.{first_owning};
-ghost use Rattle.inp_script.specs.Doing.{Begins, BeginsLine, DoesLine, Holds, HasActor, IsLineOf, IsWaiting, inject_talk};
+ghost use Rattle.inp_script.specs.DoneLine.{Begins, BeginsLine, DoesLine, Holds, HasActor, IsLineOf, IsWaiting, inject_talk};
 ghost use Rattle.inp_script.specs.Legal.{CountsTurns, GainsPlaces, StaysLegal};
 ghost use Rattle.inp_script.specs.Fold.{IsFolded, StaysFolded};
 ghost use Rattle.inp_script.specs.Ended.{HasDeviceSlots, ended_as};
@@ -15,8 +15,8 @@ ghost use Rattle.inp_script.specs.Job.{first_job};
 ghost use Rattle.inp_script.specs.Line.{end_talk};
 
 use crate::notes::Notes;
-use crate::role_state::RoleState;
-use crate::source::inject_stream;
+use crate::role::source::inject_stream;
+use crate::role::state::RoleState;
 use crate::stops::last_stop;
 use crate::{Ended, Sights, Waiting};
 use inp_actors::Record;

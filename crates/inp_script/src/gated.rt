@@ -4,8 +4,8 @@ ghost use Rattle.inp_model.specs.declared.stamped.TheConstants.{MOMENT_MAX};
 ghost use Rattle.inp_model.specs.Step.{moment_of};
 ghost use Rattle.inp_model.specs.Reply.{HasRoom};
 ghost use Rattle.inp_model.specs.Evdev.{IsEvdevCall};
-ghost use Rattle.inp_model.specs.Injecting.{AreInTime, IsInjectAll};
-ghost use Rattle.inp_feedback.specs.Feeding.{taken_count};
+ghost use Rattle.inp_model.specs.Injection.{AreInTime, IsInjectAll};
+ghost use Rattle.inp_feedback.specs.Feeds.{taken_count};
 
 use inp_edge::Gate;
 use inp_feedback::{Fed, Feeds};

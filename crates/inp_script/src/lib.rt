@@ -10,7 +10,7 @@
 //! Its contract: `specs/Line.antt`, `specs/Client.antt` and `specs/Joystick.antt` say what each command asks of an
 //! evdev, one step by the answers before it, and what the job is afterwards (a `Talk` of `inp_reader`);
 //! `specs/Sight.antt` says what enters the sight. [`Actor::line`] promises that the calls it made are those of that
-//! talk, in some number of rounds, and that the actor's job is its result (`DoesLine`, `specs/Doing.antt`): what it
+//! talk, in some number of rounds, and that the actor's job is its result (`DoesLine`, `specs/DoneLine.antt`): what it
 //! saw, its client and its view, of a joystick its picture, and whether it stopped. An actor that has stopped does
 //! nothing. Where memory ran out it promises that the calls it made are the first ones of that talk (`BeginsLine`), and
 //! that they are all that it did with the evdev (`IsLeft` of `inp_model`), which so can be handed on: the description
@@ -27,7 +27,7 @@
 //! [`Actor::act`] does any line of a record on a device that the actor may own: one that is an evdev and that answers
 //! feedback calls (`Feeds` of `inp_feedback`). A line of an owner makes one feedback call, with room for as many events as
 //! it asks for but for no more than ever wait, and the answer and the events are noted behind what the owner was told
-//! before; or the owner had stopped, and nothing was done (`OwnsLine`, `specs/Acting.antt`). An answer `Full` stops it. A
+//! before; or the owner had stopped, and nothing was done (`OwnsLine`, `specs/ActorLine.antt`). An answer `Full` stops it. A
 //! line of any other actor makes the calls of [`Actor::line`] (`CallsLine`). Where memory ran out, an owner made one call
 //! or none, and any other actor the first calls of its talk (`BeginsToAct`). Where nobody owns the device a line of an
 //! owner is nothing: [`Actor::line`] makes no call for it. An owner ends as an [`OwnerEnd`].
@@ -46,35 +46,26 @@
 #![tactic(auto)]
 
 mod actor;
-mod client;
-mod ended;
-mod examples;
+mod end;
+pub mod examples;
 mod fed_sight;
 mod gated;
-mod job_end;
-mod joy_end;
-mod joystick;
 mod notes;
-mod owner;
-mod owner_end;
-mod role_state;
+mod role;
 mod run;
 mod sight;
-mod source;
 mod steps;
 mod stop;
 mod stops;
-mod tap;
 mod waiting;
 
 pub use actor::Actor;
-pub use ended::Ended;
-pub use examples::examples_of_jobs;
+pub use end::ended::Ended;
+pub use end::job::JobEnd;
+pub use end::joystick::JoyEnd;
+pub use end::owner::OwnerEnd;
 pub use fed_sight::{FedList, FedSight};
 pub use gated::Gated;
-pub use job_end::JobEnd;
-pub use joy_end::JoyEnd;
-pub use owner_end::OwnerEnd;
 pub use run::{DeviceRun, Jobs, JoyRuns, OwnerRuns, Played, Run, Runs};
 pub use sight::{JoySight, JoySights, Sight, Sights};
 pub use stop::Stop;

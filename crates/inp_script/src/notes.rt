@@ -3,8 +3,8 @@ ghost use Rattle.std.specs.Prelude.{◌≡◌, ◌≤◌, ◌<◌, ◌+◌, ◌^
 ghost use Rattle.inp_model.specs.declared.stamped.TheConstants.{MOMENT_MAX};
 ghost use Rattle.inp_model.specs.Step.{moment_of};
 ghost use Rattle.inp_model.specs.Reply.{HasRoom};
-ghost use Rattle.inp_model.specs.Injecting.{AreInTime, inject_of};
-ghost use Rattle.inp_script.specs.Noting.{IsStepMade, IsNoted, IsStartNoted, AreMade, AreNoted, notes_after, entered_calls};
+ghost use Rattle.inp_model.specs.Injection.{AreInTime, inject_of};
+ghost use Rattle.inp_script.specs.Notes.{IsStepMade, IsNoted, IsStartNoted, AreMade, AreNoted, notes_after, entered_calls};
 ghost use Rattle.inp_script.specs.Sight.{taken_sight, made_sight, sight_of_call, stop_after};
 
 use crate::stops::{start_lacks_memory, stop_after, stop_after_start};

@@ -14,12 +14,11 @@
 mod event_record;
 mod event_record16;
 mod fields;
-mod laws;
+pub mod laws;
 mod record_form;
 mod stream_refused;
 
 pub use event_record::{RECORD_LEN, decode, encode};
 pub use event_record16::{MOMENT16_MAX, RECORD16_LEN, decode16, encode16};
-pub use laws::{examples, round_trip};
 pub use record_form::RecordForm;
 pub use stream_refused::StreamRefused;

@@ -15,10 +15,10 @@ use Rattle.inp_feedback.specs.declared.u_entry.UEntry.{UEntry}
 use Rattle.inp_feedback.specs.declared.u_entry.UEntry.TheVariants.{Made, Feedback}
 use Rattle.inp_feedback.specs.UEntry.{step_made, steps_in}
 use Rattle.inp_feedback.proofs.Lists.{reverse-cons}
-use Rattle.inp_uinput.proofs.Serving.{steps-reverse}
+use Rattle.inp_uinput.proofs.ServedEntries.{steps-reverse}
 use Rattle.inp_script.specs.Owner.{Owning, first_owning}
 use Rattle.inp_runs.specs.Owner.{HasFed, EndsFed, HasOwned}
-use Rattle.inp_runs.proofs.OwnerLaws.{ends-steps, free-goes_on, grew-free}
+use Rattle.inp_runs.proofs.owners.OwnerLaws.{ends-steps, free-goes_on, grew-free}
 use Rattle.inp_threads.specs.Owner.{HasCallsAt, HasFedLines}
 
 -- the place of each feedback call that a device kept, newest first, is one of these

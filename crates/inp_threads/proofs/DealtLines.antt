@@ -7,7 +7,7 @@ use Rattle.std.proofs.lemmas.Option.{slice_get-get_or, slice_get_within, get_or_
 use Rattle.inp_actors.specs.declared.line.Line.{Line}
 use Rattle.inp_actors.specs.Record.{RecordView}
 use Rattle.inp_runs.specs.Job.{lines_by}
-use Rattle.inp_runs.proofs.Listing.{eq_true, eq_false, slice_get-set}
+use Rattle.inp_runs.proofs.Lists.{eq_true, eq_false, slice_get-set}
 use Rattle.inp_threads.specs.Lines.{AreLinesDealt, HasLineMore}
 
 module _ (r : RecordView) where

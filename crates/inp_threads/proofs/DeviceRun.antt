@@ -11,7 +11,7 @@ use Rattle.inp_uinput.specs.UdevView.{UdevView}
 use Rattle.inp_actors.specs.declared.device_text.DeviceText.{DeviceText}
 use Rattle.inp_actors.specs.Record.{RecordView, IsRecord}
 use Rattle.inp_script.specs.declared.waiting.Waiting.{Waiting}
-use Rattle.inp_script.specs.declared.ended.Ended.{Ended}
+use Rattle.inp_script.specs.declared.end.ended.Ended.{Ended}
 use Rattle.inp_script.specs.Ended.{HasDeviceSlots, ended_of, device_run}
 use Rattle.inp_script.specs.Job.{ActorView}
 use Rattle.inp_script.specs.Runs.{actors_of}
@@ -27,7 +27,7 @@ use Rattle.inp_port.specs.Port.{description_of}
 use Rattle.inp_threads.specs.declared.worker.Worker.{Worker}
 use Rattle.inp_threads.specs.Worker.{view_in, actor_number, HasPass, HasDoneLines, IsWorked}
 use Rattle.inp_threads.specs.Joined.{AreJoined, AreWorkersDone, IsSizedWorker, AreSized, ends_of_workers, own_of}
-use Rattle.inp_threads.proofs.Assembling.{AreAllDone, HasDoneAllLines, done-promised}
+use Rattle.inp_threads.proofs.Assembly.{AreAllDone, HasDoneAllLines, done-promised}
 
 -- a fact on all stands where one is found
 at_found : {A : Type 0} (P : A → Type 0) (xs : List A) (k : ℕ) (x : A) → All P xs → slice_get xs k ≡ Some x → P x

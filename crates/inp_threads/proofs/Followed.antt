@@ -26,14 +26,14 @@ use Rattle.inp_runs.specs.Owner.{rooms_of}
 use Rattle.inp_runs.proofs.Done.{followed-told}
 use Rattle.inp_runs.proofs.DoingAll.{no-owner}
 use Rattle.inp_runs.proofs.Entries.{told-counts}
-use Rattle.inp_runs.proofs.OwnerTalks.{lines-nothing}
+use Rattle.inp_runs.proofs.owners.OwnerTalks.{lines-nothing}
 use Rattle.inp_turn.specs.declared.pass_view.PassView.{PassView}
 use Rattle.inp_turn.specs.PassView.{OwnsSeen}
 use Rattle.inp_port.specs.Entries.{steps_among, step_places}
 use Rattle.inp_port.proofs.Places.{steps-begins, step_places-begins}
 use Rattle.inp_threads.specs.Worker.{HasWorked, HasOwnedLines}
 use Rattle.inp_threads.proofs.CallsAt.{HasAllCalls, calls-no_steps, lines-owned}
-use Rattle.inp_threads.proofs.Counting.{times, times-calls}
+use Rattle.inp_threads.proofs.PlaceCounts.{times, times-calls}
 
 pub legal-longer : (d : Description) (h k : List Step) (least : ℕ) (calls : List Call) → BeginsWith h k → IsLegalFrom d h least calls → IsLegalFrom d k least calls
 legal-longer d h k least [] begins l = tt

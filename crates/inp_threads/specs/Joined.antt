@@ -4,7 +4,7 @@ use mathlib.Core.List.{IsPrefix}
 use Rattle.inp_feedback.specs.declared.u_entry.UEntry.{UEntry}
 use Rattle.inp_model.specs.Description.{Description}
 use Rattle.inp_uinput.specs.UdevView.{UdevView}
-use Rattle.inp_script.specs.declared.ended.Ended.{Ended}
+use Rattle.inp_script.specs.declared.end.ended.Ended.{Ended}
 use Rattle.inp_script.specs.Ended.{HasDeviceSlots, ended_of}
 use Rattle.inp_turn.specs.declared.pass_view.PassView.{PassView}
 use Rattle.inp_port.specs.declared.port.PortOf.{PortOf}

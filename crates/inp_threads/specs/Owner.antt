@@ -11,7 +11,7 @@ use Rattle.inp_port.specs.Port.{description_of}
 use Rattle.inp_feedback.specs.declared.u_entry.UEntry.{UEntry}
 use Rattle.inp_feedback.specs.declared.u_entry.UEntry.TheVariants.{Made, Feedback}
 use Rattle.inp_feedback.specs.declared.fed.Fed.{Fed}
-use Rattle.inp_feedback.specs.Feeding.{taken_count}
+use Rattle.inp_feedback.specs.Feeds.{taken_count}
 use Rattle.inp_feedback.specs.Feedback.{taken_by_feedback, fed, kept_after_feedback}
 use Rattle.inp_uinput.specs.UdevView.{UdevView}
 use Rattle.inp_uinput.specs.FeedbackTurn.{IsFeedbackTurn}

@@ -14,7 +14,7 @@ use Rattle.inp_feedback.specs.declared.u_entry.UEntry.{UEntry}
 use Rattle.inp_feedback.specs.UEntry.{step_made}
 use Rattle.inp_reader.specs.Talk.{EndsWith}
 use Rattle.inp_script.specs.declared.waiting.Waiting.{Waiting}
-use Rattle.inp_script.specs.Doing.{HasActor, IsWaiting}
+use Rattle.inp_script.specs.DoneLine.{HasActor, IsWaiting}
 use Rattle.inp_script.specs.Job.{ActorView, first_job}
 use Rattle.inp_script.specs.Owner.{first_owning}
 use Rattle.inp_script.specs.Runs.{is_on_device}

@@ -34,8 +34,8 @@ mod job_gate;
 mod lines;
 mod one_job;
 mod owned_client;
-mod playing;
+mod play;
 mod worker;
 mod workers;
 
-pub use playing::play_on_threads;
+pub use play::play_on_threads;

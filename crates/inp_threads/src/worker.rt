@@ -1,6 +1,6 @@
 //! A job on a thread.
 ghost use Rattle.std.specs.Prelude.{◌≡◌, true, Some};
-ghost use Rattle.inp_script.specs.Doing.{IsWaiting};
+ghost use Rattle.inp_script.specs.DoneLine.{IsWaiting};
 ghost use Rattle.inp_runs.specs.DoingAll.{AreNumbersOf};
 ghost use Rattle.inp_threads.specs.Lines.{AreLinesDealt};
 ghost use Rattle.inp_threads.specs.Worker.{IsAtStart, IsFreshPass, IsReadyWorker, IsWorked, actor_number};

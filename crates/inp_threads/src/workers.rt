@@ -3,7 +3,7 @@ ghost use Rattle.std.specs.Prelude.{◌≡◌, ◌≤◌, ◌+◌, ◌&&◌, nat
 ghost use Rattle.inp_actors.specs.declared.actor_text.TheConstants.{ACTORS_MAX};
 ghost use Rattle.inp_actors.specs.Command.{is_source};
 ghost use Rattle.inp_script.specs.Runs.{is_on_device};
-ghost use Rattle.inp_script.specs.Doing.{source_count as sources_of};
+ghost use Rattle.inp_script.specs.DoneLine.{source_count as sources_of};
 ghost use Rattle.inp_runs.specs.Job.{wait_of};
 ghost use Rattle.inp_turn.specs.Pass.{view_of};
 ghost use Rattle.inp_turn.specs.PassView.{whole_share};

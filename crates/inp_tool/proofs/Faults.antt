@@ -11,7 +11,7 @@ use Rattle.inp_tool.specs.declared.outcome.Outcome.{Outcome}
 use Rattle.inp_tool.specs.declared.outcome.Outcome.TheVariants.{Usage, Unread, TooLong, Refused, NoMemory, Played, Migrated}
 use Rattle.inp_tool.specs.Edge.{InputView, Reads, Writes, KeepsInputFaults, KeepsSinkFaults}
 use Rattle.inp_tool.specs.Outcome.{status_of}
-use Rattle.inp_tool.specs.Reading.{IsNext, RanOut, HasBadText, HasBadStream}
+use Rattle.inp_tool.specs.RecordFile.{IsNext, RanOut, HasBadText, HasBadStream}
 use Rattle.inp_tool.specs.Promise.{AskFor, NameFile, HasCause, IsWritten, Promise, HidesNoFault}
 use Rattle.inp_tool.proofs.Records.{ran_out_behind, ran_out_after}
 

@@ -8,3 +8,4 @@ pub mod Faults
 pub mod MadeAlone
 pub mod MadeBounds
 pub mod Completeness
+pub mod PlayedAlike

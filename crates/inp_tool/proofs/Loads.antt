@@ -14,8 +14,8 @@ use Rattle.inp_tool.specs.declared.no_record.NoRecord.{NoRecord}
 use Rattle.inp_tool.specs.declared.no_record.NoRecord.TheVariants.{Unread, TooLong, Refused, NoMemory}
 use Rattle.inp_tool.specs.Edge.{InputView, Reads}
 use Rattle.inp_tool.specs.Streams.{StreamFile, file_of, stream_files, events_in, HoldEvents}
-use Rattle.inp_tool.specs.Reading.{AreLoaded, IsAtStream}
-use Rattle.inp_tool.specs.Loading.{TakesFiles, IsPassedOver, IsTaken, IsDone, CannotDo, IsLoadedTo, AreStreamsLoaded, CannotFinish}
+use Rattle.inp_tool.specs.RecordFile.{AreLoaded, IsAtStream}
+use Rattle.inp_tool.specs.LoadedStreams.{TakesFiles, IsPassedOver, IsTaken, IsDone, CannotDo, IsLoadedTo, AreStreamsLoaded, CannotFinish}
 use Rattle.inp_tool.proofs.Spans.{span, AreToldAlike, are_read_on, are_read_push, are_read_length, is_read_from, is_last_push, is_unread_from, is_too_long_from, ran_out_from, is_read_last_from}
 use Rattle.inp_tool.proofs.StreamFiles.{one_stream, stamps_of_command-file, as_many_files, line_found, files_more, stream_number}
 

@@ -15,11 +15,11 @@ use Rattle.inp_actors.specs.declared.command.Command.TheVariants as command
 use Rattle.inp_actors.specs.declared.line.Line.{Line}
 use Rattle.inp_actors.specs.Record.{RecordView}
 use Rattle.inp_make.specs.Generated.{pad, fast, mid, slow, line, frame_moment, injected, finger_events, touches, frame_events, follows, frame_lines, open_lines, lines, generated}
-use Rattle.inp_reader.specs.Reading.{queries, axes_among}
+use Rattle.inp_reader.specs.Reader.{queries, axes_among}
 use Rattle.inp_actors.specs.declared.role.Role.{Role}
 use Rattle.inp_actors.specs.declared.role.Role.TheVariants.{Source, Client, Tap, Joy, Owner}
-use Rattle.inp_script.specs.declared.ended.Ended.{Ended}
-use Rattle.inp_script.specs.declared.ended.Ended.TheVariants.{Job as JobEnded, Joy as JoyEnded, Owner as OwnerEnded}
+use Rattle.inp_script.specs.declared.end.ended.Ended.{Ended}
+use Rattle.inp_script.specs.declared.end.ended.Ended.TheVariants.{Job as JobEnded, Joy as JoyEnded, Owner as OwnerEnded}
 use Rattle.inp_script.specs.declared.run.DeviceRun.{DeviceRun}
 use Rattle.inp_script.specs.declared.run.Played.{Played}
 use Rattle.inp_script.specs.declared.run.Run.{Run}
@@ -27,10 +27,10 @@ use Rattle.inp_script.specs.Ended.{ended_as, ended_of, jobs_among, played_of}
 use Rattle.inp_script.specs.declared.stop.Stop.{Stop}
 use Rattle.inp_script.specs.Job.{ActorView, last_stop, JoyJobView}
 use Rattle.inp_script.specs.Runs.{AreJoysOf, AreOwnersOf}
-use Rattle.inp_order.specs.Play.{Stage, first_stage, after_lines, run_of, runs_of, play, IsPlay}
+use Rattle.inp_runs.specs.Play.{Stage, first_stage, after_lines, run_of, runs_of, play, IsPlay}
 use Rattle.inp_play.proofs.Follows.{HasQueries}
 use Rattle.inp_play.proofs.Growth.{IsBound, IsShort, Adds, event-bound, open-bound, follow-bound, adds-none, adds-line, adds-more, adds-append}
-use Rattle.inp_runs.proofs.Listing.{IsImage, option_map-some}
+use Rattle.inp_runs.proofs.Lists.{IsImage, option_map-some}
 use Rattle.inp_play.proofs.OwnQueues.{quiet-keys, quiet-slots}
 use Rattle.inp_tool.specs.Outcome.{is_stopped_full, has_full_job, has_full_run, has_full_joy, has_full_owner, has_full}
 use Rattle.inp_tool.proofs.MadeAlone.{made-no_joys, made-no_owners}

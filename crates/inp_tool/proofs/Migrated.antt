@@ -5,9 +5,9 @@ use Rattle.inp_canon.specs.Text.{record_lines, record_text}
 use Rattle.inp_model.specs.declared.stamped.Stamped.{Stamped}
 use Rattle.inp_record.specs.Meaning.{meaning}
 use Rattle.inp_record.proofs.RaisedPasts.{reads_again}
-use Rattle.inp_upgrade.specs.Upgrade.{upgraded}
+use Rattle.inp_tool.specs.Upgrade.{upgraded}
 use Rattle.inp_tool.specs.Edge.{Reads}
-use Rattle.inp_tool.specs.Reading.{HasRecord}
+use Rattle.inp_tool.specs.RecordFile.{HasRecord}
 
 -- the text has no event of a stream
 same_text : (r : RecordView) (streams : List (List Stamped)) → record_text (upgraded (record r { streams = streams })) ≡ record_text (upgraded r)

@@ -11,8 +11,8 @@ use Rattle.inp_tool.specs.declared.no_record.NoRecord.{NoRecord}
 use Rattle.inp_tool.specs.declared.no_record.NoRecord.TheVariants.{Unread, TooLong, Refused, NoMemory}
 use Rattle.inp_tool.specs.Edge.{InputView, Reads}
 use Rattle.inp_tool.specs.Streams.{StreamFile, file_of, stream_files}
-use Rattle.inp_tool.specs.Reading.{IsLast, IsReadLast, IsUnread, IsTooLong, RanOut, CannotRead, AreRead, IsParsed, IsAtStream, IsNextStream, HasRecord, HasNoRecord, last_contents}
-use Rattle.inp_tool.specs.Loading.{TakesFiles, IsDone, CannotDo, IsStream, IsNoStream, IsLastOf, HasParts, HasNoParts, HasNoLines, HasNoStreams}
+use Rattle.inp_tool.specs.RecordFile.{IsLast, IsReadLast, IsUnread, IsTooLong, RanOut, CannotRead, AreRead, IsParsed, IsAtStream, IsNextStream, HasRecord, HasNoRecord, last_contents}
+use Rattle.inp_tool.specs.LoadedStreams.{TakesFiles, IsDone, CannotDo, IsStream, IsNoStream, IsLastOf, HasParts, HasNoParts, HasNoLines, HasNoStreams}
 use Rattle.inp_tool.proofs.Spans.{span, AreToldAlike, is_read_on, are_read_from, is_unread_from, is_too_long_from, ran_out_from, is_read_last_from}
 
 -- the streams before a line do not depend on what was before them

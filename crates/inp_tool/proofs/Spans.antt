@@ -4,8 +4,8 @@ use Rattle.std.specs.Prelude.{is_some, IsTrue}
 use Rattle.inp_edge.specs.File.{File}
 use Rattle.inp_tool.specs.Edge.{InputView, Reads}
 use Rattle.inp_tool.specs.Streams.{StreamFile}
-use Rattle.inp_tool.specs.Reading.{IsRead, IsLast, IsReadLast, IsUnread, IsTooLong, RanOut, AreRead, last_contents}
-use Rattle.inp_tool.specs.Loading.{IsLastOf}
+use Rattle.inp_tool.specs.RecordFile.{IsRead, IsLast, IsReadLast, IsUnread, IsTooLong, RanOut, AreRead, last_contents}
+use Rattle.inp_tool.specs.LoadedStreams.{IsLastOf}
 
 -- an input over some calls
 abbrev pub span : Option (List File) → InputView → InputView → Reads

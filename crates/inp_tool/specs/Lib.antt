@@ -1,8 +1,9 @@
 pub mod Edge
 pub mod Streams
 pub mod Outcome
-pub mod Reading
-pub mod Loading
+pub mod RecordFile
+pub mod LoadedStreams
 pub mod Promise
 pub mod Complete
 pub mod Views
+pub mod Upgrade

@@ -14,9 +14,9 @@ use Rattle.inp_canon.specs.Text.{record_text}
 use Rattle.inp_record.specs.declared.refused.Refused.{Refused}
 use Rattle.inp_record.specs.Meaning.{meaning}
 use Rattle.inp_script.specs.declared.run.Played.{Played}
-use Rattle.inp_order.specs.Play.{IsPlay}
+use Rattle.inp_runs.specs.Play.{IsPlay}
 use Rattle.inp_runs.specs.Job.{ArePromised}
-use Rattle.inp_upgrade.specs.Upgrade.{upgraded}
+use Rattle.inp_tool.specs.Upgrade.{upgraded}
 use Rattle.inp_report.specs.JoyReport.{joy_report}
 use Rattle.inp_report.specs.OwnerReport.{owner_report}
 use Rattle.inp_report.specs.Report.{report}
@@ -27,7 +27,7 @@ use Rattle.inp_tool.specs.declared.outcome.Outcome.{Outcome}
 use Rattle.inp_tool.specs.declared.outcome.Outcome.TheVariants.{Usage, Unread, TooLong, Refused as IsRefused, NoMemory, Played as WasPlayed, Migrated}
 use Rattle.inp_tool.specs.Edge.{Reads, Writes, KeepsInputFaults, KeepsSinkFaults}
 use Rattle.inp_tool.specs.Outcome.{refused_text, text_of, status_of, refused_of, played_in}
-use Rattle.inp_tool.specs.Reading.{HasUnread, HasTooLong, HasBadText, HasBadStream, HasRecord, HasNoRecord, RanOut}
+use Rattle.inp_tool.specs.RecordFile.{HasUnread, HasTooLong, HasBadText, HasBadStream, HasRecord, HasNoRecord, RanOut}
 
 -- The words ask for the record in this file, with the history or without. With a number each job is to have a thread, and
 -- waits through so many answers Again in a row.
@@ -70,8 +70,8 @@ IsOutOfMemory r = (r.after ≡ r.before) ⊎ RanOut r
 
 -- What came of a record: each job's replies are the one-thread device's at their places in one history, its sight follows
 -- its lines, and each place of the history is in one sight, where joysticks' jobs are jobs too; and what each owner was told
--- is what its feedback calls took of what was sent to its device (`inp_runs`). On one thread
--- the lines were done in file order besides (`inp_order`).
+-- is what its feedback calls took of what was sent to its device. On one thread the lines were done in file order besides
+-- (both of `inp_runs`).
 pub record CameOf (idle : Option ℕ) (recorded : RecordView) (played : Played) : Type 0 where
   pub promised : ArePromised idle recorded played
   pub in_order : idle ≡ None → IsPlay recorded played

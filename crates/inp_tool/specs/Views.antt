@@ -11,7 +11,7 @@ use Rattle.inp_model.specs.State.{key_down}
 use Rattle.inp_model.specs.RawItem.{Frame}
 use Rattle.inp_model.specs.Frame.{place}
 use Rattle.inp_model.specs.Queue.{Entry, event_of, ends_in_report, taken_by}
-use Rattle.inp_model.specs.Examples.{report}
+use Rattle.inp_model.specs.examples.Frames.{report}
 use Rattle.inp_recon.specs.declared.view.View.{View}
 use Rattle.inp_recon.specs.View.{view_after_events}
 use Rattle.inp_recon.specs.ClientView.{client_view}

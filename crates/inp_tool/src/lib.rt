@@ -2,21 +2,21 @@
 //!
 //! This crate is for the program and for tests: [`inputplay`] is the program's one call. It stands on `inp_edge` (input,
 //! sink and gate), `inp_args` (words), `inp_record` (a record's text and its streams), `inp_make` (records that are made
-//! from numbers), `inp_play` (playing on one thread), `inp_threads` (playing on threads), `inp_report` (the report, that of
-//! joysticks and the summary) and `inp_upgrade` (a record in the newest version of its text). [`make`] and [`play`] are
+//! from numbers), `inp_play` (playing on one thread), `inp_threads` (playing on threads), and `inp_report` (the report,
+//! that of joysticks and the summary). [`make`] and [`play`] are
 //! handed on.
 //!
 //! How a call goes: `read_words` says what the words ask for. For a file, `read_record` reads it, and then the files of
-//! its stream lines, in line order (`reading.rt`); for numbers, the record is made. The record is played and its report
-//! written to memory (`playing.rt`); or, where it is to be migrated, its own text is, and nothing is played
-//! (`migrating.rt`). What was found so far is an `Outcome`, which `write_outcome` tells to the sink.
+//! its stream lines, in line order (`record_file.rt`); for numbers, the record is made. The record is played and its report
+//! written to memory (`play.rt`); or, where it is to be migrated, its own text is, and nothing is played
+//! (`migration.rt`). What was found so far is an `Outcome`, which `write_outcome` tells to the sink.
 //!
 //! What the call promises stands in `specs`, as clauses of [`inputplay`] itself:
 //!
 //! - `Promise` (`specs/Promise.antt`): each outcome has its cause (`HasCause`), and its text was written, or a front part
 //!   of it with status 4. Words that are not accepted leave the input untouched. With status 0 or 6 the words ask for a file
 //!   that was read with its streams, each whole where the input tells its bytes, and is this record (`HasRecord` of
-//!   `specs/Reading.antt`), or for a record that is made, and then nothing was read; of each device there is one history, on
+//!   `specs/RecordFile.antt`), or for a record that is made, and then nothing was read; of each device there is one history, on
 //!   which each job's replies are the one-thread device's, and each sight follows its lines (`ArePromised` of `inp_runs`), a
 //!   joystick's too, on one thread and on threads; on one thread all that came is that of the lines done in file order
 //!   (`IsPlay`); and the text is the report of the devices with that of the joysticks behind it, or the summary. Of these two
@@ -39,17 +39,17 @@
 #![tactic(auto)]
 
 mod end;
-mod migrating;
+pub mod examples;
+mod migration;
 mod no_record;
 mod outcome;
-mod playing;
-mod reading;
+mod play;
+mod record_file;
 mod texts;
 mod top;
-mod views;
+mod upgrade;
 
 pub use end::End;
 pub use inp_make::make;
 pub use inp_play::play;
 pub use top::inputplay;
-pub use views::examples_of_views;

@@ -1,7 +1,7 @@
 pub mod Prefixes
 pub mod Places
 pub mod Sums
-pub mod Keeping
-pub mod Closing
-pub mod Owning
+pub mod KeptRule
+pub mod ClosedTurn
+pub mod OwnPlaces
 pub mod Seats

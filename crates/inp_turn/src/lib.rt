@@ -23,7 +23,7 @@
 //! - A pass's turns rise by one with each `take`.
 //!
 //! The rule that the table keeps is `IsTurn` in `specs/Turn.antt`, and what each step tells is in `specs/Steps.antt`; that
-//! each step keeps the rule is shown in `proofs/Keeping.antt`. Nothing says that a `take` returns, or who is served first.
+//! each step keeps the rule is shown in `proofs/KeptRule.antt`. Nothing says that a `take` returns, or who is served first.
 #![tactic(auto)]
 
 mod held;

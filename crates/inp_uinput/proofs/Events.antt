@@ -5,8 +5,8 @@ use Rattle.std.proofs.lemmas.List.{append-nil, length-take, take_more, get_or-ta
 use Rattle.inp_model.specs.declared.stamped.Stamped.{Stamped}
 use Rattle.inp_model.specs.declared.step.Step.{Step}
 use Rattle.inp_model.specs.History.{IsHistory}
-use Rattle.inp_model.specs.Injecting.{inject_of}
-use Rattle.inp_device.proofs.Injecting.{no_stamped}
+use Rattle.inp_model.specs.Injection.{inject_of}
+use Rattle.inp_device.proofs.Injection.{no_stamped}
 use Rattle.inp_feedback.specs.declared.u_entry.UEntry.{UEntry}
 use Rattle.inp_feedback.specs.declared.u_entry.UEntry.TheVariants.{Made}
 use Rattle.inp_feedback.specs.UEntry.{steps_in, kept_after_events}

@@ -22,7 +22,7 @@ use Rattle.inp_feedback.specs.UEntry.{step_made, steps_in}
 use Rattle.inp_feedback.specs.Feedback.{is_full_of_feedback, taken_by_feedback, fed, kept_after_feedback}
 use Rattle.inp_uinput.specs.FeedbackTurn.{history_length, entries_after_call, call_places, IsFeedbackTurn, IsToldFeedback}
 use Rattle.inp_feedback.proofs.Lists.{reverse-cons}
-use Rattle.inp_uinput.proofs.Serving.{steps-reverse}
+use Rattle.inp_uinput.proofs.ServedEntries.{steps-reverse}
 
 -- One entry more
 

@@ -1,6 +1,6 @@
-pub mod Passing
-pub mod Sending
-pub mod Serving
+pub mod PassedOutputs
+pub mod SentEvents
+pub mod ServedEntries
 pub mod Udevs
 pub mod Events
 pub mod FeedbackTurns

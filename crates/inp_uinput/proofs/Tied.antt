@@ -7,7 +7,7 @@ use Rattle.inp_model.specs.declared.stamped.Stamped.{Stamped}
 use Rattle.inp_model.specs.declared.injected.Injected.{Injected}
 use Rattle.inp_model.specs.DeviceView.{evdev_view}
 use Rattle.inp_model.specs.Evdev.{EvdevView, IsCall, IsEvdevCall}
-use Rattle.inp_model.specs.Injecting.{inject_of, IsInjectAll}
+use Rattle.inp_model.specs.Injection.{inject_of, IsInjectAll}
 use Rattle.inp_model.specs.Leaves.{AreCalls}
 use Rattle.inp_model.specs.Reply.{is_accepted}
 use Rattle.inp_model.specs.Run.{Call}

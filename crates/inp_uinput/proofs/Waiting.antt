@@ -11,7 +11,7 @@ use Rattle.inp_feedback.specs.declared.fed.TheConstants.{FEEDBACK_MAX}
 use Rattle.inp_feedback.specs.UEntry.{steps_in}
 use Rattle.inp_feedback.specs.Sent.{sent_at_step}
 use Rattle.inp_feedback.specs.Feedback.{feedback_queue}
-use Rattle.inp_uinput.specs.Keeping.{with_sent}
+use Rattle.inp_uinput.specs.KeptBeside.{with_sent}
 
 -- The queue has 15 events at most
 

@@ -1,5 +1,5 @@
 pub mod UdevView
 pub mod FeedbackTurn
-pub mod Keeping
+pub mod KeptBeside
 pub mod Maker
-pub mod OwnedFeeding
+pub mod OwnedFeeds

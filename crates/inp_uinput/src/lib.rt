@@ -26,7 +26,7 @@
 //! [`Owned`] is a device with its owner for one thread, and an `Evdev` too. Its caller is told the feedback calls as the
 //! tie (`owned_view` of `specs/UdevView.antt`), so calls of an evdev leave them as they are, and are calls of the device
 //! without its owner (`proofs/Tied.antt`). It answers feedback calls by `Feeds` of `inp_feedback` as [`Udev::feedback`]
-//! does (`IsFeedbackOf` of `specs/OwnedFeeding.antt`).
+//! does (`IsFeedbackOf` of `specs/OwnedFeeds.antt`).
 //!
 //! Of a [`Maker`], `setup` is refused exactly where the text is no name, and `bits` lends the builder of descriptions.
 //! `create` answers `NotSetUp` exactly where no setup was accepted; else it gives a device of the description that was

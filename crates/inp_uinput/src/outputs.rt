@@ -3,7 +3,7 @@ ghost use Rattle.std.specs.Prelude.{◌≡◌, ◌++◌, [], length, take, drop,
 ghost use Rattle.circular_buffer.specs.Buffer.{buffer};
 ghost use Rattle.inp_feedback.specs.Sent.{event_brought, sent_at_step};
 ghost use Rattle.inp_feedback.specs.declared.fed.TheConstants.{FEEDBACK_MAX};
-ghost use Rattle.inp_uinput.specs.Keeping.{with_sent};
+ghost use Rattle.inp_uinput.specs.KeptBeside.{with_sent};
 
 use circular_buffer::HeapCircularBuffer;
 use inp_device::Device;

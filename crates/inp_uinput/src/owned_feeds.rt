@@ -5,7 +5,7 @@ use inp_feedback::{Fed, Feeds};
 use inp_model::Event;
 
 impl Feeds for Owned {
-    ghost use Rattle.inp_uinput.specs.OwnedFeeding.{IsFeedbackOf};
+    ghost use Rattle.inp_uinput.specs.OwnedFeeds.{IsFeedbackOf};
 
     ghost feeds = { IsFeedbackOf };
 

@@ -7,7 +7,7 @@ ghost use Rattle.inp_model.specs.History.{IsHistory};
 ghost use Rattle.inp_model.specs.Step.{moment_of};
 ghost use Rattle.inp_model.specs.Reply.{HasRoom, IsDeviceStep, written};
 ghost use Rattle.inp_model.specs.Evdev.{agains_after};
-ghost use Rattle.inp_model.specs.Injecting.{AreInTime, entered_count};
+ghost use Rattle.inp_model.specs.Injection.{AreInTime, entered_count};
 ghost use Rattle.inp_feedback.specs.declared.u_entry.UEntry.TheVariants.{Made};
 ghost use Rattle.inp_feedback.specs.UEntry.{steps_in, kept_after_step, kept_after_events};
 ghost use Rattle.inp_feedback.specs.Feedback.{taken_by_feedback, fed, kept_after_feedback};
@@ -41,7 +41,7 @@ impl Model for Udev {
 
     ghost use Rattle.std.specs.Prelude.{reverse, vec_capacity};
     ghost use Rattle.inp_feedback.specs.Kept.{kept_of};
-    ghost use Rattle.inp_uinput.specs.Keeping.{IsKeptBeside};
+    ghost use Rattle.inp_uinput.specs.KeptBeside.{IsKeptBeside};
 
     ghost view = { λ u. record {
       description = u.device.description;

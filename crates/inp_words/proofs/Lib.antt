@@ -1,4 +1,4 @@
-pub mod Computing
+pub mod Computation
 pub mod Cuts
 pub mod FirstWords
 pub mod Sixteen

@@ -17,14 +17,13 @@
 #![tactic(auto)]
 
 mod codes;
+pub mod examples;
 mod lanes;
 mod lines;
 mod numbers;
 mod table;
-mod word_examples;
 
 pub use codes::{code_word, kind_word};
 pub use lines::{first_word, is_comment, line_end, strip_carriage_return, text_words};
 pub use numbers::{number, signed_number};
 pub use table::named;
-pub use word_examples::examples;

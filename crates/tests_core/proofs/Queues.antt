@@ -12,7 +12,7 @@ use Rattle.inp_ring.specs.Store.{StoreView, held_under, held_cell, holders_of, h
 use Rattle.inp_ring.specs.Ring.{times, cell_at, some_cell, queue_in, AreFit, AreHeld}
 use Rattle.inp_ring.proofs.Rings.{queue_stays}
 use Rattle.inp_client.specs.Client.{new_client, with_events}
-use Rattle.inp_client.proofs.Calling.{timed_flush, timed_clock}
+use Rattle.inp_client.proofs.OneClient.{timed_flush, timed_clock}
 
 -- A cell that nobody holds was added, after the store grew.
 module _ (s t : StoreView) {u : StoreView} {number : ℕ} {cell : Cell} (grown : t.slots ≡ s.slots) (none : held_under t number ≡ None) (added : IsPut t u number (held_by 0 cell)) (q : List ℕ) (held : AreHeld s q) where

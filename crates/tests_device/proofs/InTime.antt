@@ -3,7 +3,7 @@ use Rattle.std.proofs.Common.{◌≡◌, ℕ, zero, suc, ◌≤◌, List, [], �
 use Rattle.std.specs.List.{slice_get}
 use Rattle.inp_model.specs.declared.stamped.Stamped.{Stamped}
 use Rattle.inp_model.specs.declared.stamped.TheConstants.{MOMENT_MAX}
-use Rattle.inp_model.specs.Injecting.{AreInTime}
+use Rattle.inp_model.specs.Injection.{AreInTime}
 
 in_time-none : AreInTime []
 in_time-none i s h = absurd (cc h)

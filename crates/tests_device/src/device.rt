@@ -1,7 +1,7 @@
 //! A device with ample memory. What it answers after longer histories is told by its contract, and by the records of
 //! `tests/records`.
 
-ghost use Rattle.inp_model.specs.Injecting.{AreInTime};
+ghost use Rattle.inp_model.specs.Injection.{AreInTime};
 
 use inp_caps::{Caps, CapsBuilder, CapsRefused};
 use inp_device::Device;

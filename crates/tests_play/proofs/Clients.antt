@@ -6,7 +6,7 @@ use Rattle.inp_actors.specs.declared.device_text.DeviceText.{DeviceText}
 use Rattle.inp_actors.specs.Record.{RecordView}
 use Rattle.inp_model.specs.Description.{Description}
 use Rattle.inp_script.specs.declared.waiting.Waiting.{Waiting}
-use Rattle.inp_script.specs.Doing.{HasActor, IsLineOf, IsWaiting, source_count}
+use Rattle.inp_script.specs.DoneLine.{HasActor, IsLineOf, IsWaiting, source_count}
 use Rattle.inp_script.specs.Job.{ActorView}
 
 pub its-line : (r : RecordView) (a : ActorView) (line : ℕ) → a.actor ≡ 1 → IsLineOf r line 1 → IsLineOf r line a.actor

@@ -2,7 +2,7 @@
 use Rattle.std.proofs.Common.{◌≡◌, ℕ, Bool, true, false, not, if◌then◌else◌, List, [], ◌∷◌, Option, Some, None, refl, sym, ap, ◌∙◌, arith, inl, ℤ, IsTrue}
 use Rattle.std.specs.List.{slice_get}
 use Rattle.inp_actors.specs.Record.{RecordView}
-use Rattle.inp_script.specs.Doing.{HasActor}
+use Rattle.inp_script.specs.DoneLine.{HasActor}
 use Rattle.inp_script.specs.Job.{ActorView}
 use Rattle.inp_model.specs.declared.taken.Taken.{Taken}
 use Rattle.inp_model.specs.declared.step.Step.{Step}
@@ -14,7 +14,7 @@ use Rattle.inp_model.specs.declared.reply.Refusal.TheVariants.{BadClient, LogFul
 use Rattle.inp_model.specs.Description.{Description, one_key}
 use Rattle.inp_model.specs.Evdev.{EvdevView, IsEvdevCall}
 use Rattle.inp_model.specs.declared.stamped.Stamped.{Stamped}
-use Rattle.inp_model.specs.Injecting.{IsInjectAll}
+use Rattle.inp_model.specs.Injection.{IsInjectAll}
 use Rattle.inp_model.specs.Past.{is_open, opens}
 use Rattle.inp_model.specs.Reply.{Answer, alone, answer, answer_by, accepted, is_bad_client}
 use Rattle.inp_model.specs.Step.{client_of}

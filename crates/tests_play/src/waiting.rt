@@ -3,7 +3,7 @@ ghost use Rattle.std.specs.Prelude.{◌≡◌, ℕ, length, IfOk, slice_get, Som
 ghost use Rattle.inp_actors.specs.declared.actor_text.ActorText.{ActorText};
 ghost use Rattle.inp_actors.specs.declared.device_text.DeviceText.{DeviceText};
 ghost use Rattle.inp_model.specs.Description.{one_key};
-ghost use Rattle.inp_script.specs.Doing.{HasActor, IsLineOf, source_count};
+ghost use Rattle.inp_script.specs.DoneLine.{HasActor, IsLineOf, source_count};
 
 use crate::common::{actor, keyboard};
 use inp_actors::{Actors, Command, DeviceText, Devices, Line, Lines, Name, Record, Role, Streams};

@@ -29,7 +29,7 @@ fn answer(alloc: Global, words: &[&str]) -> Result<String, AllocError> {
 
 #[test]
 fn words_are_read_as_worked_out_by_hand(rt: HostRuntime) -> Result<(), Fail> {
-    examples();
+    examples::examples();
     let rows = [
         (["a b", "--history"].as_slice(), "play a b true"),
         (["--", "--make"].as_slice(), "play --make false"),

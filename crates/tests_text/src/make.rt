@@ -22,7 +22,7 @@ fn event_of(record: &Record, index: usize) -> (u64, u16, u16, i32) {
 
 #[test]
 fn two_frames_have_their_lines(rt: HostRuntime) -> Result<(), Fail> {
-    examples();
+    examples::examples();
     let record = make(rt.alloc(), 7, 2)?;
     assert_eq!(rt; record.lines().len(), 3 + 42 + 1 + 31 + 1 + 1);
     let rows = [

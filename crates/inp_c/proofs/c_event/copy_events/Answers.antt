@@ -1,7 +1,7 @@
 use Rattle.std.proofs.Common.{ap, ◌∙◌, set, pos, arith}
 use Rattle.inp_model.specs.declared.taken.Taken.{Taken}
 use Rattle.inp_c.specs.Told.{told_event}
-use Rattle.inp_c.proofs.Copying.{copy_more}
+use Rattle.inp_c.proofs.Copies.{copy_more}
 use Rattle.inp_c.proofs.c_event.copy_events.Goals as goal
 
 -- what stands past the end of a list of events

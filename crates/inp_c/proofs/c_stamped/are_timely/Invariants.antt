@@ -1,5 +1,5 @@
 use Rattle.std.proofs.Common.{◌≡◌, take, true}
-use Rattle.inp_c.specs.Injecting.{are_timely}
+use Rattle.inp_c.specs.Injection.{are_timely}
 use Rattle.inp_c.proofs.c_stamped.are_timely.Given as goal
 
 abbrev pub invariant-loop-event : goal.invariant-loop-event

@@ -1,7 +1,7 @@
 use Rattle.std.proofs.Common.{ap, ◌∙◌, set, pos, arith}
 use Rattle.inp_c.specs.declared.c_stamped.CStamped.{CStamped}
-use Rattle.inp_c.specs.Injecting.{stamped_of_c}
-use Rattle.inp_c.proofs.Copying.{copy_more}
+use Rattle.inp_c.specs.Injection.{stamped_of_c}
+use Rattle.inp_c.proofs.Copies.{copy_more}
 use Rattle.inp_c.proofs.c_stamped.copy_stamps.Goals as goal
 
 -- what stands past the end of a list of events

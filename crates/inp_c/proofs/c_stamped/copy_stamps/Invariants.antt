@@ -1,5 +1,5 @@
 use Rattle.std.proofs.Common.{◌≡◌, ◌++◌, map, take, drop}
-use Rattle.inp_c.specs.Injecting.{stamped_of_c}
+use Rattle.inp_c.specs.Injection.{stamped_of_c}
 use Rattle.inp_c.proofs.c_stamped.copy_stamps.Given as goal
 
 abbrev pub invariant-loop-at : goal.invariant-loop-at

@@ -5,7 +5,7 @@ use Rattle.inp_model.specs.declared.reply.Reply.{Reply}
 use Rattle.inp_model.specs.Reply.{written}
 use Rattle.inp_feedback.specs.UEntry.{steps_in}
 use Rattle.inp_c.specs.Told.{told_event}
-use Rattle.inp_c.specs.Stepping.{read_count}
+use Rattle.inp_c.specs.Steps.{read_count}
 use Rattle.inp_c.proofs.ReadByStep.{counted, few, taken_is}
 use Rattle.inp_c.proofs.client_read.read_device.Goals as goal
 

@@ -2,7 +2,7 @@ use Rattle.std.proofs.Common.{ap, ◌∙◌, set, pos, arith}
 use Rattle.inp_model.specs.declared.step.Step.{Step}
 use Rattle.inp_model.specs.declared.step.Step.TheVariants.{Inject}
 use Rattle.inp_c.specs.ToldStep.{told_step}
-use Rattle.inp_c.proofs.Copying.{copy_more}
+use Rattle.inp_c.proofs.Copies.{copy_more}
 use Rattle.inp_c.proofs.history.copy_steps.Goals as goal
 
 -- what stands past the end of a list of steps

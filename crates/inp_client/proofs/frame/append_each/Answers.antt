@@ -5,7 +5,7 @@ use Rattle.inp_client.specs.Client.{new_client}
 use Rattle.inp_client.specs.Member.{Member}
 use Rattle.inp_client.specs.Locations.{clients_in}
 use Rattle.inp_client.specs.Offered.{TakesFrame}
-use Rattle.inp_client.proofs.Locating.{members_long}
+use Rattle.inp_client.proofs.Locations.{members_long}
 use Rattle.inp_client.proofs.Runs.{appended_none, appended_more, appended_all, old_is, same_number}
 use Rattle.inp_client.proofs.frame.append_each.Goals as goal
 

@@ -1,5 +1,5 @@
 use Rattle.std.proofs.Common.{refl, ◌∙◌}
-use Rattle.inp_client.proofs.Offering.{entered_none, enter_absent, enter_spare, enter_held, entered_more, flag_counts}
+use Rattle.inp_client.proofs.OfferedCells.{entered_none, enter_absent, enter_spare, enter_held, entered_more, flag_counts}
 use Rattle.inp_client.proofs.frame.enter_each.Goals as goal
 
 pub loop-location-init : goal.loop-location-init

@@ -1,6 +1,6 @@
 use Rattle.std.proofs.Common.{arith}
 use Rattle.inp_client.specs.Client.{new_client}
-use Rattle.inp_client.proofs.Offering.{event_offered}
+use Rattle.inp_client.proofs.OfferedCells.{event_offered}
 use Rattle.inp_client.proofs.Offers.{shared_spare, stored_add, cells_add, shared_free, cells_free, shared_hold, cells_hold}
 use Rattle.inp_client.proofs.frame.offer_cell.Goals as goal
 

@@ -3,7 +3,7 @@ use Rattle.inp_codes.specs.ByNumber.{name_at}
 use Rattle.inp_codes.specs.CodeNames.{kinds_with_codes, code_entries, name_of, codes_of_kind}
 use Rattle.inp_codes.proofs.ByNumberLemmas.{name_at-names_by_number}
 use Rattle.inp_codes.proofs.CodeNamesLemmas.{kinds_rise_from, codes_rise, numbers_rise-codes_in, name_in-codes_in}
-use Rattle.inp_codes.proofs.Computing.{event_codes}
+use Rattle.inp_codes.proofs.Computation.{event_codes}
 use Rattle.inp_codes.proofs.codes.name_of.Goals as goal
 
 -- the codes of each type rise, and so do the types

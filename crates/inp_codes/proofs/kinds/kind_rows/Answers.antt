@@ -1,6 +1,6 @@
 use Rattle.std.proofs.Common.{nat_eq, eqb-true, refl}
 use Rattle.inp_codes.proofs.ByNameLemmas.{AreRowsOf-tested, GiveOwnNumbers-tested}
-use Rattle.inp_codes.proofs.Computing.{event_codes}
+use Rattle.inp_codes.proofs.Computation.{event_codes}
 use Rattle.inp_codes.proofs.kinds.kind_rows.Goals as goal
 
 -- the tests of the rows against the table compute

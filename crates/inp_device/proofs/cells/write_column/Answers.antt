@@ -1,6 +1,6 @@
 use Rattle.std.proofs.Common.{ℤ, ℕ, List, w32, FitsSigned, set, ap, ◌∙◌, arith}
 use Rattle.std.proofs.lemmas.Int.{to_z-of_z}
-use Rattle.inp_device.proofs.Filling.{filled, kept_column, fill_more, column-kept}
+use Rattle.inp_device.proofs.FilledBuffers.{filled, kept_column, fill_more, column-kept}
 use Rattle.inp_device.proofs.cells.write_column.Goals as goal
 
 pub loop-slot-preserved : goal.loop-slot-preserved

@@ -1,6 +1,6 @@
 use Rattle.std.proofs.Common.{ℤ, ℕ, List, w32, FitsSigned, set, ap, ◌∙◌, arith}
 use Rattle.std.proofs.lemmas.Int.{to_z-of_z}
-use Rattle.inp_device.proofs.Filling.{filled, kept_row, fill_more, rows-kept}
+use Rattle.inp_device.proofs.FilledBuffers.{filled, kept_row, fill_more, rows-kept}
 use Rattle.inp_device.proofs.cells.write_rows.Goals as goal
 
 pub loop-index-preserved : goal.loop-index-preserved

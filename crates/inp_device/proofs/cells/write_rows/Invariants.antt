@@ -1,5 +1,5 @@
 use Rattle.std.proofs.Common.{◌≡◌}
-use Rattle.inp_device.proofs.Filling.{filled, kept_row}
+use Rattle.inp_device.proofs.FilledBuffers.{filled, kept_row}
 use Rattle.inp_device.proofs.cells.write_rows.Given as goal
 
 -- the first places have the values that belong there

@@ -1,5 +1,5 @@
 use Rattle.std.proofs.Common.{◌≡◌, ◌<◌, ◌≤◌, ℕ, false, length, get_or}
-use Rattle.inp_frames.specs.Handling.{has_contact_at}
+use Rattle.inp_frames.specs.HandledEvents.{has_contact_at}
 use Rattle.inp_frames.proofs.contacts.contacts_of.Given as goal
 
 abbrev pub invariant-loop-slot : goal.invariant-loop-slot

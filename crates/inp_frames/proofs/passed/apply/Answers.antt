@@ -8,7 +8,7 @@ use Rattle.inp_caps.specs.Disposition.{flags_after}
 use Rattle.inp_state.proofs.Steps.{StateStandsFor-multi_touch}
 use Rattle.inp_slots.specs.Slots.{SlotsStandFor, touch}
 use Rattle.inp_slots.proofs.Others.{SlotsStandFor-other}
-use Rattle.inp_frames.proofs.Passing.{touches}
+use Rattle.inp_frames.proofs.PassedEvents.{touches}
 use Rattle.inp_frames.proofs.passed.apply.Goals as goal
 
 -- the event that the slots were given

@@ -1,7 +1,7 @@
 use Rattle.std.proofs.Common.{◌∙◌, rules, FitsSigned, w32, to_z, of_z, ◌∷◌}
 use Rattle.std.proofs.lemmas.Int.{to_z-of_z}
 use Rattle.inp_model.specs.RawItem.{Occurred}
-use Rattle.inp_frames.proofs.Passing.{passed-by}
+use Rattle.inp_frames.proofs.PassedEvents.{passed-by}
 use Rattle.inp_frames.proofs.passed.handle.Goals as goal
 
 pub returns-clause-passed : goal.returns-clause-passed

@@ -2,7 +2,7 @@ use Rattle.std.proofs.Common.{◌≡◌, ◌<◌, ◌≤◌, length, List, sym, 
 use Rattle.std.proofs.lemmas.List.{take_all}
 use Rattle.inp_script.specs.Job.{ActorView}
 use Rattle.inp_play.specs.Player.{first_actors, HasActors}
-use Rattle.inp_play.proofs.PlayerMaking.{one_more_actor, length-first_actors, first_has_actors}
+use Rattle.inp_play.proofs.FirstPlayer.{one_more_actor, length-first_actors, first_has_actors}
 use Rattle.inp_play.proofs.player.first_actors.Goals as goal
 
 pub loop-actor-preserved : goal.loop-actor-preserved

@@ -4,7 +4,7 @@ use Rattle.std.specs.Ordering.{int_eq}
 use Rattle.inp_model.specs.declared.event.Event.{Event}
 use Rattle.inp_recon.specs.Cells.{cell_of}
 use Rattle.inp_reader.specs.Synthesis.{cells_differ}
-use Rattle.inp_reader.proofs.Synthesising.{any-none_more, any-there}
+use Rattle.inp_reader.proofs.SynthesisedEvents.{any-none_more, any-there}
 use Rattle.inp_reader.proofs.changes.is_changed.Goals as goal
 
 pub returns-then-values_differ : goal.returns-then-values_differ

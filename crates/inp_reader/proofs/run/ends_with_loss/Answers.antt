@@ -1,7 +1,7 @@
 use Rattle.std.proofs.Common.{◌-◌, ◌∙◌, length, sym, ap, arith}
 use Rattle.std.proofs.lemmas.Bool.Decides.{nat_tests}
 use Rattle.std.proofs.lemmas.List.{nil_from_length}
-use Rattle.inp_reader.specs.Reading.{has_loss}
+use Rattle.inp_reader.specs.Reader.{has_loss}
 use Rattle.inp_reader.proofs.Runs.{run-loss}
 use Rattle.inp_reader.proofs.run.ends_with_loss.Goals as goal
 

@@ -1,5 +1,5 @@
 use Rattle.std.proofs.Common.{◌≡◌, ◌≤◌, ◌++◌, ◌-◌, take, drop, length}
-use Rattle.inp_reader.specs.Reading.{first_run}
+use Rattle.inp_reader.specs.Reader.{first_run}
 use Rattle.inp_reader.proofs.run.run_len.Given as goal
 
 abbrev pub invariant-loop-taken : goal.invariant-loop-taken

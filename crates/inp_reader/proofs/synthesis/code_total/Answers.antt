@@ -1,7 +1,7 @@
 use Rattle.std.proofs.Common.{rules, ◌≡◌, Bool, true, false, cond, [], ◌∷◌, length, length-append, sym, ap, ◌∙◌, arith}
 use Rattle.inp_model.specs.Description.{supports}
 use Rattle.inp_reader.specs.Synthesis.{where_below}
-use Rattle.inp_reader.proofs.Synthesising.{where_below-more, where_below-skip}
+use Rattle.inp_reader.proofs.SynthesisedEvents.{where_below-more, where_below-skip}
 use Rattle.inp_reader.proofs.synthesis.code_total.Goals as goal
 
 pub loop-code-preserved-then-not-supports : goal.loop-code-preserved-then-not-supports

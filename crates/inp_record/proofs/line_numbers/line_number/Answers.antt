@@ -7,7 +7,7 @@ use Rattle.std.proofs.lemmas.Iterator.Consumers.{YieldsList-at, YieldsList-turn,
 use Rattle.inp_words.specs.Line.{is_line_feed, lines_of}
 use Rattle.inp_record.specs.LineNumber.{is_action_line}
 use Rattle.inp_record.proofs.LineNumbers.{here, another, none_here, not_missed}
-use Rattle.inp_record.proofs.Reading.{turn_is, lines_length}
+use Rattle.inp_record.proofs.LineByLine.{turn_is, lines_length}
 use Rattle.inp_record.proofs.line_numbers.line_number.Goals as goal
 
 pub overflow_add-number : goal.overflow_add-number

@@ -1,5 +1,5 @@
 use Rattle.std.proofs.Common.{◌≡◌, ℕ, ◌-◌, ◌<◌, ◌++◌, ◌∷◌, [], List, length, drop, take, Ok, option_map, sym, ap, subst, ◌∙◌, rules, arith}
-use Rattle.inp_model.specs.Injecting.{AreInTime}
+use Rattle.inp_model.specs.Injection.{AreInTime}
 use Rattle.inp_stream.specs.Stream.{record_len, decoded}
 use Rattle.inp_model.specs.declared.stamped.Stamped.{Stamped}
 use Rattle.inp_stream.specs.Form.{time_len}

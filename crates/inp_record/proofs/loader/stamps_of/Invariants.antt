@@ -1,7 +1,7 @@
 use Rattle.std.proofs.Common.{◌≡◌, ◌++◌, List, length, option_map}
 use Rattle.inp_model.specs.declared.stamped.Stamped.{Stamped}
 use Rattle.inp_stream.specs.Form.{time_len}
-use Rattle.inp_model.specs.Injecting.{AreInTime}
+use Rattle.inp_model.specs.Injection.{AreInTime}
 use Rattle.inp_record.specs.Stream.{stamps_of}
 use Rattle.inp_record.proofs.loader.stamps_of.Given as goal
 

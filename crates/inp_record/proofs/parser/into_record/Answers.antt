@@ -3,7 +3,7 @@ use Rattle.inp_actors.specs.Record.{RecordView}
 use Rattle.inp_record.specs.declared.context.Context.{Context}
 use Rattle.inp_record.specs.declared.place.Place.TheVariants.{Start}
 use Rattle.inp_record.specs.Meaning.{record_of_context}
-use Rattle.inp_record.proofs.Reading.{headless, headed}
+use Rattle.inp_record.proofs.LineByLine.{headless, headed}
 use Rattle.inp_record.proofs.parser.into_record.Goals as goal
 
 pub returns-then-eq : goal.returns-then-eq

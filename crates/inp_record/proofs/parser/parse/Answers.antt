@@ -5,7 +5,7 @@ use Rattle.inp_record.specs.declared.context.Context.{Context}
 use Rattle.inp_record.specs.Fault.{IsParsing}
 use Rattle.inp_record.specs.Meaning.{record_of_context, as_record}
 use Rattle.inp_record.proofs.Good.{IsRecord-read}
-use Rattle.inp_record.proofs.Reading.{fault_parsed, meaning_read}
+use Rattle.inp_record.proofs.LineByLine.{fault_parsed, meaning_read}
 use Rattle.inp_record.proofs.parser.parse.Goals as goal
 
 pub into_record-requires : goal.into_record-requires

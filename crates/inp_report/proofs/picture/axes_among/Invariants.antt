@@ -1,5 +1,5 @@
 use Rattle.std.proofs.Common.{◌≡◌, ◌≤◌, ◌-◌, length}
-use Rattle.inp_reader.specs.Reading.{axes_among}
+use Rattle.inp_reader.specs.Reader.{axes_among}
 use Rattle.inp_report.proofs.picture.axes_among.Given as goal
 
 -- those so far

@@ -9,7 +9,7 @@ use Rattle.inp_actors.specs.declared.role.Role.TheVariants.{Owner}
 use Rattle.inp_actors.specs.Command.{is_command_of, feedback_room}
 use Rattle.inp_runs.specs.Job.{lines_by}
 use Rattle.inp_runs.specs.Owner.{rooms_of}
-use Rattle.inp_runs.proofs.Folded.{AreOfRole, its_lines}
+use Rattle.inp_runs.proofs.views.Folded.{AreOfRole, its_lines}
 use Rattle.inp_runs.proofs.laws.owners_lines_are_calls.Goals as goal
 
 abbrev commands : List Line → List Command

@@ -4,7 +4,7 @@ use Rattle.inp_model.specs.declared.step.Step.TheVariants.{Inject}
 use Rattle.inp_feedback.specs.declared.u_entry.UEntry.TheVariants.{Made, Feedback}
 use Rattle.inp_feedback.specs.declared.fed.Fed.TheVariants.{Took, Full}
 use Rattle.inp_feedback.specs.Examples.{bell}
-use Rattle.inp_feedback.proofs.Computing.{computing}
+use Rattle.inp_feedback.proofs.Computation.{computing}
 use Rattle.inp_script.specs.Owner.{Owning, first_owning, after_feedback}
 use Rattle.inp_runs.specs.Owner.{HasFed}
 use Rattle.inp_runs.specs.OwnerExamples.{TakesTheBellOnce, StopsAtItsLimit}

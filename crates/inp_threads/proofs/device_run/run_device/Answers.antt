@@ -9,7 +9,7 @@ use Rattle.inp_feedback.specs.declared.u_entry.UEntry.{UEntry}
 use Rattle.inp_feedback.specs.UEntry.{step_made}
 use Rattle.inp_port.specs.Entries.{steps_among}
 use Rattle.inp_uinput.specs.UdevView.{UdevView}
-use Rattle.inp_uinput.proofs.Serving.{steps-reverse}
+use Rattle.inp_uinput.proofs.ServedEntries.{steps-reverse}
 use Rattle.inp_script.specs.Ended.{device_run}
 use Rattle.inp_actors.specs.declared.device_text.DeviceText.{DeviceText}
 use Rattle.inp_script.specs.declared.run.DeviceRun.{DeviceRun}

@@ -2,11 +2,11 @@ use Rattle.std.proofs.Common.{List, [], ◌∷◌, ◌++◌, length, sym, ap, su
 use Rattle.std.proofs.lemmas.Iterator.Adapters.{YieldsList-from_vec}
 use Rattle.std.proofs.lemmas.Iterator.Consumers.{YieldsList-turn}
 use Rattle.std.proofs.lemmas.List.Elements.{All-push}
-use Rattle.inp_script.specs.declared.ended.Ended.{Ended}
+use Rattle.inp_script.specs.declared.end.ended.Ended.{Ended}
 use Rattle.inp_turn.specs.Pass.{view_of}
 use Rattle.inp_threads.specs.declared.worker.Worker.{Worker}
 use Rattle.inp_threads.specs.Joined.{IsBack, IsSizedWorker, ends_of_workers}
-use Rattle.inp_threads.proofs.Joining.{done-more, joined-more, ends_of_workers-append}
+use Rattle.inp_threads.proofs.JoinedPasses.{done-more, joined-more, ends_of_workers-append}
 use Rattle.inp_threads.proofs.gathered.gather.Goals as goal
 
 pub add-gathered-requires-clause-back : goal.add-gathered-requires-clause-back

@@ -2,7 +2,7 @@ use Rattle.std.proofs.Common.{◌≡◌, ℕ, ◌<◌, List, length, get_or, map
 use Rattle.std.specs.Prelude.{All}
 use Rattle.inp_threads.specs.declared.worker.Worker.{Worker}
 use Rattle.inp_threads.specs.Worker.{actor_number, IsReadyOn, IsWorkedFrom}
-use Rattle.inp_threads.proofs.Running.{ready-to-work, changed, same-numbers}
+use Rattle.inp_threads.proofs.WorkerRuns.{ready-to-work, changed, same-numbers}
 use Rattle.inp_threads.proofs.workers.run_all.Goals as goal
 
 pub for_each_mut-requires-clause-accepts : goal.for_each_mut-requires-clause-accepts

@@ -1,6 +1,6 @@
 use Rattle.std.proofs.Common.{sym, ap, ◌∙◌, option_to_list}
 use Rattle.std.specs.Bool.{then_some}
-use Rattle.inp_uinput.proofs.Sending.{nothing_sent, one_sent}
+use Rattle.inp_uinput.proofs.SentEvents.{nothing_sent, one_sent}
 use Rattle.inp_uinput.proofs.outputs.sent_by.Goals as goal
 
 pub returns-in_err-event : goal.returns-in_err-event

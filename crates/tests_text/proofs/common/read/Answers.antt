@@ -1,5 +1,5 @@
 use Rattle.std.proofs.Common.{◌≡◌, length, arith}
-use Rattle.inp_record.proofs.Reading.{few_lines}
+use Rattle.inp_record.proofs.LineByLine.{few_lines}
 use Rattle.tests_text.proofs.common.read.Goals as goal
 
 pub parse-requires : goal.parse-requires

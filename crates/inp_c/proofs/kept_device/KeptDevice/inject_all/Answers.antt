@@ -1,6 +1,6 @@
 use Rattle.std.proofs.Common.{◌≡◌, length, drop, sym, ◌∙◌, subst, arith}
 use Rattle.std.proofs.Math.Seq.{take-append_seam}
-use Rattle.inp_model.specs.Injecting.{AreInTime}
+use Rattle.inp_model.specs.Injection.{AreInTime}
 use Rattle.inp_c.proofs.Timely.{in_time, first_stamps}
 use Rattle.inp_c.proofs.kept_device.KeptDevice.inject_all.Goals as goal
 

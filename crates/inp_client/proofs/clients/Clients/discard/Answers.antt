@@ -2,7 +2,7 @@ use Rattle.std.proofs.Common.{ap, ◌∙◌, sym}
 use Rattle.inp_client.specs.Client.{after_take}
 use Rattle.inp_client.specs.Clients.{ClientsView, map_client, events_of}
 use Rattle.inp_client.specs.Member.{client_in}
-use Rattle.inp_client.proofs.Calling.{call_open, call_held, call_timed, call_events, kept_after_call, list_after_call, fewer_after_call, timed_take}
+use Rattle.inp_client.proofs.OneClient.{call_open, call_held, call_timed, call_events, kept_after_call, list_after_call, fewer_after_call, timed_take}
 use Rattle.inp_client.proofs.clients.Clients.discard.Goals as goal
 
 pub key_of-key-requires-clause-open : goal.key_of-key-requires-clause-open

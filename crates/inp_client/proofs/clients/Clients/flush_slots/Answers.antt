@@ -4,7 +4,7 @@ use Rattle.inp_ring.specs.Store.{event_of_cell}
 use Rattle.inp_client.specs.Client.{after_flush}
 use Rattle.inp_client.specs.Clients.{ClientsView, map_client}
 use Rattle.inp_client.specs.Member.{client_in}
-use Rattle.inp_client.proofs.Calling.{call_open, call_held, call_timed, kept_after_call, list_after_call, fewer_after_call, timed_flush}
+use Rattle.inp_client.proofs.OneClient.{call_open, call_held, call_timed, kept_after_call, list_after_call, fewer_after_call, timed_flush}
 use Rattle.inp_client.proofs.clients.Clients.flush_slots.Goals as goal
 
 pub key_of-key-requires-clause-open : goal.key_of-key-requires-clause-open

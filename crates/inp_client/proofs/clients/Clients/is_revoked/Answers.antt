@@ -1,6 +1,6 @@
 use Rattle.std.proofs.Common.{ap, ◌∙◌, sym}
 use Rattle.inp_client.specs.Clients.{ClientsView, has_revoked_client}
-use Rattle.inp_client.proofs.Calling.{call_open, call_revoked}
+use Rattle.inp_client.proofs.OneClient.{call_open, call_revoked}
 use Rattle.inp_client.proofs.clients.Clients.is_revoked.Goals as goal
 
 pub key_of-key-requires-clause-open : goal.key_of-key-requires-clause-open

@@ -3,9 +3,9 @@ use Rattle.std.proofs.lemmas.List.Edits.{length-insert}
 use Rattle.inp_client.specs.Client.{new_client}
 use Rattle.inp_client.specs.Clients.{ClientsView, with_client}
 use Rattle.inp_client.specs.Numbers.{held_numbers}
-use Rattle.inp_client.proofs.Locating.{located_after_insert}
-use Rattle.inp_client.proofs.Calling.{call_closed}
-use Rattle.inp_client.proofs.Opening.{new_ring, cells_few, stored_open, idle_open, counted_open, list_open, numbers_open}
+use Rattle.inp_client.proofs.Locations.{located_after_insert}
+use Rattle.inp_client.proofs.OneClient.{call_closed}
+use Rattle.inp_client.proofs.OpenClose.{new_ring, cells_few, stored_open, idle_open, counted_open, list_open, numbers_open}
 use Rattle.inp_client.proofs.clients.Clients.open.Goals as goal
 
 pub overflow_add-cells : goal.overflow_add-cells

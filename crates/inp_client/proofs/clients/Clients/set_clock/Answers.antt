@@ -2,7 +2,7 @@ use Rattle.std.proofs.Common.{ap, ◌∙◌}
 use Rattle.inp_client.specs.Client.{after_clock}
 use Rattle.inp_client.specs.Clients.{ClientsView, map_client}
 use Rattle.inp_client.specs.Member.{client_in}
-use Rattle.inp_client.proofs.Calling.{call_open, call_held, call_timed, call_spare, kept_after_call, list_after_call, stored_after_call, timed_clock}
+use Rattle.inp_client.proofs.OneClient.{call_open, call_held, call_timed, call_spare, kept_after_call, list_after_call, stored_after_call, timed_clock}
 use Rattle.inp_client.proofs.clients.Clients.set_clock.Goals as goal
 
 pub key_of-key-requires-clause-open : goal.key_of-key-requires-clause-open

@@ -2,7 +2,7 @@ use Rattle.std.proofs.Common.{ap, ◌∙◌}
 use Rattle.inp_client.specs.Client.{after_mask}
 use Rattle.inp_client.specs.Clients.{ClientsView, map_client}
 use Rattle.inp_client.specs.Member.{Member}
-use Rattle.inp_client.proofs.Calling.{call_open, call_timed, kept_after_call, list_after_call, rings_after_call, written_mask}
+use Rattle.inp_client.proofs.OneClient.{call_open, call_timed, kept_after_call, list_after_call, rings_after_call, written_mask}
 use Rattle.inp_client.proofs.clients.Clients.set_mask.Goals as goal
 
 pub key_of-key-requires-clause-open : goal.key_of-key-requires-clause-open

@@ -9,7 +9,7 @@ use Rattle.inp_client.specs.Client.{after_take}
 use Rattle.inp_client.specs.Clients.{ClientsView, map_client, events_of}
 use Rattle.inp_client.specs.Read.{clients_on}
 use Rattle.inp_client.specs.Member.{client_in}
-use Rattle.inp_client.proofs.Calling.{call_open, call_held, call_timed, call_events, call_read, kept_after_call, list_after_call, fewer_after_call, timed_take}
+use Rattle.inp_client.proofs.OneClient.{call_open, call_held, call_timed, call_events, call_read, kept_after_call, list_after_call, fewer_after_call, timed_take}
 use Rattle.inp_client.proofs.clients.Clients.take.Goals as goal
 
 pub key_of-key-requires-clause-open : goal.key_of-key-requires-clause-open

@@ -1,6 +1,6 @@
 use Rattle.std.proofs.Common.{ap, ◌∙◌, sym}
 use Rattle.inp_client.specs.Clients.{ClientsView, events_of}
-use Rattle.inp_client.proofs.Calling.{call_open, call_held, call_events}
+use Rattle.inp_client.proofs.OneClient.{call_open, call_held, call_events}
 use Rattle.inp_client.proofs.clients.Clients.visible.Goals as goal
 
 pub key_of-key-requires-clause-open : goal.key_of-key-requires-clause-open

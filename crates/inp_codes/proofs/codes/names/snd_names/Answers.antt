@@ -1,5 +1,5 @@
 use Rattle.std.proofs.Common.{refl}
-use Rattle.inp_codes.proofs.Computing.{event_codes}
+use Rattle.inp_codes.proofs.Computation.{event_codes}
 use Rattle.inp_codes.proofs.codes.names.snd_names.Goals as goal
 
 -- the two lists compute to one

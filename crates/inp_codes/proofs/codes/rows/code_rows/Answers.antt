@@ -2,7 +2,7 @@ use Rattle.std.proofs.Common.{refl}
 use Rattle.inp_codes.specs.CodeNames.{is_same_code}
 use Rattle.inp_codes.proofs.ByNameLemmas.{AreRowsOf-tested, GiveOwnNumbers-tested}
 use Rattle.inp_codes.proofs.CodeNamesLemmas.{is_same_code-true}
-use Rattle.inp_codes.proofs.Computing.{event_codes}
+use Rattle.inp_codes.proofs.Computation.{event_codes}
 use Rattle.inp_codes.proofs.codes.rows.code_rows.Goals as goal
 
 -- the tests of the rows against the table compute

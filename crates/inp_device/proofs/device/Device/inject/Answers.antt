@@ -4,7 +4,7 @@ use Rattle.inp_model.specs.declared.reply.Reply.TheVariants.{Done, Refused}
 use Rattle.inp_model.specs.declared.reply.Refusal.TheVariants.{LogFull}
 use Rattle.inp_model.specs.DeviceView.{DeviceView}
 use Rattle.inp_device.specs.declared.present.Present.{Present}
-use Rattle.inp_device.proofs.Entering.{inject_refused, inject_entered}
+use Rattle.inp_device.proofs.EnteredSteps.{inject_refused, inject_entered}
 use Rattle.inp_device.specs.Device.{StoringView}
 use Rattle.inp_device.proofs.device.Device.inject.Goals as goal
 

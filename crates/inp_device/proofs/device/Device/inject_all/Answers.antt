@@ -2,10 +2,10 @@ use Rattle.std.proofs.Common.{◌≡◌, ◌≤◌, ℕ, ◌+◌, ◌-◌, lengt
 use Rattle.std.specs.Prelude.{min, vec_len}
 use Rattle.std.proofs.lemmas.List.{length-take, length-reverse}
 use Rattle.inp_model.specs.History.{IsHistory}
-use Rattle.inp_model.specs.Injecting.{history_with}
+use Rattle.inp_model.specs.Injection.{history_with}
 use Rattle.inp_device.specs.declared.present.Present.{Present}
 use Rattle.inp_device.specs.Device.{StoringView, stored_since}
-use Rattle.inp_device.proofs.Injecting.{no_stamped, entered-none, entered-room, entered-more}
+use Rattle.inp_device.proofs.Injection.{no_stamped, entered-none, entered-room, entered-more}
 use Rattle.inp_device.proofs.device.Device.inject_all.Goals as goal
 
 pub loop-stamped-init : goal.loop-stamped-init

@@ -1,4 +1,4 @@
-use Rattle.inp_device.proofs.Injecting.{HasEntered}
+use Rattle.inp_device.proofs.Injection.{HasEntered}
 use Rattle.inp_device.proofs.device.Device.inject_all.Given as goal
 
 abbrev pub invariant-loop-stamped : goal.invariant-loop-stamped

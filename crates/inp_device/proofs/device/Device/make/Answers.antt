@@ -2,7 +2,7 @@ use Rattle.std.proofs.Common.{[], ◌∷◌, ◌++◌, ◌<◌, length, if◌the
 use Rattle.std.specs.Prelude.{is_ok, vec_capacity}
 use Rattle.inp_device.specs.declared.present.Present.{Present}
 use Rattle.inp_device.specs.Present.{IsReadyFor}
-use Rattle.inp_device.proofs.Entering.{device_stored, device_stored_same, told_of, made_of, lacks_of, device_refused, ready, room, entered_kept, device_made, device_lacks}
+use Rattle.inp_device.proofs.EnteredSteps.{device_stored, device_stored_same, told_of, made_of, lacks_of, device_refused, ready, room, entered_kept, device_made, device_lacks}
 use Rattle.inp_device.specs.Device.{plain_view}
 use Rattle.inp_device.proofs.device.Device.make.Goals as goal
 

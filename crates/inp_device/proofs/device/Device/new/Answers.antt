@@ -1,6 +1,6 @@
 use Rattle.std.proofs.Common.{◌≡◌, rules}
 use Rattle.inp_client.specs.Numbers.{stored_of}
-use Rattle.inp_device.proofs.Making.{first_value}
+use Rattle.inp_device.proofs.StepParts.{first_value}
 use Rattle.inp_device.proofs.device.Device.new.Goals as goal
 
 pub returns : goal.returns

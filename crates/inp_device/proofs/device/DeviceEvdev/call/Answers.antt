@@ -1,4 +1,4 @@
-use Rattle.inp_model.proofs.Telling.{evdev_called}
+use Rattle.inp_model.proofs.Told.{evdev_called}
 use Rattle.inp_device.specs.Device.{plain_view}
 use Rattle.inp_device.proofs.device.DeviceEvdev.call.Goals as goal
 

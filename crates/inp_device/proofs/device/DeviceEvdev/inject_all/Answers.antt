@@ -1,4 +1,4 @@
-use Rattle.inp_model.proofs.Injecting.{evdev_injected}
+use Rattle.inp_model.proofs.Injection.{evdev_injected}
 use Rattle.inp_device.specs.Device.{plain_view}
 use Rattle.inp_device.proofs.device.DeviceEvdev.inject_all.Goals as goal
 

@@ -6,8 +6,8 @@ use Rattle.inp_client.specs.Read.{clients_on}
 use Rattle.inp_client.proofs.OnClock.{without_client-on}
 use Rattle.inp_device.proofs.Calls.{clients_after-close}
 use Rattle.inp_device.proofs.StandsAfterStep.{holder-close}
-use Rattle.inp_device.proofs.Making.{made_call, called, named_there}
-use Rattle.inp_device.proofs.Growing.{stored_fewer}
+use Rattle.inp_device.proofs.StepParts.{made_call, called, named_there}
+use Rattle.inp_device.proofs.Growth.{stored_fewer}
 use Rattle.inp_device.proofs.present.Present.close.Goals as goal
 
 pub close-requires : goal.close-requires

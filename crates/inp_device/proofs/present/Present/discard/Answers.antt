@@ -1,8 +1,8 @@
 use Rattle.std.proofs.Common.{refl, ◌∙◌}
 use Rattle.inp_model.specs.declared.step.Step.TheVariants.{Discard}
 use Rattle.inp_client.proofs.OnClock.{on_take}
-use Rattle.inp_device.proofs.Making.{call_on_clock, named_there, made_alone, called, clients_discarded, discarded_at, holder_same}
-use Rattle.inp_device.proofs.Growing.{stored_none_new}
+use Rattle.inp_device.proofs.StepParts.{call_on_clock, named_there, made_alone, called, clients_discarded, discarded_at, holder_same}
+use Rattle.inp_device.proofs.Growth.{stored_none_new}
 use Rattle.inp_device.proofs.present.Present.discard.Goals as goal
 
 pub discard-removed-requires : goal.discard-removed-requires

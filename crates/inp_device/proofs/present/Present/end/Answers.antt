@@ -1,8 +1,8 @@
 use Rattle.std.proofs.Common.{refl}
 use Rattle.inp_model.specs.declared.step.Step.TheVariants.{End}
 use Rattle.std.proofs.Common.{arith}
-use Rattle.inp_device.proofs.Making.{made_call, stands_ended, ends_fit}
-use Rattle.inp_device.proofs.Growing.{stored_kept}
+use Rattle.inp_device.proofs.StepParts.{made_call, stands_ended, ends_fit}
+use Rattle.inp_device.proofs.Growth.{stored_kept}
 use Rattle.inp_device.proofs.present.Present.end.Goals as goal
 
 pub overflow_add-self : goal.overflow_add-self

@@ -2,7 +2,7 @@ use Rattle.std.proofs.Common.{◌≡◌, true, ap, subst}
 use Rattle.inp_model.specs.Step.{client_of}
 use Rattle.inp_client.specs.Clients.{has_client}
 use Rattle.inp_device.specs.Present.{NamesOpen}
-use Rattle.inp_device.proofs.Making.{nothing_found}
+use Rattle.inp_device.proofs.StepParts.{nothing_found}
 use Rattle.inp_device.proofs.present.Present.finds_nothing.Goals as goal
 
 pub returns-in-Read : goal.returns-in-Read

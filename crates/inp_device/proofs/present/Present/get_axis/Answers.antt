@@ -1,8 +1,8 @@
 use Rattle.std.proofs.Common.{reverse, refl}
 use Rattle.inp_model.specs.declared.step.Step.TheVariants.{GetAxis}
 use Rattle.inp_model.proofs.Allowed.{allowed, axis_code}
-use Rattle.inp_device.proofs.Making.{made_alone, called, axis_at, clients_same, holder_same}
-use Rattle.inp_device.proofs.Growing.{stored_kept}
+use Rattle.inp_device.proofs.StepParts.{made_alone, called, axis_at, clients_same, holder_same}
+use Rattle.inp_device.proofs.Growth.{stored_kept}
 use Rattle.inp_device.proofs.present.Present.get_axis.Goals as goal
 
 pub axis-requires : goal.axis-requires

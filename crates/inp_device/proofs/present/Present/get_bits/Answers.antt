@@ -1,8 +1,8 @@
 use Rattle.std.proofs.Common.{reverse, refl, ◌∙◌}
 use Rattle.inp_model.specs.Step.{Codes}
 use Rattle.inp_client.proofs.OnClock.{on_flush}
-use Rattle.inp_device.proofs.Making.{call_on_clock, IsQuery, query, kind_has_bits, kind_not_syn, named_there, made_alone, called, accepted-bits, bits_at, clients_asked, holder_same}
-use Rattle.inp_device.proofs.Growing.{stored_none_new}
+use Rattle.inp_device.proofs.StepParts.{call_on_clock, IsQuery, query, kind_has_bits, kind_not_syn, named_there, made_alone, called, accepted-bits, bits_at, clients_asked, holder_same}
+use Rattle.inp_device.proofs.Growth.{stored_none_new}
 use Rattle.inp_device.proofs.present.Present.get_bits.Goals as goal
 
 pub bits-words-requires : goal.bits-words-requires

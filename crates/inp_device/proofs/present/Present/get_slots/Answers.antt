@@ -4,8 +4,8 @@ use Rattle.std.proofs.Common.{subst}
 use Rattle.inp_model.specs.Raw.{raw}
 use Rattle.inp_slots.specs.Slots.{SlotValues, SlotsStandFor}
 use Rattle.inp_model.specs.Reply.{column, cells_answer}
-use Rattle.inp_device.proofs.Making.{made_written, called, cells_at, slots_kept, clients_same, holder_same}
-use Rattle.inp_device.proofs.Growing.{stored_kept}
+use Rattle.inp_device.proofs.StepParts.{made_written, called, cells_at, slots_kept, clients_same, holder_same}
+use Rattle.inp_device.proofs.Growth.{stored_kept}
 use Rattle.inp_device.proofs.present.Present.get_slots.Goals as goal
 
 pub write_column-requires-clause-count : goal.write_column-requires-clause-count

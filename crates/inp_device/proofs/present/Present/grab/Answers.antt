@@ -1,7 +1,7 @@
 use Rattle.std.proofs.Common.{refl}
 use Rattle.inp_model.specs.declared.step.Step.TheVariants.{Grab}
-use Rattle.inp_device.proofs.Making.{made_call, called, holder_taken, clients_same}
-use Rattle.inp_device.proofs.Growing.{stored_kept}
+use Rattle.inp_device.proofs.StepParts.{made_call, called, holder_taken, clients_same}
+use Rattle.inp_device.proofs.Growth.{stored_kept}
 use Rattle.inp_device.proofs.present.Present.grab.Goals as goal
 
 pub returns : goal.returns

@@ -1,7 +1,7 @@
 use Rattle.std.proofs.Common.{◌≡◌, ℕ, Option, length, reverse, refl, ap, ◌∙◌}
 use Rattle.inp_model.specs.declared.step.Step.TheVariants.{Inject}
 use Rattle.inp_device.specs.declared.handler.Handler.{Handler}
-use Rattle.inp_device.proofs.Making.{made_frames, stored_frames}
+use Rattle.inp_device.proofs.StepParts.{made_frames, stored_frames}
 use Rattle.inp_device.proofs.present.Present.inject.Goals as goal
 
 -- the frames that come are those of the step

@@ -1,5 +1,5 @@
 use Rattle.std.proofs.Common.{sym, ◌∙◌}
-use Rattle.inp_device.proofs.Making.{bad_client}
+use Rattle.inp_device.proofs.StepParts.{bad_client}
 use Rattle.inp_device.proofs.present.Present.is_bad_client.Goals as goal
 
 pub returns-in-Some-clause-exact : goal.returns-in-Some-clause-exact

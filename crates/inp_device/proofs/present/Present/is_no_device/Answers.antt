@@ -1,7 +1,7 @@
 use Rattle.std.proofs.Common.{◌≡◌, true, sym, subst, ◌∙◌}
 use Rattle.inp_client.specs.Clients.{has_client}
 use Rattle.inp_device.specs.Present.{NamesOpen}
-use Rattle.inp_device.proofs.Making.{no_device}
+use Rattle.inp_device.proofs.StepParts.{no_device}
 use Rattle.inp_device.proofs.present.Present.is_no_device.Goals as goal
 
 pub returns-in-Some : goal.returns-in-Some

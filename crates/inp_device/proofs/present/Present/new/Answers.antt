@@ -1,7 +1,7 @@
 use Rattle.std.proofs.Common.{refl, ap}
 use Rattle.inp_handles.specs.Handles.{HandleState}
 use Rattle.inp_client.specs.Numbers.{stored_of}
-use Rattle.inp_device.proofs.Making.{stands_first}
+use Rattle.inp_device.proofs.StepParts.{stands_first}
 use Rattle.inp_device.proofs.present.Present.new.Goals as goal
 
 pub returns : goal.returns

@@ -1,9 +1,9 @@
 use Rattle.std.proofs.Common.{reverse, refl, ap}
 use Rattle.inp_model.specs.declared.step.Step.TheVariants.{Open}
 use Rattle.std.proofs.Common.{arith}
-use Rattle.inp_device.proofs.Making.{opens_unused, opens_fit, made_open, stands_same}
+use Rattle.inp_device.proofs.StepParts.{opens_unused, opens_fit, made_open, stands_same}
 use Rattle.inp_client.specs.Numbers.{stored_of}
-use Rattle.inp_device.proofs.Growing.{stored_same}
+use Rattle.inp_device.proofs.Growth.{stored_same}
 use Rattle.inp_device.proofs.present.Present.open.Goals as goal
 
 pub open-requires-clause-unused : goal.open-requires-clause-unused

@@ -1,8 +1,8 @@
 use Rattle.std.proofs.Common.{refl, ◌∙◌}
 use Rattle.inp_model.specs.declared.step.Step.TheVariants.{Read}
 use Rattle.inp_client.proofs.OnClock.{on_take}
-use Rattle.inp_device.proofs.Making.{call_on_clock, named_there, made_written, called, accepted-read, clients_read, holder_same}
-use Rattle.inp_device.proofs.Growing.{stored_none_new}
+use Rattle.inp_device.proofs.StepParts.{call_on_clock, named_there, made_written, called, accepted-read, clients_read, holder_same}
+use Rattle.inp_device.proofs.Growth.{stored_none_new}
 use Rattle.inp_device.proofs.present.Present.read.Goals as goal
 
 pub take-taken-requires-clause-open : goal.take-taken-requires-clause-open

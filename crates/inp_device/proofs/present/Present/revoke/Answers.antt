@@ -5,8 +5,8 @@ use Rattle.inp_client.specs.Client.{after_revoke}
 use Rattle.inp_client.specs.Clients.{map_client}
 use Rattle.inp_device.proofs.Calls.{clients_after-revoke}
 use Rattle.inp_device.proofs.StandsAfterStep.{holder-revoke}
-use Rattle.inp_device.proofs.Making.{call_on_clock, made_call, called, named_there}
-use Rattle.inp_device.proofs.Growing.{stored_rings}
+use Rattle.inp_device.proofs.StepParts.{call_on_clock, made_call, called, named_there}
+use Rattle.inp_device.proofs.Growth.{stored_rings}
 use Rattle.inp_device.proofs.present.Present.revoke.Goals as goal
 
 pub revoke-requires : goal.revoke-requires

@@ -1,8 +1,8 @@
 use Rattle.std.proofs.Common.{reverse, refl}
 use Rattle.inp_model.specs.declared.step.Step.TheVariants.{SetAxis}
 use Rattle.inp_model.proofs.Allowed.{allowed, set_axis_code}
-use Rattle.inp_device.proofs.Making.{made_call, stands_in_core}
-use Rattle.inp_device.proofs.Growing.{stored_kept}
+use Rattle.inp_device.proofs.StepParts.{made_call, stands_in_core}
+use Rattle.inp_device.proofs.Growth.{stored_kept}
 use Rattle.inp_device.proofs.present.Present.set_axis.Goals as goal
 
 pub describe-requires : goal.describe-requires

@@ -5,8 +5,8 @@ use Rattle.inp_client.specs.Read.{read_after_clock}
 use Rattle.inp_client.proofs.OnClock.{on_clock}
 use Rattle.inp_client.specs.Clients.{map_client}
 use Rattle.inp_device.proofs.Calls.{clients_after-clock}
-use Rattle.inp_device.proofs.Making.{shown, call_on_clock, made_call, called, named_there, holder_same}
-use Rattle.inp_device.proofs.Growing.{stored_one}
+use Rattle.inp_device.proofs.StepParts.{shown, call_on_clock, made_call, called, named_there, holder_same}
+use Rattle.inp_device.proofs.Growth.{stored_one}
 use Rattle.inp_device.proofs.present.Present.set_clock.Goals as goal
 
 pub set_clock-requires-clause-open : goal.set_clock-requires-clause-open

@@ -6,8 +6,8 @@ use Rattle.inp_client.specs.Client.{after_mask}
 use Rattle.inp_client.specs.Clients.{map_client}
 use Rattle.inp_model.proofs.Allowed.{allowed, mask_kind, mask_word}
 use Rattle.inp_device.proofs.Calls.{clients_after-mask}
-use Rattle.inp_device.proofs.Making.{call_on_clock, made_call, called, named_there, holder_same}
-use Rattle.inp_device.proofs.Growing.{stored_rings}
+use Rattle.inp_device.proofs.StepParts.{call_on_clock, made_call, called, named_there, holder_same}
+use Rattle.inp_device.proofs.Growth.{stored_rings}
 use Rattle.inp_device.proofs.present.Present.set_mask.Goals as goal
 
 pub set_mask-requires-clause-open : goal.set_mask-requires-clause-open

@@ -7,8 +7,8 @@ use Rattle.inp_model.specs.Raw.{raw}
 use Rattle.inp_slots.specs.Slots.{SlotValues, SlotsStandFor}
 use Rattle.inp_model.specs.Reply.{rows, cells_answer}
 use Rattle.inp_client.proofs.OnClock.{on_flush}
-use Rattle.inp_device.proofs.Making.{call_on_clock, named_there, made_written, called, cells_at, slots_kept, clients_asked, holder_same}
-use Rattle.inp_device.proofs.Growing.{stored_none_new}
+use Rattle.inp_device.proofs.StepParts.{call_on_clock, named_there, made_written, called, cells_at, slots_kept, clients_asked, holder_same}
+use Rattle.inp_device.proofs.Growth.{stored_none_new}
 use Rattle.inp_device.proofs.present.Present.sync_slots.Goals as goal
 
 pub flush_slots-requires : goal.flush_slots-requires

@@ -1,7 +1,7 @@
 use Rattle.std.proofs.Common.{reverse, refl}
 use Rattle.inp_model.specs.declared.step.Step.TheVariants.{Uninhibit}
-use Rattle.inp_device.proofs.Making.{made_call, stands_in_core}
-use Rattle.inp_device.proofs.Growing.{stored_kept}
+use Rattle.inp_device.proofs.StepParts.{made_call, stands_in_core}
+use Rattle.inp_device.proofs.Growth.{stored_kept}
 use Rattle.inp_device.proofs.present.Present.uninhibit.Goals as goal
 
 pub returns : goal.returns

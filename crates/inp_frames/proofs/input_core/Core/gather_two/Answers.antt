@@ -1,6 +1,6 @@
 use Rattle.std.proofs.Common.{[], ◌∷◌}
 use Rattle.inp_model.specs.RawItem.{Occurred}
-use Rattle.inp_frames.proofs.Handling.{Handles-append}
+use Rattle.inp_frames.proofs.HandledEvents.{Handles-append}
 use Rattle.inp_frames.proofs.input_core.Core.gather_two.Goals as goal
 
 pub returns-clause-handled : goal.returns-clause-handled

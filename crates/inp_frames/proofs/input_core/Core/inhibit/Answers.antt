@@ -3,7 +3,7 @@ use Rattle.inp_model.specs.declared.event.Event.{Event}
 use Rattle.inp_model.specs.declared.step.Step.TheVariants.{Inhibit}
 use Rattle.inp_model.specs.Raw.{raw, releases}
 use Rattle.inp_frames.specs.Core.{CoreValues, IsEntered}
-use Rattle.inp_frames.proofs.Entering.{enters-inhibit, stays-inhibited}
+use Rattle.inp_frames.proofs.EnteredSteps.{enters-inhibit, stays-inhibited}
 use Rattle.inp_frames.proofs.input_core.Core.inhibit.Goals as goal
 
 pub returns-else-not-self-clause-enters : goal.returns-else-not-self-clause-enters

@@ -2,8 +2,8 @@ use Rattle.std.proofs.Common.{◌≡◌, Bool, false, true, if◌then◌else◌,
 use Rattle.inp_model.specs.declared.event.Event.{Event}
 use Rattle.inp_model.specs.Raw.{raw}
 use Rattle.inp_frames.specs.Core.{CoreValues}
-use Rattle.inp_frames.proofs.Handling.{Handles-none}
-use Rattle.inp_frames.proofs.Entering.{enters-inject, enters-write}
+use Rattle.inp_frames.proofs.HandledEvents.{Handles-none}
+use Rattle.inp_frames.proofs.EnteredSteps.{enters-inject, enters-write}
 use Rattle.inp_frames.proofs.input_core.Core.inject.Goals as goal
 
 -- the raw events that the event stands for: none while the device is inhibited, and else itself

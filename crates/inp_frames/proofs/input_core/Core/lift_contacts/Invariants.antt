@@ -4,7 +4,7 @@ use Rattle.std.specs.List.{All}
 use Rattle.inp_bits.specs.Bits.{true_indices}
 use Rattle.inp_model.specs.RawItem.{RawItem}
 use Rattle.inp_frames.specs.Core.{IsFor, StandsAfter}
-use Rattle.inp_frames.specs.Handling.{Handles, lift_events}
+use Rattle.inp_frames.specs.HandledEvents.{Handles, lift_events}
 use Rattle.inp_frames.proofs.input_core.Core.lift_contacts.Given as goal
 
 abbrev pub invariant-loop-slot : goal.invariant-loop-slot

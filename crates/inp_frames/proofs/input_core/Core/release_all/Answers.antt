@@ -8,9 +8,9 @@ use Rattle.inp_model.specs.Raw.{has_contact}
 use Rattle.inp_bits.specs.Bits.{is_on_at, true_indices}
 use Rattle.inp_frames.specs.Core.{StandsAfter}
 use Rattle.inp_frames.specs.contracts.input_core.Core.{the_view}
-use Rattle.inp_frames.specs.Handling.{Handles, lift_events, release_events}
-use Rattle.inp_frames.proofs.Handling.{Handles-append}
-use Rattle.inp_frames.proofs.Releasing.{releases-by}
+use Rattle.inp_frames.specs.HandledEvents.{Handles, lift_events, release_events}
+use Rattle.inp_frames.proofs.HandledEvents.{Handles-append}
+use Rattle.inp_frames.proofs.Releases.{releases-by}
 use Rattle.inp_frames.proofs.input_core.Core.release_all.Goals as goal
 
 pub returns-clause-handled : goal.returns-clause-handled

@@ -5,9 +5,9 @@ use Rattle.inp_model.specs.declared.event.Event.{Event}
 use Rattle.inp_model.specs.RawItem.{Occurred}
 use Rattle.inp_model.specs.Cut.{raw_after}
 use Rattle.inp_bits.specs.Bits.{true_indices}
-use Rattle.inp_frames.specs.Handling.{Handles, release_events}
-use Rattle.inp_frames.proofs.Handling.{Handles-none, Handles-append}
-use Rattle.inp_frames.proofs.Releasing.{below-rest, whole-more, flat_map-more}
+use Rattle.inp_frames.specs.HandledEvents.{Handles, release_events}
+use Rattle.inp_frames.proofs.HandledEvents.{Handles-none, Handles-append}
+use Rattle.inp_frames.proofs.Releases.{below-rest, whole-more, flat_map-more}
 use Rattle.inp_frames.proofs.input_core.Core.release_keys.Goals as goal
 
 pub loop-key-init : goal.loop-key-init

@@ -1,7 +1,7 @@
 use Rattle.std.proofs.Common.{[], ◌∷◌, sym, ap, ◌∙◌}
 use Rattle.inp_model.specs.declared.event.Event.{Event}
 use Rattle.inp_model.specs.Raw.{raw, key_event}
-use Rattle.inp_frames.proofs.Entering.{tick-waits, tick-disarms, tick-fires, begins}
+use Rattle.inp_frames.proofs.EnteredSteps.{tick-waits, tick-disarms, tick-fires, begins}
 use Rattle.inp_frames.proofs.input_core.Core.tick.Goals as goal
 
 pub returns-then-not-is_due-clause-enters : goal.returns-then-not-is_due-clause-enters

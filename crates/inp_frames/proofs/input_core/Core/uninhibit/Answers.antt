@@ -1,7 +1,7 @@
 use Rattle.std.proofs.Common.{sym, subst}
 use Rattle.inp_frames.specs.Core.{CoreStandsFor}
 use Rattle.inp_frames.specs.contracts.input_core.Core.{the_view}
-use Rattle.inp_frames.proofs.Keeping.{CoreStandsFor-uninhibit}
+use Rattle.inp_frames.proofs.KeptCore.{CoreStandsFor-uninhibit}
 use Rattle.inp_frames.proofs.input_core.Core.uninhibit.Goals as goal
 
 pub returns-clause-stands : goal.returns-clause-stands

@@ -1,5 +1,5 @@
 use Rattle.std.proofs.Common.{◌+◌, length, ap, ◌∙◌, arith}
-use Rattle.inp_reader.specs.Reading.{Reading}
+use Rattle.inp_reader.specs.Reader.{Reading}
 use Rattle.inp_joy.proofs.NewJoys.{new-joy}
 use Rattle.inp_joy.proofs.joy.Joy.new.Goals as goal
 

@@ -5,10 +5,10 @@ use Rattle.inp_reader.specs.Says.{Says}
 use Rattle.inp_reader.proofs.TalkResults.{start-kept}
 use Rattle.inp_joy.specs.declared.joy_state.JoyState.{JoyState}
 use Rattle.inp_joy.specs.Codes.{startup_len}
-use Rattle.inp_joy.specs.Joying.{joy_start, with_reading, joying_after_start}
+use Rattle.inp_joy.specs.Joy.{joy_start, with_reading, joying_after_start}
 use Rattle.inp_joy.specs.Kept.{kept_joying, IsJoyState}
 use Rattle.inp_joy.proofs.Nexts.{start-left}
-use Rattle.inp_joy.proofs.Turning.{says-started}
+use Rattle.inp_joy.proofs.TurnParts.{says-started}
 use Rattle.inp_joy.proofs.TurnEnds.{start-pictured}
 use Rattle.inp_joy.proofs.joy_state.JoyState.start.Goals as goal
 

@@ -2,12 +2,12 @@ use Rattle.std.proofs.Common.{List, sym, ap, subst}
 use Rattle.inp_reader.specs.declared.call_made.CallMade.{CallMade}
 use Rattle.inp_reader.specs.Says.{Says}
 use Rattle.inp_joy.specs.declared.joy_state.JoyState.{JoyState}
-use Rattle.inp_joy.specs.Joying.{sync_turn, goes_on}
+use Rattle.inp_joy.specs.Joy.{sync_turn, goes_on}
 use Rattle.inp_joy.specs.Kept.{kept_joying, ReaderCalls}
 use Rattle.inp_joy.proofs.ReaderCalls.{calls-weaker}
 use Rattle.inp_joy.proofs.LessToDo.{stop-less}
 use Rattle.inp_joy.proofs.Outcomes.{sync-shows}
-use Rattle.inp_joy.proofs.Turning.{says-sync_stopped, says-sync_whole}
+use Rattle.inp_joy.proofs.TurnParts.{says-sync_stopped, says-sync_whole}
 use Rattle.inp_joy.proofs.joy_state.JoyState.synchronise.Goals as goal
 
 pub returns-in-Some-clause-says : goal.returns-in-Some-clause-says

@@ -2,12 +2,12 @@ use Rattle.std.proofs.Common.{refl, ◌≡◌, List, length, false, true, ◌∙
 use Rattle.inp_model.specs.Description.{Description}
 use Rattle.inp_reader.specs.declared.call_made.CallMade.{CallMade}
 use Rattle.inp_reader.specs.Says.{Says}
-use Rattle.inp_joy.specs.Joying.{turn_talk}
+use Rattle.inp_joy.specs.Joy.{turn_talk}
 use Rattle.inp_joy.specs.Kept.{kept_joying, IsJoyState, turn_of_end, is_end, ReaderCalls, TurnEndPictures}
 use Rattle.inp_joy.specs.Reads.{IsPictured}
 use Rattle.inp_joy.proofs.ReaderCalls.{calls-none, calls-then, calls-weaker}
 use Rattle.inp_joy.proofs.LessToDo.{less-then}
-use Rattle.inp_joy.proofs.Passing.{passed-none, passed-more, passed-last, on-less, on-short, on-agains}
+use Rattle.inp_joy.proofs.ReadTurns.{passed-none, passed-more, passed-last, on-less, on-short, on-agains}
 use Rattle.inp_joy.proofs.joy_state.JoyState.take_turns.Goals as goal
 
 pub loop-outcome-init : goal.loop-outcome-init

@@ -1,9 +1,9 @@
 use Rattle.std.proofs.Common.{◌≡◌, ◌≤◌, ◌<◌, true, [], length}
 use Rattle.inp_reader.specs.Effort.{effort}
-use Rattle.inp_joy.specs.Joying.{is_startup_over}
+use Rattle.inp_joy.specs.Joy.{is_startup_over}
 use Rattle.inp_joy.specs.Kept.{kept_joying, IsJoyState, ReaderCalls}
 use Rattle.inp_joy.specs.Reads.{IsPictured}
-use Rattle.inp_joy.proofs.Passing.{Passed}
+use Rattle.inp_joy.proofs.ReadTurns.{Passed}
 use Rattle.inp_joy.proofs.joy_state.JoyState.take_turns.Given as goal
 
 abbrev pub invariant-loop-outcome : goal.invariant-loop-outcome

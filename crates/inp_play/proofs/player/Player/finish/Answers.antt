@@ -4,12 +4,12 @@ use Rattle.std.proofs.lemmas.Iterator.Adapters.{YieldsList-from_vec}
 use Rattle.std.proofs.lemmas.Iterator.Consumers.{YieldsList-end, YieldsList-turn}
 use Rattle.std.proofs.lemmas.List.{map-id}
 use Rattle.inp_actors.specs.declared.actor_text.ActorText.{ActorText}
-use Rattle.inp_script.specs.declared.ended.Ended.{Ended}
+use Rattle.inp_script.specs.declared.end.ended.Ended.{Ended}
 use Rattle.inp_script.specs.declared.run.DeviceRun.{DeviceRun}
 use Rattle.inp_script.specs.Ended.{ended_of, played_of}
 use Rattle.inp_script.specs.Job.{ActorView}
-use Rattle.inp_order.specs.Play.{runs_of}
-use Rattle.inp_play.specs.Gathering.{actor_of, all_ends, run_with, HasEndMore}
+use Rattle.inp_runs.specs.Play.{runs_of}
+use Rattle.inp_play.specs.GatheredRuns.{actor_of, all_ends, run_with, HasEndMore}
 use Rattle.inp_play.specs.Player.{stage_of, stage_with}
 use Rattle.inp_play.proofs.Gathered.{IsNext, is_next, next-actor, next-device, no_ends, one_more_end, ended-number, runs_gathered}
 use Rattle.inp_play.proofs.player.Player.finish.Goals as goal

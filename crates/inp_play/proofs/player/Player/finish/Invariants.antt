@@ -1,5 +1,5 @@
 use Rattle.std.proofs.Common.{◌≡◌}
-use Rattle.inp_play.specs.Gathering.{all_ends}
+use Rattle.inp_play.specs.GatheredRuns.{all_ends}
 use Rattle.inp_play.specs.Player.{stage_with}
 use Rattle.inp_play.proofs.player.Player.finish.Given as goal
 

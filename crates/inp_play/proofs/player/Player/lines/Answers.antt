@@ -7,10 +7,10 @@ use Rattle.inp_actors.specs.declared.actor_text.ActorText.{ActorText}
 use Rattle.inp_actors.specs.declared.line.Line.{Line}
 use Rattle.inp_actors.specs.declared.role.Role.TheVariants.{Source}
 use Rattle.inp_actors.specs.Record.{RecordView}
-use Rattle.inp_script.specs.Doing.{Holds, inject_talk}
+use Rattle.inp_script.specs.DoneLine.{Holds, inject_talk}
 use Rattle.inp_script.specs.Job.{ActorView}
 use Rattle.inp_uinput.specs.UdevView.{UdevView, owned_view}
-use Rattle.inp_order.specs.Play.{after_lines}
+use Rattle.inp_runs.specs.Play.{after_lines}
 use Rattle.inp_play.specs.declared.player.Player.{Player}
 use Rattle.inp_play.specs.Player.{stage_of, stage_with, HasDevices, HasActors}
 use Rattle.inp_play.specs.Run.{inject_line}

@@ -1,6 +1,6 @@
 use Rattle.std.proofs.Common.{◌≤◌, ◌+◌, ◌-◌, length}
 use Rattle.std.specs.Prelude.{Ok}
-use Rattle.inp_reader.specs.Reading.{ask_each, axis_queries, axes_among}
+use Rattle.inp_reader.specs.Reader.{ask_each, axis_queries, axes_among}
 use Rattle.inp_reader.specs.Says.{Says}
 use Rattle.inp_reader.specs.Session.{IsReady}
 use Rattle.inp_reader.proofs.asker.Asker.query_axes.Given as goal

@@ -1,5 +1,5 @@
 use Rattle.std.proofs.Common.{◌∙◌, arith, refl}
-use Rattle.inp_reader.proofs.Synthesising.{taken-none, taken-more}
+use Rattle.inp_reader.proofs.SynthesisedEvents.{taken-none, taken-more}
 use Rattle.inp_reader.proofs.event_list.EventList.apply.Goals as goal
 
 pub loop-index-init : goal.loop-index-init

@@ -3,7 +3,7 @@ use Rattle.inp_model.specs.declared.event.Event.{Event}
 use Rattle.inp_model.specs.Event.{slot_event}
 use Rattle.inp_recon.specs.View.{view_after_events}
 use Rattle.inp_reader.specs.Synthesis.{with_report, unless_same, class_changes, slot_changes, lifts}
-use Rattle.inp_reader.proofs.Synthesising.{IsFilled, length-with_report, group_behind, filled}
+use Rattle.inp_reader.proofs.SynthesisedEvents.{IsFilled, length-with_report, group_behind, filled}
 use Rattle.inp_reader.proofs.event_list.EventList.fill.Goals as goal
 
 pub apply-requires-clause-within : goal.apply-requires-clause-within

@@ -4,7 +4,7 @@ use Rattle.inp_model.specs.declared.event.Event.{Event}
 use Rattle.inp_reader.specs.Synthesis.{where_below, axis_changes, differs_at, axis_event, value_at}
 use Rattle.std.proofs.lemmas.List.{length-map}
 use Rattle.inp_reader.proofs.Counts.{length-where_below_least}
-use Rattle.inp_reader.proofs.Synthesising.{events-more}
+use Rattle.inp_reader.proofs.SynthesisedEvents.{events-more}
 use Rattle.inp_reader.proofs.event_list.EventList.push_axes.Goals as goal
 
 pub loop-code-preserved : goal.loop-code-preserved

@@ -1,6 +1,6 @@
 use Rattle.std.proofs.Common.{rules, ◌≡◌, ◌∙◌, arith, false, true}
 use Rattle.inp_reader.specs.Synthesis.{is_changed, changes_in}
-use Rattle.inp_reader.proofs.Synthesising.{IsWalked-skip, IsWalked-next}
+use Rattle.inp_reader.proofs.SynthesisedEvents.{IsWalked-skip, IsWalked-next}
 use Rattle.inp_reader.proofs.event_list.EventList.push_cells.Goals as goal
 
 pub loop-slot-preserved-then-not-is_changed : goal.loop-slot-preserved-then-not-is_changed

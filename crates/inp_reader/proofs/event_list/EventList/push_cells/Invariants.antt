@@ -1,6 +1,6 @@
 use Rattle.std.proofs.Common.{◌≡◌, ◌≤◌, ◌+◌, ◌*◌, length}
 use Rattle.inp_reader.specs.Synthesis.{is_changed, changes_in}
-use Rattle.inp_reader.proofs.Synthesising.{IsWalked}
+use Rattle.inp_reader.proofs.SynthesisedEvents.{IsWalked}
 use Rattle.inp_reader.proofs.event_list.EventList.push_cells.Given as goal
 
 abbrev pub invariant-loop-slot : goal.invariant-loop-slot

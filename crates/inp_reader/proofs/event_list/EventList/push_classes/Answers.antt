@@ -1,6 +1,6 @@
 use Rattle.std.proofs.Common.{arith}
 use Rattle.inp_reader.proofs.Counts.{length-classes}
-use Rattle.inp_reader.proofs.Synthesising.{four-parts}
+use Rattle.inp_reader.proofs.SynthesisedEvents.{four-parts}
 use Rattle.inp_reader.proofs.event_list.EventList.push_classes.Goals as goal
 
 pub returns-clause-pushed : goal.returns-clause-pushed

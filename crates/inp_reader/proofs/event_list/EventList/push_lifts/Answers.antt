@@ -1,7 +1,7 @@
 use Rattle.std.proofs.Common.{rules, ◌≡◌, ◌∙◌, ◌++◌, [], ◌∷◌, ap, arith, false, true}
 use Rattle.inp_model.specs.declared.event.Event.{Event}
 use Rattle.inp_reader.specs.Synthesis.{is_replaced, lift}
-use Rattle.inp_reader.proofs.Synthesising.{IsWalked-skip, IsWalked-next}
+use Rattle.inp_reader.proofs.SynthesisedEvents.{IsWalked-skip, IsWalked-next}
 use Rattle.inp_reader.proofs.event_list.EventList.push_lifts.Goals as goal
 
 pub loop-slot-preserved-then-not-is_replaced : goal.loop-slot-preserved-then-not-is_replaced

@@ -3,7 +3,7 @@ use Rattle.std.specs.Ordering.{int_eq}
 use Rattle.inp_model.specs.declared.event.Event.{Event}
 use Rattle.inp_recon.specs.Cells.{cell_of}
 use Rattle.inp_reader.specs.Synthesis.{cell_event, cells_differ}
-use Rattle.inp_reader.proofs.Synthesising.{passing, events-next}
+use Rattle.inp_reader.proofs.SynthesisedEvents.{passing, events-next}
 use Rattle.inp_reader.proofs.event_list.EventList.push_slot.Goals as goal
 
 pub loop-code-preserved : goal.loop-code-preserved

@@ -1,6 +1,6 @@
 use Rattle.std.proofs.Common.{◌≡◌, ◌≤◌, ◌+◌, ◌-◌, ◌++◌, length, map}
 use Rattle.inp_reader.specs.Synthesis.{cell_event, cells_differ}
-use Rattle.inp_reader.proofs.Synthesising.{passing}
+use Rattle.inp_reader.proofs.SynthesisedEvents.{passing}
 use Rattle.inp_reader.proofs.event_list.EventList.push_slot.Given as goal
 
 abbrev pub invariant-loop-code : goal.invariant-loop-code

@@ -1,8 +1,8 @@
 use Rattle.std.proofs.Common.{ap, sym, subst, ◌∙◌, ◌≡◌, false, arith, length}
 use Rattle.inp_reader.specs.Effort.{effort, IsLess, is_idle}
-use Rattle.inp_reader.specs.Reading.{ReaderView}
+use Rattle.inp_reader.specs.Reader.{ReaderView}
 use Rattle.inp_reader.specs.Session.{reading_of}
-use Rattle.inp_reader.specs.Standing.{Stands}
+use Rattle.inp_reader.specs.ReaderPlace.{Stands}
 use Rattle.inp_reader.proofs.TalksKeepSpare.{says-keeps_next}
 use Rattle.inp_reader.proofs.StandsByCalls.{next-stands, next-shows}
 use Rattle.inp_reader.proofs.LeftByCalls.{says-anew, says-left}

@@ -1,9 +1,9 @@
 use Rattle.std.proofs.Common.{◌≡◌, ap, sym, subst, ◌∙◌, arith, length}
 use Rattle.std.specs.Prelude.{IfSome}
-use Rattle.inp_reader.specs.Reading.{ReaderView}
+use Rattle.inp_reader.specs.Reader.{ReaderView}
 use Rattle.inp_reader.specs.Session.{reading_of}
-use Rattle.inp_reader.specs.Standing.{Stands}
-use Rattle.inp_reader.specs.Starting.{client_opened, after_refused_query}
+use Rattle.inp_reader.specs.ReaderPlace.{Stands}
+use Rattle.inp_reader.specs.FailedStart.{client_opened, after_refused_query}
 use Rattle.inp_reader.proofs.RefusedStarts.{says-open_refused, says-query_refused}
 use Rattle.inp_reader.proofs.TalksKeepSpare.{says-keeps_start}
 use Rattle.inp_reader.proofs.StandsByCalls.{start-opens, start-stands}

@@ -1,10 +1,10 @@
 use Rattle.std.proofs.Common.{◌∙◌, List, sym, ap, subst, length, reverse, arith}
 use Rattle.inp_model.specs.declared.step.Step.{Step}
 use Rattle.inp_reader.specs.declared.asker.Asker.{Asker}
-use Rattle.inp_reader.specs.Reading.{Reading, ReaderView}
+use Rattle.inp_reader.specs.Reader.{Reading, ReaderView}
 use Rattle.inp_reader.specs.Session.{reading_of}
 use Rattle.inp_reader.specs.Spare.{HasSpare}
-use Rattle.inp_reader.specs.Standing.{StandsAt}
+use Rattle.inp_reader.specs.ReaderPlace.{StandsAt}
 use Rattle.inp_reader.proofs.RunsStand.{keeps-run, stands-run}
 use Rattle.inp_reader.proofs.reader.Reader.take_queued.Goals as goal
 

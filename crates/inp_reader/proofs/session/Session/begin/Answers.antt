@@ -1,4 +1,4 @@
-use Rattle.inp_reader.specs.Reading.{queries}
+use Rattle.inp_reader.specs.Reader.{queries}
 use Rattle.inp_reader.specs.Session.{reading_of}
 use Rattle.inp_reader.proofs.SaysSessions.{says-view, says-begun, says-begun_in_part}
 use Rattle.inp_reader.proofs.session.Session.begin.Goals as goal

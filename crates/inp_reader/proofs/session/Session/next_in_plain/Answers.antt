@@ -1,6 +1,6 @@
 use Rattle.std.proofs.Common.{ap, refl}
 use Rattle.inp_reader.specs.declared.mode.Mode.{Mode}
-use Rattle.inp_reader.specs.Reading.{plain_talk}
+use Rattle.inp_reader.specs.Reader.{plain_talk}
 use Rattle.inp_reader.specs.Session.{reading_of}
 use Rattle.inp_reader.proofs.SaysSessions.{says-still}
 use Rattle.inp_reader.proofs.session.Session.next_in_plain.Goals as goal

@@ -4,12 +4,12 @@ use Rattle.std.specs.List.{slice_get}
 use Rattle.std.proofs.lemmas.Result.{on_ok_weaker}
 use Rattle.inp_actors.specs.declared.line.Line.{Line}
 use Rattle.inp_actors.specs.declared.role.Role.TheVariants.{Owner as OwnerRole}
-use Rattle.inp_script.specs.declared.role_state.RoleState.{RoleState}
-use Rattle.inp_script.specs.declared.role_state.RoleState.TheVariants.{Owner}
-use Rattle.inp_script.specs.Doing.{IsCommandFor}
+use Rattle.inp_script.specs.declared.role.state.RoleState.{RoleState}
+use Rattle.inp_script.specs.declared.role.state.RoleState.TheVariants.{Owner}
+use Rattle.inp_script.specs.DoneLine.{IsCommandFor}
 use Rattle.inp_script.specs.Job.{ActorView, Job}
 use Rattle.inp_script.specs.RoleState.{role_of, role_description, job_in, owning_in, owning_of}
-use Rattle.inp_script.proofs.Acting.{caller-of, owns-done, owns-begun, calls-done, calls-begun, still-actor}
+use Rattle.inp_script.proofs.ActorLines.{caller-of, owns-done, owns-begun, calls-done, calls-begun, still-actor}
 use Rattle.inp_script.proofs.LinesDone.{command-of}
 use Rattle.inp_script.proofs.actor.Actor.act.Goals as goal
 

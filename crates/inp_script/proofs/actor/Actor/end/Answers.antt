@@ -1,11 +1,11 @@
 use Rattle.std.proofs.Common.{◌∙◌, sym, ap, subst, rules}
 use Rattle.std.specs.Prelude.{Some, is_some}
 use Rattle.inp_model.proofs.Leaves.{left-none, left-one}
-use Rattle.inp_script.specs.Doing.{Begins, Holds}
+use Rattle.inp_script.specs.DoneLine.{Begins, Holds}
 use Rattle.inp_script.specs.Job.{Job, ActorView}
 use Rattle.inp_script.specs.Line.{end_talk}
 use Rattle.inp_script.specs.RoleState.{role_reading, stick_of, job_in}
-use Rattle.inp_script.proofs.Holding.{begins-none}
+use Rattle.inp_script.proofs.TalkCalls.{begins-none}
 use Rattle.inp_script.proofs.Lines.{ends-nothing, ends-noted, ends-begun}
 use Rattle.inp_script.proofs.LinesDone.{end-done}
 use Rattle.inp_script.proofs.actor.Actor.end.Goals as goal

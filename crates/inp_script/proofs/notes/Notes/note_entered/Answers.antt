@@ -6,7 +6,7 @@ use Rattle.inp_model.specs.declared.stamped.Stamped.{Stamped}
 use Rattle.inp_model.specs.declared.step.Step.{Step}
 use Rattle.inp_script.specs.declared.notes.Notes.{Notes}
 use Rattle.inp_script.specs.declared.sight.Sight.TheVariants.{Call}
-use Rattle.inp_script.specs.Noting.{notes_after, entered_calls}
+use Rattle.inp_script.specs.Notes.{notes_after, entered_calls}
 use Rattle.inp_script.proofs.Batches.{no_stamped, entered-more}
 use Rattle.inp_script.proofs.notes.Notes.note_entered.Goals as goal
 

@@ -1,5 +1,5 @@
 use Rattle.std.proofs.Common.{◌≡◌, ◌+◌, take}
-use Rattle.inp_script.specs.Noting.{notes_after, entered_calls}
+use Rattle.inp_script.specs.Notes.{notes_after, entered_calls}
 use Rattle.inp_script.proofs.notes.Notes.note_entered.Given as goal
 
 abbrev pub invariant-loop-stamped : goal.invariant-loop-stamped

@@ -1,7 +1,7 @@
 use Rattle.std.proofs.Common.{subst, rules}
 use Rattle.inp_turn.specs.Shared.{start_of}
 use Rattle.inp_turn.specs.Steps.{ClosesWith}
-use Rattle.inp_turn.proofs.Closing.{comes, closes}
+use Rattle.inp_turn.proofs.ClosedTurn.{comes, closes}
 use Rattle.inp_turn.proofs.shared.Shared.close.Goals as goal
 
 pub unwrap-requires : goal.unwrap-requires

@@ -1,7 +1,7 @@
 use Rattle.std.proofs.Common.{◌≡◌, ◌<◌, true, sym, ap, ◌∙◌, subst, Some, rules}
 use mathlib.Core.List.{IsPrefix}
 use Rattle.inp_turn.specs.Steps.{seat_after_give}
-use Rattle.inp_turn.proofs.Keeping.{releases}
+use Rattle.inp_turn.proofs.KeptRule.{releases}
 use Rattle.inp_turn.proofs.Seats.{in_hand, kept-give}
 use Rattle.inp_turn.proofs.shared.Shared.give.Goals as goal
 

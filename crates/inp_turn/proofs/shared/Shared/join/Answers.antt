@@ -1,6 +1,6 @@
 use Rattle.std.proofs.Common.{ℕ, List, sym, ap, subst, rules}
 use Rattle.inp_turn.specs.PassView.{AreApart}
-use Rattle.inp_turn.proofs.Keeping.{meets, unites}
+use Rattle.inp_turn.proofs.KeptRule.{meets, unites}
 use Rattle.inp_turn.proofs.shared.Shared.join.Goals as goal
 
 pub join_seat-requires : goal.join_seat-requires

@@ -1,5 +1,5 @@
 use Rattle.std.proofs.Common.{◌≡◌, [], ◌∷◌, Some, rules}
-use Rattle.inp_turn.proofs.Keeping.{opens}
+use Rattle.inp_turn.proofs.KeptRule.{opens}
 use Rattle.inp_turn.proofs.shared.Shared.new.Goals as goal
 
 pub new-requires : goal.new-requires

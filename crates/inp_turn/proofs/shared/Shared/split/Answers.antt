@@ -1,5 +1,5 @@
 use Rattle.std.proofs.Common.{rules}
-use Rattle.inp_turn.proofs.Keeping.{splits}
+use Rattle.inp_turn.proofs.KeptRule.{splits}
 use Rattle.inp_turn.proofs.shared.Shared.split.Goals as goal
 
 pub split_seat-seat-requires : goal.split_seat-seat-requires

@@ -1,6 +1,6 @@
 use Rattle.std.proofs.Common.{◌∷◌, sym, ap, ◌∙◌, Some, rules}
 use Rattle.atomic_table.specs.Table.{rest}
-use Rattle.inp_turn.proofs.Keeping.{tries}
+use Rattle.inp_turn.proofs.KeptRule.{tries}
 use Rattle.inp_turn.proofs.shared.Shared.try_take.Goals as goal
 
 pub compare_exchange-requires : goal.compare_exchange-requires

@@ -1,4 +1,4 @@
-use Rattle.inp_uinput.proofs.Serving.{udev_served}
+use Rattle.inp_uinput.proofs.ServedEntries.{udev_served}
 use Rattle.inp_uinput.proofs.kept.UdevServed.serve.Goals as goal
 
 pub returns-clause-served : goal.returns-clause-served

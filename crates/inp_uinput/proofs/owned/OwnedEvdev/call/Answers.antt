@@ -1,6 +1,6 @@
 use Rattle.std.proofs.Common.{subst}
 use Rattle.inp_model.specs.Evdev.{IsEvdevCall}
-use Rattle.inp_model.proofs.Telling.{evdev_called}
+use Rattle.inp_model.proofs.Told.{evdev_called}
 use Rattle.inp_uinput.specs.UdevView.{UdevView, device_of, owned_view}
 use Rattle.inp_uinput.proofs.Tied.{numbers-step, owned_called}
 use Rattle.inp_uinput.proofs.owned.OwnedEvdev.call.Goals as goal

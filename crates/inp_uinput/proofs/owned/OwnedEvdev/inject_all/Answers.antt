@@ -1,6 +1,6 @@
 use Rattle.std.proofs.Common.{ap, ◌∙◌, subst, reverse, take}
-use Rattle.inp_model.specs.Injecting.{IsInjectAll}
-use Rattle.inp_model.proofs.Injecting.{evdev_injected}
+use Rattle.inp_model.specs.Injection.{IsInjectAll}
+use Rattle.inp_model.proofs.Injection.{evdev_injected}
 use Rattle.inp_feedback.specs.UEntry.{steps_in}
 use Rattle.inp_uinput.specs.UdevView.{UdevView, device_of, owned_view}
 use Rattle.inp_uinput.proofs.Events.{events_entered}

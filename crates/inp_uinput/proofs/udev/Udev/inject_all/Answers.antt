@@ -3,7 +3,7 @@ use Rattle.std.specs.Prelude.{min}
 use Rattle.std.proofs.lemmas.List.{length-take, length-reverse}
 use Rattle.inp_model.specs.History.{IsHistory}
 use Rattle.inp_model.specs.Description.{Description}
-use Rattle.inp_device.proofs.Injecting.{no_stamped}
+use Rattle.inp_device.proofs.Injection.{no_stamped}
 use Rattle.inp_feedback.specs.UEntry.{steps_in, kept_after_events}
 use Rattle.inp_uinput.specs.UdevView.{UdevView}
 use Rattle.inp_feedback.proofs.Lists.{steps_in-kept_of}

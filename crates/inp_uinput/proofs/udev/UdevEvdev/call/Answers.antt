@@ -1,4 +1,4 @@
-use Rattle.inp_model.proofs.Telling.{evdev_called}
+use Rattle.inp_model.proofs.Told.{evdev_called}
 use Rattle.inp_uinput.specs.UdevView.{device_of}
 use Rattle.inp_uinput.proofs.udev.UdevEvdev.call.Goals as goal
 

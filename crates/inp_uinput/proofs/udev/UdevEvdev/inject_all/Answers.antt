@@ -1,5 +1,5 @@
 use Rattle.std.proofs.Common.{ap, ◌∙◌, reverse, take}
-use Rattle.inp_model.proofs.Injecting.{evdev_injected}
+use Rattle.inp_model.proofs.Injection.{evdev_injected}
 use Rattle.inp_feedback.specs.UEntry.{steps_in}
 use Rattle.inp_uinput.specs.UdevView.{device_of}
 use Rattle.inp_uinput.proofs.Events.{events_entered}

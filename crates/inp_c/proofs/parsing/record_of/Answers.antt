@@ -1,6 +1,0 @@
-use Rattle.std.proofs.Common.{arith}
-use Rattle.inp_record.proofs.Reading.{few_lines}
-use Rattle.inp_c.proofs.parsing.record_of.Goals as goal
-
-pub parse-requires : goal.parse-requires
-parse-requires c = record { few = omega (arith, few_lines c.args.text.now) }

@@ -1,0 +1,315 @@
+-- The number of a cell comes into one ring after the other.
+use Rattle.std.proofs.Common.{◌≡◌, ◌≢◌, ◌≤◌, ◌<◌, ℕ, suc, ◌+◌, Bool, true, false, ◌&&◌, ◌||◌, if◌then◌else◌, nat_eq, nat_lt, List, [], ◌∷◌, ◌++◌, length, map, get_or, set, Option, Some, None, IsSome, refl, sym, ap, ◌∙◌, subst, inl, inr, arith}
+use mir.Val.{bool_byte}
+use Rattle.std.proofs.lemmas.Bool.{cases_eq, cases_lt, eq-eqb, ne_eqb, cond-true, cond-false, lt-ltb, le-ltb}
+use Rattle.std.proofs.lemmas.List.{length-map, get_or-set_same, get_or-set_other, get_or-map, same_lists}
+use Rattle.std.proofs.lemmas.List.Sums.{sum_by-set, get_or-le-sum_by}
+use Rattle.std.proofs.lemmas.List.Elements.{All-push, All-cons, All-nil}
+use Rattle.slab.specs.Slab.{Slab, get, with_value}
+use Rattle.inp_model.specs.declared.stamped.TheConstants.{MOMENT_MAX}
+use Rattle.inp_model.specs.Event.{is_report}
+use Rattle.inp_model.specs.Queue.{is_empty, ends_in_report, put}
+use Rattle.inp_ring.specs.declared.cell.Cell.{Cell}
+use Rattle.inp_ring.specs.declared.cell.Held.{Held}
+use Rattle.inp_ring.specs.Store.{StoreView, held_under, cell_in, held_cell, holders, holders_of, held_by, event_of_cell, dropped_cell, HasCell, IsIdle, IsIdleSlot}
+use Rattle.inp_ring.specs.Ring.{times, cell_at, some_cell, AreFit, AreHeld, IsRing, IsMoved, IsPutAtEnd}
+use Rattle.inp_ring.proofs.Times.{once, times_push, once_same, once_other}
+use Rattle.inp_client.specs.declared.location.Location.{Location}
+use Rattle.inp_client.specs.Masks.{MaskView, admits_of}
+use Rattle.inp_client.specs.Client.{ClientView, new_client, with_events, is_offered_to}
+use Rattle.inp_client.specs.Member.{Member, ring_of, client_in, cells_in, times_in, wanted, after_event, AreStored}
+use Rattle.inp_client.specs.Locations.{client_at, clients_in, AreLocated}
+use Rattle.inp_client.specs.Numbers.{loses_event, admitted_number, IsPutBehind}
+use Rattle.inp_client.specs.Offered.{AreShared, IsEnteredTo, IsEventOffered, owing, member_at, seen_at, ring_at}
+use Rattle.inp_client.proofs.Locations.{client_at_found, located_after_write, members_after_write, members_long, member_in_location}
+use Rattle.inp_client.proofs.OtherClients.{member_held, member_timed, member_ring, spare_some, others_stay, stored_after_write}
+
+-- what is owed, said in another way
+pub stored_owed : {s : StoreView} {ms : List Member} {f : ℕ → ℕ} (g : ℕ → ℕ) → AreStored s ms f → ((n : ℕ) → f n ≡ g n) → AreStored s ms g
+stored_owed g st same = record { held = λ n. omega (arith, st.held n, same n); rings = st.rings; timed = st.timed; room = st.room }
+
+pub owing_same : (number count : ℕ) → owing number count number ≡ count
+owing_same number count = cond-true (nat_eq number number) count 0 (eq-eqb number number refl)
+
+pub owing_other : (number count n : ℕ) → n ≢ number → owing number count n ≡ 0
+owing_other number count n d = cond-false (nat_eq n number) count 0 (ne_eqb n number d)
+
+owing_none : (number n : ℕ) → owing number 0 n ≡ 0
+owing_none number n = elim (cases_eq n number) [ inl e ↦ cond-true (nat_eq n number) 0 0 (eq-eqb n number e) | inr d ↦ owing_other number 0 n d ]
+
+once_owing : (number n : ℕ) → once n number ≡ owing number 1 n
+once_owing number n = elim (cases_eq n number) [
+  | inl e ↦ subst (λ (k : ℕ). once k number ≡ owing number 1 k) (sym e) (once_same number ∙ sym (owing_same number 1))
+  | inr d ↦ once_other n number (λ e. d (sym e)) ∙ sym (owing_other number 1 n d)
+]
+
+owing_more : (number a b n : ℕ) → owing number a n + owing number b n ≡ owing number (a + b) n
+owing_more number a b n = elim (cases_eq n number) [
+  | inl e ↦ subst (λ (k : ℕ). owing number a k + owing number b k ≡ owing number (a + b) k) (sym e) (omega (arith, owing_same number a, owing_same number b, owing_same number (a + b)))
+  | inr d ↦ omega (arith, owing_other number a n d, owing_other number b n d, owing_other number (a + b) n d)
+]
+
+-- an event that is offered keeps a queue fit
+pub timed_after_event : (cell : Cell) (holder : Option ℕ) (c : ClientView Cell) → cell.now ≤ MOMENT_MAX → AreFit c.ring.events → AreFit (after_event cell holder c).ring.events
+timed_after_event cell holder c now fit = either (is_offered_to holder c && admits_of c.masks cell.event)
+  where
+    Timed : Cell → Type 0
+    Timed x = x.now ≤ MOMENT_MAX
+
+    putting : (a b : Bool) → AreFit (if a then c.ring.events else if b then c.ring.events ++ cell ∷ [] else dropped_cell cell ∷ cell ∷ [])
+    putting true b = fit
+    putting false true = All-push (λ (x : Cell). x.now ≤ MOMENT_MAX) c.ring.events cell fit now
+    putting false false =
+        All-cons (λ (x : Cell). x.now ≤ MOMENT_MAX) (dropped_cell cell) (cell ∷ []) now (All-cons (λ (x : Cell). x.now ≤ MOMENT_MAX) cell [] now (All-nil (λ (x : Cell). x.now ≤ MOMENT_MAX)))
+
+    either : (b : Bool) → AreFit (if b then with_events (put event_of_cell dropped_cell c.ring.places c.ring.events cell) c else c).ring.events
+    either true = putting (is_report (event_of_cell cell) && (is_empty c.ring.events || ends_in_report event_of_cell c.ring.events)) (nat_lt (suc (length c.ring.events)) c.ring.places)
+    either false = fit
+
+module _ {cell : Cell} {holder : Option ℕ} {number : ℕ} {locations : List Location} {before slab : Slab Member} {first store : StoreView} {i taken : ℕ} (to : IsEnteredTo i cell holder number locations before slab first store taken) (in_i : i < length locations) where
+  long_i : i < length (clients_in locations slab)
+  long_i = omega (arith, members_long to.located)
+
+  -- each cell but the one that is offered is in some ring
+  known : (n : ℕ) → HasCell store n → n ≢ number → 1 ≤ times_in n (clients_in locations slab)
+  known n there differs = elim (cases_lt 0 (holders store n)) [
+    | inl some ↦ omega (arith, some, to.stored.held n)
+    | inr none ↦ absurd (differs (to.idle n (idle (held_under store n) there (omega (arith, none)))))
+  ]
+    where
+      idle : (o : Option Held) → IsSome o → holders_of o ≡ 0 → IsIdleSlot o
+      idle None there e = cc
+      idle (Some h) there e = e
+
+  pub enter_spare : 0 < store.spare
+  enter_spare = spare_some to.stored (new_client 0 0) number (omega (arith, long_i)) known
+
+  -- the client that comes next
+  module _ (key : ℕ) (old : Member) (at : (get_or locations i (record { number = 0; key = 0 })).key ≡ key) (found : get slab key ≡ Some old) where
+    pub old_is : member_at locations slab i ≡ old
+    old_is = member_in_location to.located i (record { number = 0; key = 0 }) (new_client 0 0) in_i ∙ ap (client_at slab) at ∙ client_at_found to.located key old found
+
+    pub enter_absent : times number old.ring.events ≡ 0
+    enter_absent = ap (λ (m : Member). times number m.ring.events) (sym old_is) ∙ to.absent i (omega arith) in_i
+
+    not_owed : (n : ℕ) → 1 ≤ times n (member_at locations slab i).ring.events → owing number taken n ≡ 0
+    not_owed n there = elim (cases_eq n number) [
+      | inl e ↦ absurd (omega (arith, there, to.absent i (omega arith) in_i, ap (λ (k : ℕ). times k (member_at locations slab i).ring.events) e))
+      | inr d ↦ owing_other number taken n d
+    ]
+
+    pub enter_held : AreHeld store old.ring.events
+    enter_held = let P : Member → Type 0 = λ m. AreHeld store m.ring.events in subst P old_is (member_held to.stored (new_client 0 0) i long_i not_owed)
+
+    -- it was put into its ring, or not
+    module _ (new : Member) (after : StoreView) (is_in : Bool) (entered : IsPutAtEnd store after old.ring.events new.ring.events number is_in) (numbered : new.number ≡ old.number) (places : new.ring.places ≡ old.ring.places)
+        (sound : IsRing (ring_of old) → IsRing (ring_of new)) (put : IsPutBehind (admitted_number old.masks cell.event number) (nat_lt (length new.ring.events) (length old.ring.events)) old.ring.events new.ring.events) (offered : client_in after new ≡ after_event (cell_at store number) holder (client_in store old)) (now : cell.now ≤ MOMENT_MAX) where
+      abbrev gained : ℕ
+      gained = if is_in then 1 else 0
+
+      moved : IsMoved store after (member_at locations slab i).ring.events entered.before
+      moved = let P : Member → Type 0 = λ m. IsMoved store after m.ring.events entered.before in subst P (sym old_is) entered.moved
+
+      same_cell : cell_at store number ≡ cell
+      same_cell = ap (λ (o : Option Held). some_cell (held_cell o)) to.same
+
+      became : (n : ℕ) → times n new.ring.events ≡ times n entered.before + owing number gained n
+      became n = by_case is_in entered.entered
+        where
+          by_case : (b : Bool) → new.ring.events ≡ (if b then entered.before ++ number ∷ [] else entered.before) → times n new.ring.events ≡ times n entered.before + owing number (if b then 1 else 0) n
+          by_case true e = omega (arith, ap (times n) e, times_push n number entered.before, once_owing number n)
+          by_case false e = omega (arith, ap (times n) e, owing_none number n)
+
+      owed_stay : (n : ℕ) → 1 ≤ owing number taken n → cell_in after n ≡ cell_in store n
+      owed_stay n some = elim (cases_eq n number) [
+        | inl e ↦ subst (λ (k : ℕ). cell_in after k ≡ cell_in store k) (sym e) (ap held_cell entered.same)
+        | inr d ↦ absurd (omega (arith, some, owing_other number taken n d))
+      ]
+
+      places_kept : new.ring.places ≡ (member_at locations slab i).ring.places
+      places_kept = places ∙ ap (λ (m : Member). m.ring.places) (sym old_is)
+
+      ring_sound : IsRing (ring_of new)
+      ring_sound = let P : Member → Type 0 = λ m. IsRing (ring_of m) in sound (subst P old_is (member_ring to.stored (new_client 0 0) i long_i))
+
+      was_timed : AreFit (client_in store old).ring.events
+      was_timed = let P : Member → Type 0 = λ m. AreFit (map (cell_at store) m.ring.events) in subst P old_is (member_timed to.stored (new_client 0 0) i long_i)
+
+      new_timed : AreFit (client_in after new).ring.events
+      new_timed =
+          let P : ClientView Cell → Type 0 = λ c. AreFit c.ring.events in
+          let fits : (cell_at store number).now ≤ MOMENT_MAX = omega (arith, ap (λ (x : Cell). x.now) same_cell) in
+          subst P (sym offered) (timed_after_event (cell_at store number) holder (client_in store old) fits was_timed)
+
+      abbrev next_slab : Slab Member
+      next_slab = with_value slab key new
+
+      members_next : clients_in locations next_slab ≡ set (clients_in locations slab) i new
+      members_next = members_after_write to.located i (record { number = 0; key = 0 }) key old new in_i at found
+
+      stored_next : AreStored after (clients_in locations next_slab) (owing number (taken + gained))
+      stored_next =
+          let P : List Member → Type 0 = λ ms. AreStored after ms (owing number (taken + gained)) in
+          subst P (sym members_next)
+          (stored_owed (owing number (taken + gained))
+          (stored_after_write to.stored (new_client 0 0) i long_i after entered.before moved owed_stay new (owing number gained) became places_kept ring_sound new_timed)
+          (λ n. owing_more number taken gained n))
+
+      -- what each client is then
+      member_here : member_at locations next_slab i ≡ new
+      member_here = ap (λ (ms : List Member). get_or ms i (new_client 0 0)) members_next ∙ get_or-set_same (clients_in locations slab) i new (new_client 0 0) long_i
+
+      member_other : (j : ℕ) → j ≢ i → member_at locations next_slab j ≡ member_at locations slab j
+      member_other j d = ap (λ (ms : List Member). get_or ms j (new_client 0 0)) members_next ∙ get_or-set_other (clients_in locations slab) i j new (new_client 0 0) d
+
+      abbrev before_client : ℕ → ClientView Cell
+      before_client j = client_in first (member_at locations before j)
+
+      next_changed : (j : ℕ) → j < length locations → client_in after (member_at locations next_slab j) ≡ (if nat_lt j (i + 1) then after_event cell holder (before_client j) else before_client j)
+      next_changed j in_j = elim (cases_eq j i) [
+        | inl e ↦
+            let was : client_in store old ≡ before_client i =
+            ap (client_in store) (sym old_is) ∙ to.changed i in_i ∙ cond-false (nat_lt i i) _ _ (le-ltb i i (omega arith)) in
+            ap (λ (k : ℕ). client_in after (member_at locations next_slab k)) e
+            ∙ ap (client_in after) member_here
+            ∙ offered
+            ∙ ap (λ (x : Cell). after_event x holder (client_in store old)) same_cell
+            ∙ ap (after_event cell holder) (was ∙ ap before_client (sym e))
+            ∙ sym (cond-true (nat_lt j (i + 1)) _ _ (lt-ltb j (i + 1) (omega (arith, e))))
+        | inr d ↦
+            ap (client_in after) (member_other j d)
+            ∙ others_stay to.stored (new_client 0 0) i long_i after entered.before moved owed_stay j (omega (arith, in_j, members_long to.located)) d
+            ∙ to.changed j in_j
+            ∙ ap (λ (b : Bool). if b then after_event cell holder (before_client j) else before_client j) (later j d)
+      ]
+        where
+          later : (j : ℕ) → j ≢ i → nat_lt j i ≡ nat_lt j (i + 1)
+          later j differs = elim (cases_lt j i) [
+            | inl below ↦ lt-ltb j i below ∙ sym (lt-ltb j (i + 1) (omega arith))
+            | inr above ↦ le-ltb j i above ∙ sym (le-ltb j (i + 1) (omega (arith, differs)))
+          ]
+
+      was_ring : ring_at locations before i ≡ old.ring.events
+      was_ring = sym (to.rest i (omega arith) in_i) ∙ ap (λ (m : Member). m.ring.events) old_is
+
+      was_seen : client_in store old ≡ seen_at first locations before i
+      was_seen = ap (client_in store) (sym old_is) ∙ to.changed i in_i ∙ cond-false (nat_lt i i) _ _ (le-ltb i i (omega arith))
+
+      -- its queue is shorter where it was lost
+      lost_here : nat_lt (length new.ring.events) (length old.ring.events) ≡ loses_event cell holder (seen_at first locations before i)
+      lost_here =
+          ap (λ (k : ℕ). nat_lt k (length old.ring.events)) (sym (length-map new.ring.events (cell_at after)) ∙ ap (λ (c : ClientView Cell). length c.ring.events) (offered ∙ ap (λ (x : Cell). after_event x holder (client_in store old)) same_cell))
+          ∙ ap (λ (k : ℕ). nat_lt (length (after_event cell holder (client_in store old)).ring.events) k) (sym (length-map old.ring.events (cell_at store)))
+          ∙ ap (loses_event cell holder) was_seen
+
+      put_here : IsPutBehind (admitted_number (seen_at first locations before i).masks cell.event number) (loses_event cell holder (seen_at first locations before i)) (ring_at locations before i) new.ring.events
+      put_here =
+          let P : MaskView → Bool → List ℕ → Type 0 = λ m b q. IsPutBehind (admitted_number m cell.event number) b q new.ring.events in
+          subst (λ (m : MaskView). P m (loses_event cell holder (seen_at first locations before i)) (ring_at locations before i)) (ap (λ (c : ClientView Cell). c.masks) was_seen)
+          (subst (λ (b : Bool). P old.masks b (ring_at locations before i)) lost_here (subst (λ (q : List ℕ). P old.masks (nat_lt (length new.ring.events) (length old.ring.events)) q) (sym was_ring) put))
+
+      next_numbered : (j : ℕ) → j < i + 1 → j < length locations → IsPutBehind (admitted_number (seen_at first locations before j).masks cell.event number) (loses_event cell holder (seen_at first locations before j)) (ring_at locations before j) (ring_at locations next_slab j)
+      next_numbered j below in_j = elim (cases_eq j i) [
+        | inl e ↦
+            let P : ℕ → List ℕ → Type 0 = λ k q. IsPutBehind (admitted_number (seen_at first locations before k).masks cell.event number) (loses_event cell holder (seen_at first locations before k)) (ring_at locations before k) q in
+            subst (λ (q : List ℕ). P j q) (sym (ap (λ (k : ℕ). ring_at locations next_slab k) e ∙ ap (λ (m : Member). m.ring.events) member_here)) (subst (λ (k : ℕ). P k new.ring.events) (sym e) put_here)
+        | inr d ↦
+            let P : List ℕ → Type 0 = λ q. IsPutBehind (admitted_number (seen_at first locations before j).masks cell.event number) (loses_event cell holder (seen_at first locations before j)) (ring_at locations before j) q in
+            subst P (sym (ap (λ (m : Member). m.ring.events) (member_other j d))) (to.numbered j (omega (arith, d)) in_j)
+      ]
+
+      next_few : taken + gained ≤ i + 1
+      next_few = omega (arith, to.few, one is_in)
+        where
+          one : (b : Bool) → (if b then 1 else 0) ≤ 1
+          one true = omega arith
+          one false = omega arith
+
+      pub entered_more : IsEnteredTo (i + 1) cell holder number locations before next_slab first after (taken + gained)
+      entered_more = record {
+        located = located_after_write to.located i (record { number = 0; key = 0 }) key old new in_i at found numbered;
+        stored = stored_next;
+        idle = λ n h. to.idle n (entered.moved.idle n h);
+        same = entered.same ∙ to.same;
+        changed = next_changed;
+        absent = λ j le in_j. ap (λ (m : Member). times number m.ring.events) (member_other j (λ e. omega (arith, e))) ∙ to.absent j (omega arith) in_j;
+        few = next_few;
+        numbered = next_numbered;
+        rest = λ j le in_j. ap (λ (m : Member). m.ring.events) (member_other j (λ e. omega (arith, e))) ∙ to.rest j (omega arith) in_j;
+        wanted = ap wanted members_next ∙ omega (arith, places_kept, sum_by-set (λ (m : Member). m.ring.places + 1) (clients_in locations slab) i new (new_client 0 0) long_i) ∙ to.wanted;
+        capacity = to.capacity;
+      }
+
+-- Nothing was put yet.
+pub entered_none : (cell : Cell) (holder : Option ℕ) (number : ℕ) (locations : List Location) (slab : Slab Member) (store : StoreView) → AreLocated locations slab → AreStored store (clients_in locations slab) (λ n. 0)
+    → ((n : ℕ) → IsIdle store n → n ≡ number) → held_under store number ≡ held_by 0 cell → IsEnteredTo 0 cell holder number locations slab slab store store 0
+entered_none cell holder number locations slab store located stored idle same = record {
+  located = located;
+  stored = stored_owed (owing number 0) stored (λ n. sym (owing_none number n));
+  idle = idle;
+  same = same;
+  changed = λ j in_j. sym (cond-false (nat_lt j 0) _ _ (le-ltb j 0 (omega arith)));
+  absent = λ j le in_j. omega (arith, stored.held number, ap holders_of same, get_or-le-sum_by (λ (m : Member). times number m.ring.events) (clients_in locations slab) j (new_client 0 0) (omega (arith, in_j, members_long located)));
+  few = omega arith;
+  numbered = λ j below in_j. absurd (omega arith);
+  rest = λ j le in_j. refl;
+  wanted = refl;
+  capacity = refl;
+}
+
+-- All took it that do.
+pub entered_all : {cell : Cell} {holder : Option ℕ} {number : ℕ} {locations : List Location} {before slab : Slab Member} {first store : StoreView} {count taken : ℕ} → IsEnteredTo count cell holder number locations before slab first store taken → length locations ≤ count
+    → cells_in store (clients_in locations slab) ≡ map (after_event cell holder) (cells_in first (clients_in locations before))
+entered_all {cell} {holder} {number} {locations} {before} {slab} {first} {store} {count} {taken} to past =
+    same_lists (cells_in store (clients_in locations slab)) (map (after_event cell holder) (cells_in first (clients_in locations before)))
+    (omega (arith, long_now, length-map (cells_in first (clients_in locations before)) (after_event cell holder), long_before))
+    (λ j e within. each j e (omega (arith, within, long_now)))
+  where
+    long_now : length (cells_in store (clients_in locations slab)) ≡ length locations
+    long_now = length-map (clients_in locations slab) (client_in store) ∙ length-map locations (λ s. client_at slab s.key)
+
+    long_before : length (cells_in first (clients_in locations before)) ≡ length locations
+    long_before = length-map (clients_in locations before) (client_in first) ∙ length-map locations (λ s. client_at before s.key)
+
+    each : (j : ℕ) (e : ClientView Cell) → j < length locations → get_or (cells_in store (clients_in locations slab)) j e ≡ get_or (map (after_event cell holder) (cells_in first (clients_in locations before))) j e
+    each j e in_j =
+        get_or-map (client_in store) (clients_in locations slab) j (new_client 0 0) e (omega (arith, in_j, length-map locations (λ s. client_at slab s.key)))
+        ∙ to.changed j in_j ∙ cond-true (nat_lt j count) _ _ (lt-ltb j count (omega arith))
+        ∙ sym (get_or-map (after_event cell holder) (cells_in first (clients_in locations before)) j (client_in first (new_client 0 0)) e (omega (arith, in_j, long_before))
+        ∙ ap (after_event cell holder) (get_or-map (client_in first) (clients_in locations before) j (new_client 0 0) (client_in first (new_client 0 0)) (omega (arith, in_j, length-map locations (λ s. client_at before s.key)))))
+
+-- a client among those with the cells of a store
+pub seen_is : (s : StoreView) (locations : List Location) (slab : Slab Member) (j : ℕ) → j < length locations
+    → get_or (cells_in s (clients_in locations slab)) j (new_client 0 0) ≡ seen_at s locations slab j
+seen_is s locations slab j in_j =
+    get_or-map (client_in s) (clients_in locations slab) j (new_client 0 0) (new_client 0 0)
+    (omega (arith, in_j, length-map locations (λ at. client_at slab at.key)))
+
+-- The event was offered, also as seen from a store that had no cell of it yet.
+pub event_offered : {cell : Cell} {holder : Option ℕ} {number : ℕ} {locations : List Location} {before slab : Slab Member}
+    {first store : StoreView} {count taken : ℕ} → IsEnteredTo count cell holder number locations before slab first store taken
+    → length locations ≤ count → (s after : StoreView)
+    → cells_in first (clients_in locations before) ≡ cells_in s (clients_in locations before)
+    → cells_in after (clients_in locations slab) ≡ cells_in store (clients_in locations slab)
+    → AreShared locations slab after → IsEventOffered cell holder locations before slab s after
+event_offered {cell} {holder} {number} {locations} {before} {slab} {first} {store} {count} {taken} to past s after same stay shared = record {
+  shared = shared;
+  clients = stay ∙ entered_all to past ∙ ap (map (after_event cell holder)) same;
+  number = number;
+  each = λ j in_j.
+      let P : ClientView Cell → Type 0 = λ c. IsPutBehind (admitted_number c.masks cell.event number) (loses_event cell holder c) (ring_at locations before j) (ring_at locations slab j) in
+      subst P (seen_same j in_j) (to.numbered j (omega arith) in_j);
+  wanted = to.wanted;
+  capacity = to.capacity;
+}
+  where
+    seen_same : (j : ℕ) → j < length locations → seen_at first locations before j ≡ seen_at s locations before j
+    seen_same j in_j =
+        sym (seen_is first locations before j in_j)
+        ∙ ap (λ (cs : List (ClientView Cell)). get_or cs j (new_client 0 0)) same
+        ∙ seen_is s locations before j in_j
+
+-- a flag counts one where it is set
+pub flag_counts : (b : Bool) → bool_byte b ≡ (if b then 1 else 0)
+flag_counts true = refl
+flag_counts false = refl

@@ -1,0 +1,230 @@
+-- What a call on one client leaves of the store and of the others.
+use Rattle.std.proofs.Common.{◌≡◌, ◌≢◌, ◌≤◌, ◌<◌, ℕ, zero, suc, ◌+◌, ◌-◌, if◌then◌else◌, nat_eq, List, [], ◌∷◌, length, map, get_or, set, Some, refl, sym, ap, ◌∙◌, subst, inl, inr, arith}
+use Rattle.std.specs.Prelude.{sum_by, All}
+use Rattle.std.specs.List.{remove, insert, AllWithin}
+use Rattle.std.proofs.lemmas.Bool.{cases_eq, cases_lt, eq-eqb, ne_eqb, cond-true, cond-false}
+use Rattle.std.proofs.lemmas.List.{length-set, length-map, get_or-map, get_or-set_same, get_or-set_other, same_lists}
+use Rattle.std.proofs.lemmas.List.Sums.{sum_by-set, sum_by-remove, sum_by-insert, get_or-le-sum_by}
+use Rattle.std.proofs.lemmas.List.Edits.{length-remove, get_or-remove_below, get_or-remove_above}
+use Rattle.std.proofs.lemmas.List.Elements.{All-get_or, All-set, All-from_get_or, All-head, All-tail, All-cons, All-nil}
+use Rattle.inp_model.specs.declared.stamped.TheConstants.{MOMENT_MAX}
+use Rattle.inp_ring.specs.declared.cell.Cell.{Cell}
+use Rattle.inp_ring.specs.Store.{StoreView, cell_in, holders, cell_count, HasCell}
+use Rattle.inp_ring.specs.Ring.{times, cell_at, AreFit, AreHeld, IsRing, IsMoved}
+use Rattle.inp_ring.proofs.Times.{times_first}
+use Rattle.inp_ring.proofs.Rings.{queue_stays}
+use Rattle.inp_client.specs.Client.{ClientView}
+use Rattle.inp_client.specs.Clients.{has_number, map_client, without_client, with_client, client_named}
+use Rattle.inp_client.specs.Member.{Member, ring_of, client_in, cells_in, times_in, wanted, numbers_in, AreStored}
+use Rattle.inp_client.proofs.Lists.{map_same, find_at, one_removed, All-insert}
+use Rattle.inp_client.proofs.ClientLists.{map-insert}
+use Rattle.inp_client.proofs.CellCounts.{cells_few, times-numbers_in, numbers_fit}
+
+-- what holds of all holds of all but one
+All-remove : {X : Type 0} (P : X → Type 0) (xs : List X) (i : ℕ) → All P xs → All P (remove xs i)
+All-remove P [] zero all = all
+All-remove P [] (suc i) all = all
+All-remove P (x ∷ xs) zero all = All-tail P x xs all
+All-remove P (x ∷ xs) (suc i) all = All-cons P x (remove xs i) (All-head P x xs all) (All-remove P xs i (All-tail P x xs all))
+
+-- two elements together make no more than all
+pub two_sum : {X : Type 0} (f : X → ℕ) (xs : List X) (i j : ℕ) (d : X) → i < length xs → j < length xs → j ≢ i → f (get_or xs i d) + f (get_or xs j d) ≤ sum_by f xs
+two_sum f xs i j d in_i in_j differs =
+    let rest = remove xs i in
+    let shorter = length-remove xs i in_i in
+    let whole = sum_by-remove f xs i d in_i in
+    elim (cases_lt j i) [
+      | inl below ↦ omega (arith, whole, get_or-le-sum_by f rest j d (omega arith), ap f (get_or-remove_below xs i d j below in_i))
+      | inr above ↦
+          let k : ℕ = j - 1 in
+          let at : k + 1 ≡ j = omega arith in
+          omega (arith, whole, get_or-le-sum_by f rest k d (omega arith), ap f (get_or-remove_above xs i d k (omega arith) in_i), ap (λ (n : ℕ). f (get_or xs n d)) at)
+    ]
+
+-- the queue of a client is the same where its cells are
+pub client_same : (s after : StoreView) (m : Member) → ((n : ℕ) → 1 ≤ times n m.ring.events → cell_in after n ≡ cell_in s n) → client_in after m ≡ client_in s m
+client_same s after m same = ap (λ (q : List Cell). record { number = m.number; ring = record { places = m.ring.places; events = q }; masks = m.masks; clock = m.clock; revoked = m.revoked }) (queue_stays s after m.ring.events same)
+
+module _ {s : StoreView} {ms : List Member} {owed : ℕ → ℕ} (st : AreStored s ms owed) (d : Member) where
+  -- each number of a ring has a cell with a holder, where it is owed none
+  pub member_held : (i : ℕ) → i < length ms → ((n : ℕ) → 1 ≤ times n (get_or ms i d).ring.events → owed n ≡ 0) → AreHeld s (get_or ms i d).ring.events
+  member_held i in_i none n = elim (cases_lt 0 (times n (get_or ms i d).ring.events)) [
+    | inl some ↦ omega (arith, none n some, st.held n, get_or-le-sum_by (λ (m : Member). times n m.ring.events) ms i d in_i)
+    | inr not ↦ omega (arith, not)
+  ]
+
+  pub member_ring : (i : ℕ) → i < length ms → IsRing (ring_of (get_or ms i d))
+  member_ring i in_i = All-get_or (λ m. IsRing (ring_of m)) ms i d in_i st.rings
+
+  pub member_timed : (i : ℕ) → i < length ms → AreFit (map (cell_at s) (get_or ms i d).ring.events)
+  member_timed i in_i = All-get_or (λ m. AreFit (map (cell_at s) m.ring.events)) ms i d in_i st.timed
+
+  -- There is room for one cell more, where there is a client and at most one cell that no ring has.
+  pub spare_some : (x : ℕ) → 0 < length ms → ((n : ℕ) → HasCell s n → n ≢ x → 1 ≤ times_in n ms) → 0 < s.spare
+  spare_some x some known =
+      omega (
+        arith,
+        st.room,
+        numbers_fit ms st.rings,
+        cells_few s (x ∷ numbers_in ms) (λ n there. elim (cases_eq n x) [
+          | inl e ↦ omega (arith, times_first n (numbers_in ms), ap (λ (k : ℕ). times n (k ∷ numbers_in ms)) e)
+          | inr differs ↦ omega (arith, known n there differs, times-numbers_in n ms)
+        ]),
+      )
+
+  -- A call on the client at i: its numbers become others, of which some are owed holders still.
+  module _ (i : ℕ) (in_i : i < length ms) (after : StoreView) (before : List ℕ) (moved : IsMoved s after (get_or ms i d).ring.events before) (owed_stay : (n : ℕ) → 1 ≤ owed n → cell_in after n ≡ cell_in s n) where
+    -- the cells of the others stay
+    pub others_see : (j : ℕ) → j < length ms → j ≢ i → (n : ℕ) → 1 ≤ times n (get_or ms j d).ring.events → cell_in after n ≡ cell_in s n
+    others_see j in_j differs n there = elim (cases_lt 0 (owed n)) [
+      | inl some ↦ owed_stay n some
+      | inr none ↦ moved.kept n (omega (arith, none, there, st.held n, two_sum (λ (m : Member). times n m.ring.events) ms i j d in_i in_j differs))
+    ]
+
+    pub others_stay : (j : ℕ) → j < length ms → j ≢ i → client_in after (get_or ms j d) ≡ client_in s (get_or ms j d)
+    others_stay j in_j differs = client_same s after (get_or ms j d) (others_see j in_j differs)
+
+    -- the same where it is taken out, and leaves no number
+    pub stored_after_removal : ((n : ℕ) → times n before ≡ 0) → AreStored after (remove ms i) owed
+    stored_after_removal none = record {
+      held = λ n. omega (arith, none n, moved.held n, st.held n, sum_by-remove (λ (m : Member). times n m.ring.events) ms i d in_i);
+      rings = All-remove (λ m. IsRing (ring_of m)) ms i st.rings;
+      timed = All-from_get_or (λ m. AreFit (map (cell_at after) m.ring.events)) (remove ms i) d (λ j in_j. fit j in_j);
+      room = omega (arith, st.room, moved.room, sum_by-remove (λ (m : Member). m.ring.places + 1) ms i d in_i);
+    }
+      where
+        stays : (j : ℕ) → j < length ms → j ≢ i → AreFit (map (cell_at after) (get_or ms j d).ring.events)
+        stays j in_j differs =
+            let Q : List Cell → Type 0 = λ q. AreFit q in
+            subst Q (sym (queue_stays s after (get_or ms j d).ring.events (others_see j in_j differs))) (member_timed j in_j)
+
+        fit : (j : ℕ) → j < length (remove ms i) → AreFit (map (cell_at after) (get_or (remove ms i) j d).ring.events)
+        fit j in_j =
+            let shorter = length-remove ms i in_i in
+            let P : Member → Type 0 = λ m. AreFit (map (cell_at after) m.ring.events) in
+            elim (cases_lt j i) [
+              | inl below ↦ subst P (sym (get_or-remove_below ms i d j below in_i)) (stays j (omega arith) (λ e. omega (arith, e)))
+              | inr above ↦ subst P (sym (get_or-remove_above ms i d j above in_i)) (stays (j + 1) (omega arith) (λ e. omega (arith, e)))
+            ]
+
+    pub stored_after_write : (new : Member) (more : ℕ → ℕ) → ((n : ℕ) → times n new.ring.events ≡ times n before + more n) → new.ring.places ≡ (get_or ms i d).ring.places → IsRing (ring_of new) → AreFit (map (cell_at after) new.ring.events)
+        → AreStored after (set ms i new) (λ n. owed n + more n)
+    stored_after_write new more became places sound timed = record {
+      held = λ n. omega (arith, became n, moved.held n, st.held n, sum_by-set (λ (m : Member). times n m.ring.events) ms i new d in_i);
+      rings = All-set (λ m. IsRing (ring_of m)) ms i new sound st.rings;
+      timed = All-from_get_or (λ m. AreFit (map (cell_at after) m.ring.events)) (set ms i new) d (λ j in_j. fit j (omega (arith, in_j, length-set ms i new)));
+      room = omega (arith, st.room, moved.room, places, sum_by-set (λ (m : Member). m.ring.places + 1) ms i new d in_i);
+    }
+      where
+        Fit : Member → Type 0
+        Fit m = AreFit (map (cell_at after) m.ring.events)
+
+        fit : (j : ℕ) → j < length ms → AreFit (map (cell_at after) (get_or (set ms i new) j d).ring.events)
+        fit j in_j = elim (cases_eq j i) [
+          | inl e ↦
+              let here : new ≡ get_or (set ms i new) j d = sym (ap (λ (k : ℕ). get_or (set ms i new) k d) e ∙ get_or-set_same ms i new d in_i) in
+              let P : Member → Type 0 = λ m. AreFit (map (cell_at after) m.ring.events) in
+              subst P here timed
+          | inr differs ↦
+              let same : get_or ms j d ≡ get_or (set ms i new) j d = sym (get_or-set_other ms i j new d differs) in
+              let P : Member → Type 0 = λ m. AreFit (map (cell_at after) m.ring.events) in
+              let Q : List Cell → Type 0 = λ q. AreFit q in
+              subst P same (subst Q (sym (queue_stays s after (get_or ms j d).ring.events (others_see j in_j differs))) (member_timed j in_j))
+        ]
+
+abbrev changed_one : ℕ → (ClientView Cell → ClientView Cell) → ClientView Cell → ClientView Cell
+changed_one number change c = if has_number number c then change c else c
+
+-- The clients after one was changed, which no other has the number of.
+pub cells_after_write : (s after : StoreView) (ms : List Member) (i : ℕ) (d new : Member) (change : ClientView Cell → ClientView Cell) → i < length ms → new.number ≡ (get_or ms i d).number → client_in after new ≡ change (client_in s (get_or ms i d))
+    → ((j : ℕ) → j < length ms → j ≢ i → client_in after (get_or ms j d) ≡ client_in s (get_or ms j d))
+    → ((j : ℕ) → j < length ms → j ≢ i → (get_or ms j d).number ≢ (get_or ms i d).number)
+    → cells_in after (set ms i new) ≡ map_client (get_or ms i d).number change (cells_in s ms)
+cells_after_write s after ms i d new change in_i numbered changed others apart =
+    same_lists (cells_in after (set ms i new)) (map_client (get_or ms i d).number change (cells_in s ms))
+    (omega (arith, length-map (set ms i new) (client_in after), length-set ms i new, length-map ms (client_in s), length-map (cells_in s ms) (changed_one (get_or ms i d).number change)))
+    (λ j e within. each j e (omega (arith, within, length-map (set ms i new) (client_in after), length-set ms i new)))
+  where
+    each : (j : ℕ) (e : ClientView Cell) → j < length ms → get_or (cells_in after (set ms i new)) j e ≡ get_or (map (changed_one (get_or ms i d).number change) (cells_in s ms)) j e
+    each j e in_j =
+        get_or-map (client_in after) (set ms i new) j d e (omega (arith, in_j, length-set ms i new))
+        ∙ elim (cases_eq j i) [
+          | inl same ↦
+              ap (λ (k : ℕ). client_in after (get_or (set ms i new) k d)) same
+              ∙ ap (client_in after) (get_or-set_same ms i new d in_i)
+              ∙ changed
+              ∙ ap (λ (k : ℕ). change (client_in s (get_or ms k d))) (sym same)
+              ∙ sym (cond-true (nat_eq (get_or ms j d).number (get_or ms i d).number) _ _ (eq-eqb _ _ (ap (λ (k : ℕ). (get_or ms k d).number) same)))
+          | inr differs ↦
+              ap (client_in after) (get_or-set_other ms i j new d differs)
+              ∙ others j in_j differs
+              ∙ sym (cond-false (nat_eq (get_or ms j d).number (get_or ms i d).number) _ _ (ne_eqb _ _ (apart j in_j differs)))
+        ]
+        ∙ sym (get_or-map (changed_one (get_or ms i d).number change) (cells_in s ms) j (client_in s d) e (omega (arith, in_j, length-map ms (client_in s))) ∙ ap (changed_one (get_or ms i d).number change) (get_or-map (client_in s) ms j d (client_in s d) in_j))
+
+-- The clients after one was taken out.
+pub cells_after_removal : (s after : StoreView) (ms : List Member) (i : ℕ) (d : Member) → i < length ms
+    → ((j : ℕ) → j < length ms → j ≢ i → client_in after (get_or ms j d) ≡ client_in s (get_or ms j d))
+    → ((j : ℕ) → j < length ms → j ≢ i → (get_or ms j d).number ≢ (get_or ms i d).number)
+    → cells_in after (remove ms i) ≡ without_client (get_or ms i d).number (cells_in s ms)
+cells_after_removal s after ms i d in_i others apart =
+    one_removed (has_number (get_or ms i d).number) (client_in s) (client_in after) ms i d in_i (eq-eqb _ _ refl)
+    (λ j in_j differs. (ne_eqb _ _ (apart j in_j differs), others j in_j differs))
+
+-- the client that a number names
+pub client_named-cells_in : (s : StoreView) (ms : List Member) (i : ℕ) (d : Member) → i < length ms
+    → ((j : ℕ) → j < length ms → j ≢ i → (get_or ms j d).number ≢ (get_or ms i d).number)
+    → client_named (get_or ms i d).number (cells_in s ms) ≡ Some (client_in s (get_or ms i d))
+client_named-cells_in s ms i d in_i apart =
+    let e : ClientView Cell = client_in s d in
+    let reads : (j : ℕ) → j < length ms → get_or (cells_in s ms) j e ≡ client_in s (get_or ms j d) = λ j in_j. get_or-map (client_in s) ms j d e in_j in
+    find_at (has_number (get_or ms i d).number) (cells_in s ms) i e (omega (arith, length-map ms (client_in s)))
+    (eq-eqb _ _ (ap (λ (x : ClientView Cell). x.number) (reads i in_i)))
+    (λ j below. ne_eqb _ _ (λ same. apart j (omega arith) (λ e. omega (arith, e)) (sym (ap (λ (x : ClientView Cell). x.number) (reads j (omega arith))) ∙ same)))
+    ∙ ap Some (reads i in_i)
+
+-- An empty ring comes in, and the store has room for it.
+pub stored_after_insert : {s after : StoreView} {ms : List Member} (st : AreStored s ms (λ n. 0)) (i : ℕ) (new : Member) → i ≤ length ms → new.ring.events ≡ [] → IsRing (ring_of new) → after.slots ≡ s.slots → wanted ms + (new.ring.places + 1) ≤ cell_count after + after.spare
+    → AreStored after (insert ms i new) (λ n. 0)
+stored_after_insert {s} {after} {ms} st i new within none sound same room = record {
+  held = λ n. omega (arith, ap (λ sl. holders (record { slots = sl; spare = 0 }) n) same, st.held n, sum_by-insert (λ (m : Member). times n m.ring.events) ms i new, ap (times n) none);
+  rings = All-insert (λ m. IsRing (ring_of m)) ms i new within st.rings sound;
+  timed = All-insert (λ m. AreFit (map (cell_at after) m.ring.events)) ms i new within stays empty;
+  room = omega (arith, room, sum_by-insert (λ (m : Member). m.ring.places + 1) ms i new);
+}
+  where
+    cells : (q : List ℕ) → map (cell_at after) q ≡ map (cell_at s) q
+    cells q = queue_stays s after q (λ n t. ap (λ sl. cell_in (record { slots = sl; spare = 0 }) n) same)
+
+    stays : All (λ m. AreFit (map (cell_at after) m.ring.events)) ms
+    stays = λ j d in_j. subst (λ (q : List Cell). AreFit q) (sym (cells (get_or ms j d).ring.events)) (All-get_or (λ m. AreFit (map (cell_at s) m.ring.events)) ms j d in_j st.timed)
+
+    empty : AreFit (map (cell_at after) new.ring.events)
+    empty = let P : List ℕ → Type 0 = λ q. AreFit (map (cell_at after) q) in subst P (sym none) (All-nil (λ (cell : Cell). cell.now ≤ MOMENT_MAX))
+
+-- The clients with the one that came in.
+pub cells_after_insert : (s : StoreView) (ms : List Member) (i : ℕ) (new : Member) → i ≤ length ms → AllWithin (λ m. m.number < new.number) ms 0 i → AllWithin (λ m. new.number ≤ m.number) ms i (length ms)
+    → cells_in s (insert ms i new) ≡ with_client (client_in s new) (cells_in s ms)
+cells_after_insert s ms i new within lower others = map-insert (client_in s) ms i new within lower others
+
+-- the clients of a store with the same cells
+pub cells_same : (s after : StoreView) (ms : List Member) → after.slots ≡ s.slots → cells_in after ms ≡ cells_in s ms
+cells_same s after ms same = map_same (client_in after) (client_in s) ms (λ j d in_j. client_same s after (get_or ms j d) (λ n t. ap (λ sl. cell_in (record { slots = sl; spare = 0 }) n) same))
+
+-- A store whose cells that rings have stay is one for the same clients, where it has their holders.
+in_all : (ms : List Member) (j : ℕ) (d : Member) (n : ℕ) → j < length ms → 1 ≤ times n (get_or ms j d).ring.events → 1 ≤ times_in n ms
+in_all ms j d n in_j there = omega (arith, there, get_or-le-sum_by (λ (m : Member). times n m.ring.events) ms j d in_j)
+
+module _ {s : StoreView} {ms : List Member} {f : ℕ → ℕ} (st : AreStored s ms f) (after : StoreView) (stay : (n : ℕ) → 1 ≤ times_in n ms → cell_in after n ≡ cell_in s n) where
+  pub stored_stays : (g : ℕ → ℕ) → ((n : ℕ) → holders after n + g n ≡ times_in n ms) → cell_count s + s.spare ≤ cell_count after + after.spare → AreStored after ms g
+  stored_stays g held room = record {
+    held = held;
+    rings = st.rings;
+    timed = λ j d in_j.
+        let Q : List Cell → Type 0 = λ q. AreFit q in
+        subst Q (sym (queue_stays s after (get_or ms j d).ring.events (λ n there. stay n (in_all ms j d n in_j there)))) (All-get_or (λ m. AreFit (map (cell_at s) m.ring.events)) ms j d in_j st.timed);
+    room = omega (arith, st.room, room);
+  }
+
+  pub cells_stay : cells_in after ms ≡ cells_in s ms
+  cells_stay = map_same (client_in after) (client_in s) ms (λ j d in_j. client_same s after (get_or ms j d) (λ n there. stay n (in_all ms j d n in_j there)))

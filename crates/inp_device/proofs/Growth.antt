@@ -1,0 +1,272 @@
+-- How many more numbers the rings of all clients have after frames that are offered.
+use Rattle.std.proofs.Common.{◌≡◌, ◌≤◌, ◌<◌, ◌⊎◌, ℕ, suc, ◌+◌, Bool, true, false, ◌&&◌, ◌||◌, if◌then◌else◌, nat_eq, nat_lt, List, [], ◌∷◌, ◌++◌, length, map, get_or, Option, refl, sym, ap, ◌∙◌, subst, inl, inr, arith}
+use Rattle.std.specs.Prelude.{filter, flat_map, count_by}
+use Rattle.std.specs.List.{list_any}
+use Rattle.std.proofs.lemmas.Bool.{cases_lt, le-ltb}
+use Rattle.std.proofs.lemmas.List.{length-append, length-map, get_or-map}
+use Rattle.std.proofs.lemmas.List.Sums.{sum_by-cons}
+use Rattle.std.proofs.lemmas.List.Folds.{list_any-append}
+use Rattle.inp_model.specs.declared.event.TheConstants.{EV_SYN, SYN_DROPPED}
+use Rattle.inp_model.specs.declared.event.Event.{Event}
+use Rattle.inp_model.specs.Event.{is_report}
+use Rattle.inp_model.specs.Queue.{is_empty, ends_in_report, put_all}
+use Rattle.inp_ring.specs.declared.cell.Cell.{Cell}
+use Rattle.inp_ring.specs.Store.{event_of_cell, dropped_cell}
+use Rattle.inp_ring.specs.Ring.{times}
+use Rattle.inp_ring.proofs.Times.{times-append}
+use Rattle.inp_client.specs.Masks.{admits_of}
+use Rattle.inp_client.specs.Client.{ClientView, new_client, with_events, is_offered_to, cell_of_event, admitted_cells, after_offer}
+use Rattle.inp_client.specs.Clients.{ClientsView, distinct}
+use Rattle.inp_client.specs.Member.{after_event}
+use Rattle.inp_client.specs.Numbers.{held_numbers, stored_of, loses_event, loses, admitted_numbers, HoldNoneNew, IsPutBehind, IsStoredOnce}
+use Rattle.inp_client.proofs.CellCounts.{distinct_few, distinct_there}
+use Rattle.inp_client.proofs.Numbers.{admitted_few}
+use Rattle.inp_client.proofs.Offers.{after_offer-cons}
+use Rattle.inp_device.proofs.Named.{nat_eq-same}
+
+-- Who lost its queue at a place
+
+-- the cell tells a loss at the place
+abbrev pub tells_loss : ℕ → Cell → Bool
+tells_loss place x = nat_eq x.event.kind EV_SYN && nat_eq x.event.code SYN_DROPPED && nat_eq x.place place
+
+-- a client's queue has such a cell
+abbrev pub is_lost : ℕ → ClientView Cell → Bool
+is_lost place c = list_any (tells_loss place) c.ring.events
+
+-- a queue with one event more of a frame at the place
+abbrev with_cell : (a b : Bool) (q : List Cell) (x : Cell) → List Cell
+with_cell a b q x = if a then q else if b then q ++ x ∷ [] else dropped_cell x ∷ x ∷ []
+
+dropped_tells : (place : ℕ) (x : Cell) (q : List Cell) → x.place ≡ place → list_any (tells_loss place) (dropped_cell x ∷ q) ≡ true
+dropped_tells place x q at = ap (λ (b : Bool). b || list_any (tells_loss place) q) (ap (λ (n : ℕ). nat_eq n place) at ∙ nat_eq-same place)
+
+lost_stays : (place : ℕ) (a b : Bool) (q : List Cell) (x : Cell) → x.place ≡ place → list_any (tells_loss place) q ≡ true → list_any (tells_loss place) (with_cell a b q x) ≡ true
+lost_stays place true b q x at h = h
+lost_stays place false true q x at h = list_any-append (tells_loss place) q (x ∷ []) ∙ ap (λ (b : Bool). b || list_any (tells_loss place) (x ∷ [])) h
+lost_stays place false false q x at h = dropped_tells place x (x ∷ []) at
+
+lost_stays_all : (now place places : ℕ) (q : List Cell) (es : List Event) → list_any (tells_loss place) q ≡ true → list_any (tells_loss place) (put_all event_of_cell dropped_cell places q (map (cell_of_event now place) es)) ≡ true
+lost_stays_all now place places q [] h = h
+lost_stays_all now place places q (e ∷ es) h =
+    lost_stays_all now place places (with_cell (is_report e && (is_empty q || ends_in_report event_of_cell q)) (nat_lt (suc (length q)) places) q (cell_of_event now place e)) es
+    (lost_stays place (is_report e && (is_empty q || ends_in_report event_of_cell q)) (nat_lt (suc (length q)) places) q (cell_of_event now place e) refl h)
+
+module _ (now place : ℕ) (holder : Option ℕ) where
+  lost_kept : (frame : List Event) (c : ClientView Cell) → is_lost place c ≡ true → is_lost place (after_offer frame now place holder c) ≡ true
+  lost_kept frame c h = either (is_offered_to holder c)
+    where
+      either : (b : Bool) → is_lost place (if b then with_events (put_all event_of_cell dropped_cell c.ring.places c.ring.events (admitted_cells frame now place c)) c else c) ≡ true
+      either true = lost_stays_all now place c.ring.places c.ring.events (filter (admits_of c.masks) frame) h
+      either false = h
+
+  -- a client that loses its queue by an event is told so
+  told_of_event : (e : Event) (c : ClientView Cell) → loses_event (cell_of_event now place e) holder c ≡ true → is_lost place (after_event (cell_of_event now place e) holder c) ≡ true
+  told_of_event e c h =
+      by (is_offered_to holder c && admits_of c.masks e) (is_report e && (is_empty c.ring.events || ends_in_report event_of_cell c.ring.events)) (nat_lt (suc (length c.ring.events)) c.ring.places) h
+    where
+      x : Cell
+      x = cell_of_event now place e
+
+      by : (g a b : Bool) → (let new : ClientView Cell = if g then with_events (with_cell a b c.ring.events x) c else c in nat_lt (length new.ring.events) (length c.ring.events) ≡ true)
+          → (let new : ClientView Cell = if g then with_events (with_cell a b c.ring.events x) c else c in is_lost place new ≡ true)
+      by false a b h = absurd (cc (h, le-ltb (length c.ring.events) (length c.ring.events) (omega arith)))
+      by true true b h = absurd (cc (h, le-ltb (length c.ring.events) (length c.ring.events) (omega arith)))
+      by true false true h = absurd (cc (h, le-ltb (length (c.ring.events ++ x ∷ [])) (length c.ring.events) (omega (arith, length-append c.ring.events (x ∷ [])))))
+      by true false false h = dropped_tells place x (x ∷ []) refl
+
+  told_of_frame : (frame : List Event) (c : ClientView Cell) → loses frame now place holder c ≡ true → is_lost place (after_offer frame now place holder c) ≡ true
+  told_of_frame [] c h = absurd (cc h)
+  told_of_frame (e ∷ frame) c h =
+      subst (λ (new : ClientView Cell). is_lost place new ≡ true) (sym (after_offer-cons e frame now place holder c)) (by (loses_event (cell_of_event now place e) holder c) refl h (λ g. told_of_frame frame (after_event (cell_of_event now place e) holder c) g))
+    where
+      mid : ClientView Cell
+      mid = after_event (cell_of_event now place e) holder c
+
+      by : (b : Bool) → loses_event (cell_of_event now place e) holder c ≡ b → (b || loses frame now place holder mid) ≡ true → (loses frame now place holder mid ≡ true → is_lost place (after_offer frame now place holder mid) ≡ true)
+          → is_lost place (after_offer frame now place holder mid) ≡ true
+      by true is h rest = lost_kept frame mid (told_of_event e c is)
+      by false is h rest = rest h
+
+-- How the numbers of one ring grow
+
+-- All that a ring has is from a frame, or was there before. Where its queue was lost, SYN_DROPPED stands for what was there.
+pub record IsGrown (given : List ℕ) (is_lost : Bool) (old new : List ℕ) : Type 0 where
+  pub front : List ℕ
+  pub kept_or_lost : (front ≡ old) ⊎ ((is_lost ≡ true) × (length front ≡ 1))
+  pub among : (n : ℕ) → 1 ≤ times n new → 1 ≤ times n front + times n given
+
+grown_then : (first rest old mid new : List ℕ) (a b : Bool) → (a ≡ true → b ≡ true) → IsGrown first a old mid → IsGrown rest b mid new → IsGrown (first ++ rest) b old new
+grown_then first rest old mid new a b stays p q = elim q.kept_or_lost [
+  | inr lost ↦ record {
+    front = q.front;
+    kept_or_lost = inr lost;
+    among = λ n there. omega (arith, q.among n there, times-append n first rest);
+  }
+  | inl kept ↦ record {
+    front = p.front;
+    kept_or_lost = elim p.kept_or_lost [ inl same ↦ inl same | inr lost ↦ inr (stays lost.0, lost.1) ];
+    among = λ n there. elim (cases_lt 0 (times n mid)) [
+      | inl had ↦ omega (arith, p.among n (omega (arith, had)), times-append n first rest)
+      | inr had_not ↦ omega (arith, q.among n there, ap (times n) kept, had_not, times-append n first rest)
+    ];
+  }
+]
+
+-- How those of all rings grow
+
+abbrev some_client : ClientView Cell
+some_client = new_client 0 0
+
+-- At most so many numbers came into rings, but for one of each client that lost its queue at the place.
+pub record AreGrown (count place : ℕ) (old new : ClientsView) : Type 0 where
+  pub given : List ℕ
+  pub few : length given ≤ count
+  pub same : length new.list ≡ length old.list
+  pub rings : (length old.rings ≡ length old.list) × (length new.rings ≡ length old.list)
+  pub each : (i : ℕ) → i < length old.list → IsGrown given (is_lost place (get_or new.list i some_client)) (get_or old.rings i []) (get_or new.rings i [])
+  pub stay : (i : ℕ) → i < length old.list → is_lost place (get_or old.list i some_client) ≡ true → is_lost place (get_or new.list i some_client) ≡ true
+
+-- so it is for more of them
+pub grown_more : (count more place : ℕ) (old new : ClientsView) → count ≤ more → AreGrown count place old new → AreGrown more place old new
+grown_more count more place old new le are = record { given = are.given; few = omega (arith, are.few, le); same = are.same; rings = are.rings; each = are.each; stay = are.stay }
+
+-- by one frame
+pub grown_by_frame : (frame : List Event) (now place : ℕ) (holder : Option ℕ) (old new : ClientsView) → new.list ≡ map (after_offer frame now place holder) old.list → IsStoredOnce frame now place holder old new → AreGrown (length frame) place old new
+grown_by_frame frame now place holder old new offered once = record {
+  given = once.given;
+  few = omega (arith, once.long);
+  same = ap length offered ∙ length-map old.list (after_offer frame now place holder);
+  rings = once.rings;
+  each = one;
+  stay = λ i in_i h. subst (λ (c : ClientView Cell). is_lost place c ≡ true) (sym (client_is i in_i)) (lost_kept now place holder frame (get_or old.list i some_client) h);
+}
+  where
+    client_is : (i : ℕ) → i < length old.list → get_or new.list i some_client ≡ after_offer frame now place holder (get_or old.list i some_client)
+    client_is i in_i = ap (λ (cs : List (ClientView Cell)). get_or cs i some_client) offered ∙ get_or-map (after_offer frame now place holder) old.list i some_client some_client in_i
+
+    one : (i : ℕ) → i < length old.list → IsGrown once.given (is_lost place (get_or new.list i some_client)) (get_or old.rings i []) (get_or new.rings i [])
+    one i in_i = by (loses frame now place holder (get_or old.list i some_client)) refl
+      where
+        put : IsPutBehind (admitted_numbers (get_or old.list i some_client).masks frame once.given) (loses frame now place holder (get_or old.list i some_client)) (get_or old.rings i []) (get_or new.rings i [])
+        put = once.each i in_i
+
+        there_of : (n : ℕ) → 1 ≤ times n (get_or new.rings i []) → 1 ≤ times n put.front + times n once.given
+        there_of n there = omega (arith, there, ap (times n) put.numbers, times-append n put.front put.behind, put.theirs n, admitted_few (get_or old.list i some_client).masks frame once.given n)
+
+        by : (b : Bool) → loses frame now place holder (get_or old.list i some_client) ≡ b → IsGrown once.given (is_lost place (get_or new.list i some_client)) (get_or old.rings i []) (get_or new.rings i [])
+        by true is = record {
+          front = put.front;
+          kept_or_lost = inr (subst (λ (c : ClientView Cell). is_lost place c ≡ true) (sym (client_is i in_i)) (told_of_frame now place holder frame (get_or old.list i some_client) is), put.lost is);
+          among = there_of;
+        }
+        by false is = record { front = put.front; kept_or_lost = inl (put.kept is); among = there_of }
+
+-- by one frame after another
+pub are_grown_then : (first rest place : ℕ) (old mid new : ClientsView) → AreGrown first place old mid → AreGrown rest place mid new → AreGrown (first + rest) place old new
+are_grown_then first rest place old mid new p q = record {
+  given = p.given ++ q.given;
+  few = omega (arith, length-append p.given q.given, p.few, q.few);
+  same = q.same ∙ p.same;
+  rings = (p.rings.0, q.rings.1 ∙ p.same);
+  each = λ i in_i.
+      let in_mid : i < length mid.list = omega (arith, in_i, p.same) in
+      grown_then p.given q.given (get_or old.rings i []) (get_or mid.rings i []) (get_or new.rings i []) (is_lost place (get_or mid.list i some_client)) (is_lost place (get_or new.list i some_client))
+      (q.stay i in_mid) (p.each i in_i) (q.each i in_mid);
+  stay = λ i in_i h. q.stay i (omega (arith, in_i, p.same)) (p.stay i in_i h);
+}
+
+-- How many different numbers there are then
+
+abbrev all_of : List (List ℕ) → List ℕ
+all_of rings = flat_map (λ q. q) rings
+
+-- the numbers of SYN_DROPPED that came
+record AreLosses (count : ℕ) (given old new : List ℕ) : Type 0 where
+  losses : List ℕ
+  few : length losses ≤ count
+  among : (n : ℕ) → 1 ≤ times n new → 1 ≤ times n old + times n given + times n losses
+
+module _ (place : ℕ) (given : List ℕ) where
+  abbrev lost : ClientView Cell → Bool
+  lost c = is_lost place c
+
+  one_more : (c : ClientView Cell) (cs : List (ClientView Cell)) (o n old new : List ℕ) → IsGrown given (lost c) o n → AreLosses (count_by lost cs) given old new → AreLosses (count_by lost (c ∷ cs)) given (o ++ old) (n ++ new)
+  one_more c cs o n old new grown rest = elim grown.kept_or_lost [
+    | inl kept ↦ record {
+      losses = rest.losses;
+      few = omega (arith, rest.few, sum_by-cons (λ (x : ClientView Cell). if lost x then 1 else 0) c cs);
+      among = λ k there. elim (cases_lt 0 (times k new)) [
+        | inl had ↦ omega (arith, rest.among k (omega (arith, had)), times-append k o old)
+        | inr none ↦ omega (arith, grown.among k (omega (arith, there, none, times-append k n new)), ap (times k) kept, times-append k o old)
+      ];
+    }
+    | inr was ↦ record {
+      losses = grown.front ++ rest.losses;
+      few = omega (arith, length-append grown.front rest.losses, was.1, rest.few, sum_by-cons (λ (x : ClientView Cell). if lost x then 1 else 0) c cs, ap {B = ℕ} (λ (b : Bool). if b then 1 else 0) was.0);
+      among = λ k there. elim (cases_lt 0 (times k new)) [
+        | inl had ↦ omega (arith, rest.among k (omega (arith, had)), times-append k o old, times-append k grown.front rest.losses)
+        | inr none ↦ omega (arith, grown.among k (omega (arith, there, none, times-append k n new)), times-append k grown.front rest.losses)
+      ];
+    }
+  ]
+
+  losses_of : (cs : List (ClientView Cell)) (os ns : List (List ℕ)) → length os ≡ length cs → length ns ≡ length cs
+      → ((i : ℕ) → i < length cs → IsGrown given (lost (get_or cs i some_client)) (get_or os i []) (get_or ns i [])) → AreLosses (count_by lost cs) given (all_of os) (all_of ns)
+  losses_of [] [] [] a b each = record { losses = []; few = omega arith; among = λ n there. absurd (omega (arith, there)) }
+  losses_of [] [] (n ∷ ns) a b each = absurd (omega (arith, b))
+  losses_of [] (o ∷ os) ns a b each = absurd (omega (arith, a))
+  losses_of (c ∷ cs) [] ns a b each = absurd (omega (arith, a))
+  losses_of (c ∷ cs) (o ∷ os) [] a b each = absurd (omega (arith, b))
+  losses_of (c ∷ cs) (o ∷ os) (n ∷ ns) a b each =
+      one_more c cs o n (all_of os) (all_of ns) (each 0 (omega arith)) (losses_of cs os ns (omega (arith, a)) (omega (arith, b)) (λ i in_i. each (suc i) (omega (arith, in_i))))
+
+-- no more different numbers than came, and one of each client that lost its queue
+pub stored_grown : (count place : ℕ) (old new : ClientsView) → AreGrown count place old new → stored_of new ≤ stored_of old + count + count_by (is_lost place) new.list
+stored_grown count place old new are =
+    omega (
+      arith,
+      distinct_few (held_numbers new) (distinct (held_numbers old) ++ (are.given ++ found.losses)) in_all,
+      length-append (distinct (held_numbers old)) (are.given ++ found.losses),
+      length-append are.given found.losses,
+      are.few,
+      found.few,
+    )
+  where
+    found : AreLosses (count_by (is_lost place) new.list) are.given (held_numbers old) (held_numbers new)
+    found = losses_of place are.given new.list old.rings new.rings (are.rings.0 ∙ sym are.same) (are.rings.1 ∙ sym are.same) (λ i in_i. are.each i (omega (arith, in_i, are.same)))
+
+    in_all : (n : ℕ) → 1 ≤ times n (held_numbers new) → 1 ≤ times n (distinct (held_numbers old) ++ (are.given ++ found.losses))
+    in_all n there =
+        let parts : times n (distinct (held_numbers old) ++ (are.given ++ found.losses)) ≡ times n (distinct (held_numbers old)) + (times n are.given + times n found.losses) =
+        omega (arith, times-append n (distinct (held_numbers old)) (are.given ++ found.losses), times-append n are.given found.losses) in
+        elim (cases_lt 0 (times n (held_numbers old))) [
+          | inl had ↦ omega (arith, parts, distinct_there n (held_numbers old) (omega (arith, had)))
+          | inr had_not ↦ omega (arith, parts, had_not, found.among n there)
+        ]
+
+-- Calls after which no number is new
+
+pub stored_fewer : (old new : ClientsView) (more : ℕ) → ((n : ℕ) → times n (held_numbers new) ≤ times n (held_numbers old)) → stored_of new ≤ stored_of old + more
+stored_fewer old new more fewer = omega (arith, distinct_few (held_numbers new) (distinct (held_numbers old)) (λ n there. distinct_there n (held_numbers old) (omega (arith, there, fewer n))))
+
+pub stored_same : (old new : ClientsView) (more : ℕ) → held_numbers new ≡ held_numbers old → stored_of new ≤ stored_of old + more
+stored_same old new more same = stored_fewer old new more (λ n. omega (arith, ap (times n) same))
+
+pub stored_kept : (old new : ClientsView) (more : ℕ) → new ≡ old → stored_of new ≤ stored_of old + more
+stored_kept old new more same = stored_same old new more (ap held_numbers same)
+
+none_come : (n : ℕ) (old new : List (List ℕ)) → ((i : ℕ) → times n (get_or new i []) ≤ times n (get_or old i [])) → times n (all_of new) ≤ times n (all_of old)
+none_come n old [] h = omega arith
+none_come n [] (q ∷ new) h = omega (arith, h 0, none_come n [] new (λ i. h (suc i)), times-append n q (all_of new))
+none_come n (o ∷ old) (q ∷ new) h = omega (arith, h 0, none_come n old new (λ i. h (suc i)), times-append n q (all_of new), times-append n o (all_of old))
+
+pub stored_none_new : (old new : ClientsView) (more : ℕ) → HoldNoneNew old new → stored_of new ≤ stored_of old + more
+stored_none_new old new more none = stored_fewer old new more (λ n. none_come n old.rings new.rings (λ i. none i n))
+
+pub stored_rings : (old new : ClientsView) (more : ℕ) → new.rings ≡ old.rings → stored_of new ≤ stored_of old + more
+stored_rings old new more same = stored_same old new more (ap all_of same)
+
+-- one number came
+pub stored_one : (old new : ClientsView) (more : ℕ) → stored_of new ≤ stored_of old + 1 → stored_of new ≤ stored_of old + (more + 1)
+stored_one old new more one = omega (arith, one)

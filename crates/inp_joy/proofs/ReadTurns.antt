@@ -1,0 +1,125 @@
+-- The turns of a read, one after another.
+use Rattle.std.proofs.Common.{◌≡◌, ℕ, suc, ◌+◌, ◌<◌, Bool, true, false, ◌&&◌, if◌then◌else◌, nat_le, List, [], ◌++◌, length, Some, refl, sym, ap, subst, ◌∙◌, arith, length-append}
+use Rattle.std.specs.Prelude.{Option}
+use Rattle.std.proofs.lemmas.Bool.{true≢false}
+use Rattle.std.proofs.lemmas.Bool.Decides.{nat_tests}
+use Rattle.inp_model.specs.Description.{Description}
+use Rattle.inp_model.specs.Evdev.{EvdevView}
+use Rattle.inp_model.specs.Leaves.{AreCalls}
+use Rattle.inp_model.specs.Run.{Call}
+use Rattle.inp_model.proofs.Leaves.{AreCalls-append}
+use Rattle.inp_reader.specs.declared.call_made.CallMade.{CallMade}
+use Rattle.inp_reader.specs.Says.{Says, calls_kept}
+use Rattle.inp_reader.specs.Talk.{Talk, finish, LeadsTo, EndsWith}
+use Rattle.inp_reader.proofs.Talks.{LeadsTo-append, LeadsTo-and_then, calls_kept-append}
+use Rattle.inp_joy.specs.declared.turn_end.TurnEnd.{TurnEnd}
+use Rattle.inp_joy.specs.declared.turn_end.TurnEnd.TheVariants.{Hands, Stops, GoesOn}
+use Rattle.inp_joy.specs.Joy.{Joying, JoyAnswer, JoyTurn, goes_on, is_startup_over, is_long, turn_talk, with_count, after_turn, turns}
+use Rattle.inp_joy.specs.Kept.{answer_of_turn, turn_of_end, is_end, IsTurnEndLess, agains_after_turn, HasTurned}
+use Rattle.inp_joy.proofs.AcceptedSteps.{count_after, with_count-ends, count-kept}
+use Rattle.inp_joy.proofs.TurnEnds.{turn-accepted}
+
+-- so many turns were made, all calls of which were accepted and kept, and the read goes on from here
+pub record Passed (before now : EvdevView) (d : Description) (start here : Joying) (made : List CallMade) : Type 0 where
+  pub count : ℕ
+  pub calls : List Call
+  pub leads : (n m : ℕ) → m ≡ count + n → LeadsTo (turns d m 0 start) calls (turns d n (length made) here)
+  pub are_calls : AreCalls before now calls
+  pub kept : made ≡ calls_kept calls
+
+pub passed-none : (told : EvdevView) (d : Description) (start : Joying) (made : List CallMade) → made ≡ [] → Passed told told d start start made
+unfolding LeadsTo AreCalls
+passed-none told d start made none = record {
+  count = 0;
+  calls = [];
+  leads = λ n m e.
+      let same : m ≡ n = omega arith in
+      ap (λ (k : ℕ). turns d k 0 start) same ∙ ap (λ (k : ℕ). turns d n k start) (sym (ap length none));
+  are_calls = refl;
+  kept = none;
+}
+
+-- one turn more, and what follows it
+one_turn : (d : Description) (here : Joying) (turn : JoyTurn) (n count : ℕ) (calls : List Call) → EndsWith (turn_talk d here) calls turn → LeadsTo (turns d (suc n) count here) calls (after_turn d (turns d n) (count_after calls count) turn)
+unfolding turns
+one_turn d here turn n count calls h =
+    let next : ℕ × JoyTurn → Talk (Option JoyAnswer) = λ o. after_turn d (turns d n) o.0 o.1 in
+    LeadsTo-and_then (with_count (turn_talk d here) count) (finish (count_after calls count, turn)) next calls (with_count-ends (turn_talk d here) calls turn count h)
+
+-- a turn after which no other one follows
+ended : (d : Description) (go_on : ℕ → Joying → Talk (Option JoyAnswer)) (n : ℕ) (outcome : TurnEnd) (j : Joying) → is_end d outcome j n ≡ true → after_turn d go_on n (turn_of_end outcome j) ≡ finish (Some (answer_of_turn outcome j))
+ended d go_on n (Hands r) j h = refl
+ended d go_on n (Stops read) j h = refl
+ended d go_on n GoesOn j h = ap (λ (b : Bool). if b then finish (Some (answer_of_turn GoesOn j)) else go_on n j) h
+
+-- another one
+goes : (d : Description) (go_on : ℕ → Joying → Talk (Option JoyAnswer)) (n : ℕ) (outcome : TurnEnd) (j : Joying) → is_end d outcome j n ≡ false → after_turn d go_on n (turn_of_end outcome j) ≡ go_on n j
+goes d go_on n (Hands r) j h = absurd (true≢false h)
+goes d go_on n (Stops read) j h = absurd (true≢false h)
+goes d go_on n GoesOn j h = ap (λ (b : Bool). if b then finish (Some (answer_of_turn GoesOn j)) else go_on n j) h
+
+went-on : (d : Description) (outcome : TurnEnd) (j : Joying) (n : ℕ) → is_end d outcome j n ≡ false → turn_of_end outcome j ≡ goes_on j
+went-on d (Hands r) j n h = absurd (true≢false h)
+went-on d (Stops read) j n h = absurd (true≢false h)
+went-on d GoesOn j n h = refl
+
+-- the count of the calls that were accepted is that of those that were kept
+with_count-kept : (d : Description) (here next : Joying) (calls : List Call) (made new : List CallMade) → EndsWith (turn_talk d here) calls (goes_on next) → new ≡ made ++ calls_kept calls → count_after calls (length made) ≡ length new
+with_count-kept d here next calls made new h kept =
+    count-kept calls (length made) (turn-accepted d here next calls h) ∙ sym (ap length kept ∙ length-append made (calls_kept calls))
+
+-- after a turn that goes on
+pub passed-more : (before between after : EvdevView) (d : Description) (start here next : Joying) (made new : List CallMade) (outcome : TurnEnd) → Passed before between d start here made → Says between after made new (turn_talk d here) (turn_of_end outcome next) → is_end d outcome next (length new) ≡ false → Passed before after d start next new
+passed-more before between after d start here next made new outcome s h on =
+    let ends : EndsWith (turn_talk d here) h.calls (goes_on next) = subst (λ (t : JoyTurn). EndsWith (turn_talk d here) h.calls t) (went-on d outcome next (length new) on) h.talk_ends in
+    record {
+      count = s.count + 1;
+      calls = s.calls ++ h.calls;
+      leads = λ n m e.
+          LeadsTo-append (turns d m 0 start) (turns d (suc n) (length made) here) (turns d n (length new) next) s.calls h.calls (s.leads (suc n) m (omega (arith, e)))
+          (subst (λ (t : Talk (Option JoyAnswer)). LeadsTo (turns d (suc n) (length made) here) h.calls t)
+          (ap (λ (k : ℕ). after_turn d (turns d n) k (turn_of_end outcome next)) (with_count-kept d here next h.calls made new ends h.kept) ∙ goes d (turns d n) (length new) outcome next on)
+          (one_turn d here (turn_of_end outcome next) n (length made) h.calls h.talk_ends));
+      are_calls = AreCalls-append before between after s.calls h.calls s.are_calls h.are_calls;
+      kept = h.kept ∙ ap (λ (ms : List CallMade). ms ++ calls_kept h.calls) s.kept ∙ sym (calls_kept-append s.calls h.calls);
+    }
+
+-- the number of accepted calls after the last turn, where that matters
+end-with_count : (d : Description) (here next : Joying) (calls : List Call) (made new : List CallMade) (outcome : TurnEnd) → EndsWith (turn_talk d here) calls (turn_of_end outcome next) → new ≡ made ++ calls_kept calls → is_end d outcome next (length new) ≡ true → is_end d outcome next (count_after calls (length made)) ≡ true
+end-with_count d here next calls made new (Hands r) h kept end = refl
+end-with_count d here next calls made new (Stops read) h kept end = refl
+end-with_count d here next calls made new GoesOn h kept end = ap (λ (n : ℕ). is_long d next n) (with_count-kept d here next calls made new h kept) ∙ end
+
+-- after the last one
+pub passed-last : (before between after : EvdevView) (d : Description) (start here next : Joying) (made new : List CallMade) (outcome : TurnEnd) → Passed before between d start here made → Says between after made new (turn_talk d here) (turn_of_end outcome next) → is_end d outcome next (length new) ≡ true → HasTurned before after d start new (answer_of_turn outcome next)
+passed-last before between after d start here next made new outcome s h end = record {
+  count = s.count + 1;
+  says = record {
+    calls = s.calls ++ h.calls;
+    talk_ends =
+        LeadsTo-append (turns d (s.count + 1) 0 start) (turns d (suc 0) (length made) here) (finish (Some (answer_of_turn outcome next))) s.calls h.calls (s.leads (suc 0) (s.count + 1) (omega arith))
+        (subst (λ (t : Talk (Option JoyAnswer)). LeadsTo (turns d (suc 0) (length made) here) h.calls t)
+        (ended d (turns d 0) (count_after h.calls (length made)) outcome next (end-with_count d here next h.calls made new outcome h.talk_ends h.kept end))
+        (one_turn d here (turn_of_end outcome next) 0 (length made) h.calls h.talk_ends));
+    are_calls = AreCalls-append before between after s.calls h.calls s.are_calls h.are_calls;
+    kept = h.kept ∙ ap (λ (ms : List CallMade). ms ++ calls_kept h.calls) s.kept ∙ sym (calls_kept-append s.calls h.calls);
+  };
+}
+
+-- What a turn that goes on leaves
+
+pub on-less : (d : Description) (outcome : TurnEnd) (j : Joying) (n after before : ℕ) → is_end d outcome j n ≡ false → IsTurnEndLess outcome after before → after < before
+on-less d (Hands r) j n after before on h = absurd (true≢false on)
+on-less d (Stops read) j n after before on h = absurd (true≢false on)
+on-less d GoesOn j n after before on h = h
+
+pub on-short : (d : Description) (outcome : TurnEnd) (j : Joying) (n : ℕ) → is_end d outcome j n ≡ false → is_startup_over d j ≡ true → n < 64
+on-short d (Hands r) j n on over = absurd (true≢false on)
+on-short d (Stops read) j n on over = absurd (true≢false on)
+on-short d GoesOn j n on over =
+    let few : nat_le 64 n ≡ false = sym (ap (λ (b : Bool). b && nat_le 64 n) over) ∙ on in grind (arith, nat_tests, few)
+
+pub on-agains : (d : Description) (outcome : TurnEnd) (j : Joying) (n count : ℕ) → is_end d outcome j n ≡ false → agains_after_turn outcome count ≡ count
+on-agains d (Hands r) j n count on = absurd (true≢false on)
+on-agains d (Stops read) j n count on = absurd (true≢false on)
+on-agains d GoesOn j n count on = refl

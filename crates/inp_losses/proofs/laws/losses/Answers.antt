@@ -1,8 +1,0 @@
-use Rattle.inp_losses.proofs.Causes.{queued-caused, all_taken-caused}
-use Rattle.inp_losses.proofs.laws.losses.Goals as goal
-
-pub returns-clause-queued : goal.returns-clause-queued
-returns-clause-queued c = queued-caused
-
-pub returns-clause-taken : goal.returns-clause-taken
-returns-clause-taken c = all_taken-caused

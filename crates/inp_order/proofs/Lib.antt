@@ -1,9 +1,0 @@
-pub mod Calls
-pub mod Places
-pub mod LineDone
-pub mod Stages
-pub mod Feeding
-pub mod OwnedStages
-pub mod Rounds
-pub mod Promised
-pub mod Alone

@@ -1,6 +1,0 @@
--- What comes of a record is promised.
-use Rattle.inp_order.proofs.Promised.{play-promised}
-use Rattle.inp_order.proofs.laws.each_play_is_promised.Goals as goal
-
-pub returns : goal.returns
-returns c = record { promised = play-promised }

@@ -1,0 +1,360 @@
+-- Two views that keep what their device cannot have agree after the answers to all that is asked for.
+use Rattle.std.proofs.Common.{◌≡◌, ◌≤◌, ◌<◌, inl, inr, ℕ, zero, suc, ◌+◌, ◌*◌, nat_eq, nat_lt, nat_le, ℤ, pos, Bool, true, false, ◌&&◌, ◌||◌, not, List, [], ◌∷◌, ◌++◌, length, take, set, refl, sym, ap, subst, ◌∙◌, arith, if◌then◌else◌, Option, Some, None}
+use Rattle.std.specs.Prelude.{slice_index_or}
+use Rattle.std.specs.List.{list_any, range_with_len, filter}
+use Rattle.std.proofs.lemmas.Bool.{true≢false, false≢true, eq-eqb, ne_eqb, cases_eq, cases_lt, or_parts, lt-ltb, le-leb}
+use Rattle.std.proofs.lemmas.Bool.Decides.{nat_tests}
+use Rattle.std.proofs.lemmas.List.{get_or-set_other, get_or-set_same, get_or_past, ext_get_or, nil_from_length, map-append}
+use Rattle.std.proofs.lemmas.List.Folds.{list_any-append}
+use Rattle.inp_model.specs.declared.event.TheConstants.{EV_KEY, EV_ABS, EV_SW, EV_LED}
+use Rattle.inp_model.specs.declared.multi_touch.TheConstants.{ABS_MT_SLOT, ABS_MT_TOOL_Y}
+use Rattle.inp_model.specs.declared.step.Step.{Step}
+use Rattle.inp_model.specs.declared.step.Step.TheVariants.{GetKeys, GetSwitches, GetLeds, GetAxis, SyncSlots}
+use Rattle.inp_model.specs.declared.reply.Reply.{Reply}
+use Rattle.inp_model.specs.declared.reply.Reply.TheVariants.{Bits, Axis, Cells}
+use Rattle.inp_model.specs.Description.{Description, has_kind, supports, is_multi_touch_code}
+use Rattle.inp_model.specs.Reply.{Answer, IsAnswer, answer_by, accepted, refused, is_accepted}
+use Rattle.inp_model.specs.Run.{Call}
+use Rattle.inp_recon.specs.declared.view.View.{View}
+use Rattle.inp_recon.specs.View.{code_count, with_value_at, keys_after_answer, switches_after_answer, leds_after_answer, axes_after_answer, axes_after_reply, slot_after_answer, cells_after_answer, flags_after_reply, slot_after_reply, cells_after_reply, first_view, view_after_answer}
+use Rattle.inp_recon.proofs.Sizes.{length-axes_after_answer, length-cells_after_answer}
+use Rattle.inp_reader.specs.Reader.{queries, bit_queries, axis_queries, plain_axes, slot_queries, only_if, axes_among}
+use Rattle.inp_recon.specs.Synchronised.{has_axis}
+use Rattle.inp_reader.specs.Spare.{IsSpare}
+use Rattle.inp_reader.specs.ReaderPlace.{steps_of, view_after_answers}
+use Rattle.inp_model.proofs.Refused.{refused-not_accepted}
+use Rattle.inp_reader.proofs.Calls.{AreAnswered, AreAccepted}
+use Rattle.inp_reader.proofs.SpareAgrees.{IsSpare-first_view}
+use Rattle.inp_reader.proofs.StandsAfterTalks.{IsMadeAnew}
+use Rattle.inp_reader.proofs.UnsetSlotAxes.{has_cells}
+
+-- What is asked for
+
+abbrev pub is_get_keys : Step → Bool
+is_get_keys (GetKeys client) = true
+is_get_keys _ = false
+
+abbrev pub is_get_switches : Step → Bool
+is_get_switches (GetSwitches client) = true
+is_get_switches _ = false
+
+abbrev pub is_get_leds : Step → Bool
+is_get_leds (GetLeds client) = true
+is_get_leds _ = false
+
+-- an axis with a value of its own, of those that a view has
+abbrev pub is_get_axis : ℕ → Step → Bool
+is_get_axis code (GetAxis client asked) = nat_eq asked code && (nat_lt asked code_count && not (is_multi_touch_code asked))
+is_get_axis code _ = false
+
+abbrev pub is_sync_slots : Step → Bool
+is_sync_slots (SyncSlots client) = true
+is_sync_slots _ = false
+
+-- what of two views is compared
+pub record Compared : Type 0 where
+  pub keys : Bool
+  pub switches : Bool
+  pub leds : Bool
+  pub axes : ℕ → Bool
+  pub slots : Bool
+
+-- two views agree in all that is compared and that these steps do not ask for
+pub record AgreeBut (which : Compared) (xs : List Step) (v w : View) : Type 0 where
+  pub keys : which.keys ≡ true → list_any is_get_keys xs ≡ false → v.keys ≡ w.keys
+  pub switches : which.switches ≡ true → list_any is_get_switches xs ≡ false → v.switches ≡ w.switches
+  pub leds : which.leds ≡ true → list_any is_get_leds xs ≡ false → v.leds ≡ w.leds
+  pub axes : (code : ℕ) → which.axes code ≡ true → list_any (is_get_axis code) xs ≡ false → slice_index_or v.axes code (pos 0) ≡ slice_index_or w.axes code (pos 0)
+  pub slot : which.slots ≡ true → list_any is_sync_slots xs ≡ false → v.slot ≡ w.slot
+  pub cells : which.slots ≡ true → list_any is_sync_slots xs ≡ false → v.cells ≡ w.cells
+  pub left_long : length v.axes ≡ code_count
+  pub right_long : length w.axes ≡ code_count
+  pub cells_long : length v.cells ≡ length w.cells
+
+-- An accepted answer tells what was asked for
+
+abbrev Tells : Step → Reply → Type 0
+Tells (GetKeys client) reply = (at : ℕ) × (words : List ℕ) × (reply ≡ Bits at words)
+Tells (GetSwitches client) reply = (at : ℕ) × (words : List ℕ) × (reply ≡ Bits at words)
+Tells (GetLeds client) reply = (at : ℕ) × (words : List ℕ) × (reply ≡ Bits at words)
+Tells (GetAxis client code) reply = (at : ℕ) × (info : _) × (reply ≡ Axis at info)
+Tells (SyncSlots client) reply = (at : ℕ) × (count : ℕ) × (slot : ℤ) × (reply ≡ Cells at count slot)
+Tells _ reply = Unit {0}
+
+tells-accepted : (d : Description) (past : List Step) (x : Step) → Tells x (accepted d past x).reply
+tells-accepted d past (GetKeys client) = (_, _, refl)
+tells-accepted d past (GetSwitches client) = (_, _, refl)
+tells-accepted d past (GetLeds client) = (_, _, refl)
+tells-accepted d past (GetAxis client code) = (_, _, refl)
+tells-accepted d past (SyncSlots client) = (_, _, _, refl)
+tells-accepted d past _ = tt
+
+tells-by : (d : Description) (past : List Step) (x : Step) (o : Option Reply) → refused d past x ≡ o → is_accepted (answer_by o (accepted d past x)).reply ≡ true → Tells x (answer_by o (accepted d past x)).reply
+tells-by d past x None h is = tells-accepted d past x
+tells-by d past x (Some reply) h is = absurd (true≢false (sym is ∙ refused-not_accepted d past x reply h))
+
+tells : (d : Description) (past : List Step) (x : Step) (given : Answer) → IsAnswer d past x given → is_accepted given.reply ≡ true → Tells x given.reply
+tells d past x given (inl e) is =
+    subst (λ (a : Answer). Tells x a.reply) (sym e) (tells-by d past x (refused d past x) refl (ap (λ (a : Answer). is_accepted a.reply) (sym e) ∙ is))
+tells d past x given (inr l) is = absurd (false≢true (ap (λ (a : Answer). is_accepted a.reply) (sym l.2) ∙ is))
+
+-- One answer
+
+same-flags : (count : ℕ) (reply : Reply) (at : ℕ) (words : List ℕ) (v w : List Bool) → reply ≡ Bits at words → flags_after_reply count reply v ≡ flags_after_reply count reply w
+same-flags count reply at words v w h = ap (λ (r : Reply). flags_after_reply count r v) h ∙ ap (λ (r : Reply). flags_after_reply count r w) (sym h)
+
+keys-agree : (x : Step) (reply : Reply) (xs : List Step) (v w : List Bool) → Tells x reply → (list_any is_get_keys (x ∷ xs) ≡ false → v ≡ w) → list_any is_get_keys xs ≡ false → keys_after_answer x reply v ≡ keys_after_answer x reply w
+keys-agree (GetKeys client) reply xs v w t h none = same-flags 768 reply t.0 t.1 v w t.2
+keys-agree _ reply xs v w t h none = h none
+
+switches-agree : (x : Step) (reply : Reply) (xs : List Step) (v w : List Bool) → Tells x reply → (list_any is_get_switches (x ∷ xs) ≡ false → v ≡ w) → list_any is_get_switches xs ≡ false → switches_after_answer x reply v ≡ switches_after_answer x reply w
+switches-agree (GetSwitches client) reply xs v w t h none = same-flags 64 reply t.0 t.1 v w t.2
+switches-agree _ reply xs v w t h none = h none
+
+leds-agree : (x : Step) (reply : Reply) (xs : List Step) (v w : List Bool) → Tells x reply → (list_any is_get_leds (x ∷ xs) ≡ false → v ≡ w) → list_any is_get_leds xs ≡ false → leds_after_answer x reply v ≡ leds_after_answer x reply w
+leds-agree (GetLeds client) reply xs v w t h none = same-flags 64 reply t.0 t.1 v w t.2
+leds-agree _ reply xs v w t h none = h none
+
+slot-agrees : (x : Step) (reply : Reply) (xs : List Step) (v w : ℤ) → Tells x reply → (list_any is_sync_slots (x ∷ xs) ≡ false → v ≡ w) → list_any is_sync_slots xs ≡ false → slot_after_answer x reply v ≡ slot_after_answer x reply w
+slot-agrees (SyncSlots client) reply xs v w t h none = ap (λ (r : Reply). slot_after_reply r v) t.3 ∙ ap (λ (r : Reply). slot_after_reply r w) (sym t.3)
+slot-agrees _ reply xs v w t h none = h none
+
+cells-agree : (x : Step) (reply : Reply) (xs : List Step) (buffer v w : List ℤ) → Tells x reply → length v ≡ length w → (list_any is_sync_slots (x ∷ xs) ≡ false → v ≡ w) → list_any is_sync_slots xs ≡ false → cells_after_answer x reply buffer v ≡ cells_after_answer x reply buffer w
+cells-agree (SyncSlots client) reply xs buffer v w t long h none =
+    ap (λ (r : Reply). cells_after_reply r buffer v) t.3 ∙ ap (λ (n : ℕ). take n buffer) long ∙ ap (λ (r : Reply). cells_after_reply r buffer w) (sym t.3)
+cells-agree _ reply xs buffer v w t long h none = h none
+
+-- a value that is set in both, or another one in which they agreed
+value-agrees : (v w : List ℤ) (index code : ℕ) (value : ℤ) (rest : Bool) → length v ≡ code_count → length w ≡ code_count → is_multi_touch_code index ≡ false
+    → ((nat_eq index code && (nat_lt index code_count && not (is_multi_touch_code index)) || rest) ≡ false → slice_index_or v code (pos 0) ≡ slice_index_or w code (pos 0)) → rest ≡ false
+    → slice_index_or (with_value_at code_count v index value) code (pos 0) ≡ slice_index_or (with_value_at code_count w index value) code (pos 0)
+value-agrees v w index code value rest long_v long_w own h none = by (nat_lt index code_count) refl
+  where
+    other : (nat_eq index code && nat_lt index code_count) ≡ false → slice_index_or v code (pos 0) ≡ slice_index_or w code (pos 0)
+    other k = h (spared (nat_eq index code) (nat_lt index code_count) (is_multi_touch_code index) rest k none)
+      where
+        spared : (a b c r : Bool) → (a && b) ≡ false → r ≡ false → (a && (b && not c) || r) ≡ false
+        spared true true c r x y = absurd (true≢false x)
+        spared true false c r x y = y
+        spared false b c r x y = y
+
+    by : (b : Bool) → nat_lt index code_count ≡ b → slice_index_or (if b then set v index value else v) code (pos 0) ≡ slice_index_or (if b then set w index value else w) code (pos 0)
+    by true within = elim (cases_eq code index) [
+      | inl same ↦ at_it same (ltb_index within)
+      | inr apart ↦ get_or-set_other v index code value (pos 0) apart ∙ other (ap (λ (b : Bool). b && nat_lt index code_count) (ne_eqb index code (λ e. apart (sym e)))) ∙ sym (get_or-set_other w index code value (pos 0) apart)
+    ]
+      where
+        ltb_index : nat_lt index code_count ≡ true → index < code_count
+        ltb_index k = grind (arith, nat_tests, k)
+
+        at_it : code ≡ index → index < code_count → slice_index_or (set v index value) code (pos 0) ≡ slice_index_or (set w index value) code (pos 0)
+        at_it same k =
+            ap (λ (i : ℕ). slice_index_or (set v index value) i (pos 0)) same
+            ∙ get_or-set_same v index value (pos 0) (omega (arith, k, long_v))
+            ∙ sym (get_or-set_same w index value (pos 0) (omega (arith, k, long_w)))
+            ∙ ap (λ (i : ℕ). slice_index_or (set w index value) i (pos 0)) (sym same)
+    by false past = other (ap (λ (b : Bool). nat_eq index code && b) past ∙ never (nat_eq index code))
+      where
+        never : (a : Bool) → (a && false) ≡ false
+        never true = refl
+        never false = refl
+
+axis-told : (index code : ℕ) (value : ℤ) (rest touch : Bool) (v w : List ℤ) → is_multi_touch_code index ≡ touch → length v ≡ code_count → length w ≡ code_count
+    → ((nat_eq index code && (nat_lt index code_count && not (is_multi_touch_code index)) || rest) ≡ false → slice_index_or v code (pos 0) ≡ slice_index_or w code (pos 0)) → rest ≡ false
+    → slice_index_or (if touch then v else with_value_at code_count v index value) code (pos 0) ≡ slice_index_or (if touch then w else with_value_at code_count w index value) code (pos 0)
+axis-told index code value rest true v w is long_v long_w h none =
+    h (ap (λ (t : Bool). nat_eq index code && (nat_lt index code_count && not t) || rest) is ∙ spared (nat_eq index code) (nat_lt index code_count) ∙ none)
+  where
+    spared : (a b : Bool) → (a && (b && false) || rest) ≡ rest
+    spared true true = refl
+    spared true false = refl
+    spared false b = refl
+axis-told index code value rest false v w is long_v long_w h none = value-agrees v w index code value rest long_v long_w is h none
+
+axes-agree : (x : Step) (reply : Reply) (xs : List Step) (code : ℕ) (v w : List ℤ) → Tells x reply → length v ≡ code_count → length w ≡ code_count → (list_any (is_get_axis code) (x ∷ xs) ≡ false → slice_index_or v code (pos 0) ≡ slice_index_or w code (pos 0)) → list_any (is_get_axis code) xs ≡ false
+    → slice_index_or (axes_after_answer x reply v) code (pos 0) ≡ slice_index_or (axes_after_answer x reply w) code (pos 0)
+axes-agree (GetAxis client index) reply xs code v w t long_v long_w h none =
+    ap (λ (r : Reply). slice_index_or (axes_after_reply index r v) code (pos 0)) t.2
+    ∙ axis-told index code (t.1).value (list_any (is_get_axis code) xs) (is_multi_touch_code index) v w refl long_v long_w h none
+    ∙ ap (λ (r : Reply). slice_index_or (axes_after_reply index r w) code (pos 0)) (sym t.2)
+axes-agree _ reply xs code v w t long_v long_w h none = h none
+
+pub agree-answer : (which : Compared) (d : Description) (past : List Step) (x : Step) (xs : List Step) (given : Answer) (v w : View) → IsAnswer d past x given → is_accepted given.reply ≡ true → length v.cells ≡ 14 * d.slots → AgreeBut which (x ∷ xs) v w → AgreeBut which xs (view_after_answer v x given.reply given.cells) (view_after_answer w x given.reply given.cells)
+unfolding view_after_answer
+agree-answer which d past x xs given v w are accepted sized a =
+    let t : Tells x given.reply = tells d past x given are accepted in
+    record {
+      keys = λ is. keys-agree x given.reply xs v.keys w.keys t (a.keys is);
+      switches = λ is. switches-agree x given.reply xs v.switches w.switches t (a.switches is);
+      leds = λ is. leds-agree x given.reply xs v.leds w.leds t (a.leds is);
+      axes = λ code is. axes-agree x given.reply xs code v.axes w.axes t a.left_long a.right_long (a.axes code is);
+      slot = λ is. slot-agrees x given.reply xs v.slot w.slot t (a.slot is);
+      cells = λ is. cells-agree x given.reply xs given.cells v.cells w.cells t a.cells_long (a.cells is);
+      left_long = length-axes_after_answer x given.reply v.axes ∙ a.left_long;
+      right_long = length-axes_after_answer x given.reply w.axes ∙ a.right_long;
+      cells_long =
+          length-cells_after_answer x given.reply given.cells v.cells (has_cells d past x given v.cells are sized) ∙ a.cells_long
+          ∙ sym (length-cells_after_answer x given.reply given.cells w.cells (has_cells d past x given w.cells are (sym a.cells_long ∙ sized)));
+    }
+
+pub sized-answer : (d : Description) (past : List Step) (x : Step) (given : Answer) (v : View) → IsAnswer d past x given → length v.cells ≡ 14 * d.slots → length (view_after_answer v x given.reply given.cells).cells ≡ 14 * d.slots
+unfolding view_after_answer
+sized-answer d past x given v are sized = length-cells_after_answer x given.reply given.cells v.cells (has_cells d past x given v.cells are sized) ∙ sized
+
+-- All answers
+
+pub agree-answers : (which : Compared) (d : Description) (calls : List Call) (v w : View) → AreAnswered d calls → AreAccepted calls → length v.cells ≡ 14 * d.slots → AgreeBut which (steps_of calls) v w → AgreeBut which [] (view_after_answers v calls) (view_after_answers w calls)
+unfolding AreAnswered AreAccepted
+agree-answers which d [] v w are accepted sized a = a
+agree-answers which d (call ∷ calls) v w are accepted sized a =
+    let next : View = view_after_answer v call.step call.answer.reply call.answer.cells in
+    let other : View = view_after_answer w call.step call.answer.reply call.answer.cells in
+    agree-answers which d calls next other are.2 accepted.1 (sized-answer d are.0 call.step call.answer v are.1 sized)
+    (agree-answer which d are.0 call.step (steps_of calls) call.answer v w are.1 accepted.0 sized a)
+
+same-views : (v w : View) → v.keys ≡ w.keys → v.switches ≡ w.switches → v.leds ≡ w.leds → v.axes ≡ w.axes → v.slot ≡ w.slot → v.cells ≡ w.cells → v ≡ w
+same-views v w keys switches leds axes slot cells =
+    ap (λ (x : List Bool). record v { keys = x }) keys
+    ∙ ap (λ (x : List Bool). record v { keys = w.keys; switches = x }) switches
+    ∙ ap (λ (x : List Bool). record v { keys = w.keys; switches = w.switches; leds = x }) leds
+    ∙ ap (λ (x : List ℤ). record v { keys = w.keys; switches = w.switches; leds = w.leds; axes = x }) axes
+    ∙ ap (λ (x : ℤ). record v { keys = w.keys; switches = w.switches; leds = w.leds; axes = w.axes; slot = x }) slot
+    ∙ ap (λ (x : List ℤ). record v { keys = w.keys; switches = w.switches; leds = w.leds; axes = w.axes; slot = w.slot; cells = x }) cells
+
+-- all is compared
+abbrev whole : Compared
+whole = record { keys = true; switches = true; leds = true; axes = λ code. true; slots = true }
+
+agree-whole : (v w : View) → AgreeBut whole [] v w → v ≡ w
+agree-whole v w a =
+    same-views v w (a.keys refl refl) (a.switches refl refl) (a.leds refl refl) (ext_get_or (pos 0) v.axes w.axes (a.left_long ∙ sym a.right_long) (λ code within. a.axes code refl refl)) (a.slot refl refl) (a.cells refl refl)
+
+-- What is not asked for
+
+asked-if : (p : Step → Bool) (wanted : Bool) (x : Step) → p x ≡ true → list_any p (only_if wanted x) ≡ wanted
+asked-if p true x h = ap (λ (b : Bool). b || false) h
+asked-if p false x h = refl
+
+-- what the parts of all queries ask for
+parts : (p : Step → Bool) (d : Description) (client : ℕ) → list_any p (queries d client) ≡ false
+    → (list_any p (only_if (has_kind d EV_KEY) (GetKeys client)) ≡ false) × (list_any p (only_if (has_kind d EV_LED) (GetLeds client)) ≡ false) × (list_any p (only_if (has_kind d EV_SW) (GetSwitches client)) ≡ false)
+    × (list_any p (axis_queries client (plain_axes d)) ≡ false) × (list_any p (slot_queries d client) ≡ false)
+unfolding queries
+parts p d client h =
+    let keys : List Step = only_if (has_kind d EV_KEY) (GetKeys client) in
+    let leds : List Step = only_if (has_kind d EV_LED) (GetLeds client) in
+    let switches : List Step = only_if (has_kind d EV_SW) (GetSwitches client) in
+    let axes : List Step = axis_queries client (plain_axes d) in
+    let slots : List Step = slot_queries d client in
+    let bits : List Step = bit_queries d client in
+    let a : (list_any p (bits ++ axes) ≡ false) × (list_any p slots ≡ false) = or_parts (list_any p (bits ++ axes)) (list_any p slots) (sym (list_any-append p (bits ++ axes) slots) ∙ h) in
+    let b : (list_any p bits ≡ false) × (list_any p axes ≡ false) = or_parts (list_any p bits) (list_any p axes) (sym (list_any-append p bits axes) ∙ a.0) in
+    let c : (list_any p (keys ++ leds) ≡ false) × (list_any p switches ≡ false) = or_parts (list_any p (keys ++ leds)) (list_any p switches) (sym (list_any-append p (keys ++ leds) switches) ∙ b.0) in
+    let e : (list_any p keys ≡ false) × (list_any p leds ≡ false) = or_parts (list_any p keys) (list_any p leds) (sym (list_any-append p keys leds) ∙ c.0) in
+    (e.0, e.1, c.1, b.1, a.1)
+
+pub keys-spared : (d : Description) (client : ℕ) → list_any is_get_keys (queries d client) ≡ false → has_kind d EV_KEY ≡ false
+keys-spared d client h = sym (asked-if is_get_keys (has_kind d EV_KEY) (GetKeys client) refl) ∙ (parts is_get_keys d client h).0
+
+pub leds-spared : (d : Description) (client : ℕ) → list_any is_get_leds (queries d client) ≡ false → has_kind d EV_LED ≡ false
+leds-spared d client h = sym (asked-if is_get_leds (has_kind d EV_LED) (GetLeds client) refl) ∙ (parts is_get_leds d client h).1
+
+pub switches-spared : (d : Description) (client : ℕ) → list_any is_get_switches (queries d client) ≡ false → has_kind d EV_SW ≡ false
+switches-spared d client h = sym (asked-if is_get_switches (has_kind d EV_SW) (GetSwitches client) refl) ∙ (parts is_get_switches d client h).2
+
+pub slots-spared : (d : Description) (client : ℕ) → list_any is_sync_slots (queries d client) ≡ false → d.slots ≡ 0
+slots-spared d client h = none (d.slots) (sym (asked-if is_sync_slots (nat_lt 0 d.slots) (SyncSlots client) refl) ∙ (parts is_sync_slots d client h).4)
+  where
+    none : (n : ℕ) → nat_lt 0 n ≡ false → n ≡ 0
+    none zero k = refl
+    none (suc n) k = absurd (true≢false (sym (lt-ltb 0 (suc n) (omega arith)) ∙ k))
+
+-- an axis that the device has is asked for
+axis-in-range : (code : ℕ) (test : ℕ → Bool) (client : ℕ) (first count : ℕ) → first ≤ code → code < first + count → test code ≡ true → is_get_axis code (GetAxis client code) ≡ true → list_any (is_get_axis code) (axis_queries client (filter test (range_with_len first count))) ≡ true
+axis-in-range code test client first zero from below h own = absurd (omega (arith, from, below))
+axis-in-range code test client first (suc count) from below h own = elim (cases_eq code first) [
+  | inl same ↦ here (test first) (sym (ap test same) ∙ h) (ap (λ (n : ℕ). is_get_axis code (GetAxis client n)) (sym same) ∙ own)
+  | inr apart ↦ there (test first) (axis-in-range code test client (first + 1) count (omega (arith, from, apart)) (omega (arith, below)) h own)
+]
+  where
+    rest : List ℕ
+    rest = filter test (range_with_len (first + 1) count)
+
+    here : (b : Bool) → b ≡ true → is_get_axis code (GetAxis client first) ≡ true → list_any (is_get_axis code) (axis_queries client (if b then first ∷ rest else rest)) ≡ true
+    here true is k = ap (λ (c : Bool). c || list_any (is_get_axis code) (axis_queries client rest)) k
+    here false is k = absurd (false≢true is)
+
+    there : (b : Bool) → list_any (is_get_axis code) (axis_queries client rest) ≡ true → list_any (is_get_axis code) (axis_queries client (if b then first ∷ rest else rest)) ≡ true
+    there true k = ap (λ (c : Bool). is_get_axis code (GetAxis client first) || c) k ∙ or_true (is_get_axis code (GetAxis client first))
+      where
+        or_true : (a : Bool) → (a || true) ≡ true
+        or_true true = refl
+        or_true false = refl
+    there false k = k
+
+axis-asked : (d : Description) (client code : ℕ) → supports d EV_ABS code ≡ true → is_multi_touch_code code ≡ false → code < 64 → list_any (is_get_axis code) (axis_queries client (plain_axes d)) ≡ true
+unfolding axes_among
+axis-asked d client code has own below =
+    ap (λ (xs : List Step). list_any (is_get_axis code) xs) (map-append (GetAxis client) first second)
+    ∙ list_any-append (is_get_axis code) (axis_queries client first) (axis_queries client second)
+    ∙ elim (cases_lt code ABS_MT_SLOT) [
+      | inl low ↦ ap (λ (b : Bool). b || list_any (is_get_axis code) (axis_queries client second)) (axis-in-range code (supports d EV_ABS) client 0 47 (omega arith) (omega (arith, low)) has it)
+      | inr high ↦ ap (λ (b : Bool). list_any (is_get_axis code) (axis_queries client first) || b) (axis-in-range code (supports d EV_ABS) client 62 2 (above high) (omega (arith, below)) has it) ∙ or_true (list_any (is_get_axis code) (axis_queries client first))
+    ]
+  where
+    first : List ℕ
+    first = filter (supports d EV_ABS) (range_with_len 0 47)
+
+    second : List ℕ
+    second = filter (supports d EV_ABS) (range_with_len 62 2)
+
+    or_true : (a : Bool) → (a || true) ≡ true
+    or_true true = refl
+    or_true false = refl
+
+    above : 47 ≤ code → 62 ≤ code
+    above h = elim (cases_lt code 62) [
+      | inl l ↦ absurd (true≢false (sym (touch h l) ∙ own))
+      | inr l ↦ l
+    ]
+      where
+        touch : 47 ≤ code → code < 62 → is_multi_touch_code code ≡ true
+        touch k l = ap (λ (b : Bool). b && nat_le code ABS_MT_TOOL_Y) (le-leb 47 code k) ∙ le-leb code 61 (omega (arith, l))
+
+    it : is_get_axis code (GetAxis client code) ≡ true
+    it =
+        ap (λ (b : Bool). b && (nat_lt code 64 && not (is_multi_touch_code code))) (eq-eqb code code refl)
+        ∙ ap (λ (b : Bool). b && not (is_multi_touch_code code)) (lt-ltb code 64 below)
+        ∙ ap (λ (b : Bool). not b) own
+
+pub plain-asked : (d : Description) (client code : ℕ) → list_any (is_get_axis code) (queries d client) ≡ false → code < 64 → has_axis d code ≡ false
+plain-asked d client code h below = by (supports d EV_ABS code) (is_multi_touch_code code) refl refl
+  where
+    by : (s t : Bool) → supports d EV_ABS code ≡ s → is_multi_touch_code code ≡ t → (s && not t) ≡ false
+    by true true x y = refl
+    by true false x y = absurd (true≢false (sym (axis-asked d client code x y below) ∙ (parts (is_get_axis code) d client h).3))
+    by false t x y = refl
+
+agree-spare : (d : Description) (client : ℕ) (v w : View) → IsSpare d v → IsSpare d w → AgreeBut whole (queries d client) v w
+agree-spare d client v w s t = record {
+  keys = λ is h. let none : has_kind d EV_KEY ≡ false = keys-spared d client h in s.keys none ∙ sym (t.keys none);
+  switches = λ is h. let none : has_kind d EV_SW ≡ false = switches-spared d client h in s.switches none ∙ sym (t.switches none);
+  leds = λ is h. let none : has_kind d EV_LED ≡ false = leds-spared d client h in s.leds none ∙ sym (t.leds none);
+  axes = λ code is h. elim (cases_lt code 64) [
+    | inl below ↦ (let none : has_axis d code ≡ false = plain-asked d client code h below in s.axes code none ∙ sym (t.axes code none))
+    | inr past ↦ get_or_past v.axes code (pos 0) (omega (arith, past, s.sized.axes)) ∙ sym (get_or_past w.axes code (pos 0) (omega (arith, past, t.sized.axes)))
+  ];
+  slot = λ is h. let none : d.slots ≡ 0 = slots-spared d client h in s.slot none ∙ sym (t.slot none);
+  cells = λ is h. let none : d.slots ≡ 0 = slots-spared d client h in nil_from_length v.cells (omega (arith, none, s.sized.cells)) ∙ sym (nil_from_length w.cells (omega (arith, none, t.sized.cells)));
+  left_long = s.sized.axes;
+  right_long = t.sized.axes;
+  cells_long = s.sized.cells ∙ sym t.sized.cells;
+}
+
+-- a reader's view is made anew by the answers to all queries, as a new view is
+pub spare-made_anew : (d : Description) (client : ℕ) (v : View) → IsSpare d v → IsMadeAnew d client v
+unfolding IsMadeAnew
+spare-made_anew d client v s = λ calls steps accepted answered.
+    agree-whole (view_after_answers v calls) (view_after_answers (first_view d) calls)
+    (agree-answers whole d calls v (first_view d) answered accepted s.sized.cells
+    (subst (λ (xs : List Step). AgreeBut whole xs v (first_view d)) (sym steps) (agree-spare d client v (first_view d) s (IsSpare-first_view d))))

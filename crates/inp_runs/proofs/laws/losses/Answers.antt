@@ -1,0 +1,8 @@
+use Rattle.inp_runs.proofs.losses.Causes.{queued-caused, all_taken-caused}
+use Rattle.inp_runs.proofs.laws.losses.Goals as goal
+
+pub returns-clause-queued : goal.returns-clause-queued
+returns-clause-queued c = queued-caused
+
+pub returns-clause-taken : goal.returns-clause-taken
+returns-clause-taken c = all_taken-caused

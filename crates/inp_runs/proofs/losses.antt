@@ -1,0 +1,3 @@
+-- Each loss has its cause.
+pub mod LossFreeFrames
+pub mod Causes

@@ -1,0 +1,224 @@
+-- Each loss in a queue has its cause.
+use Rattle.std.proofs.lemmas.Bool.{true≢false, cond_both, eqb-true}
+use Rattle.std.proofs.Common.{◌≡◌, ◌≤◌, ◌<◌, ◌⊎◌, ℕ, zero, suc, ◌*◌, Bool, true, false, ◌&&◌, ◌||◌, if◌then◌else◌, nat_eq, nat_lt, nat_le, min, List, [], ◌∷◌, ◌++◌, length, drop, refl, sym, ap, subst, ◌∙◌, inl, inr, Option, Some, None, arith, append_assoc, length-append}
+use Rattle.std.specs.List.{slice_get}
+use Rattle.std.proofs.lemmas.Bool.Decides.{nat_tests}
+use Rattle.inp_model.specs.declared.clock.Clock.{Clock}
+use Rattle.inp_model.specs.declared.step.Step.{Step}
+use Rattle.inp_model.specs.declared.step.Step.TheVariants.{Open, Read, Discard, Clock as ToClock}
+use Rattle.inp_model.specs.Description.{Description, doubled, ring}
+use Rattle.inp_model.specs.Event.{is_report}
+use Rattle.inp_model.specs.Step.{Query, client_of, is_same, query_of, is_part_of}
+use Rattle.inp_model.specs.Past.{is_call_of, is_opening, clock_of}
+use Rattle.inp_model.specs.Raw.{raw, raw_of_step}
+use Rattle.inp_model.specs.Frame.{frames_of_step}
+use Rattle.inp_model.specs.Queue.{Entry, event_of, entry_dropped_at, is_empty, ends_in_report, put, put_all, entries, visible, flush_for, is_same_clock, clock_entry, clock_changed, left_by_call, queue, queue_with, taken_by, took, took_with}
+use Rattle.inp_recon.proofs.Each.{Each, Each-append, Each-weaker, Each-take, Each-drop}
+use Rattle.inp_model.proofs.Removal.{flush-length}
+use Rattle.inp_recon.proofs.QueuedValues.{put_all-append, flush-each}
+use Rattle.inp_runs.specs.LossCauses.{queue_before_frames, MeetsFullRing, ChangesClock, IsCausedAt, IsCaused, AreQueuedCaused, AreTakenCaused}
+use Rattle.inp_runs.proofs.losses.LossFreeFrames.{ComesAt, cuts-no_loss, entries-come}
+
+-- ---- a ring's places
+
+doubled-least : (times enough n : ℕ) → n ≤ doubled times enough n
+doubled-least zero enough n = omega arith
+doubled-least (suc times) enough n =
+    (cond_both (nat_le enough n) _ _ (λ x. 2 * n ≤ doubled times enough (2 * n) → n ≤ x)
+    (λ _ h. omega arith) (λ _ h. omega (arith, h))) (doubled-least times enough (2 * n))
+
+ring-places : (d : Description) → 64 ≤ ring d
+ring-places d = doubled-least 6 (8 * d.hint) 64
+
+-- the queue after one more item, by whether it is left out and whether there is room
+abbrev put_by : Bool → Bool → List Entry → Entry → List Entry
+put_by true fits q x = q
+put_by false true q x = q ++ x ∷ []
+put_by false false q x = entry_dropped_at x ∷ x ∷ []
+
+abbrev is_left_out : List Entry → Entry → Bool
+is_left_out q x = is_report (event_of x) && (is_empty q || ends_in_report event_of q)
+
+put-by : (places : ℕ) (q : List Entry) (x : Entry) → put event_of entry_dropped_at places q x ≡ put_by (is_left_out q x) (nat_lt (suc (length q)) places) q x
+put-by places q x = by (is_left_out q x) (nat_lt (suc (length q)) places)
+  where
+    by : (a b : Bool) → (if a then q else if b then q ++ x ∷ [] else entry_dropped_at x ∷ x ∷ []) ≡ put_by a b q x
+    by true b = refl
+    by false true = refl
+    by false false = refl
+
+put-room : (places : ℕ) (q : List Entry) (x : Entry) → 64 ≤ places → length q < places → length (put event_of entry_dropped_at places q x) < places
+put-room places q x most room = subst (λ (l : List Entry). length l < places) (sym (put-by places q x)) (by (is_left_out q x) (nat_lt (suc (length q)) places) refl)
+  where
+    by : (a b : Bool) → nat_lt (suc (length q)) places ≡ b → length (put_by a b q x) < places
+    by true b h = room
+    by false true h =
+        let fits : suc (length q) < places = grind (arith, nat_tests) in
+        omega (arith, length-append q (x ∷ []), fits)
+    by false false h = omega (arith, most)
+
+put_all-room : (places : ℕ) (q xs : List Entry) → 64 ≤ places → length q < places → length (put_all event_of entry_dropped_at places q xs) < places
+put_all-room places q [] most room = room
+put_all-room places q (x ∷ xs) most room = put_all-room places (put event_of entry_dropped_at places q x) xs most (put-room places q x most room)
+
+drop-length : (n : ℕ) (q : List Entry) → length (drop n q) ≤ length q
+drop-length zero q = omega arith
+drop-length (suc n) [] = omega arith
+drop-length (suc n) (x ∷ q) = omega (arith, drop-length n q)
+
+flush_for-length : (o : Option Query) (q : List Entry) → length (flush_for event_of o q) ≤ length q
+flush_for-length None q = omega arith
+flush_for-length (Some query) q = flush-length event_of (is_part_of query) q
+
+clock-room : (same : Bool) (e : Entry) (q : List Entry) (places : ℕ) → 64 ≤ places → length q < places → length (clock_changed same e q) < places
+clock-room same e [] places most room = room
+clock-room true e (x ∷ q) places most room = room
+clock-room false e (x ∷ q) places most room = omega (arith, most)
+
+call-room : (d : Description) (past : List Step) (x : Step) (q : List Entry) → length q < ring d → length (left_by_call d past x q) < ring d
+call-room d past Open q room = omega (arith, room)
+call-room d past (Read client count) q room = omega (arith, room, drop-length (min count (visible event_of q)) q)
+call-room d past (Discard client) q room = omega (arith, room, drop-length (visible event_of q) q)
+call-room d past (ToClock client clock now) q room = clock-room (is_same_clock (clock_of past client) clock) (clock_entry d past clock now) q (ring d) (ring-places d) room
+call-room d past x q room = omega (arith, room, flush_for-length (query_of x) q)
+
+before-room : (d : Description) (past : List Step) (client : ℕ) (x : Step) → length (queue d past client) < ring d → length (queue_before_frames d past client x) < ring d
+before-room d past client x room =
+    cond_both (is_call_of past client x) _ _ (λ y. length y < ring d) (λ _. call-room d past x (queue d past client) room) (λ _. room)
+
+pub queue-room : (d : Description) (past : List Step) (client : ℕ) → length (queue d past client) < ring d
+unfolding queue_with
+queue-room d [] client = omega (arith, ring-places d)
+queue-room d (x ∷ past) client =
+    put_all-room (ring d) (queue_before_frames d past client x) (entries d client (frames_of_step d past x)) (ring-places d)
+    (before-room d past client x (queue-room d past client))
+
+-- ---- causes
+
+-- a cause is one for each longer past too
+caused-later : (d : Description) (past : List Step) (client : ℕ) (x : Step) (e : Entry) → IsCaused d past client e → IsCaused d (x ∷ past) client e
+caused-later d past client x e h lost =
+    let c = h lost in
+    record {
+      before = c.before;
+      step = c.step;
+      later = x ∷ c.later;
+      whole = ap (λ (xs : List Step). x ∷ xs) c.whole;
+      at = c.at;
+      cause = c.cause;
+    }
+
+abbrev pub AreCaused : Description → List Step → ℕ → List Entry → Type 0
+AreCaused d past client q = Each (IsCaused d past client) q
+
+-- the newest step is the cause
+here : (d : Description) (past : List Step) (client place : ℕ) (x : Step) → place ≡ length past → MeetsFullRing d past client x ⊎ ChangesClock d past client x → IsCausedAt d (x ∷ past) client place
+here d past client place x at cause = record { before = past; step = x; later = []; whole = refl; at = at; cause = cause }
+
+-- a change of clock
+clock-caused : (d : Description) (past : List Step) (client : ℕ) (clock : Clock) (now : ℕ) (q : List Entry) → queue d past client ≡ q → (same : Bool) → is_same_clock (clock_of past client) clock ≡ same
+    → AreCaused d (ToClock client clock now ∷ past) client q → AreCaused d (ToClock client clock now ∷ past) client (clock_changed same (clock_entry d past clock now) q)
+clock-caused d past client clock now [] is same e h = tt
+clock-caused d past client clock now (y ∷ q) is true e h = h
+clock-caused d past client clock now (y ∷ q) is false e h =
+    (λ lost. here d past client (length past) (ToClock client clock now) refl (inr (record { clock = clock; now = now; step = refl; other = e; queued = ap (λ (l : List Entry). is_empty l) is })), tt)
+
+flush_for-each : (G : Entry → Type 0) (o : Option Query) (q : List Entry) → Each G q → Each G (flush_for event_of o q)
+flush_for-each G None q h = h
+flush_for-each G (Some query) q h = flush-each G (is_part_of query) q h
+
+own-caused : (d : Description) (past : List Step) (client : ℕ) (x : Step) → is_same (client_of x) client ≡ true → AreCaused d (x ∷ past) client (queue d past client) → AreCaused d (x ∷ past) client (left_by_call d past x (queue d past client))
+own-caused d past client Open own h = tt
+own-caused d past client (Read named count) own h = Each-drop (IsCaused d (Read named count ∷ past) client) (min count (visible event_of (queue d past client))) (queue d past client) h
+own-caused d past client (Discard named) own h = Each-drop (IsCaused d (Discard named ∷ past) client) (visible event_of (queue d past client)) (queue d past client) h
+own-caused d past client (ToClock named clock now) own h =
+    let same : named ≡ client = eqb-true named client own in
+    subst (λ (n : ℕ). AreCaused d (ToClock n clock now ∷ past) client (queue d past client) → AreCaused d (ToClock n clock now ∷ past) client (clock_changed (is_same_clock (clock_of past n) clock) (clock_entry d past clock now) (queue d past client))) (sym same)
+    (clock-caused d past client clock now (queue d past client) refl (is_same_clock (clock_of past client) clock) refl) h
+own-caused d past client x own h = flush_for-each (IsCaused d (x ∷ past) client) (query_of x) (queue d past client) h
+
+open-caused : (d : Description) (past : List Step) (client : ℕ) (x : Step) → is_opening past client x ≡ true → AreCaused d (x ∷ past) client (left_by_call d past x (queue d past client))
+open-caused d past client Open h = tt
+open-caused d past client x h = absurd (let e : false ≡ true = h in cc)
+
+before-caused : (d : Description) (past : List Step) (client : ℕ) (x : Step) → AreCaused d (x ∷ past) client (queue d past client) → AreCaused d (x ∷ past) client (queue_before_frames d past client x)
+before-caused d past client x h = by (is_opening past client x) refl (is_same (client_of x) client) refl
+  where
+    by : (a : Bool) → is_opening past client x ≡ a → (b : Bool) → is_same (client_of x) client ≡ b
+        → AreCaused d (x ∷ past) client (if (if a then true else b) then left_by_call d past x (queue d past client) else queue d past client)
+    by true e b k = open-caused d past client x e
+    by false e true k = own-caused d past client x k h
+    by false e false k = h
+
+-- the entries that come, one after another
+module _ (d : Description) (past : List Step) (client : ℕ) (x : Step) where
+  abbrev base : List Entry
+  base = queue_before_frames d past client x
+
+  put-caused : (before : List Entry) (y : Entry) (behind : List Entry) (q : List Entry)
+      → entries d client (frames_of_step d past x) ≡ before ++ y ∷ behind → q ≡ put_all event_of entry_dropped_at (ring d) base before
+      → length q < ring d → ComesAt (length past) y → AreCaused d (x ∷ past) client q → AreCaused d (x ∷ past) client (put event_of entry_dropped_at (ring d) q y)
+  put-caused before y behind q come is room at h = subst (AreCaused d (x ∷ past) client) (sym (put-by (ring d) q y)) (by (is_left_out q y) (nat_lt (suc (length q)) (ring d)) refl)
+    where
+      fresh : IsCaused d (x ∷ past) client y
+      fresh lost = absurd (true≢false (sym lost ∙ at.no_loss))
+
+      by : (a b : Bool) → nat_lt (suc (length q)) (ring d) ≡ b → AreCaused d (x ∷ past) client (put_by a b q y)
+      by true b e = h
+      by false true e = Each-append (IsCaused d (x ∷ past) client) q (y ∷ []) h (fresh, tt)
+      by false false e =
+          let tight : suc (length q) ≡ ring d = grind (arith, nat_tests) in
+          let full : suc (length (put_all event_of entry_dropped_at (ring d) base before)) ≡ ring d = ap (λ (l : List Entry). suc (length l)) (sym is) ∙ tight in
+          (λ lost. here d past client y.taken.place x at.at (inl (record { before = before; next = y; behind = behind; come = come; full = full })), (fresh, tt))
+
+  put_all-caused : (before behind : List Entry) (q : List Entry)
+      → entries d client (frames_of_step d past x) ≡ before ++ behind → q ≡ put_all event_of entry_dropped_at (ring d) base before
+      → length q < ring d → Each (ComesAt (length past)) behind → AreCaused d (x ∷ past) client q → AreCaused d (x ∷ past) client (put_all event_of entry_dropped_at (ring d) q behind)
+  put_all-caused before [] q come is room at h = h
+  put_all-caused before (y ∷ behind) q come is room at h =
+      let next : List Entry = put event_of entry_dropped_at (ring d) q y in
+      put_all-caused (before ++ y ∷ []) behind next
+      (come ∙ sym (append_assoc before (y ∷ []) behind))
+      (ap (λ (l : List Entry). put event_of entry_dropped_at (ring d) l y) is ∙ sym (put_all-append (ring d) base before (y ∷ [])))
+      (put-room (ring d) q y (ring-places d) room)
+      at.1
+      (put-caused before y behind q come is room at.0 h)
+
+pub queue-caused : (d : Description) (past : List Step) (client : ℕ) → AreCaused d past client (queue d past client)
+unfolding queue_with
+queue-caused d [] client = tt
+queue-caused d (x ∷ past) client =
+    let older : AreCaused d (x ∷ past) client (queue d past client) = Each-weaker (IsCaused d past client) (IsCaused d (x ∷ past) client) (caused-later d past client x) (queue d past client) (queue-caused d past client) in
+    put_all-caused d past client x [] (entries d client (frames_of_step d past x)) (queue_before_frames d past client x) refl refl
+    (before-room d past client x (queue-room d past client))
+    (entries-come d client past x _ (cuts-no_loss d (raw_of_step d past x) (raw d past)))
+    (before-caused d past client x older)
+
+taken-caused : (d : Description) (past : List Step) (client : ℕ) (x : Step) → AreCaused d (x ∷ past) client (queue d past client) → AreCaused d (x ∷ past) client (taken_by d past client x)
+taken-caused d past client (Read named count) h =
+    cond_both (nat_eq named client) _ _ (AreCaused d (Read named count ∷ past) client)
+    (λ _. Each-take (IsCaused d (Read named count ∷ past) client) (min count (visible event_of (queue d past client))) (queue d past client) h)
+    (λ _. tt)
+taken-caused d past client x h = tt
+
+pub took-caused : (d : Description) (past : List Step) (client : ℕ) → AreCaused d past client (took d past client)
+unfolding took_with
+took-caused d [] client = tt
+took-caused d (x ∷ past) client =
+    let queued : AreCaused d (x ∷ past) client (queue d past client) = Each-weaker (IsCaused d past client) (IsCaused d (x ∷ past) client) (caused-later d past client x) (queue d past client) (queue-caused d past client) in
+    Each-append (IsCaused d (x ∷ past) client) (took d past client) (taken_by d past client x)
+    (Each-weaker (IsCaused d past client) (IsCaused d (x ∷ past) client) (caused-later d past client x) (took d past client) (took-caused d past client))
+    (taken-caused d past client x queued)
+
+-- ---- by index
+
+each-at : (P : Entry → Type 0) (xs : List Entry) (i : ℕ) (e : Entry) → Each P xs → slice_get xs i ≡ Some e → P e
+each-at P [] i e h at = absurd cc
+each-at P (x ∷ xs) zero e h at = let same : x ≡ e = (let k : Some x ≡ Some e = at in cc) in subst P same h.0
+each-at P (x ∷ xs) (suc i) e h at = each-at P xs i e h.1 at
+
+pub queued-caused : AreQueuedCaused
+queued-caused d past client i e at = each-at (IsCaused d past client) (queue d past client) i e (queue-caused d past client) at
+
+pub all_taken-caused : AreTakenCaused
+all_taken-caused d past client i e at = each-at (IsCaused d past client) (took d past client) i e (took-caused d past client) at

@@ -1,0 +1,277 @@
+-- What a line that does not wait leaves of a job: a view of the device's size, and a sight that tells of all calls.
+use Rattle.std.proofs.Common.{◌≡◌, ℕ, zero, suc, ◌+◌, Bool, true, false, if◌then◌else◌, List, [], ◌∷◌, ◌++◌, map, sym, ap, subst, ◌∙◌, append-nil, Option, Some, None, refl}
+use Rattle.std.specs.Prelude.{filter, slice_get}
+use Rattle.std.proofs.lemmas.List.Elements.{filter-append}
+use Rattle.std.proofs.lemmas.Bool.{cond_both}
+use Rattle.inp_model.specs.declared.stamped.Stamped.{Stamped}
+use Rattle.inp_model.specs.declared.taken.Taken.{Taken}
+use Rattle.inp_model.specs.declared.step.Step.{Step}
+use Rattle.inp_model.specs.Description.{Description}
+use Rattle.inp_model.specs.Event.{is_report}
+use Rattle.inp_model.specs.Reply.{Answer, answer, is_accepted}
+use Rattle.inp_actors.specs.declared.command.Command.{Command}
+use Rattle.inp_actors.specs.declared.line.Line.{Line}
+use Rattle.inp_actors.specs.declared.role.Role.{Role}
+use Rattle.inp_recon.specs.View.{IsSizedFor, view_after_answer}
+use Rattle.inp_recon.proofs.Sizes.{IsSizedFor-after_events}
+use Rattle.inp_reader.specs.declared.mode.Mode.{Mode}
+use Rattle.inp_reader.specs.declared.mode.Mode.TheVariants.{Normal, Sync as Synchronising}
+use Rattle.inp_reader.specs.declared.next.Next.{Next}
+use Rattle.inp_reader.specs.declared.next.Next.TheVariants.{Success, Dropped, Sync, Again, Synced, NoDevice, Closed, Full}
+use Rattle.inp_reader.specs.declared.started.Started.{Started}
+use Rattle.inp_reader.specs.declared.started.Started.TheVariants.{Opened, Refused}
+use Rattle.inp_reader.specs.Reader.{Reading, start_talk, next_talk}
+use Rattle.inp_joy.specs.declared.joy_read.JoyRead.{JoyRead}
+use Rattle.inp_joy.specs.declared.joy_read.JoyRead.TheVariants.{Again as NothingToRead}
+use Rattle.inp_joy.specs.declared.joy_record.JoyRecord.{JoyRecord}
+use Rattle.inp_joy.specs.JoyRecord.{bytes_of_record}
+use Rattle.inp_joy.specs.Joy as joy
+use Rattle.inp_joy.specs.Joy.{Joying, JoyAnswer, JoyTurn, gives, goes_on as reads_on, startup, with_reading, joy_started, joy_start, is_lost, joy_record_of, record_or_on, joying_after_event, stop_or_startup, joying_after_sync, sync_turn, after_normal, event_turn, record_or_turn, turn_talk, with_count, is_long, after_turn, turns}
+use Rattle.inp_reader.specs.ReaderPlace.{is_needed}
+use Rattle.inp_reader.specs.Talk.{Talk, finish, ask, and_then}
+use Rattle.inp_script.specs.declared.sight.Sight.{Sight}
+use Rattle.inp_script.specs.declared.sight.Sight.TheVariants.{Took, Made, Again as AgainSight, Record}
+use Rattle.inp_script.specs.Client.{Going, Turn, start_job, handed, one_less, is_done, turn_after, after_next, mode_of, with_sight, next_round, rounds}
+use Rattle.inp_script.specs.DoneLine.{line_talk}
+use Rattle.inp_script.specs.Job.{Job, joying_of, with_joying}
+use Rattle.inp_script.specs.Joystick.{record_sight, after_joy_start, start_joystick, after_joy_answer}
+use Rattle.inp_script.specs.Legal.{is_call_entry}
+use Rattle.inp_script.specs.Line.{after_call, event_of_taken, after_tap_call}
+use Rattle.inp_script.specs.Sight.{call_sight, again_sight, taken_sight, sight_of_call, noted, start_lacks_memory, stop_after_start}
+use Rattle.inp_script.proofs.Told.{no_calls_taken, call_kept, again_kept}
+use Rattle.inp_runs.specs.Job.{on_job, lines_talk}
+use Rattle.inp_runs.proofs.Entries.{call_entries}
+use Rattle.inp_script.specs.declared.waiting.Waiting.{Waiting}
+use Rattle.inp_reader.proofs.Meets.{Meets, Any, meets-then, meets-weaker}
+use Rattle.inp_script.proofs.LineWalk.{NotedBy, meets-noted, OfJob, OfTurn, OfGoing, read_so, start_job-meets, round-meets, LineRules, line-meets}
+use Rattle.inp_script.proofs.JoyWalk.{AfterRead, AfterTurns, joystick-meets}
+use Rattle.inp_runs.proofs.memory.LeftByTalks.{EntriesBy, Leaves, Answers}
+use Rattle.inp_runs.proofs.memory.ReaderTalks.{Both, IsSame, IsStarted, IsNext, again_of, sized-answered, answers-start, answers-next}
+
+-- the job's view has the device's slots, and its sight tells of these calls
+abbrev pub IsKept : Description → Job → List Sight → Type 0
+IsKept d j entries = IsSizedFor d.slots j.reading.view × (filter is_call_entry j.sight ≡ entries)
+
+abbrev KeptAt : Description → List Sight → Job → Type 0
+KeptAt d entries j = IsKept d j entries
+
+abbrev pub IsKeptIfSome : Description → Option Job → List Sight → Type 0
+IsKeptIfSome d o entries = OfJob (KeptAt d) entries o
+
+kept_unless : (d : Description) (lacks : Bool) (j : Job) (entries : List Sight) → IsKept d j entries → IsKeptIfSome d (if lacks then None else Some j) entries
+kept_unless d true j entries h = tt
+kept_unless d false j entries h = h
+
+-- Single calls
+
+call_told : (x : Step) (a : Answer) (sight entries : List Sight) → filter is_call_entry sight ≡ entries → filter is_call_entry (sight ++ sight_of_call x a.reply a.events) ≡ entries ++ call_entries x a.reply
+call_told x a sight entries same =
+    let calls : List Sight = call_sight x a.reply in
+    let agains : List Sight = again_sight a.reply in
+    let events : List Sight = map taken_sight a.events in
+    let parts : filter is_call_entry ((calls ++ agains) ++ events) ≡ calls ++ agains =
+    filter-append is_call_entry (calls ++ agains) events
+    ∙ ap (λ (es : List Sight). es ++ filter is_call_entry events) (filter-append is_call_entry calls agains ∙ ap (λ (es : List Sight). es ++ filter is_call_entry agains) (call_kept x a.reply) ∙ ap (λ (es : List Sight). calls ++ es) (again_kept a.reply))
+    ∙ ap (λ (es : List Sight). (calls ++ agains) ++ es) (no_calls_taken a.events)
+    ∙ append-nil (calls ++ agains) in
+    filter-append is_call_entry sight (sight_of_call x a.reply a.events)
+    ∙ ap (λ (es : List Sight). es ++ filter is_call_entry (sight_of_call x a.reply a.events)) same
+    ∙ ap (λ (es : List Sight). entries ++ es) parts
+
+kept-call : (d : Description) (s t : List Sight) (j : Job) (x : Step) (a : Answer) → KeptAt d s j → EntriesBy d s x a t → KeptAt d t (after_call j x a)
+kept-call d s t j x a h by = (h.0, call_told x a j.sight s h.1 ∙ sym by.1)
+
+kept-tap_call : (d : Description) (s t : List Sight) (j : Job) (x : Step) (a : Answer) → KeptAt d s j → EntriesBy d s x a t → KeptAt d t (after_tap_call j x a)
+kept-tap_call d s t j x a h by =
+    let sized : IsSizedFor d.slots (view_after_answer j.reading.view x a.reply a.cells) =
+    subst (λ (b : Answer). IsSizedFor d.slots (view_after_answer j.reading.view x b.reply b.cells)) (sym by.0.1) (sized-answered d by.0.0 x j.reading.view h.0) in
+    (IsSizedFor-after_events d.slots (view_after_answer j.reading.view x a.reply a.cells) (map event_of_taken a.events) sized, call_told x a j.sight s h.1 ∙ sym by.1)
+
+-- Clients
+
+kept-start : (d : Description) (s : List Sight) (j : Job) → KeptAt d s j → Meets Any (EntriesBy d) (OfJob (KeptAt d)) s (start_job d j)
+kept-start d s j h = start_job-meets (EntriesBy d) (KeptAt d) d s j (answers-start d j.reading (s, j.sight) h.0 h.1)
+
+abbrev IsKeptTurn : Description → Turn → List Sight → Type 0
+IsKeptTurn d turn entries = OfTurn (KeptAt d) (OfGoing (KeptAt d)) entries turn
+
+kept_handed : (d : Description) (left : Option ℕ) (j : Job) (entries : List Sight) → IsKept d j entries → IsKeptTurn d (handed left j) entries
+kept_handed d left j entries h = cond_both (is_done left) _ _ (λ x. IsKeptTurn d x entries) (λ _. h) (λ _. h)
+
+-- events are no calls
+took_told : (sight entries : List Sight) (taken : Taken) → filter is_call_entry sight ++ [] ≡ entries → filter is_call_entry (sight ++ Took taken ∷ []) ≡ entries
+took_told sight entries taken h = filter-append is_call_entry sight (Took taken ∷ []) ∙ h
+
+made_told : (sight entries : List Sight) (event : _) → filter is_call_entry sight ++ [] ≡ entries → filter is_call_entry (sight ++ Made event ∷ []) ≡ entries
+made_told sight entries event h = filter-append is_call_entry sight (Made event ∷ []) ∙ h
+
+silent : (sight entries : List Sight) → filter is_call_entry sight ++ [] ≡ entries → filter is_call_entry sight ≡ entries
+silent sight entries h = sym (append-nil (filter is_call_entry sight)) ∙ h
+
+kept_turn : (d : Description) (left : Option ℕ) (agains : ℕ) (next : Next) (j : Job) (entries : List Sight) → IsSizedFor d.slots j.reading.view → filter is_call_entry j.sight ++ again_of next ≡ entries → IsKeptTurn d (turn_after None left agains next j) entries
+kept_turn d left agains (Success taken) j entries sized h = kept_handed d (one_less left) (with_sight j (Took taken)) entries (sized, took_told j.sight entries taken h)
+kept_turn d left agains (Dropped taken) j entries sized h = kept_handed d (one_less left) (with_sight j (Took taken)) entries (sized, took_told j.sight entries taken h)
+kept_turn d left agains (Sync event) j entries sized h = kept_handed d (one_less left) (with_sight j (Made event)) entries (sized, made_told j.sight entries event h)
+kept_turn d left agains Synced j entries sized h = (sized, silent j.sight entries h)
+kept_turn d left agains (Again at ends) j entries sized h = (sized, filter-append is_call_entry j.sight (AgainSight at ends ∷ []) ∙ h)
+kept_turn d left agains NoDevice j entries sized h = (sized, silent j.sight entries h)
+kept_turn d left agains Closed j entries sized h = (sized, silent j.sight entries h)
+kept_turn d left agains (Full at) j entries sized h = (sized, silent j.sight entries h)
+
+kept-round : (d : Description) (s : List Sight) (skips : Bool) (g : Going) → KeptAt d s g.job → Meets Any (EntriesBy d) (OfTurn (KeptAt d) (OfGoing (KeptAt d))) s (next_round d None skips g)
+kept-round d s skips g h =
+    let mode : Mode = mode_of skips g.job.reading.phase in
+    round-meets (EntriesBy d) (KeptAt d) (OfGoing (KeptAt d)) d s None skips g
+    (meets-weaker Any (NotedBy (EntriesBy d)) (λ (u : Both) (o : Next × Reading). IsNext d o (filter is_call_entry u.1) u.0) (λ (u : Both) (o : Next × Reading). IsKeptTurn d (after_next None g (o, u.1)) u.0)
+    (s, g.job.sight) (next_talk d mode g.job.reading) (answers-next d mode g.job.reading (s, g.job.sight) h.0 h.1)
+    (λ u o k. kept_turn d g.left g.agains o.0 (read_so g.job o.1 u.1) u.0 k.0 k.1))
+
+-- Joysticks
+
+-- where a read answers Again there is one entry more
+abbrev again_of_read : JoyRead → List Sight
+again_of_read (NothingToRead at ends) = AgainSight at ends ∷ []
+again_of_read _ = []
+
+abbrev IsTurned : Description → JoyTurn → List Sight → List Sight → Type 0
+IsTurned d (gives answer) kept entries = IsSizedFor d.slots answer.joying.reading.view × (kept ++ again_of_read answer.read ≡ entries)
+IsTurned d (reads_on k) kept entries = IsSizedFor d.slots k.reading.view × (kept ≡ entries)
+
+turned-startup : (d : Description) (k : Joying) (next : Next) (kept entries : List Sight) → IsSizedFor d.slots k.reading.view → kept ++ again_of next ≡ entries → IsTurned d (stop_or_startup k (joy.joy_read_of next)) kept entries
+turned-startup d k (Again at ends) kept entries sized h = (sized, h)
+turned-startup d k NoDevice kept entries sized h = (sized, h)
+turned-startup d k Closed kept entries sized h = (sized, h)
+turned-startup d k (Full at) kept entries sized h = (sized, h)
+turned-startup d k _ kept entries sized h = (sized, sym (append-nil kept) ∙ h)
+
+turned-taken : (d : Description) (k : Joying) (taken : Taken) (kept entries : List Sight) → IsSizedFor d.slots k.reading.view → kept ++ [] ≡ entries → IsTurned d (joying_after_event d k taken) kept entries
+turned-taken d k taken kept entries sized h =
+    cond_both (is_report taken.event) _ _ (λ x. IsTurned d x kept entries) (λ _. (sized, h)) (λ _. by_record (joy_record_of d k.picture taken))
+  where
+    by_record : (out : Option JoyRecord) → IsTurned d (record_or_on k out) kept entries
+    by_record None = (sized, sym (append-nil kept) ∙ h)
+    by_record (Some r) = (sized, h)
+
+turned-next : (d : Description) (k : Joying) (next : Next) (kept entries : List Sight) → IsSizedFor d.slots k.reading.view → kept ++ again_of next ≡ entries → IsTurned d (joy.joying_after_next d k next) kept entries
+turned-next d k (Success taken) kept entries sized h = turned-taken d k taken kept entries sized h
+turned-next d k (Again at ends) kept entries sized h = (sized, h)
+turned-next d k NoDevice kept entries sized h = (sized, h)
+turned-next d k Closed kept entries sized h = (sized, h)
+turned-next d k (Full at) kept entries sized h = (sized, h)
+turned-next d k _ kept entries sized h = (sized, sym (append-nil kept) ∙ h)
+
+abbrev AtBoth : {A : Type 0} → (A → List Sight → List Sight → Type 0) → Both → A → Type 0
+AtBoth P u a = P a (filter is_call_entry u.1) u.0
+
+answers-sync_turn : (d : Description) (k : Joying) (u : Both) → IsSizedFor d.slots k.reading.view → IsSame u → Answers d (IsTurned d) u (sync_turn d k)
+unfolding sync_turn
+answers-sync_turn d k u sized same =
+    meets-then Any (NotedBy (EntriesBy d)) (AtBoth (IsNext d)) (AtBoth (IsTurned d)) u (next_talk d Synchronising k.reading) (λ o. finish (joying_after_sync k o)) (answers-next d Synchronising k.reading u sized same)
+    (λ v o h. turned-startup d (with_reading k o.1) o.0 (filter is_call_entry v.1) v.0 h.0 h.1)
+
+answers-normal : (d : Description) (k : Joying) (next : Next) (u : Both) → IsSizedFor d.slots k.reading.view → filter is_call_entry u.1 ++ again_of next ≡ u.0 → Answers d (IsTurned d) u (if is_lost next then sync_turn d k else finish (joy.joying_after_next d k next))
+answers-normal d k (Dropped taken) u sized h = answers-sync_turn d k u sized (sym (append-nil (filter is_call_entry u.1)) ∙ h)
+answers-normal d k next u sized h = turned-next d k next (filter is_call_entry u.1) u.0 sized h
+
+answers-event_turn : (d : Description) (k : Joying) (u : Both) → IsSizedFor d.slots k.reading.view → IsSame u → Answers d (IsTurned d) u (event_turn d k)
+unfolding event_turn
+answers-event_turn d k u sized same =
+    meets-then Any (NotedBy (EntriesBy d)) (AtBoth (IsNext d)) (AtBoth (IsTurned d)) u (next_talk d Normal k.reading) (after_normal d k) (answers-next d Normal k.reading u sized same)
+    (λ v o h. answers-normal d (with_reading k o.1) o.0 v h.0 h.1)
+
+answers-turn : (d : Description) (k : Joying) (out : Option JoyRecord) (u : Both) → IsSizedFor d.slots k.reading.view → IsSame u → Answers d (IsTurned d) u (record_or_turn d k out)
+answers-turn d k (Some r) u sized same = (sized, append-nil (filter is_call_entry u.1) ∙ same)
+answers-turn d k None u sized same =
+    cond_both (is_needed k.reading.phase) _ _ (Answers d (IsTurned d) u)
+    (λ _. answers-sync_turn d k u sized same) (λ _. answers-event_turn d k u sized same)
+
+answers-counted : {A : Type 0} (d : Description) (P : A → List Sight → List Sight → Type 0) (u : Both) (talk : Talk A) (n : ℕ) → Answers d P u talk → Answers d (λ (o : ℕ × A). P o.1) u (with_count talk n)
+answers-counted d P u (finish a) n h = h
+answers-counted d P u (ask x rest) n h = (tt, λ v a by. answers-counted d P v (rest a) (if is_accepted a.reply then n + 1 else n) (h.1 v a by))
+
+abbrev IsJoyRead : Description → Option JoyAnswer → List Sight → List Sight → Type 0
+IsJoyRead d None kept entries = Unit {0}
+IsJoyRead d (Some answer) kept entries = IsTurned d (gives answer) kept entries
+
+answers-turns : (d : Description) (most n : ℕ) (k : Joying) (u : Both) → IsSizedFor d.slots k.reading.view → IsSame u → Answers d (IsJoyRead d) u (turns d most n k)
+unfolding turns
+answers-turns d zero n k u sized same = tt
+answers-turns d (suc most) n k u sized same =
+    meets-then Any (NotedBy (EntriesBy d)) (AtBoth (λ (o : ℕ × JoyTurn). IsTurned d o.1)) (AtBoth (IsJoyRead d)) u (with_count (turn_talk d k) n) (λ o. after_turn d (turns d most) o.0 o.1)
+    (answers-counted d (IsTurned d) u (turn_talk d k) n (answers-turn d k (slice_get (startup d k.reading.view) k.handed) u sized same))
+    (λ v o h. by_turn o.0 o.1 v (λ (m : ℕ) (here : Joying) s e. answers-turns d most m here v s e) h)
+  where
+    by_turn : (m : ℕ) (turn : JoyTurn) (v : Both) → ((m : ℕ) (here : Joying) → IsSizedFor d.slots here.reading.view → IsSame v → Answers d (IsJoyRead d) v (turns d most m here)) → IsTurned d turn (filter is_call_entry v.1) v.0 → Answers d (IsJoyRead d) v (after_turn d (turns d most) m turn)
+    by_turn m (gives answer) v more h = h
+    by_turn m (reads_on here) v more h =
+        cond_both (is_long d here m) _ _ (Answers d (IsJoyRead d) v) (λ _. (h.0, append-nil (filter is_call_entry v.1) ∙ h.1)) (λ _. more m here h.0 h.1)
+
+-- records are no calls
+record_told : (sight : List Sight) (out : Option JoyRecord) → filter is_call_entry (sight ++ record_sight out) ≡ filter is_call_entry sight
+record_told sight None = ap (filter is_call_entry) (append-nil sight)
+record_told sight (Some r) = filter-append is_call_entry sight (Record (bytes_of_record r) ∷ []) ∙ append-nil (filter is_call_entry sight)
+
+kept-read : (d : Description) (s : List Sight) (j : Job) (most : ℕ) → KeptAt d s j → Meets Any (EntriesBy d) (λ (t : List Sight) (o : Option JoyAnswer × List Sight). AfterTurns (KeptAt d) j t o.0 o.1) s (noted (turns d most 0 (joying_of j)) j.sight)
+kept-read d s j most h =
+    let Q : List Sight → Option JoyAnswer × List Sight → Type 0 = λ t o. AfterTurns (KeptAt d) j t o.0 o.1 in
+    meets-noted (EntriesBy d) Q s j.sight (turns d most 0 (joying_of j))
+    (meets-weaker Any (NotedBy (EntriesBy d)) (AtBoth (IsJoyRead d)) (λ (u : Both) (o : Option JoyAnswer). AfterTurns (KeptAt d) j u.0 o u.1) (s, j.sight) (turns d most 0 (joying_of j)) (answers-turns d most 0 (joying_of j) (s, j.sight) h.0 h.1) (λ u o k. of_turns u o k))
+  where
+    of_read : (es : List Sight) (read : JoyRead) (here : Job) → IsSizedFor d.slots here.reading.view → filter is_call_entry here.sight ++ again_of_read read ≡ es → AfterRead (KeptAt d) es read here
+    of_read es (NothingToRead at ends) here sized told = (sized, filter-append is_call_entry here.sight (AgainSight at ends ∷ []) ∙ told)
+    of_read es _ here sized told = (sized, silent here.sight es told)
+
+    of_turns : (u : Both) (o : Option JoyAnswer) → AtBoth (IsJoyRead d) u o → AfterTurns (KeptAt d) j u.0 o u.1
+    of_turns u None k = tt
+    of_turns u (Some answer) k =
+        of_read u.0 answer.read (after_joy_answer j answer u.1) k.0 (ap (λ (ks : List Sight). ks ++ again_of_read answer.read) (record_told u.1 answer.record_out) ∙ k.1)
+
+abbrev IsJoyStarted : Description → Started × Joying → List Sight → List Sight → Type 0
+IsJoyStarted d o kept entries = IsSizedFor d.slots o.1.reading.view × (kept ≡ entries)
+
+joy_started-sized : (d : Description) (k : Joying) (started : Started) → IsSizedFor d.slots k.reading.view → IsSizedFor d.slots (joy.joying_after_start d k started).reading.view
+joy_started-sized d k (Opened client ring) sized = sized
+joy_started-sized d k (Refused at why) sized =
+    cond_both (is_needed k.reading.phase) _ _ (λ (x : Joying). IsSizedFor d.slots x.reading.view) (λ _. sized) (λ _. sized)
+
+kept-joy_start : (d : Description) (s : List Sight) (j : Job) → KeptAt d s j → Meets Any (EntriesBy d) (OfJob (KeptAt d)) s (start_joystick d j)
+unfolding start_joystick joy_start
+kept-joy_start d s j h =
+    let k : Joying = joying_of j in
+    let joy : Started × Reading → Talk (Started × Joying) = λ o. finish (joy_started d k o) in
+    let N : List Sight → (Started × Joying) × List Sight → Type 0 = λ t o. IsJoyStarted d o.0 (filter is_call_entry o.1) t in
+    meets-then Any (EntriesBy d) N (OfJob (KeptAt d)) s (noted (and_then (start_talk d k.reading) joy) j.sight) (λ o. finish (after_joy_start j o))
+    (meets-noted (EntriesBy d) N s j.sight (and_then (start_talk d k.reading) joy)
+    (meets-then Any (NotedBy (EntriesBy d)) (AtBoth (IsStarted d)) (AtBoth (IsJoyStarted d)) (s, j.sight) (start_talk d k.reading) joy (answers-start d k.reading (s, j.sight) h.0 h.1)
+    (λ u o e. (joy_started-sized d (with_reading k o.1) o.0 e.0, e.1))))
+    (λ t o e. kept_unless d (start_lacks_memory o.0.0) (record (with_joying j o.0.1) { sight = o.1; stop = stop_after_start o.0.0 }) t e)
+
+-- Lines
+
+kept-rules : (role : Role) (d : Description) (command : Command) → LineRules (EntriesBy d) (KeptAt d) (OfGoing (KeptAt d)) d role command None
+kept-rules role d command = record {
+  injects = λ e. kept-call d;
+  calls = λ e one s t j x a is. kept-call d s t j x a;
+  taps = λ e. kept-tap_call d;
+  starts = λ e. kept-start d;
+  begins = λ e s j left h. h;
+  rounds = λ e s waits skips g none h. subst (λ (w : Option Waiting). Meets Any (EntriesBy d) (OfTurn (KeptAt d) (OfGoing (KeptAt d))) s (next_round d w skips g)) (sym (none refl)) (kept-round d s skips g h);
+  forces = λ e s j h. h;
+  joys = λ e s j n none h.
+      joystick-meets (EntriesBy d) (KeptAt d) d command (record { starts = kept-joy_start d; reads = kept-read d; calls = λ one u v k x a is. kept-call d u v k x a }) n s j h;
+}
+
+pub leaves-line : (role : Role) (d : Description) (streams : List (List Stamped)) (n : ℕ) (command : Command) (j : Job) (entries : List Sight) → IsKept d j entries → Leaves d (IsKeptIfSome d) entries (line_talk role d streams None n command j)
+leaves-line role d streams n command j entries h = line-meets (EntriesBy d) (KeptAt d) (OfGoing (KeptAt d)) d role command None (kept-rules role d command) streams n entries j h
+
+-- Lines, one after another
+pub leaves-lines : (role : Role) (d : Description) (streams : List (List Stamped)) (n : ℕ) (lines : List Line) (j : Job) (entries : List Sight) → IsKept d j entries → Leaves d (IsKeptIfSome d) entries (lines_talk role d streams None n lines j)
+unfolding lines_talk
+leaves-lines role d streams n [] j entries h = h
+leaves-lines role d streams n (line ∷ lines) j entries h =
+    meets-then Any (EntriesBy d) (OfJob (KeptAt d)) (OfJob (KeptAt d)) entries (line_talk role d streams None n line.command j) (on_job (lines_talk role d streams None n lines)) (leaves-line role d streams n line.command j entries h)
+    (λ es o k. by o es (λ (mid : Job) m. leaves-lines role d streams n lines mid es m) k)
+  where
+    by : (o : Option Job) (es : List Sight) → ((mid : Job) → IsKept d mid es → Leaves d (IsKeptIfSome d) es (lines_talk role d streams None n lines mid)) → IsKeptIfSome d o es → Leaves d (IsKeptIfSome d) es (on_job (lines_talk role d streams None n lines) o)
+    by None es more k = tt
+    by (Some mid) es more k = more mid k

@@ -1,0 +1,331 @@
+-- A line whose Open was refused for want of memory leaves no job.
+use Rattle.std.proofs.Common.{◌≡◌, ℕ, zero, suc, ◌+◌, Bool, true, false, if◌then◌else◌, List, [], ◌∷◌, ◌++◌, length, Option, Some, None, refl, sym, ap, subst, ◌∙◌, inl, inr}
+use Rattle.std.specs.Prelude.{Result, slice_get}
+use Rattle.std.specs.List.{list_any}
+use Rattle.std.proofs.lemmas.Bool.{cond_both}
+use Rattle.inp_model.specs.declared.stamped.Stamped.{Stamped}
+use Rattle.inp_model.specs.declared.step.Step.{Step}
+use Rattle.inp_model.specs.declared.step.Step.TheVariants.{Open as ToOpen, Inject, End}
+use Rattle.inp_model.specs.declared.reply.Reply.{Reply}
+use Rattle.inp_model.specs.declared.reply.Reply.TheVariants.{Opened, Refused}
+use Rattle.inp_model.specs.declared.reply.Refusal.TheVariants.{NoMemory}
+use Rattle.inp_model.specs.Description.{Description}
+use Rattle.inp_model.specs.Step.{is_open_step}
+use Rattle.inp_model.specs.Past.{past_at}
+use Rattle.inp_model.specs.Reply.{Answer, answer, accepted, alone, is_accepted}
+use Rattle.inp_model.specs.Run.{Call, HasPlace, IsLegalFrom, place_of, next_place}
+use Rattle.inp_actors.specs.declared.command.Command.{Command}
+use Rattle.inp_actors.specs.declared.command.Command.TheVariants.{Stream, Stream16, Open, Read, Next, Skip, Follow, Force}
+use Rattle.inp_actors.specs.declared.line.Line.{Line}
+use Rattle.inp_actors.specs.declared.role.Role.{Role}
+use Rattle.inp_actors.specs.declared.role.Role.TheVariants.{Source, Client, Tap, Joy, Owner}
+use Rattle.inp_actors.specs.Command.{is_command_of}
+use Rattle.inp_recon.specs.declared.view.View.{View}
+use Rattle.inp_reader.specs.declared.mode.Mode.{Mode}
+use Rattle.inp_reader.specs.declared.mode.Mode.TheVariants.{Normal, Sync as Synchronising}
+use Rattle.inp_reader.specs.declared.next.Next.{Next as Answered}
+use Rattle.inp_reader.specs.declared.reader.TheConstants.{NO_CLIENT}
+use Rattle.inp_reader.specs.declared.started.Started.{Started}
+use Rattle.inp_reader.specs.Reader.{Reading, ask_each, queries, start_talk, after_open, after_queries, next_talk}
+use Rattle.inp_joy.specs.declared.joy_read.JoyRead.{JoyRead}
+use Rattle.inp_joy.specs.declared.joy_read.JoyRead.TheVariants.{Frame, More}
+use Rattle.inp_joy.specs.declared.joy_record.JoyRecord.{JoyRecord}
+use Rattle.inp_joy.specs.Joy as joy
+use Rattle.inp_joy.specs.Joy.{Joying, JoyAnswer, JoyTurn, gives, goes_on as reads_on, startup, with_reading, joy_started, joy_start, is_lost, joying_after_sync, sync_turn, after_normal, event_turn, record_or_turn, turn_talk, with_count, is_long, after_turn, turns}
+use Rattle.inp_reader.specs.ReaderPlace.{is_needed}
+use Rattle.inp_reader.specs.Talk.{Talk, finish, ask, and_then, LeadsTo, EndsWith}
+use Rattle.inp_reader.proofs.Meets.{Asks, asks-then}
+use Rattle.inp_reader.proofs.NextWalk.{OfQueries, each-query, asks-each, next-asks}
+use Rattle.inp_script.specs.declared.sight.Sight.{Sight}
+use Rattle.inp_script.specs.declared.stop.Stop.{Stop}
+use Rattle.inp_script.specs.declared.waiting.Waiting.{Waiting}
+use Rattle.inp_script.specs.Client.{Going, Turn, goes_on, ends_with, is_done, mode_of, start_ends, start_job, after_next, next_round, on_turn, rounds, hand_talk, client_talk}
+use Rattle.inp_script.specs.DoneLine.{command_talk, unless_stopped, line_talk}
+use Rattle.inp_script.specs.Job.{Job, joying_of}
+use Rattle.inp_script.specs.Sight as script
+use Rattle.inp_script.specs.Joystick.{Reach, handed_out, line_ends, after_joy_start, start_joystick, after_joy_answer, after_joy_read, after_turns, read_on, on_reach, read_records, joystick_talk}
+use Rattle.inp_script.specs.Line.{step_of, call_if, after_call, stream_talk, stream_numbered, source_talk, end_talk, tap_call_if}
+use Rattle.inp_script.specs.Sight.{noted, call_sight}
+use Rattle.inp_script.proofs.Replies.{answer_has}
+use Rattle.inp_runs.specs.Job.{on_job, last_talk, lines_talk, call_lacks_memory}
+use Rattle.inp_runs.proofs.views.Folded.{AreOfRole}
+use Rattle.inp_runs.proofs.memory.LeftByTalks.{AreAnswered}
+
+-- where an Open is refused for want of memory nothing more is asked, and there is no job
+abbrev pub GivesUp : Talk (Option Job) → Type 0
+GivesUp (finish job) = Unit {0}
+GivesUp (ask x rest) = (x ≡ ToOpen → (n : ℕ) → rest (alone (Refused n NoMemory)) ≡ finish None) × ((answer : Answer) → GivesUp (rest answer))
+
+-- Talks that ask for no Open
+
+abbrev opens_none : Step → Type 0
+opens_none x = is_open_step x ≡ false
+
+abbrev NoOpen : {A : Type 0} → Talk A → Type 0
+NoOpen talk = Asks opens_none talk
+
+other_step : (x : Step) → is_open_step x ≡ false → x ≡ ToOpen → ⊥
+other_step x h e = let opens : is_open_step x ≡ true = ap is_open_step e in cc
+
+no_open-gives_up : (talk : Talk (Option Job)) → NoOpen talk → GivesUp talk
+no_open-gives_up (finish job) h = tt
+no_open-gives_up (ask x rest) h = ((λ e n. absurd (other_step x h.0 e)), λ answer. no_open-gives_up (rest answer) (h.1 answer))
+
+no_open-noted : {A : Type 0} (talk : Talk A) (sight : List Sight) → NoOpen talk → NoOpen (noted talk sight)
+no_open-noted (finish a) sight h = tt
+no_open-noted (ask x rest) sight h = (h.0, λ answer. no_open-noted (rest answer) (sight ++ call_sight x answer.reply) (h.1 answer))
+
+no_open-queries : (d : Description) (client : ℕ) → OfQueries d client opens_none
+no_open-queries d client = record { keys = λ h. refl; leds = λ h. refl; switches = λ h. refl; axes = λ code h. refl; slots = λ h. refl }
+
+no_open-next : (d : Description) (mode : Mode) (r : Reading) → NoOpen (next_talk d mode r)
+no_open-next d mode r = next-asks opens_none d mode r (record { read = refl; discard = refl; queries = no_open-queries d r.client })
+
+-- The lines of a client
+
+no_open-round : (d : Description) (wait : Option Waiting) (skips : Bool) (g : Going) → NoOpen (next_round d wait skips g)
+unfolding next_round
+no_open-round d wait skips g =
+    let talk : Talk (Answered × Reading) = next_talk d (mode_of skips g.job.reading.phase) g.job.reading in
+    asks-then opens_none (noted talk g.job.sight) (λ o. finish (after_next wait g o))
+    (no_open-noted talk g.job.sight (no_open-next d (mode_of skips g.job.reading.phase) g.job.reading))
+    (λ o. tt)
+
+no_open-rounds : (d : Description) (wait : Option Waiting) (skips : Bool) (n : ℕ) (g : Going) → NoOpen (rounds d wait skips n g)
+unfolding rounds
+no_open-rounds d wait skips zero g = tt
+no_open-rounds d wait skips (suc n) g = asks-then opens_none (next_round d wait skips g) (on_turn (rounds d wait skips n)) (no_open-round d wait skips g) (by_turn (no_open-rounds d wait skips n))
+  where
+    by_turn : ((here : Going) → NoOpen (rounds d wait skips n here)) → (turn : Turn) → NoOpen (on_turn (rounds d wait skips n) turn)
+    by_turn more (goes_on here) = more here
+    by_turn more (ends_with j) = tt
+
+no_open-hand : (d : Description) (wait : Option Waiting) (skips : Bool) (left : Option ℕ) (n : ℕ) (j : Job) → NoOpen (hand_talk d wait skips left n j)
+no_open-hand d wait skips left n j =
+    cond_both (is_done left) _ _ NoOpen (λ _. tt) (λ _. no_open-rounds d wait skips n (record { job = j; left = left; agains = 0 }))
+
+-- a start asks for nothing more where its Open was refused
+gives_up-start : (d : Description) (j : Job) → GivesUp (start_job d j)
+unfolding start_job start_talk
+gives_up-start d j = ((λ e n. refl), λ answer. by_reply answer.reply (j.sight ++ call_sight ToOpen answer.reply))
+  where
+    by_reply : (reply : Reply) (sight : List Sight) → GivesUp (and_then (noted (after_open d j.reading reply) sight) (λ o. finish (start_ends o)))
+    by_reply (Opened at client ring) sight =
+        let asks : Talk (Result View Reply) = ask_each (queries d client) j.reading.view in
+        let talk : Talk (Started × Reading) = and_then asks (λ asked. finish (after_queries client ring j.reading asked)) in
+        no_open-gives_up (and_then (noted talk sight) (λ o. finish (start_ends o)))
+        (asks-then opens_none (noted talk sight) (λ o. finish (start_ends o))
+        (no_open-noted talk sight
+        (asks-then opens_none asks (λ asked. finish (after_queries client ring j.reading asked)) (asks-each opens_none (queries d client) j.reading.view (each-query d client opens_none (no_open-queries d client))) (λ asked. tt)))
+        (λ o. tt))
+    by_reply _ sight = tt
+
+-- Single calls
+
+abbrev is_open_if : Option Step → Bool
+is_open_if None = false
+is_open_if (Some x) = is_open_step x
+
+gives_up-call : (o : Option Step) (j : Job) → is_open_if o ≡ false → GivesUp (call_if j o)
+gives_up-call None j h = tt
+gives_up-call (Some x) j h = ((λ e n. absurd (other_step x h e)), λ answer. tt)
+
+gives_up-tap : (o : Option Step) (j : Job) → GivesUp (tap_call_if j o)
+gives_up-tap None j = tt
+gives_up-tap (Some x) j = ((λ e n. refl), λ answer. tt)
+
+pub gives_up-stream : (stream : List Stamped) (j : Job) → GivesUp (stream_talk stream j)
+unfolding stream_talk
+gives_up-stream [] j = tt
+gives_up-stream (stamped ∷ stream) j =
+    let x : Step = Inject stamped.event stamped.now in
+    ((λ e n. absurd (other_step x refl e)), λ answer. by_flag (is_accepted answer.reply) (after_call j x answer) (gives_up-stream stream (after_call j x answer)))
+  where
+    by_flag : (b : Bool) (k : Job) → GivesUp (stream_talk stream k) → GivesUp (if b then stream_talk stream k else finish (Some k))
+    by_flag true k more = more
+    by_flag false k more = tt
+
+-- Lines
+
+gives_up-source : (streams : List (List Stamped)) (command : Command) (j : Job) → is_command_of Source command ≡ true → GivesUp (source_talk streams command j)
+gives_up-source streams (Stream file index) j h = gives_up-stream (stream_numbered streams index) j
+gives_up-source streams (Stream16 file index) j h = gives_up-stream (stream_numbered streams index) j
+gives_up-source streams Open j h = absurd cc
+gives_up-source streams command j h = gives_up-call (step_of NO_CLIENT command) j refl
+
+gives_up-client : (d : Description) (wait : Option Waiting) (n : ℕ) (command : Command) (j : Job) → GivesUp (client_talk d wait n command j)
+gives_up-client d wait n Open j = gives_up-start d j
+gives_up-client d wait n (Next count) j = no_open-gives_up (hand_talk d None false (Some count) n j) (no_open-hand d None false (Some count) n j)
+gives_up-client d wait n (Skip count) j = no_open-gives_up (hand_talk d None true (Some count) n j) (no_open-hand d None true (Some count) n j)
+gives_up-client d wait n Follow j = no_open-gives_up (hand_talk d wait false None n j) (no_open-hand d wait false None n j)
+gives_up-client d wait n Force j = tt
+gives_up-client d wait n command j = gives_up-call (step_of j.reading.client command) j refl
+
+-- The lines of a joystick
+
+no_open-sync_turn : (d : Description) (k : Joying) → NoOpen (sync_turn d k)
+unfolding sync_turn
+no_open-sync_turn d k = asks-then opens_none (next_talk d Synchronising k.reading) (λ o. finish (joying_after_sync k o)) (no_open-next d Synchronising k.reading) (λ o. tt)
+
+no_open-event_turn : (d : Description) (k : Joying) → NoOpen (event_turn d k)
+unfolding event_turn
+no_open-event_turn d k =
+    asks-then opens_none (next_talk d Normal k.reading) (after_normal d k) (no_open-next d Normal k.reading)
+    (λ o. by_flag (is_lost o.0) (with_reading k o.1) (joy.joying_after_next d (with_reading k o.1) o.0))
+  where
+    by_flag : (b : Bool) (here : Joying) (turn : JoyTurn) → NoOpen (if b then sync_turn d here else finish turn)
+    by_flag true here turn = no_open-sync_turn d here
+    by_flag false here turn = tt
+
+no_open-joy_turn : (d : Description) (k : Joying) (out : Option JoyRecord) → NoOpen (record_or_turn d k out)
+no_open-joy_turn d k (Some r) = tt
+no_open-joy_turn d k None =
+    cond_both (is_needed k.reading.phase) _ _ NoOpen (λ _. no_open-sync_turn d k) (λ _. no_open-event_turn d k)
+
+no_open-counted : {A : Type 0} (talk : Talk A) (n : ℕ) → NoOpen talk → NoOpen (with_count talk n)
+no_open-counted (finish a) n h = tt
+no_open-counted (ask x rest) n h = (h.0, λ answer. no_open-counted (rest answer) (if is_accepted answer.reply then n + 1 else n) (h.1 answer))
+
+no_open-turns : (d : Description) (most n : ℕ) (k : Joying) → NoOpen (turns d most n k)
+unfolding turns
+no_open-turns d zero n k = tt
+no_open-turns d (suc most) n k =
+    asks-then opens_none (with_count (turn_talk d k) n) (λ o. after_turn d (turns d most) o.0 o.1)
+    (no_open-counted (turn_talk d k) n (no_open-joy_turn d k (slice_get (startup d k.reading.view) k.handed)))
+    (λ o. by_turn o.0 o.1 (λ (m : ℕ) (here : Joying). no_open-turns d most m here))
+  where
+    by_turn : (m : ℕ) (turn : JoyTurn) → ((m : ℕ) (here : Joying) → NoOpen (turns d most m here)) → NoOpen (after_turn d (turns d most) m turn)
+    by_turn m (gives answer) more = tt
+    by_turn m (reads_on here) more = cond_both (is_long d here m) _ _ NoOpen (λ _. tt) (λ _. more m here)
+
+no_open-read_on : (d : Description) (most n : ℕ) (j : Job) → NoOpen (read_on d most n j)
+unfolding read_on
+no_open-read_on d most zero j = tt
+no_open-read_on d most (suc n) j =
+    asks-then opens_none (noted (turns d most 0 (joying_of j)) j.sight) (λ o. after_turns (read_on d most n) j o.0 o.1)
+    (no_open-noted (turns d most 0 (joying_of j)) j.sight (no_open-turns d most 0 (joying_of j)))
+    (λ o. by_answer o.0 o.1 (no_open-read_on d most n))
+  where
+    by_read : (read : JoyRead) (here : Job) → NoOpen (read_on d most n here) → NoOpen (after_joy_read (read_on d most n) read here)
+    by_read (Frame place) here more = more
+    by_read More here more = more
+    by_read _ here more = tt
+
+    by_answer : (read : Option JoyAnswer) (sight : List Sight) → ((here : Job) → NoOpen (read_on d most n here)) → NoOpen (after_turns (read_on d most n) j read sight)
+    by_answer None sight more = tt
+    by_answer (Some answer) sight more = by_read answer.read (after_joy_answer j answer sight) (more (after_joy_answer j answer sight))
+
+no_open-records : (d : Description) (n count : ℕ) (j : Job) → NoOpen (read_records d n count j)
+unfolding read_records
+no_open-records d n zero j = tt
+no_open-records d n (suc count) j = asks-then opens_none (read_on d n n j) (on_reach (read_records d n count)) (no_open-read_on d n n j) (by_reach (no_open-records d n count))
+  where
+    by_reach : ((here : Job) → NoOpen (read_records d n count here)) → (reach : Option Reach) → NoOpen (on_reach (read_records d n count) reach)
+    by_reach more None = tt
+    by_reach more (Some (handed_out here)) = more here
+    by_reach more (Some (line_ends here)) = tt
+
+-- its start asks for nothing more where its Open was refused
+gives_up-joy_start : (d : Description) (j : Job) → GivesUp (start_joystick d j)
+unfolding start_joystick joy_start start_talk
+gives_up-joy_start d j = ((λ e n. refl), λ answer. by_reply answer.reply (j.sight ++ call_sight ToOpen answer.reply))
+  where
+    by_reply : (reply : Reply) (sight : List Sight) → GivesUp (and_then (noted (and_then (after_open d j.reading reply) (λ o. finish (joy_started d (joying_of j) o))) sight) (λ o. finish (after_joy_start j o)))
+    by_reply (Opened at client ring) sight =
+        let asks : Talk (Result View Reply) = ask_each (queries d client) j.reading.view in
+        let start : Talk (Started × Reading) = and_then asks (λ asked. finish (after_queries client ring j.reading asked)) in
+        let talk : Talk (Started × Joying) = and_then start (λ o. finish (joy_started d (joying_of j) o)) in
+        no_open-gives_up (and_then (noted talk sight) (λ o. finish (after_joy_start j o)))
+        (asks-then opens_none (noted talk sight) (λ o. finish (after_joy_start j o))
+        (no_open-noted talk sight
+        (asks-then opens_none start (λ o. finish (joy_started d (joying_of j) o))
+        (asks-then opens_none asks (λ asked. finish (after_queries client ring j.reading asked)) (asks-each opens_none (queries d client) j.reading.view (each-query d client opens_none (no_open-queries d client))) (λ asked. tt))
+        (λ o. tt)))
+        (λ o. tt))
+    by_reply _ sight = tt
+
+joystick-gives_up : (d : Description) (n : ℕ) (command : Command) (j : Job) → GivesUp (joystick_talk d n command j)
+joystick-gives_up d n Open j = gives_up-joy_start d j
+joystick-gives_up d n (Read count) j = no_open-gives_up (read_records d n count j) (no_open-records d n count j)
+joystick-gives_up d n command j = gives_up-call (step_of j.reading.client command) j refl
+
+gives_up-command : (role : Role) (d : Description) (streams : List (List Stamped)) (wait : Option Waiting) (n : ℕ) (command : Command) (j : Job) → is_command_of role command ≡ true → GivesUp (command_talk role d streams wait n command j)
+gives_up-command Source d streams wait n command j h = gives_up-source streams command j h
+gives_up-command Client d streams wait n command j h = gives_up-client d wait n command j
+gives_up-command Tap d streams wait n command j h = gives_up-tap (step_of j.reading.client command) j
+gives_up-command Joy d streams wait n command j h = joystick-gives_up d n command j
+gives_up-command Owner d streams wait n command j h = tt
+
+pub gives_up-line : (role : Role) (d : Description) (streams : List (List Stamped)) (wait : Option Waiting) (n : ℕ) (command : Command) (j : Job) → is_command_of role command ≡ true → GivesUp (line_talk role d streams wait n command j)
+unfolding line_talk
+gives_up-line role d streams wait n command j h = by_stop j.stop
+  where
+    by_stop : (stop : Option Stop) → GivesUp (unless_stopped stop j (command_talk role d streams wait n command j))
+    by_stop None = gives_up-command role d streams wait n command j h
+    by_stop (Some stop) = tt
+
+-- Lines, one after another
+
+gives_up-then : (talk : Talk (Option Job)) (next : Option Job → Talk (Option Job)) → GivesUp talk → next None ≡ finish None → ((o : Option Job) → GivesUp (next o)) → GivesUp (and_then talk next)
+gives_up-then (finish o) next h none more = more o
+gives_up-then (ask x rest) next h none more = (
+  λ e n. ap (λ (t : Talk (Option Job)). and_then t next) (h.0 e n) ∙ none,
+  λ answer. gives_up-then (rest answer) next (h.1 answer) none more,
+)
+
+gives_up-end : (stop : Option Stop) (j : Job) → GivesUp (end_talk stop j)
+gives_up-end None j = ((λ e n. absurd (other_step End refl e)), λ answer. tt)
+gives_up-end (Some stop) j = tt
+
+gives_up-last : (wait : Option Waiting) (role : Role) (j : Job) → GivesUp (last_talk wait role j)
+gives_up-last None role j = tt
+gives_up-last (Some waiting) Source j = gives_up-end j.stop j
+gives_up-last (Some waiting) Client j = tt
+gives_up-last (Some waiting) Tap j = tt
+gives_up-last (Some waiting) Joy j = tt
+gives_up-last (Some waiting) Owner j = tt
+
+pub gives_up-lines : (role : Role) (d : Description) (streams : List (List Stamped)) (wait : Option Waiting) (n : ℕ) (lines : List Line) (j : Job) → AreOfRole role lines → GivesUp (lines_talk role d streams wait n lines j)
+unfolding lines_talk
+gives_up-lines role d streams wait n [] j of_role = gives_up-last wait role j
+gives_up-lines role d streams wait n (line ∷ lines) j of_role =
+    gives_up-then (line_talk role d streams wait n line.command j) (on_job (lines_talk role d streams wait n lines)) (gives_up-line role d streams wait n line.command j of_role.0) refl
+    (by (λ (mid : Job). gives_up-lines role d streams wait n lines mid of_role.1))
+  where
+    by : ((mid : Job) → GivesUp (lines_talk role d streams wait n lines mid)) → (o : Option Job) → GivesUp (on_job (lines_talk role d streams wait n lines) o)
+    by more None = tt
+    by more (Some mid) = more mid
+
+-- Calls of a talk that left a job
+
+memory_when_accepted : (d : Description) (past : List Step) (x : Step) → script.lacks_memory (accepted d past x).reply ≡ false
+memory_when_accepted d past ToOpen = refl
+memory_when_accepted d past _ = refl
+
+answer-memory : (d : Description) (past : List Step) (x : Step) → script.lacks_memory (answer d past x).reply ≡ false
+answer-memory d past x = answer_has (λ given. script.lacks_memory given.reply ≡ false) d past x (λ refusal is. is.memory) (λ none. memory_when_accepted d past x)
+
+pub answered-memory : (d : Description) (calls : List Call) → AreAnswered d calls → list_any call_lacks_memory calls ≡ false
+answered-memory d [] answered = refl
+answered-memory d (call ∷ calls) answered =
+    let first : call_lacks_memory call ≡ false = ap (λ (a : Answer). script.lacks_memory a.reply) answered.1 ∙ answer-memory d answered.0 call.step in
+    rw first (answered-memory d calls answered.2)
+
+pub never_both : (calls : List Call) (j : Job) → EndsWith (finish None) calls (Some j) → ⊥
+unfolding LeadsTo
+never_both [] j h = cc
+never_both (call ∷ calls) j h = h
+
+-- memory ran out in none of them
+pub talk-answered : (d : Description) (history : List Step) (least : ℕ) (talk : Talk (Option Job)) (calls : List Call) (j : Job) → GivesUp talk → IsLegalFrom d history least calls → EndsWith talk calls (Some j) → AreAnswered d calls
+unfolding LeadsTo
+talk-answered d history least talk [] j g legal ends = tt
+talk-answered d history least (finish o) (call ∷ calls) j g legal ends = elim ends [ ]
+talk-answered d history least (ask x rest) (call ∷ calls) j g legal ends =
+    let past : List Step = past_at history (place_of call.answer.reply) in
+    elim (let p : HasPlace d history call = legal.1 in p.exact) [
+      | inl e ↦ (past, e, talk-answered d history (next_place call.answer.reply) (rest call.answer) calls j (g.1 call.answer) legal.2 ends.1)
+      | inr lacks ↦
+          let none : rest call.answer ≡ finish None = ap rest lacks.2 ∙ g.0 (sym ends.0 ∙ lacks.0) (length past) in
+          absurd (never_both calls j (subst (λ (t : Talk (Option Job)). EndsWith t calls (Some j)) none ends.1))
+    ]

@@ -1,0 +1,10 @@
+-- What comes of lines in file order is promised.
+pub mod OwnerTold
+pub mod Calls
+pub mod Places
+pub mod LineDone
+pub mod Stages
+pub mod OwnedStages
+pub mod Rounds
+pub mod Promised
+pub mod Alone

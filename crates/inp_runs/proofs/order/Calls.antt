@@ -1,0 +1,127 @@
+-- The calls that a talk makes of the one-thread device, and what they leave of its past.
+use Rattle.std.proofs.Common.{◌≡◌, ℕ, ◌<◌, ◌≤◌, Bool, true, false, if◌then◌else◌, List, [], ◌∷◌, ◌++◌, length, reverse, refl, sym, ap, subst, ◌∙◌, arith, inl, None}
+use Rattle.std.specs.List.{list_any}
+use Rattle.inp_model.specs.declared.step.Step.{Step}
+use Rattle.inp_model.specs.declared.reply.Reply.{Reply}
+use Rattle.inp_model.specs.Description.{Description}
+use Rattle.inp_model.specs.DeviceView.{evdev_view}
+use Rattle.inp_model.specs.Evdev.{EvdevView, BeginsWith, agains_after}
+use Rattle.inp_model.specs.Reply.{Answer, answer, refused, past_after, is_accepted}
+use Rattle.inp_model.specs.Run.{Call, IsLegalRun, place_of}
+use Rattle.inp_model.proofs.Told.{called_by, given_place}
+use Rattle.inp_model.specs.Leaves.{AreCalls}
+use Rattle.inp_reader.specs.Talk.{Talk, finish, ask, LeadsTo, EndsWith, talk_with, calls_with}
+use Rattle.inp_model.specs.History.{IsHistory}
+use Rattle.inp_reader.proofs.LessEffort.{place-below}
+use Rattle.inp_script.proofs.Replies.{answer_has}
+use Rattle.inp_script.proofs.Runs.{runs-on}
+use Rattle.inp_model.proofs.Leaves.{seen-kept}
+use Rattle.inp_runs.specs.Job.{call_lacks_memory}
+use Rattle.inp_runs.proofs.memory.LeftByTalks.{AreAnswered}
+use Rattle.inp_runs.proofs.memory.Memory.{answered-memory}
+
+-- the calls that a talk makes are its own
+pub talk_with-ends : {A : Type 0} (d : Description) (past : List Step) (talk : Talk A) → EndsWith talk (calls_with d past talk) (talk_with d past talk).0
+unfolding LeadsTo talk_with calls_with
+talk_with-ends d past (finish a) = refl
+talk_with-ends d past (ask x rest) = (refl, talk_with-ends d (past_after (answer d past x).reply x past) (rest (answer d past x)))
+
+-- Calls that the one-thread device answered, from one past on to the other.
+abbrev pub AreExact : Description → List Step → List Step → List Call → Type 0
+AreExact d past after [] = after ≡ past
+AreExact d past after (call ∷ calls) = (call.answer ≡ answer d past call.step) × AreExact d (past_after call.answer.reply call.step past) after calls
+
+pub talk_with-exact : {A : Type 0} (d : Description) (past : List Step) (talk : Talk A) → AreExact d past (talk_with d past talk).1 (calls_with d past talk)
+unfolding talk_with calls_with
+talk_with-exact d past (finish a) = refl
+talk_with-exact d past (ask x rest) = (refl, talk_with-exact d (past_after (answer d past x).reply x past) (rest (answer d past x)))
+
+-- the calls that a device answered say what a talk with it leaves
+pub exact-talk : {A : Type 0} (d : Description) (past after : List Step) (talk : Talk A) (calls : List Call) (result : A) → EndsWith talk calls result → AreExact d past after calls → talk_with d past talk ≡ (result, after)
+unfolding LeadsTo talk_with
+exact-talk d past after (finish a) [] result ends exact =
+    let same : a ≡ result = cc in
+    ap (λ (x : _). (x, past)) same ∙ ap (λ (p : List Step). (result, p)) (sym exact)
+exact-talk d past after (finish a) (call ∷ calls) result ends exact = absurd ends
+exact-talk d past after (ask x rest) [] result ends exact = absurd (cc ends)
+exact-talk {A} d past after (ask x rest) (call ∷ calls) result ends exact =
+    let same : call.answer ≡ answer d past x = exact.0 ∙ ap (answer d past) ends.0 in
+    let more : talk_with d (past_after call.answer.reply call.step past) (rest call.answer) ≡ (result, after) =
+    exact-talk d (past_after call.answer.reply call.step past) after (rest call.answer) calls result ends.1 exact.1 in
+    subst (λ (a : Answer). talk_with d (past_after a.reply x past) (rest a) ≡ (result, after)) same
+    (subst (λ (y : Step). talk_with d (past_after call.answer.reply y past) (rest call.answer) ≡ (result, after)) ends.0 more)
+
+-- the place of an answer
+pub answer-place : (d : Description) (past : List Step) (x : Step) → place_of (answer d past x).reply ≡ length past
+answer-place d past x = given_place d past x (answer d past x) (inl refl)
+
+-- Each step was accepted after those before it
+
+history-one : (d : Description) (past : List Step) (x : Step) → IsHistory d past → IsHistory d (past_after (answer d past x).reply x past)
+history-one d past x h =
+    by (is_accepted (answer d past x).reply)
+    (answer_has (λ given. is_accepted given.reply ≡ true → refused d past x ≡ None) d past x
+    (λ refusal is e. absurd (let k : false ≡ true = sym is.accepted ∙ e in cc)) (λ none e. none))
+  where
+    by : (b : Bool) → (b ≡ true → refused d past x ≡ None) → IsHistory d (if b then x ∷ past else past)
+    by true unrefused = (h, unrefused refl)
+    by false unrefused = h
+
+pub exact-history : (d : Description) (past after : List Step) (calls : List Call) → AreExact d past after calls → IsHistory d past → IsHistory d after
+exact-history d past after [] e h = subst (IsHistory d) (sym e) h
+exact-history d past after (call ∷ calls) e h =
+    exact-history d (past_after call.answer.reply call.step past) after calls e.1
+    (subst (λ (a : Answer). IsHistory d (past_after a.reply call.step past)) (sym e.0) (history-one d past call.step h))
+
+-- What the caller of a device sees of them
+
+abbrev device_after : Description → List Step → ℕ → EvdevView
+device_after d past agains = evdev_view (record { description = d; past = past; agains = agains })
+
+exact-calls : (d : Description) (past after : List Step) (agains : ℕ) (calls : List Call) → AreExact d past after calls → IsHistory d past → (n : ℕ) × AreCalls (device_after d past agains) (device_after d after n) calls
+unfolding AreCalls
+exact-calls d past after agains [] e h = (agains, ap (λ (p : List Step). device_after d p agains) e)
+exact-calls d past after agains (call ∷ calls) e h =
+    let reply : Reply = call.answer.reply in
+    let between : List Step = past_after reply call.step past in
+    let history : IsHistory d between = subst (λ (a : Answer). IsHistory d (past_after a.reply call.step past)) (sym e.0) (history-one d past call.step h) in
+    let more = exact-calls d between after (agains_after reply agains) calls e.1 history in
+    let placed : place_of reply ≡ length past = given_place d past call.step call.answer (inl e.0) in
+    (more.0, (device_after d between (agains_after reply agains), called_by d past agains call.step call.answer (is_accepted reply) refl placed (inl e.0) h, more.1))
+
+-- a past grows
+pub exact-grows : (d : Description) (past after : List Step) (calls : List Call) → AreExact d past after calls → IsHistory d past → BeginsWith (reverse past) (reverse after)
+exact-grows d past after calls e h =
+    let c = exact-calls d past after 0 calls e h in
+    seen-kept (device_after d past 0) (device_after d after c.0) calls c.1
+
+-- a legal run goes on with them
+pub exact-legal : (d : Description) (past after : List Step) (before calls : List Call) → AreExact d past after calls → IsHistory d past → IsLegalRun d (reverse past) before → IsLegalRun d (reverse after) (before ++ calls)
+exact-legal d past after before calls e h l =
+    let c = exact-calls d past after 0 calls e h in
+    runs-on d (device_after d past 0) (device_after d after c.0) before calls refl l c.1
+
+-- Memory does not run out
+
+-- each of these calls was answered after some past
+pub exact-answered : (d : Description) (past after : List Step) (calls : List Call) → AreExact d past after calls → AreAnswered d calls
+exact-answered d past after [] e = tt
+exact-answered d past after (call ∷ calls) e = (past, e.0, exact-answered d (past_after call.answer.reply call.step past) after calls e.1)
+
+pub exact-memory : (d : Description) (past after : List Step) (calls : List Call) → AreExact d past after calls → list_any call_lacks_memory calls ≡ false
+exact-memory d past after calls e = answered-memory d calls (exact-answered d past after calls e)
+
+-- The history stays within its limit
+
+within-one : (d : Description) (past : List Step) (x : Step) → length past ≤ d.log_limit → length (past_after (answer d past x).reply x past) ≤ d.log_limit
+within-one d past x h = by_flag (is_accepted (answer d past x).reply) (λ e. place-below d past x (answer d past x) (inl refl) e)
+  where
+    by_flag : (b : Bool) → (b ≡ true → place_of (answer d past x).reply < d.log_limit) → length (if b then x ∷ past else past) ≤ d.log_limit
+    by_flag true below = omega (arith, below refl, answer-place d past x)
+    by_flag false below = h
+
+pub exact-within : (d : Description) (past after : List Step) (calls : List Call) → AreExact d past after calls → length past ≤ d.log_limit → length after ≤ d.log_limit
+exact-within d past after [] e h = omega (arith, ap length e)
+exact-within d past after (call ∷ calls) e h =
+    exact-within d (past_after call.answer.reply call.step past) after calls e.1
+    (subst (λ (a : Answer). length (past_after a.reply call.step past) ≤ d.log_limit) (sym e.0) (within-one d past call.step h))

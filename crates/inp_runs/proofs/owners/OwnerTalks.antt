@@ -1,0 +1,39 @@
+-- An owner's lines are no calls of an evdev.
+use Rattle.std.proofs.Common.{◌≡◌, ℕ, List, [], ◌∷◌, refl, sym, ap, subst, ◌∙◌, Option, Some, None}
+use Rattle.inp_model.specs.declared.stamped.Stamped.{Stamped}
+use Rattle.inp_model.specs.Description.{Description}
+use Rattle.inp_model.specs.Run.{Call}
+use Rattle.inp_actors.specs.declared.line.Line.{Line}
+use Rattle.inp_actors.specs.declared.role.Role.TheVariants.{Owner}
+use Rattle.inp_reader.specs.Talk.{Talk, finish, and_then, EndsWith}
+use Rattle.inp_script.specs.declared.stop.Stop.{Stop}
+use Rattle.inp_script.specs.declared.waiting.Waiting.{Waiting}
+use Rattle.inp_script.specs.DoneLine.{unless_stopped, line_talk}
+use Rattle.inp_script.specs.Job.{Job, first_job}
+use Rattle.inp_reader.proofs.Calls.{finished}
+use Rattle.inp_runs.specs.Job.{last_talk, on_job, lines_talk}
+
+last-nothing : (wait : Option Waiting) (j : Job) → last_talk wait Owner j ≡ finish (Some j)
+last-nothing None j = refl
+last-nothing (Some waiting) j = refl
+
+stopped-nothing : (stop : Option Stop) (j : Job) → unless_stopped stop j (finish (Some j)) ≡ finish (Some j)
+stopped-nothing None j = refl
+stopped-nothing (Some stop) j = refl
+
+-- the lines of an owner end at once, in the job that it had
+pub lines-nothing : (d : Description) (streams : List (List Stamped)) (wait : Option Waiting) (n : ℕ) (lines : List Line) (j : Job) → lines_talk Owner d streams wait n lines j ≡ finish (Some j)
+unfolding lines_talk line_talk
+lines-nothing d streams wait n [] j = last-nothing wait j
+lines-nothing d streams wait n (line ∷ lines) j =
+    ap (λ (t : Talk (Option Job)). and_then t (on_job (lines_talk Owner d streams wait n lines))) (stopped-nothing j.stop j)
+    ∙ lines-nothing d streams wait n lines j
+
+-- so an owner sees nothing
+pub owner-silent : (d : Description) (streams : List (List Stamped)) (wait : Option Waiting) (n : ℕ) (lines : List Line) (k : Job) (calls : List Call) → EndsWith (lines_talk Owner d streams wait n lines (first_job Owner d)) calls (Some k) → k.sight ≡ []
+owner-silent d streams wait n lines k calls h =
+    let first : Job = first_job Owner d in
+    let ends : EndsWith (finish (Some first)) calls (Some k) = subst (λ (t : Talk (Option Job)). EndsWith t calls (Some k)) (lines-nothing d streams wait n lines first) h in
+    let f = finished (Some first) (Some k) calls ends in
+    let same : first ≡ k = (let e = f.1 in cc) in
+    ap (λ (j : Job). j.sight) (sym same)

@@ -1,0 +1,249 @@
+-- The events that a reader has at hand are the last ones that its client took, and the index of the next is its own.
+use Rattle.std.proofs.Common.{◌≡◌, ◌⊎◌, inl, inr, ℕ, zero, suc, ◌+◌, ◌-◌, Bool, true, false, if◌then◌else◌, List, [], ◌∷◌, ◌++◌, length, map, drop, reverse, refl, sym, ap, subst, ◌∙◌, arith, append-nil, append_assoc, length-append, Option, Some, None}
+use Rattle.std.specs.Prelude.{slice_get, option_map}
+use Rattle.std.proofs.lemmas.Bool.{false≢true, eq-eqb}
+use Rattle.std.proofs.lemmas.List.{length-map, map-append}
+use Rattle.inp_model.specs.declared.taken.Taken.{Taken}
+use Rattle.inp_model.specs.declared.step.Step.{Step}
+use Rattle.inp_model.specs.declared.step.Step.TheVariants.{Read}
+use Rattle.inp_model.specs.declared.reply.Reply.{Reply}
+use Rattle.inp_model.specs.Description.{Description}
+use Rattle.inp_model.specs.Past.{past_at}
+use Rattle.inp_model.specs.Queue.{Entry, taken_by, took, took_with}
+use Rattle.inp_model.specs.Reply.{Answer, IsAnswer, answer, accepted, refused, is_accepted, taken_of}
+use Rattle.inp_model.specs.Run.{Call, HasPlace, place_of, next_place}
+use Rattle.inp_recon.specs.declared.view.View.{View}
+use Rattle.inp_recon.specs.Synchronised.{is_dropped}
+use Rattle.inp_runs.specs.LossCauses.{IsCausedAt}
+use Rattle.inp_runs.proofs.losses.Causes.{all_taken-caused}
+use Rattle.inp_reader.specs.ReaderPlace.{is_use_of}
+use Rattle.inp_model.proofs.Refused.{unrefused_by}
+use Rattle.inp_reader.proofs.ClientViews.{idle-taken, used-taken}
+use Rattle.inp_reader.proofs.PastsAtCalls.{AreQuiet, IsMet}
+use Rattle.inp_script.specs.declared.sight.Sight.{Sight}
+use Rattle.inp_script.specs.declared.sight.Sight.TheVariants.{Took}
+use Rattle.inp_script.specs.Sight.{call_sight, again_sight, taken_sight}
+use Rattle.inp_script.proofs.Told.{noted_sight}
+use Rattle.inp_runs.specs.JobViews.{LastRead, IsOwnEvent, reads_as, is_read_as, read_after_sight, index_behind, index_in_history, ShowsAt}
+use Rattle.inp_runs.specs.Losses.{HasLossCause}
+use Rattle.inp_runs.proofs.views.LastReads.{one_event_more, read_after-append, read_after-took, read_after-read, read_after-call, read_after-takens}
+use Rattle.inp_runs.proofs.views.QueueSources.{ComeFrom}
+use Rattle.inp_runs.proofs.views.Reports.{whole-past, AreToCome, to-come-behind, past-entered, place_behind, place_behind-append}
+use Rattle.inp_joy.proofs.Lists.{slice_get-left}
+
+-- ---- an event that a job took
+
+-- an entry of an event at a place
+record IsEntryAt (entries : List Entry) (index : ℕ) (taken : Taken) : Type 0 where
+  entry : Entry
+  at : slice_get entries index ≡ Some entry
+  same : entry.taken ≡ taken
+
+entry-at : (entries : List Entry) (index : ℕ) (taken : Taken) → slice_get (map taken_of entries) index ≡ Some taken → IsEntryAt entries index taken
+entry-at [] index taken h = absurd cc
+entry-at (e ∷ entries) zero taken h = record { entry = e; at = refl; same = (let k : Some e.taken ≡ Some taken = h in cc) }
+entry-at (e ∷ entries) (suc index) taken h =
+    let more : IsEntryAt entries index taken = entry-at entries index taken h in
+    record { entry = more.entry; at = more.at; same = more.same }
+
+-- so it has its cause, if it tells of a loss
+pub own-caused : (d : Description) (h : List Step) (sight : List Sight) (taken : Taken) → IsOwnEvent d h sight taken → is_dropped taken.event ≡ true → HasLossCause d h sight taken
+own-caused d h sight taken o lost =
+    let e : IsEntryAt (took d (reverse h) (reads_as sight)) o.index taken = entry-at (took d (reverse h) (reads_as sight)) o.index taken o.is_taken in
+    subst (λ (t : Taken). IsCausedAt d (reverse h) (reads_as sight) t.place) e.same
+    (all_taken-caused d (reverse h) (reads_as sight) o.index e.entry e.at (ap (λ (t : Taken). is_dropped t.event) e.same ∙ lost))
+
+-- a view that is shown at the event's own index tells so
+pub shown-own : (d : Description) (h : List Step) (sight : List Sight) (taken : Taken) (view : View) → ShowsAt d (reverse h) (reads_as sight) (index_in_history d h sight) taken view → IsOwnEvent d h sight taken
+shown-own d h sight taken view s = record { index = s.index; is_own = s.is_own; is_taken = s.is_taken }
+
+-- the index of an event that a reader handed out
+pub index-took : (d : Description) (h : List Step) (client : ℕ) (sight : List Sight) (taken : Taken) → reads_as (sight ++ Took taken ∷ []) ≡ client
+    → index_in_history d h (sight ++ Took taken ∷ []) ≡ option_map (index_behind d h client) (option_map one_event_more (read_after_sight client None sight))
+index-took d h client sight taken reads =
+    ap (λ (n : ℕ). option_map (index_behind d h n) (read_after_sight n None (sight ++ Took taken ∷ []))) reads
+    ∙ ap (λ (o : Option LastRead). option_map (index_behind d h client) o) (read_after-append client None sight (Took taken ∷ []) ∙ read_after-took client (read_after_sight client None sight) taken)
+
+-- the index of the last of some events that a read gave
+pub index-read : (d : Description) (h : List Step) (client : ℕ) (sight : List Sight) (x : Step) (reply : Reply) (taken : List Taken)
+    → reads_as ((sight ++ (call_sight x reply ++ again_sight reply)) ++ map taken_sight taken) ≡ client → is_read_as client x ≡ true → is_accepted reply ≡ true
+    → index_in_history d h ((sight ++ (call_sight x reply ++ again_sight reply)) ++ map taken_sight taken) ≡ Some (length (took d (past_at h (place_of reply)) client) + ((0 + length taken) - 1))
+index-read d h client sight x reply taken reads own good =
+    let told : List Sight = call_sight x reply ++ again_sight reply in
+    ap (λ (n : ℕ). option_map (index_behind d h n) (read_after_sight n None ((sight ++ told) ++ map taken_sight taken))) reads
+    ∙ ap (λ (o : Option LastRead). option_map (index_behind d h client) o)
+    (read_after-append client None (sight ++ told) (map taken_sight taken)
+    ∙ ap (λ (o : Option LastRead). read_after_sight client o (map taken_sight taken)) (read_after-append client None sight told ∙ read_after-read client (read_after_sight client None sight) x reply own good)
+    ∙ read_after-takens client (place_of reply) 0 taken)
+
+-- ---- accepted answers
+
+pub accepted-exact : (d : Description) (past : List Step) (x : Step) (given : Answer) → IsAnswer d past x given → is_accepted given.reply ≡ true → (given ≡ answer d past x) × (refused d past x ≡ None)
+accepted-exact d past x given (inl e) h = (e, unrefused_by d past x (refused d past x) refl (ap (λ (a : Answer). is_accepted a.reply) (sym e) ∙ h))
+accepted-exact d past x given (inr l) h = absurd (false≢true (ap (λ (a : Answer). is_accepted a.reply) (sym l.2) ∙ h))
+
+-- ---- what a client took
+
+-- what it took stays in front
+took-front : (d : Description) (more past : List Step) (client : ℕ) → (rest : List Entry) × (took d (more ++ past) client ≡ took d past client ++ rest)
+unfolding took_with
+took-front d [] past client = ([], sym (append-nil (took d past client)))
+took-front d (x ∷ more) past client =
+    let r : (rest : List Entry) × (took d (more ++ past) client ≡ took d past client ++ rest) = took-front d more past client in
+    let here : List Entry = taken_by d (more ++ past) client x in
+    (r.0 ++ here, ap (λ (es : List Entry). es ++ here) r.1 ∙ append_assoc (took d past client) r.0 here)
+
+pub taken-later : (d : Description) (h : List Step) (at client i : ℕ) (taken : Taken) → slice_get (map taken_of (took d (past_at h at) client)) i ≡ Some taken → slice_get (map taken_of (took d (reverse h) client)) i ≡ Some taken
+taken-later d h at client i taken is =
+    let past : List Step = past_at h at in
+    let r : (rest : List Entry) × (took d (reverse (drop at h) ++ past) client ≡ took d past client ++ rest) = took-front d (reverse (drop at h)) past client in
+    ap (λ (p : List Step). slice_get (map taken_of (took d p client)) i) (whole-past h at)
+    ∙ ap (λ (es : List Entry). slice_get (map taken_of es) i) r.1
+    ∙ ap (λ (ts : List Taken). slice_get ts i) (map-append taken_of (took d past client) r.0)
+    ∙ slice_get-left (map taken_of (took d past client)) (map taken_of r.0) i taken is
+
+-- steps of others take nothing from it
+quiet-took : (d : Description) (client : ℕ) (others past : List Step) → AreQuiet client others → took d (others ++ past) client ≡ took d past client
+unfolding took_with AreQuiet
+quiet-took d client [] past quiet = refl
+quiet-took d client (x ∷ others) past quiet =
+    ap (λ (es : List Entry). took d (others ++ past) client ++ es) (idle-taken d (others ++ past) client x quiet.0)
+    ∙ append-nil (took d (others ++ past) client)
+    ∙ quiet-took d client others past quiet.1
+
+entered-took : (d : Description) (client : ℕ) (b : Bool) (x : Step) (past : List Step) → is_use_of client x ≡ false → took d (if b then x ∷ past else past) client ≡ took d past client
+unfolding took_with
+entered-took d client true x past unused = ap (λ (es : List Entry). took d past client ++ es) (idle-taken d past client x unused) ∙ append-nil (took d past client)
+entered-took d client false x past unused = refl
+
+-- nor does a call that is no use of it
+pub met-took : (d : Description) (client : ℕ) (past after : List Step) (call : Call) → IsMet d client past after call → is_use_of client call.step ≡ false → took d after client ≡ took d past client
+met-took d client past after call m unused =
+    ap (λ (p : List Step). took d p client) m.entered
+    ∙ entered-took d client (is_accepted call.answer.reply) call.step (m.others ++ past) unused
+    ∙ quiet-took d client m.others past m.quiet
+
+-- ---- what is at hand
+
+-- The events at hand are the last that the client took before this place. Before them stand as many as it had taken before
+-- the last read and the sight took behind it.
+pub record IsRest (d : Description) (h : List Step) (least client : ℕ) (last : Option LastRead) (queue : List Taken) : Type 0 where
+  pub read : LastRead
+  pub is_last : last ≡ Some read
+  pub before : List Taken
+  pub count : length before ≡ length (took d (past_at h read.place) client) + read.events
+  pub whole : map taken_of (took d (past_at h least) client) ≡ before ++ queue
+
+abbrev pub AreAtHand : Description → List Step → ℕ → ℕ → Option LastRead → List Taken → Type 0
+AreAtHand d h least client last queue = (queue ≡ []) ⊎ IsRest d h least client last queue
+
+-- where the client took nothing in between
+pub hand-kept : (d : Description) (h : List Step) (least at client : ℕ) (last : Option LastRead) (queue : List Taken) → took d (past_at h at) client ≡ took d (past_at h least) client → AreAtHand d h least client last queue → AreAtHand d h at client last queue
+hand-kept d h least at client last queue same (inl none) = inl none
+hand-kept d h least at client last queue same (inr r) =
+    inr (record {
+      read = r.read;
+      is_last = r.is_last;
+      before = r.before;
+      count = r.count;
+      whole = ap (λ (es : List Entry). map taken_of es) same ∙ r.whole;
+    })
+
+-- a first event at hand
+pub hand-first : (d : Description) (h : List Step) (least client : ℕ) (last : Option LastRead) (taken : Taken) (queue : List Taken) → AreAtHand d h least client last (taken ∷ queue) → IsRest d h least client last (taken ∷ queue)
+hand-first d h least client last taken queue (inl none) = absurd cc
+hand-first d h least client last taken queue (inr r) = r
+
+-- once it was handed out
+pub hand-took : (d : Description) (h : List Step) (least client : ℕ) (last : Option LastRead) (taken : Taken) (queue : List Taken) → IsRest d h least client last (taken ∷ queue) → IsRest d h least client (option_map one_event_more last) queue
+hand-took d h least client last taken queue r = record {
+  read = one_event_more r.read;
+  is_last = ap (λ (o : Option LastRead). option_map one_event_more o) r.is_last;
+  before = r.before ++ taken ∷ [];
+  count = omega (arith, length-append r.before (taken ∷ []), r.count);
+  whole = r.whole ∙ sym (append_assoc r.before (taken ∷ []) queue);
+}
+
+-- its own index is the one before those that are left
+pub hand-index : (d : Description) (h : List Step) (least client : ℕ) (last : Option LastRead) (taken : Taken) (queue : List Taken) → IsRest d h least client last (taken ∷ queue)
+    → option_map (index_behind d h client) (option_map one_event_more last) ≡ Some (length (took d (past_at h least) client) - (length queue + 1))
+hand-index d h least client last taken queue r =
+    let T : ℕ = length (took d (past_at h r.read.place) client) in
+    let all : length (took d (past_at h least) client) ≡ length r.before + suc (length queue) =
+    sym (length-map (took d (past_at h least) client) taken_of) ∙ ap (λ (ts : List Taken). length ts) r.whole ∙ length-append r.before (taken ∷ queue) in
+    let same : T + (suc r.read.events - 1) ≡ length (took d (past_at h least) client) - (length queue + 1) = omega (arith, all, r.count) in
+    ap (λ (o : Option LastRead). option_map (index_behind d h client) (option_map one_event_more o)) r.is_last
+    ∙ ap (λ (n : ℕ). Some n) same
+
+pub hand-taken : (d : Description) (h : List Step) (least client : ℕ) (last : Option LastRead) (taken : Taken) (queue : List Taken) → IsRest d h least client last (taken ∷ queue)
+    → slice_get (map taken_of (took d (past_at h least) client)) (length (took d (past_at h least) client) - (length queue + 1)) ≡ Some taken
+hand-taken d h least client last taken queue r =
+    let all : length (took d (past_at h least) client) ≡ length r.before + suc (length queue) =
+    sym (length-map (took d (past_at h least) client) taken_of) ∙ ap (λ (ts : List Taken). length ts) r.whole ∙ length-append r.before (taken ∷ queue) in
+    let same : length (took d (past_at h least) client) - (length queue + 1) ≡ length r.before = omega (arith, all) in
+    ap (λ (i : ℕ). slice_get (map taken_of (took d (past_at h least) client)) i) same
+    ∙ ap (λ (ts : List Taken). slice_get ts (length r.before)) r.whole
+    ∙ behind r.before
+  where
+    behind : (before : List Taken) → slice_get (before ++ taken ∷ queue) (length before) ≡ Some taken
+    behind [] = refl
+    behind (t ∷ before) = behind before
+
+-- ---- a reader's calls
+
+noted-last : (client : ℕ) (last : Option LastRead) (first : List Call) (read : Call) → is_read_as client read.step ≡ true → is_accepted read.answer.reply ≡ true
+    → read_after_sight client last (noted_sight (first ++ read ∷ [])) ≡ Some (record { place = place_of read.answer.reply; events = 0 })
+noted-last client last [] read own good =
+    ap (λ (es : List Sight). read_after_sight client last es) (append-nil (call_sight read.step read.answer.reply))
+    ∙ read_after-call client last read.step read.answer.reply own good
+noted-last client last (call ∷ first) read own good =
+    read_after-append client last (call_sight call.step call.answer.reply) (noted_sight (first ++ read ∷ []))
+    ∙ noted-last client (read_after_sight client last (call_sight call.step call.answer.reply)) first read own good
+
+module _ (d : Description) (h : List Step) (Q : ℕ → Type 0) where
+  -- an accepted read, of which nothing is handed out yet
+  read-rest : (least client : ℕ) (last : Option LastRead) (read : Call) (events : List Taken) → HasPlace d h read → read.step ≡ Read client 64 → (read.answer ≡ answer d (past_at h (place_of read.answer.reply)) read.step) × (refused d (past_at h (place_of read.answer.reply)) read.step ≡ None)
+      → is_accepted read.answer.reply ≡ true → read.answer.events ≡ events → last ≡ Some (record { place = place_of read.answer.reply; events = 0 }) → least ≡ next_place read.answer.reply → IsRest d h least client last events
+  unfolding took_with
+  read-rest least client last read events placed step exact good given is at =
+      let past : List Step = past_at h (place_of read.answer.reply) in
+      let x : Step = Read client 64 in
+      let accepts : refused d past x ≡ None = ap (λ (y : Step). refused d past y) (sym step) ∙ exact.1 in
+      let told : map taken_of (taken_by d past client x) ≡ events =
+      used-taken d past client x accepts (eq-eqb client client refl)
+      ∙ ap (λ (y : Step). (answer d past y).events) (sym step)
+      ∙ ap (λ (a : Answer). a.events) (sym exact.0)
+      ∙ given in
+      let entered : past_at h least ≡ x ∷ past =
+      ap (λ (n : ℕ). past_at h n) at ∙ past-entered d h read placed
+      ∙ ap (λ (b : Bool). if b then read.step ∷ past else past) good
+      ∙ ap (λ (y : Step). y ∷ past) step in
+      record {
+        read = record { place = place_of read.answer.reply; events = 0 };
+        is_last = is;
+        before = map taken_of (took d past client);
+        count = omega (arith, length-map (took d past client) taken_of);
+        whole =
+            ap (λ (p : List Step). map taken_of (took d p client)) entered
+            ∙ map-append taken_of (took d past client) (taken_by d past client x)
+            ∙ ap (λ (ts : List Taken). map taken_of (took d past client) ++ ts) told;
+      }
+
+  -- what a reader's calls leave at hand
+  pub next-hand : (least client : ℕ) (last : Option LastRead) (old events : List Taken) (calls more : List Call) → AreToCome d h Q least (calls ++ more) → AreAtHand d h least client last old → ComeFrom client old calls events
+      → AreAtHand d h (place_behind least calls) client (read_after_sight client last (noted_sight calls)) events
+  unfolding read_after_sight
+  next-hand least client last old events calls more c hand (inl none) = inl none
+  next-hand least client last old events calls more c hand (inr (inl same)) =
+      subst (λ (cs : List Call). AreAtHand d h (place_behind least cs) client (read_after_sight client last (noted_sight cs)) events) (sym same.0)
+      (subst (λ (q : List Taken). AreAtHand d h least client last q) (sym same.1) hand)
+  next-hand least client last old events calls more c hand (inr (inr l)) =
+      let here : AreToCome d h Q least (l.first ++ (l.read ∷ more)) = subst (AreToCome d h Q least) (ap (λ (cs : List Call). cs ++ more) l.whole ∙ append_assoc l.first (l.read ∷ []) more) c in
+      let last_one : AreToCome d h Q (place_behind least l.first) (l.read ∷ more) = to-come-behind d h Q least l.first (l.read ∷ more) here in
+      let placed : HasPlace d h l.read = last_one.legal.1 in
+      let own : is_read_as client l.read.step ≡ true = ap (λ (x : Step). is_read_as client x) l.step ∙ eq-eqb client client refl in
+      let rest : IsRest d h (place_behind least (l.first ++ l.read ∷ [])) client (read_after_sight client last (noted_sight (l.first ++ l.read ∷ []))) events =
+      read-rest (place_behind least (l.first ++ l.read ∷ [])) client (read_after_sight client last (noted_sight (l.first ++ l.read ∷ []))) l.read events placed l.step
+      (accepted-exact d (past_at h (place_of l.read.answer.reply)) l.read.step l.read.answer placed.exact l.accepted) l.accepted l.given
+      (noted-last client last l.first l.read own l.accepted) (place_behind-append least l.first (l.read ∷ [])) in
+      inr (subst (λ (cs : List Call). IsRest d h (place_behind least cs) client (read_after_sight client last (noted_sight cs)) events) (sym l.whole) rest)

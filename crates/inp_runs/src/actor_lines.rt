@@ -1,0 +1,75 @@
+//! All lines of an actor, over any device.
+ghost use Rattle.std.specs.Prelude.{◌≡◌, false, IfSome, OnOk};
+ghost use Rattle.inp_actors.specs.Command.{is_owner};
+ghost use Rattle.inp_script.specs.ActorLine.{IsActedOn};
+ghost use Rattle.inp_script.specs.DoneLine.{HasActor, IsWaiting};
+ghost use Rattle.inp_runs.specs.DoingAll.{ActsAll, AreNumbersOf, EndsLines};
+
+use inp_actors::{Record, Role};
+use inp_feedback::Feeds;
+use inp_model::{Evdev, NoMemory};
+use inp_script::{Actor, Waiting};
+
+/// Has the actor of this number do all its lines of a record, in file order, over the device that it is lent. An owner makes
+/// its feedback calls, and any other actor calls of an evdev.
+///
+/// `lines` must be the numbers of the actor's lines, from 0 over the whole record, in file order (`AreNumbersOf`). No other
+/// line is looked at. Where a [`Waiting`] is given the lines may wait, and a source that did not stop says at the end that
+/// it is done, by the step `End`.
+///
+/// `NoMemory` comes where there is none for what the actor saw or was told, or for a client that it opened. No line was
+/// begun then after the one in which memory ran out. Whatever the answer, all that was done with the device is calls, one
+/// after another (`left`).
+pub fn do_lines<D: Evdev + Feeds>(
+    actor: &mut Actor,
+    dev: &mut D,
+    rec: &Record,
+    number: u32,
+    lines: &[u32],
+    wait: Option<Waiting>,
+) -> Result<(), NoMemory>
+    requires number { actor.old.actor ≡ number }
+    requires actor { HasActor rec.now actor.old }
+    requires lines { AreNumbersOf rec.now number lines.now }
+    requires device { is_owner actor.old.role ≡ false
+        → (D.told dev.old).description ≡ actor.old.description }
+    requires wait { IfSome wait (IsWaiting rec.now actor.old) }
+    ensures done { OnOk result (ActsAll D.told D.feeds dev.old dev.new
+        rec.now wait actor.old actor.new) }
+    ensures actor { actor.new ≡ record actor.old {
+      job = actor.new.job;
+      owning = actor.new.owning;
+    } }
+    ensures left { IsActedOn D.told D.feeds actor.old.role dev.old dev.new }
+{
+    for line in lines {
+        actor.act(dev, rec, *line, wait)?;
+    }
+    end_lines(actor, dev, rec, number, wait)
+}
+
+// Does what an actor does when its lines are done.
+fn end_lines<D: Evdev + Feeds>(
+    actor: &mut Actor,
+    dev: &mut D,
+    rec: &Record,
+    number: u32,
+    wait: Option<Waiting>,
+) -> Result<(), NoMemory>
+    requires number { actor.old.actor ≡ number }
+    requires actor { HasActor rec.now actor.old }
+    requires device { is_owner actor.old.role ≡ false
+        → (D.told dev.old).description ≡ actor.old.description }
+    ensures done { OnOk result (EndsLines D.told D.feeds dev.old dev.new
+        wait actor.old actor.new) }
+    ensures actor { actor.new ≡ record actor.old { job = actor.new.job } }
+    ensures left { IsActedOn D.told D.feeds actor.old.role dev.old dev.new }
+{
+    if wait.is_none() {
+        return Ok(());
+    }
+    match rec.actors().get(number as usize).role {
+        Role::Source => actor.end(dev),
+        Role::Client | Role::Tap | Role::Joy | Role::Owner => Ok(()),
+    }
+}

@@ -1,0 +1,16 @@
+-- The words that a worked example unfolds, in one place.
+use Rattle.inp_joy.specs.Codes.{codes_among, buttons}
+use Rattle.inp_joy.specs.Joy.{startup, joy_start, sync_turn, event_turn, turns}
+use Rattle.inp_joy.specs.Picture.{picture_after}
+use Rattle.inp_script.specs.Line.{stream_talk}
+use Rattle.inp_script.specs.Client.{start_job, next_round, rounds}
+use Rattle.inp_script.specs.DoneLine.{line_talk}
+use Rattle.inp_script.specs.Joystick.{start_joystick, read_on, read_records}
+
+unfoldable pub computing_jobs : Type 0
+unfolding stream_talk start_job next_round rounds line_talk
+computing_jobs = Unit {0}
+
+unfoldable pub computing_joysticks : Type 0
+unfolding codes_among buttons startup joy_start sync_turn event_turn turns picture_after start_joystick read_on read_records
+computing_joysticks = Unit {0}

@@ -1,0 +1,69 @@
+-- Calls on an evdev that are those of a talk, or its first ones: one call, and one part of a talk after another.
+use Rattle.std.proofs.Common.{◌≡◌, [], ◌∷◌, ◌++◌, refl, subst}
+use Rattle.inp_model.specs.declared.step.Step.{Step}
+use Rattle.inp_model.specs.Evdev.{EvdevView, IsCall}
+use Rattle.inp_model.specs.Reply.{Answer}
+use Rattle.inp_model.specs.Leaves.{AreCalls, IsLeft}
+use Rattle.inp_reader.specs.Talk.{Talk, finish, ask, and_then, LeadsTo}
+use Rattle.inp_model.proofs.Leaves.{AreCalls-append, calls-left}
+use Rattle.inp_reader.proofs.Talks.{LeadsTo-append, LeadsTo-and_then}
+use Rattle.inp_script.specs.DoneLine.{Holds, Begins}
+use Rattle.inp_script.specs.Notes.{IsStepMade}
+
+-- no call
+pub holds-nothing : {A : Type 0} (told : EvdevView) (talk : Talk A) (result : A) → talk ≡ finish result → Holds told told talk result
+unfolding LeadsTo AreCalls
+holds-nothing told talk result h = record { calls = []; talk_ends = h; are_calls = refl }
+
+-- one call, and then nothing more
+pub holds-one : {A : Type 0} (before after : EvdevView) (x : Step) (answer : Answer) (rest : Answer → Talk A) (result : A) → IsCall before after (record { step = x; answer = answer }) → rest answer ≡ finish result → Holds before after (ask x rest) result
+unfolding LeadsTo AreCalls
+holds-one before after x answer rest result call h = record {
+  calls = record { step = x; answer = answer } ∷ [];
+  talk_ends = (refl, h);
+  are_calls = (after, call, refl);
+}
+
+-- a talk, and then the one that its result says
+pub holds-then : {A B : Type 0} (before between after : EvdevView) (talk : Talk A) (next : A → Talk B) (a : A) (b : B) → Holds before between talk a → Holds between after (next a) b → Holds before after (and_then talk next) b
+holds-then before between after talk next a b s t = record {
+  calls = s.calls ++ t.calls;
+  talk_ends = LeadsTo-append (and_then talk next) (next a) (finish b) s.calls t.calls (LeadsTo-and_then talk (finish a) next s.calls s.talk_ends) t.talk_ends;
+  are_calls = AreCalls-append before between after s.calls t.calls s.are_calls t.are_calls;
+}
+
+pub holds-same : {A : Type 0} (before after : EvdevView) (talk same : Talk A) (result : A) → talk ≡ same → Holds before after talk result → Holds before after same result
+holds-same {A = A} before after talk same result h s = subst (λ (t : Talk A). Holds before after t result) h s
+
+-- The first calls of a talk
+
+-- none of them
+pub begins-none : {A : Type 0} (told : EvdevView) (talk : Talk A) → Begins told told talk
+unfolding LeadsTo AreCalls
+begins-none told talk = record { calls = []; rest = talk; leads = refl; are_calls = refl }
+
+-- the first one
+pub begins-one : {A : Type 0} (before after : EvdevView) (x : Step) (rest : Answer → Talk A) → IsStepMade before after x → Begins before after (ask x rest)
+unfolding LeadsTo AreCalls
+begins-one before after x rest made = record {
+  calls = record { step = x; answer = made.answer } ∷ [];
+  rest = rest made.answer;
+  leads = (refl, refl);
+  are_calls = (after, made.is_call, refl);
+}
+
+-- all those of a talk, which another one follows
+pub begins-then : {A B : Type 0} (before after : EvdevView) (talk : Talk A) (next : A → Talk B) (a : A) → Holds before after talk a → Begins before after (and_then talk next)
+begins-then before after talk next a s = record {
+  calls = s.calls;
+  rest = next a;
+  leads = LeadsTo-and_then talk (finish a) next s.calls s.talk_ends;
+  are_calls = s.are_calls;
+}
+
+pub begins-same : {A : Type 0} (before after : EvdevView) (talk same : Talk A) → talk ≡ same → Begins before after talk → Begins before after same
+begins-same {A = A} before after talk same h s = subst (λ (t : Talk A). Begins before after t) h s
+
+-- what such calls leave
+pub begins-left : {A : Type 0} (before after : EvdevView) (talk : Talk A) → Begins before after talk → IsLeft before after
+begins-left before after talk s = calls-left before after s.calls s.are_calls

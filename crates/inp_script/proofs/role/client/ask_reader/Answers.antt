@@ -1,0 +1,58 @@
+use Rattle.std.proofs.Common.{◌≡◌, ◌∙◌, ap, subst, ℕ, List, map, ◌++◌, false}
+use Rattle.std.proofs.lemmas.Result.{IfOk-weaker}
+use Rattle.inp_model.specs.Description.{Description}
+use Rattle.inp_model.specs.Evdev.{EvdevView}
+use Rattle.inp_reader.specs.declared.call_made.CallMade.{CallMade}
+use Rattle.inp_reader.specs.declared.mode.Mode.{Mode}
+use Rattle.inp_reader.specs.declared.phase.Phase.{Phase}
+use Rattle.inp_reader.specs.Effort.{effort, is_idle}
+use Rattle.inp_reader.specs.Reader.{Reading, next_talk}
+use Rattle.inp_reader.specs.Says.{Says}
+use Rattle.inp_script.specs.declared.role.client.Turn.{Turn}
+use Rattle.inp_script.specs.Client.{mode_of}
+use Rattle.inp_script.specs.Effort.{total_effort, Shrinks}
+use Rattle.inp_script.specs.Progress.{turn_of}
+use Rattle.inp_script.specs.Notes.{job_of}
+use Rattle.inp_script.specs.Sight.{made_sight}
+use Rattle.inp_script.proofs.Noted.{round-noted, round-begun}
+use Rattle.inp_script.proofs.Turns.{mode_of-busy, turn-shrinks}
+use Rattle.inp_script.proofs.role.client.ask_reader.Goals as goal
+
+pub returns-clause-turn : goal.returns-clause-turn
+returns-clause-turn g c =
+    let a : EvdevView = g.E.Evdev.told c.args.dev.now in
+    let b : EvdevView = g.E.Evdev.told c.next-next.new.dev in
+    let r : Reading = c.args.reader.now.reading in
+    let s : Reading = c.next-next.new.self.reading in
+    let d : Description = c.args.reader.now.description in
+    let made : List CallMade = c.next-next.new.self.made in
+    let mode : c.mode_of-mode.result ≡ mode_of c.args.skips r.phase = c.mode_of-mode.ensures ∙ ap (λ (p : Phase). mode_of c.args.skips p) c.phase.ensures.phase in
+    let says : Says a b _ made (next_talk d (mode_of c.args.skips r.phase) r) (c.next-next.result, s) = subst (λ (m : Mode). Says a b _ made (next_talk d m r) (c.next-next.result, s)) mode c.next-next.ensures.says in
+    let seen : c.push_made.new.self ≡ record c.args.notes.now { sight = c.args.notes.now.sight ++ map made_sight made } =
+    c.in_ok-push_made.ensures ∙ ap (λ (ms : List CallMade). record c.args.notes.now { sight = c.args.notes.now.sight ++ map made_sight ms }) c.made.ensures.made in
+    IfOk-weaker c.note_next.result _ _
+    (λ (turn : Turn) is. round-noted a b d c.args.wait c.args.skips r s c.args.notes.now c.push_made.new.self made c.args.progress.left c.args.progress.agains c.next-next.result
+    (turn_of turn (job_of s c.note_next.new.self)) says seen (is s))
+    c.note_next.ensures.turn
+
+pub returns-clause-shrinks : goal.returns-clause-shrinks
+returns-clause-shrinks g c =
+    let r : Reading = c.args.reader.now.reading in
+    let s : Reading = c.next-next.new.self.reading in
+    let before : ℕ = effort (g.E.Evdev.told c.args.dev.now) r in
+    let after : ℕ = effort (g.E.Evdev.told c.next-next.new.dev) s in
+    let mode : c.mode_of-mode.result ≡ mode_of c.args.skips r.phase = c.mode_of-mode.ensures ∙ ap (λ (p : Phase). mode_of c.args.skips p) c.phase.ensures.phase in
+    let busy : is_idle c.mode_of-mode.result r.phase ≡ false = ap (λ (m : Mode). is_idle m r.phase) mode ∙ mode_of-busy c.args.skips r.phase in
+    IfOk-weaker c.note_next.result _ (Shrinks c.args.wait (total_effort c.args.wait before c.args.progress.agains) after)
+    (λ (turn : Turn) is. turn-shrinks c.args.wait c.args.progress.left c.args.progress.agains c.next-next.result (job_of s c.push_made.new.self) (job_of s c.note_next.new.self) turn after before (is s) (c.next-next.ensures.less busy))
+    c.note_next.ensures.turn
+
+pub returns-in_err-push_made-clause-begun : goal.returns-in_err-push_made-clause-begun
+returns-in_err-push_made-clause-begun g c =
+    round-begun _ _ c.args.reader.now.description c.args.wait c.args.skips c.args.reader.now.reading _ c.args.notes.now _ c.args.progress.left c.args.progress.agains _ c.mode_of-mode.result
+    (c.mode_of-mode.ensures ∙ ap (λ (p : Phase). mode_of c.args.skips p) c.phase.ensures.phase) c.next-next.ensures.says
+
+pub returns-clause-begun : goal.returns-clause-begun
+returns-clause-begun g c =
+    round-begun _ _ c.args.reader.now.description c.args.wait c.args.skips c.args.reader.now.reading _ c.args.notes.now _ c.args.progress.left c.args.progress.agains _ c.mode_of-mode.result
+    (c.mode_of-mode.ensures ∙ ap (λ (p : Phase). mode_of c.args.skips p) c.phase.ensures.phase) c.next-next.ensures.says

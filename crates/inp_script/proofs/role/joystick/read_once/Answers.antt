@@ -1,0 +1,35 @@
+use Rattle.std.proofs.Common.{◌≡◌, ◌∙◌, ap, List, map, ◌++◌}
+use Rattle.std.proofs.lemmas.Result.{IfOk-weaker}
+use Rattle.inp_reader.specs.declared.call_made.CallMade.{CallMade}
+use Rattle.inp_reader.specs.Effort.{effort}
+use Rattle.inp_script.specs.declared.role.joystick.AfterRead.{AfterRead}
+use Rattle.inp_script.specs.declared.notes.Notes.{Notes}
+use Rattle.inp_script.specs.JoyProgress.{LeavesLess}
+use Rattle.inp_script.specs.Sight.{made_sight}
+use Rattle.inp_script.proofs.JoyReads.{read-noted, read-begun, read-less}
+use Rattle.inp_script.proofs.role.joystick.read_once.Goals as goal
+
+pub returns-clause-done : goal.returns-clause-done
+returns-clause-done g c =
+    let a = g.E.Evdev.told c.args.dev.now in
+    let b = g.E.Evdev.told c.read-read.new.dev in
+    let old : Notes = c.args.notes.now in
+    let made : List CallMade = c.read-read.new.self.made in
+    let seen : c.push_made.new.self ≡ record old { sight = old.sight ++ map made_sight made } = c.in_ok-push_made.ensures ∙ ap (λ (ms : List CallMade). record old { sight = old.sight ++ map made_sight ms }) c.made.ensures.made in
+    IfOk-weaker c.note_read.result _ _
+    (λ (left_by : AfterRead) goes. read-noted a b c.args.joy.now.description c.args.joy.now.joying c.read-read.new.self.joying old c.push_made.new.self c.note_read.new.self made c.read-read.result _ c.read-read.new.out left_by c.read-read.ensures.says seen goes)
+    c.note_read.ensures
+
+pub returns-clause-less : goal.returns-clause-less
+returns-clause-less g c =
+    let before = effort (g.E.Evdev.told c.args.dev.now) c.args.joy.now.joying.reading in
+    let after = effort (g.E.Evdev.told c.read-read.new.dev) c.read-read.new.self.joying.reading in
+    IfOk-weaker c.note_read.result _ (λ (left_by : AfterRead). LeavesLess left_by after before)
+    (λ (left_by : AfterRead) goes. read-less c.read-read.result c.read-read.new.out left_by c.push_made.new.self c.note_read.new.self c.read-read.new.self.joying after before goes c.read-read.ensures.less)
+    c.note_read.ensures
+
+pub returns-in_err-push_made-clause-begun : goal.returns-in_err-push_made-clause-begun
+returns-in_err-push_made-clause-begun g c = read-begun _ _ c.args.joy.now.description c.args.joy.now.joying _ c.args.notes.now _ _ _ _ c.read-read.ensures.says
+
+pub returns-clause-begun : goal.returns-clause-begun
+returns-clause-begun g c = read-begun _ _ c.args.joy.now.description c.args.joy.now.joying _ c.args.notes.now _ _ _ _ c.read-read.ensures.says

@@ -1,0 +1,5 @@
+use Rattle.inp_script.proofs.TalkCalls.{begins-none}
+use Rattle.inp_script.proofs.role.tap.Tap.do_command.Goals as goal
+
+pub returns-in_default-clause-begun : goal.returns-in_default-clause-begun
+returns-in_default-clause-begun g c = begins-none _ _

@@ -1,5 +1,0 @@
-use Rattle.inp_script.proofs.Holding.{begins-none}
-use Rattle.inp_script.proofs.tap.Tap.do_command.Goals as goal
-
-pub returns-in_default-clause-begun : goal.returns-in_default-clause-begun
-returns-in_default-clause-begun g c = begins-none _ _

@@ -1,0 +1,89 @@
+-- Passes are dealt to the actors of a device, one after another.
+use Rattle.std.proofs.Common.{◌≡◌, ℕ, ◌+◌, ◌-◌, ◌≤◌, Bool, true, false, cond, nat_eq, List, [], ◌∷◌, ◌++◌, length, refl, sym, ap, subst, ◌∙◌, arith, Some}
+use Rattle.std.specs.Prelude.{map, filter, slice_get}
+use Rattle.std.specs.List.{range_with_len}
+use Rattle.std.proofs.lemmas.List.{append-nil, map-append, length-append, length-map}
+use Rattle.std.proofs.lemmas.List.Elements.{filter-append, All-nil, All-push}
+use Rattle.std.proofs.lemmas.List.FromFn.{length-range_with_len}
+use Rattle.std.proofs.lemmas.List.Sums.{length-filter, count_by-le-length}
+use Rattle.std.proofs.lemmas.Bool.Decides.{nat_tests}
+use Rattle.inp_feedback.specs.declared.u_entry.UEntry.{UEntry}
+use Rattle.inp_model.specs.Description.{Description}
+use Rattle.inp_uinput.specs.UdevView.{UdevView}
+use Rattle.inp_actors.specs.declared.actor_text.ActorText.{ActorText}
+use Rattle.inp_actors.specs.Record.{RecordView}
+use Rattle.inp_reader.proofs.Axes.{range-append}
+use Rattle.inp_script.specs.DoneLine.{HasActor}
+use Rattle.inp_script.specs.Job.{ActorView}
+use Rattle.inp_script.specs.Runs.{is_on_device}
+use Rattle.inp_turn.specs.declared.kept.Kept.{Ghosts}
+use Rattle.inp_turn.specs.declared.pass.Pass.{Pass}
+use Rattle.inp_turn.specs.declared.pass_view.PassView.{PassView}
+use Rattle.inp_turn.specs.Pass.{view_of}
+use Rattle.inp_turn.specs.PassView.{whole_share, view_after_split}
+use Rattle.inp_port.specs.declared.port.PortOf.{PortOf}
+use Rattle.inp_port.specs.Port.{IsReadyAt, description_of}
+use Rattle.inp_threads.specs.declared.worker.Worker.{Worker}
+use Rattle.inp_threads.specs.Worker.{actor_number, IsPortOf, IsReadyOn, AreDealtUpTo}
+
+-- the numbers of a device's actors, one number more
+up : (p : ℕ → Bool) (n : ℕ) → filter p (range_with_len 0 (n + 1)) ≡ filter p (range_with_len 0 n) ++ cond (p n) (n ∷ []) []
+up p n =
+    let from : 0 + n ≡ n = omega arith in
+    ap (filter p) (range-append 0 n 1) ∙ filter-append p (range_with_len 0 n) (range_with_len (0 + n) 1)
+    ∙ ap (λ (k : ℕ). filter p (range_with_len 0 n) ++ filter p (range_with_len k 1)) from
+
+module _ {K : Ghosts UdevView Description UEntry} (port : PortOf UdevView UEntry) (r : RecordView) (device : ℕ) where
+  pub dealt-none : (left : Pass UdevView Description UEntry K) → IsReadyAt port left → (view_of left).seen ≡ [] → (view_of left).own ≡ [] → (view_of left).share ≡ whole_share
+      → AreDealtUpTo port r device 0 left []
+  dealt-none left ready seen own share = record { numbers = refl; each = All-nil (IsReadyOn port r device); ready = ready; seen = seen; own = own; share = omega (arith, share) }
+
+  pub dealt-other : (n m : ℕ) (left : Pass UdevView Description UEntry K) (workers : List Worker) → AreDealtUpTo port r device n left workers
+      → is_on_device device (slice_get r.actors n) ≡ false → m ≡ n + 1 → AreDealtUpTo port r device m left workers
+  dealt-other n m left workers h other next =
+      let p = λ (i : ℕ). is_on_device device (slice_get r.actors i) in
+      let numbers : map actor_number workers ≡ filter p (range_with_len 0 (n + 1)) =
+      h.numbers ∙ sym (up p n ∙ ap (λ (b : Bool). filter p (range_with_len 0 n) ++ cond b (n ∷ []) []) other ∙ append-nil (filter p (range_with_len 0 n))) in
+      record { numbers = numbers ∙ ap (λ (k : ℕ). filter p (range_with_len 0 k)) (sym next); each = h.each; ready = h.ready; seen = h.seen; own = h.own; share = h.share }
+
+  pub dealt-more : (n m : ℕ) (left rest : Pass UdevView Description UEntry K) (workers : List Worker) (w : Worker) → AreDealtUpTo port r device n left workers
+      → is_on_device device (slice_get r.actors n) ≡ true → m ≡ n + 1 → IsReadyAt port rest → view_of rest ≡ view_after_split (view_of left)
+      → 2 ≤ (view_of left).share → IsReadyOn port r device w → actor_number w ≡ n → AreDealtUpTo port r device m rest (workers ++ w ∷ [])
+  dealt-more n m left rest workers w h on next ready view enough is_ready number =
+      let p = λ (i : ℕ). is_on_device device (slice_get r.actors i) in
+      let numbers : map actor_number (workers ++ w ∷ []) ≡ filter p (range_with_len 0 (n + 1)) =
+      map-append actor_number workers (w ∷ []) ∙ ap (λ (ns : List ℕ). ns ++ actor_number w ∷ []) h.numbers
+      ∙ ap (λ (k : ℕ). filter p (range_with_len 0 n) ++ k ∷ []) number
+      ∙ sym (up p n ∙ ap (λ (b : Bool). filter p (range_with_len 0 n) ++ cond b (n ∷ []) []) on) in
+      let share : (view_of rest).share ≡ (view_of left).share - 1 = ap (λ (v : PassView Description UEntry). v.share) view in
+      record {
+        numbers = numbers ∙ ap (λ (k : ℕ). filter p (range_with_len 0 k)) (sym next);
+        each = All-push (IsReadyOn port r device) workers w h.each is_ready;
+        ready = ready;
+        seen = ap (λ (v : PassView Description UEntry). v.seen) view ∙ h.seen;
+        own = ap (λ (v : PassView Description UEntry). v.own) view ∙ h.own;
+        share = omega (arith, share, enough, h.share, length-append workers (w ∷ []));
+      }
+
+  -- no more passes are dealt than there are numbers
+  pub dealt-few : (n : ℕ) (left : Pass UdevView Description UEntry K) (workers : List Worker) → AreDealtUpTo port r device n left workers → length workers ≤ n
+  dealt-few n left workers h =
+      let p = λ (i : ℕ). is_on_device device (slice_get r.actors i) in
+      omega (arith, length-map workers actor_number, ap length h.numbers, length-filter p (range_with_len 0 n), count_by-le-length p (range_with_len 0 n), length-range_with_len 0 n)
+
+-- an actor with this text is one of the device, or is not
+pub on_device : (r : RecordView) (device n : ℕ) (text : ActorText) (b : Bool) → slice_get r.actors n ≡ Some text → nat_eq text.device device ≡ b → is_on_device device (slice_get r.actors n) ≡ b
+on_device r device n text b is same = ap (is_on_device device) is ∙ same
+
+same-nat : (m n : ℕ) → nat_eq m n ≡ true → m ≡ n
+same-nat m n h = grind (arith, nat_tests)
+
+pub its-device : (r : RecordView) (device n : ℕ) (a : ActorView) (has : HasActor r a) → a.actor ≡ n → is_on_device device (slice_get r.actors n) ≡ true → has.text.device ≡ device
+its-device r device n a has number on =
+    let is : slice_get r.actors n ≡ Some has.text = ap (slice_get r.actors) (sym number) ∙ has.is_text in
+    same-nat has.text.device device (sym (ap (is_on_device device) is) ∙ on)
+
+pub its-description : (port : PortOf UdevView UEntry) (r : RecordView) (device n : ℕ) (a : ActorView) → IsPortOf port r device → HasActor r a → a.actor ≡ n → is_on_device device (slice_get r.actors n) ≡ true
+    → a.description ≡ description_of port
+its-description port r device n a of has number on =
+    sym has.description ∙ sym (of has.device (subst (λ (k : ℕ). slice_get r.devices k ≡ Some has.device) (its-device r device n a has number on) has.is_device))

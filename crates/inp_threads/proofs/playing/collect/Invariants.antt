@@ -1,5 +1,0 @@
-use Rattle.std.proofs.Common.{◌≡◌, map, Some}
-use Rattle.inp_threads.proofs.playing.collect.Given as goal
-
-abbrev pub invariant-loop-outcome : goal.invariant-loop-outcome
-invariant-loop-outcome l = map Some l.devices.items ≡ l.yielded

@@ -1,0 +1,18 @@
+//! The upgrade of a record.
+ghost use Rattle.std.specs.Prelude.{◌≡◌};
+ghost use Rattle.inp_tool.specs.Upgrade.{upgraded, ReadsAgain, PlaysAlike};
+
+use inp_actors::{Record, VERSION_MAX};
+
+/// The same record in the newest version of its text, which is 2. Devices, actors, lines and streams stay, and so does what
+/// comes of it. Its text (`print` of `inp_record`) is read as this record again, where some bytes mean the record that was
+/// handed in. It takes no memory.
+pub fn upgrade(rec: Record) -> Record
+    ensures upgraded { result ≡ upgraded rec }
+    ensures reads_again { ReadsAgain }
+    ensures plays_alike { PlaysAlike }
+{
+    let mut upgraded = rec;
+    upgraded.set_version(VERSION_MAX);
+    upgraded
+}

@@ -1,9 +1,0 @@
-use Rattle.inp_record.proofs.RaisedPasts.{reads_again}
-use Rattle.inp_upgrade.proofs.PlayedAlike.{plays_alike}
-use Rattle.inp_upgrade.proofs.upgrading.upgrade.Goals as goal
-
-pub returns-clause-reads_again : goal.returns-clause-reads_again
-returns-clause-reads_again c = reads_again
-
-pub returns-clause-plays_alike : goal.returns-clause-plays_alike
-returns-clause-plays_alike c = plays_alike
