@@ -106,48 +106,35 @@ pub(crate) fn has_full(played: &Played) -> bool
 fn has_full_run(runs: &Runs) -> bool
     ensures { result ≡ has_full_run runs.now }
 {
-    for run in runs.as_slice() {
-        if has_full_job(&run.jobs) {
-            return true;
-        }
-    }
-    false
+    runs.as_slice().iter().any(|run| has_full_job(&run.jobs))
 }
 
 /// Whether one of these jobs stopped since a history was full.
 fn has_full_job(jobs: &Jobs) -> bool
     ensures { result ≡ has_full_job jobs.now }
 {
-    for job in jobs.as_slice() {
-        if is_stopped_full(job.stop()) {
-            return true;
-        }
-    }
-    false
+    jobs.as_slice()
+        .iter()
+        .any(|job| is_stopped_full(job.stop()))
 }
 
 /// Whether a joystick's job stopped since a history was full.
 fn has_full_joy(joys: &JoyRuns) -> bool
     ensures { result ≡ has_full_joy joys.now }
 {
-    for joy in joys.as_slice() {
-        if is_stopped_full(joy.stop()) {
-            return true;
-        }
-    }
-    false
+    joys.as_slice()
+        .iter()
+        .any(|joy| is_stopped_full(joy.stop()))
 }
 
 /// Whether an owner stopped since its calls were as many as may be kept.
 fn has_full_owner(owners: &OwnerRuns) -> bool
     ensures { result ≡ has_full_owner owners.now }
 {
-    for owner in owners.as_slice() {
-        if is_stopped_full(owner.stop()) {
-            return true;
-        }
-    }
-    false
+    owners
+        .as_slice()
+        .iter()
+        .any(|owner| is_stopped_full(owner.stop()))
 }
 
 /// Whether a job stopped since a list was full.
