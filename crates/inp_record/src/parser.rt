@@ -15,7 +15,7 @@ use inp_model::Items;
 use inp_words::{line_end, strip_carriage_return};
 use std::alloc::Global;
 
-/// Room for action lines is asked for at once where each of a text has so many bytes.
+/// For so many bytes of a text, room for one action line is asked for before the first is read.
 const LINE_LEN: usize = 32;
 
 /// Reads all lines, and counts them. One list takes the words of each line.
