@@ -15,6 +15,6 @@ pub mod StandsAfterStep
 pub mod Stored
 pub mod StepParts
 pub mod EnteredSteps
-pub mod Refusals
+pub mod RefusedSteps
 pub mod Injection
 pub mod WordLists

@@ -8,7 +8,7 @@ use Rattle.inp_model.specs.Description.{Description}
 use Rattle.inp_model.specs.Reply.{is_accepted}
 use Rattle.inp_turn.specs.declared.pass_view.PassView.{PassView}
 use Rattle.inp_turn.specs.PassView.{added_places}
-use Rattle.inp_device.proofs.Refusals.{out-stays, cells-stay}
+use Rattle.inp_device.proofs.RefusedSteps.{out-stays, cells-stay}
 use Rattle.inp_port.specs.Entries.{Grown}
 use Rattle.inp_port.specs.Served.{IsServed}
 use Rattle.inp_port.specs.Turn.{IsServedTurn}
