@@ -14,8 +14,8 @@
 #![tactic(auto)]
 
 mod gathered_runs;
-mod play;
+mod one_thread;
 mod player;
 mod run;
 
-pub use play::play;
+pub use one_thread::play;

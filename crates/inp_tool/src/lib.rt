@@ -8,7 +8,7 @@
 //!
 //! How a call goes: `read_words` says what the words ask for. For a file, `read_record` reads it, and then the files of
 //! its stream lines, in line order (`record_file.rt`); for numbers, the record is made. The record is played and its report
-//! written to memory (`play.rt`); or, where it is to be migrated, its own text is, and nothing is played
+//! written to memory (`plays.rt`); or, where it is to be migrated, its own text is, and nothing is played
 //! (`migration.rt`). What was found so far is an `Outcome`, which `write_outcome` tells to the sink.
 //!
 //! What the call promises stands in `specs`, as clauses of [`inputplay`] itself:
@@ -43,7 +43,7 @@ pub mod examples;
 mod migration;
 mod no_record;
 mod outcome;
-mod play;
+mod plays;
 mod record_file;
 mod texts;
 mod top;

@@ -9,7 +9,7 @@ ghost use Rattle.inp_tool.specs.Complete.{IsComplete};
 use crate::End;
 use crate::migration::migrated_text;
 use crate::outcome::{Outcome, without_record};
-use crate::play::{has_full, make_and_play, play_and_report};
+use crate::plays::{has_full, make_and_play, play_and_report};
 use crate::record_file::read_record;
 use inp_args::{Request, WordsFault, read_words};
 use inp_edge::{Failed, Gate, Input, Sink, write_all};

@@ -1,7 +1,7 @@
 use Rattle.std.proofs.Common.{subst, None}
 use Rattle.inp_actors.specs.Record.{RecordView}
 use Rattle.inp_tool.specs.Promise.{CameOf}
-use Rattle.inp_tool.proofs.play.make_and_play.Goals as goal
+use Rattle.inp_tool.proofs.plays.make_and_play.Goals as goal
 
 pub returns-clause-came : goal.returns-clause-came
 returns-clause-came c =

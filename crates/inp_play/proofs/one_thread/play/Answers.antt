@@ -4,7 +4,7 @@ use Rattle.inp_model.specs.declared.no_memory.NoMemory.{NoMemory}
 use Rattle.inp_runs.specs.Play.{IsPlay}
 use Rattle.inp_play.proofs.PlayerSteps.{done-none, done-more, done-all}
 use Rattle.inp_runs.proofs.order.Promised.{promised-if_ok}
-use Rattle.inp_play.proofs.play.play.Goals as goal
+use Rattle.inp_play.proofs.one_thread.play.Goals as goal
 
 pub loop-line-init : goal.loop-line-init
 loop-line-init c = done-none c.args.rec.now c.in_ok-player.player c.in_ok-player.ensures.player c.in_ok-player.ensures.stage
