@@ -1,12 +1,15 @@
 -- A text, and the streams behind it.
-use Rattle.std.proofs.Common.{◌≡◌, ℕ, ◌≤◌, List, [], ◌∷◌, length, Option, Some, option_map, Result, Ok, Err, refl, sym, ap, subst, ◌∙◌, inl, inr, arith}
+use Rattle.std.proofs.Common.{◌≡◌, ◌≤◌, ◌⊎◌, ℕ, List, [], ◌∷◌, length, Option, Some, option_map, Result, Ok, Err, refl, sym, ap, subst, ◌∙◌, inl, inr, arith}
 use Rattle.std.specs.Prelude.{MatchResult, slice_get}
 use Rattle.std.proofs.lemmas.Result.{MatchResult-weaker}
 use Rattle.inp_edge.specs.File.{File}
 use Rattle.inp_edge.specs.declared.input.TheConstants.{INPUT_LIMIT}
+use Rattle.inp_actors.specs.declared.command.Command.TheVariants.{Stream, Stream16}
 use Rattle.inp_actors.specs.declared.line.Line.{Line}
 use Rattle.inp_actors.specs.Record.{RecordView}
 use Rattle.inp_record.specs.Meaning.{meaning}
+use Rattle.inp_stream.specs.declared.record_form.RecordForm.{RecordForm}
+use Rattle.inp_stream.specs.declared.record_form.RecordForm.TheVariants.{Wide, Narrow}
 use Rattle.inp_tool.specs.declared.no_record.NoRecord.{NoRecord}
 use Rattle.inp_tool.specs.declared.no_record.NoRecord.TheVariants.{Unread, TooLong, Refused, NoMemory}
 use Rattle.inp_tool.specs.Edge.{InputView, Reads}
@@ -34,10 +37,15 @@ last_within r first (stream ∷ streams) (next ∷ contents) h are = last_within
 last_within r first [] (next ∷ contents) h are = absurd are
 last_within r first (stream ∷ streams) [] h are = absurd are
 
--- a line of this command takes this file
-pub takes_file : (old : RecordView) (line : ℕ) (l : Line) (stream : StreamFile) → slice_get old.lines line ≡ Some l → file_of l.command ≡ stream ∷ [] → TakesFiles old line (stream ∷ [])
-takes_file old line l stream e f =
+takes_files : (old : RecordView) (line : ℕ) (l : Line) (stream : StreamFile) → slice_get old.lines line ≡ Some l → file_of l.command ≡ stream ∷ [] → TakesFiles old line (stream ∷ [])
+takes_files old line l stream e f =
     ap (option_map (λ (x : Line). file_of x.command)) e ∙ ap (λ (files : List StreamFile). Some files) f
+
+-- a line whose command names a file takes it, in one of the two forms
+pub takes_file : (old : RecordView) (line : ℕ) (l : Line) (name : List ℕ) → slice_get old.lines line ≡ Some l
+    → ((index : ℕ) × (l.command ≡ Stream name index)) ⊎ ((index : ℕ) × (l.command ≡ Stream16 name index)) → (form : RecordForm) × TakesFiles old line (record { name = name; form = form } ∷ [])
+takes_file old line l name e (inl c) = (Wide, takes_files old line l _ e (ap file_of c.1))
+takes_file old line l name e (inr c) = (Narrow, takes_files old line l _ e (ap file_of c.1))
 
 -- what comes of a line whose file was read
 pub line_loaded : (r : Reads) (text : List ℕ) (old new : RecordView) (line : ℕ) (stream : StreamFile) (name bytes : List ℕ) (result : Result (Unit {0}) NoRecord) → TakesFiles old line (stream ∷ []) → name ≡ stream.name → IsReadLast r name bytes

@@ -28,10 +28,8 @@ pub(crate) fn read_record<I: Input>(
     ensures stays_told { is_some (I.left input.new) ≡ is_some (I.left input.old) }
     ensures never_falls { I.faults input.old ≤ I.faults input.new }
 {
-    match read_file(alloc, input, file) {
-        Ok(text) => read_parts(alloc, input, &text),
-        Err(why) => Err(why),
-    }
+    let text = read_file(alloc, input, file)?;
+    read_parts(alloc, input, &text)
 }
 
 /// The record that a text is, and the streams in the files that its lines name.
@@ -43,14 +41,9 @@ fn read_parts<I: Input>(alloc: Global, input: &mut I, text: &[u8]) -> Result<Rec
     ensures stays_told { is_some (I.left input.new) ≡ is_some (I.left input.old) }
     ensures never_falls { I.faults input.old ≤ I.faults input.new }
 {
-    let mut recorded = match parse_text(alloc, text) {
-        Ok(recorded) => recorded,
-        Err(why) => return Err(why),
-    };
-    match read_streams(alloc, input, text, &mut recorded) {
-        Ok(()) => Ok(recorded),
-        Err(why) => Err(why),
-    }
+    let mut recorded = parse_text(alloc, text)?;
+    read_streams(alloc, input, text, &mut recorded)?;
+    Ok(recorded)
 }
 
 /// Reads a whole file.
@@ -124,14 +117,10 @@ fn read_stream<I: Input>(
     ensures never_falls { I.faults input.old ≤ I.faults input.new }
 {
     match &recorded.lines().get(line as usize).command {
-        Command::Stream { file, .. } => match read_file(alloc, input, file.text()) {
-            Ok(bytes) => load_stream(text, recorded, line, &bytes),
-            Err(why) => Err(why),
-        },
-        Command::Stream16 { file, .. } => match read_file(alloc, input, file.text()) {
-            Ok(bytes) => load_stream(text, recorded, line, &bytes),
-            Err(why) => Err(why),
-        },
+        Command::Stream { file, .. } | Command::Stream16 { file, .. } => {
+            let bytes = read_file(alloc, input, file.text())?;
+            load_stream(text, recorded, line, &bytes)
+        }
         _ => Ok(()),
     }
 }

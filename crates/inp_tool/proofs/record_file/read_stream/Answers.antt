@@ -1,34 +1,20 @@
-use Rattle.std.proofs.Common.{ap}
-use Rattle.inp_stream.specs.declared.record_form.RecordForm.TheVariants.{Wide, Narrow}
-use Rattle.inp_tool.specs.Streams.{StreamFile, file_of}
+use Rattle.std.proofs.lemmas.Result.{err_from_is_err_and}
+use Rattle.inp_tool.specs.Streams.{StreamFile}
 use Rattle.inp_tool.proofs.Records.{takes_file, line_loaded, line_unread}
 use Rattle.inp_tool.proofs.record_file.read_stream.Goals as goal
 
-pub returns-in-Ok-clause-read : goal.returns-in-Ok-clause-read
-returns-in-Ok-clause-read g c =
-    let stream : StreamFile = record { name = c.in-Stream.file; form = Wide } in
+pub returns-in_ok-bytes-in-Stream-clause-read : goal.returns-in_ok-bytes-in-Stream-clause-read
+returns-in_ok-bytes-in-Stream-clause-read g c =
     let item = rw c.lines.ensures.lines at c.get.ensures.item in
-    let takes = takes_file c.args.recorded.now c.args.line c.get.result.now stream item (ap file_of c.in-Stream.is) in
-    line_loaded _ c.args.text.now c.args.recorded.now c.load_stream.new.recorded c.args.line stream c.text.result.now c.in-Ok.bytes.items c.load_stream.result takes c.text.ensures.text c.in-Ok.ensures.read (rw c.deref.ensures.value at c.load_stream.ensures.loaded)
+    let takes = takes_file c.args.recorded.now c.args.line c.get.result.now c.in-Stream.file item c.in-Stream.is in
+    let stream : StreamFile = record { name = c.in-Stream.file; form = takes.0 } in
+    line_loaded _ c.args.text.now c.args.recorded.now c.load_stream.new.recorded c.args.line stream c.text.result.now c.in_ok-bytes-in-Stream.bytes.items c.load_stream.result takes.1 c.text.ensures.text c.in_ok-bytes-in-Stream.ensures.read
+    (rw c.deref.ensures.value at c.load_stream.ensures.loaded)
 
-pub returns-in-Err-clause-read : goal.returns-in-Err-clause-read
-returns-in-Err-clause-read g c =
-    let stream : StreamFile = record { name = c.in-Stream.file; form = Wide } in
+pub returns-in_err-bytes-in-Stream-clause-read : goal.returns-in_err-bytes-in-Stream-clause-read
+returns-in_err-bytes-in-Stream-clause-read g c =
+    let p = err_from_is_err_and c.from_residual.result c.from_residual.ensures.1 in
     let item = rw c.lines.ensures.lines at c.get.ensures.item in
-    let takes = takes_file c.args.recorded.now c.args.line c.get.result.now stream item (ap file_of c.in-Stream.is) in
-    line_unread _ c.args.text.now c.args.recorded.now c.args.line stream c.text.result.now c.in-Err.why takes c.text.ensures.text c.in-Err.ensures.read
-
-pub returns-in-Ok-read_file-clause-read : goal.returns-in-Ok-read_file-clause-read
-returns-in-Ok-read_file-clause-read g c =
-    let stream : StreamFile = record { name = c.in-Stream16.file; form = Narrow } in
-    let item = rw c.lines.ensures.lines at c.get.ensures.item in
-    let takes = takes_file c.args.recorded.now c.args.line c.get.result.now stream item (ap file_of c.in-Stream16.is) in
-    line_loaded _ c.args.text.now c.args.recorded.now c.load_stream-in-Ok-read_file.new.recorded c.args.line stream c.text-in-Stream16.result.now c.in-Ok-read_file.bytes.items c.load_stream-in-Ok-read_file.result takes c.text-in-Stream16.ensures.text c.in-Ok-read_file.ensures.read
-    (rw c.deref-in-Ok-read_file.ensures.value at c.load_stream-in-Ok-read_file.ensures.loaded)
-
-pub returns-in-Err-read_file-clause-read : goal.returns-in-Err-read_file-clause-read
-returns-in-Err-read_file-clause-read g c =
-    let stream : StreamFile = record { name = c.in-Stream16.file; form = Narrow } in
-    let item = rw c.lines.ensures.lines at c.get.ensures.item in
-    let takes = takes_file c.args.recorded.now c.args.line c.get.result.now stream item (ap file_of c.in-Stream16.is) in
-    line_unread _ c.args.text.now c.args.recorded.now c.args.line stream c.text-in-Stream16.result.now c.in-Err-read_file.why takes c.text-in-Stream16.ensures.text c.in-Err-read_file.ensures.read
+    let takes = takes_file c.args.recorded.now c.args.line c.get.result.now c.in-Stream.file item c.in-Stream.is in
+    let stream : StreamFile = record { name = c.in-Stream.file; form = takes.0 } in
+    rw (p.1, p.2) (line_unread _ c.args.text.now c.args.recorded.now c.args.line stream c.text.result.now c.in_err-bytes-in-Stream.field-0.0 takes.1 c.text.ensures.text c.in_err-bytes-in-Stream.ensures.read)
