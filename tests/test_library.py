@@ -65,14 +65,16 @@ class Header(Library):
     def test_a_struct_has_the_crate_s_fields(self):
         for struct, file in declared.STRUCTS.items():
             with self.subTest(struct):
-                text = (CRATE / "src" / f"{file}.rt").read_text()
-                self.assertEqual(list(declared.fields_of_crate(text)), list(declared.fields_of_header(HEADER, struct)))
+                fields = list(declared.fields_of_crate(CRATE.parent / file))
+                self.assertEqual(fields, list(declared.fields_of_header(HEADER, struct)))
 
     def test_a_struct_has_the_size_that_the_crate_proves(self):
         source = self.folder / "sizes.c"
         lines = ['#include "inputplay.h"', "int main(void) { return 0; }"]
+        proved = "".join(path.read_text() for path in (CRATE / "src").glob("*.rt"))
         for struct, file in declared.STRUCTS.items():
-            size = re.search(r"prove!\(size_of::<\w+>\(\) == (\d+)\)", (CRATE / "src" / f"{file}.rt").read_text())[1]
+            name = re.search(r"pub struct (\w+)", (CRATE.parent / file).read_text())[1]
+            size = re.search(rf"prove!\(size_of::<{name}>\(\) == (\d+)\)", proved)[1]
             lines.append(f'_Static_assert(sizeof({struct}) == {size}, "{struct}");')
         source.write_text("\n".join(lines) + "\n")
         self.built(source, "gcc", "-std=c11")

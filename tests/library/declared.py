@@ -2,16 +2,16 @@
 
 import re
 
-TOP_TYPES = {"u16": "uint16_t", "u32": "uint32_t", "u64": "uint64_t", "i16": "int16_t", "i32": "int32_t", "CInfo": "inputplay_info"}
+TOP_TYPES = {"u16": "uint16_t", "u32": "uint32_t", "u64": "uint64_t", "i16": "int16_t", "i32": "int32_t", "AxisInfo": "inputplay_info"}
 
-# The header's struct and the crate's file.
+# The header's struct, and the crate and the file that have it.
 STRUCTS = {
-    "inputplay_info": "c_info",
-    "inputplay_step_t": "c_step",
-    "inputplay_reply": "c_reply",
-    "inputplay_event": "c_event",
-    "inputplay_stamped": "c_stamped",
-    "inputplay_picture": "c_picture",
+    "inputplay_info": "inp_model/src/axis_info.rt",
+    "inputplay_step_t": "inp_c/src/c_step.rt",
+    "inputplay_reply": "inp_c/src/c_reply.rt",
+    "inputplay_event": "inp_model/src/taken.rt",
+    "inputplay_stamped": "inp_model/src/stamped.rt",
+    "inputplay_picture": "inp_c/src/c_picture.rt",
 }
 
 # Fields that are spelled otherwise, since `type` is a word of the crate's language, and `now` one of its contracts.
@@ -24,7 +24,7 @@ NUMBERS = [
     ("steps of a device", "src/c_step.rt", r"(\d+) => Some\(Step::(\w+)"),
     ("replies to steps", "src/c_reply.rt", r"Reply::(\w+) \{[^}]*\} => CReply \{(?:\s*reply: (\d+),)?"),
     ("a step was refused", "src/c_reply.rt", r"Refusal::(\w+) => (\d+),"),
-    ("the reader answers", "src/reading.rt", r"Next::(\w+)(?: \{ \.\. \})? => (\d+),"),
+    ("the reader answers", "src/reader.rt", r"Next::(\w+)(?: \{ \.\. \})? => (\d+),"),
     ("the joystick client answers", "src/joystick.rt", r"JoyRead::(\w+)(?: \{ \.\. \})? => (\d+),"),
 ]
 
@@ -47,11 +47,15 @@ def fields_of_header(header, struct):
             yield (f"{kind}{name[name.index('['):]}", name[: name.index("[")]) if "[" in name else (kind, name)
 
 
-def fields_of_crate(text):
-    """The same of a struct of the crate, as C spells it."""
+def fields_of_crate(file):
+    """The same of the struct of a file, as C spells it. Where one has an event, C has the event's fields."""
+    text = file.read_text()
     assert "#[repr(C)]" in text
     body = re.search(r"pub struct \w+ \{(.*?)\n\}", text, re.S).group(1)
     for name, kind in re.findall(r"pub (\w+): ([^\n]+),", body):
+        if kind == "Event":
+            yield from fields_of_crate(file.with_name("event.rt"))
+            continue
         array = re.fullmatch(r"\[(\w+); (\d+)\]", kind)
         spelled = f"{TOP_TYPES[array[1]]}[{array[2]}]" if array else TOP_TYPES[kind]
         yield spelled, SPELLED.get(name, name)

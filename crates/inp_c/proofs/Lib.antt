@@ -1,7 +1,7 @@
 pub mod Values
 mod Pointer
 mod Copies
-mod ReadByStep
+mod Room
 mod Along
 mod Timely
 mod Rest

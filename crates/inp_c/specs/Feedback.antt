@@ -1,5 +1,6 @@
 -- What the owner of a handle's device takes, and what C is told of it.
 use Rattle.std.specs.Prelude.{◌≡◌, ℕ, List, length, map, min, Option, Some}
+use Rattle.inp_model.specs.declared.taken.Taken.{Taken}
 use Rattle.inp_model.specs.Reply.{written}
 use Rattle.inp_feedback.specs.declared.fed.Fed.{Fed}
 use Rattle.inp_feedback.specs.declared.fed.Fed.TheVariants.{Took, Full}
@@ -8,7 +9,6 @@ use Rattle.inp_feedback.specs.Feedback.{fed, taken_by_feedback, kept_after_feedb
 use Rattle.inp_c.specs.declared.kept.Kept.{Kept}
 use Rattle.inp_c.specs.declared.kept.Kept.TheVariants.{Device}
 use Rattle.inp_c.specs.declared.kept_device.KeptDevice.{KeptDevice}
-use Rattle.inp_c.specs.declared.c_event.CEvent.{CEvent}
 use Rattle.inp_c.specs.Told.{told_untimed}
 
 -- the history's length at a feedback call
@@ -27,12 +27,12 @@ fed_full (Took at count) = 0
 fed_full (Full at) = 1
 
 -- how many events a call asks for, where C has room for so many: no more than wait at most
-abbrev pub room_of_owner : List CEvent → ℕ
+abbrev pub room_of_owner : List Taken → ℕ
 room_of_owner events = min (length events) FEEDBACK_MAX
 
 -- A kept device answered a feedback call so, and its reader and joystick client stay. The events that it took stand at the front of C's array,
 -- and what is behind them stays.
-pub record FeedsDevice (old new : KeptDevice) (events new_events : List CEvent) (answer : Fed) : Type 0 where
+pub record FeedsDevice (old new : KeptDevice) (events new_events : List Taken) (answer : Fed) : Type 0 where
   pub answered : answer ≡ fed old.udev.description old.udev.kept (room_of_owner events)
   pub kept : new.udev.kept ≡ kept_after_feedback old.udev.description old.udev.kept (room_of_owner events)
   pub description : new.udev.description ≡ old.udev.description
@@ -42,7 +42,7 @@ pub record FeedsDevice (old new : KeptDevice) (events new_events : List CEvent) 
   pub events_written : new_events ≡ written (map told_untimed (taken_by_feedback old.udev.description old.udev.kept (room_of_owner events))) events
 
 -- A handle keeps a device before and after, whose owner made a call. C is told its answer.
-pub record IsOwnerTold (before after : Option Kept) (events new_events : List CEvent) (at count full : ℕ) : Type 0 where
+pub record IsOwnerTold (before after : Option Kept) (events new_events : List Taken) (at count full : ℕ) : Type 0 where
   pub old : KeptDevice
   pub new : KeptDevice
   pub answer : Fed

@@ -1,5 +1,5 @@
--- Many events of C that are injected into the device of a handle.
-use Rattle.std.specs.Prelude.{◌≡◌, ℕ, Bool, ◌&&◌, nat_eq, nat_le, if◌then◌else◌, List, length, map, take, Option, Some}
+-- Many events that are injected into the device of a handle.
+use Rattle.std.specs.Prelude.{◌≡◌, ℕ, Bool, ◌&&◌, nat_eq, nat_le, if◌then◌else◌, List, length, take, Option, Some}
 use Rattle.std.specs.List.{list_all}
 use Rattle.inp_model.specs.declared.injected.Injected.{Injected}
 use Rattle.inp_model.specs.declared.stamped.Stamped.{Stamped}
@@ -11,20 +11,16 @@ use Rattle.inp_actors.specs.declared.command.TheConstants.{READ_MAX}
 use Rattle.inp_c.specs.declared.kept.Kept.{Kept}
 use Rattle.inp_c.specs.declared.kept.Kept.TheVariants.{Device}
 use Rattle.inp_c.specs.declared.kept_device.KeptDevice.{KeptDevice}
-use Rattle.inp_c.specs.declared.c_stamped.CStamped.{CStamped}
 use Rattle.inp_c.specs.declared.status.TheConstants.{BAD_HANDLE}
 use Rattle.inp_c.specs.Status.{argument_status}
 use Rattle.inp_c.specs.Told.{refusal_number}
 
-abbrev pub stamped_of_c : CStamped → Stamped
-stamped_of_c c = record { event = record { kind = c.kind; code = c.code; value = c.value }; now = c.moment }
-
 -- each moment is within its limit
-abbrev pub are_timely : List CStamped → Bool
-are_timely events = list_all (λ (c : CStamped). nat_le c.moment MOMENT_MAX) events
+abbrev pub are_timely : List Stamped → Bool
+are_timely events = list_all (λ (s : Stamped). nat_le s.now MOMENT_MAX) events
 
 -- a call that wants a device, and no more events than a read may ask for, each in time
-abbrev pub inject_all_status : Option Kept → List CStamped → ℕ
+abbrev pub inject_all_status : Option Kept → List Stamped → ℕ
 inject_all_status (Some (Device device)) events = argument_status (nat_le (length events) READ_MAX && are_timely events)
 inject_all_status _ events = BAD_HANDLE
 
@@ -44,12 +40,12 @@ pub record IsKeptInjectAll (old new : KeptDevice) (events : List Stamped) (injec
 
 -- A handle keeps a device before and after, which was injected the events that C gave. C is told the place of the first one
 -- and how many were entered.
-pub record IsToldInjectAll (before after : Option Kept) (events : List CStamped) (from count : ℕ) : Type 0 where
+pub record IsToldInjectAll (before after : Option Kept) (events : List Stamped) (from count : ℕ) : Type 0 where
   pub old : KeptDevice
   pub new : KeptDevice
   pub injected : Injected
   pub was : before ≡ Some (Device old)
   pub is : after ≡ Some (Device new)
-  pub injects : IsKeptInjectAll old new (map stamped_of_c events) injected
+  pub injects : IsKeptInjectAll old new events injected
   pub from_is : from ≡ injected.from
   pub count_is : count ≡ injected.count

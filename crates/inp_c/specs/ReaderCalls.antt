@@ -1,5 +1,6 @@
 -- What a call of a device's reader leaves, and what C is told of it.
 use Rattle.std.specs.Prelude.{◌≡◌, ℕ, nat_eq, if◌then◌else◌, [], Option, Some, None, is_some}
+use Rattle.inp_model.specs.declared.taken.Taken.{Taken}
 use Rattle.inp_model.specs.DeviceView.{evdev_view}
 use Rattle.inp_uinput.specs.UdevView.{UdevView, device_of}
 use Rattle.inp_model.specs.Evdev.{EvdevView}
@@ -15,10 +16,9 @@ use Rattle.inp_reader.specs.LeftEvdev.{LeavesMade, agains_after_next}
 use Rattle.inp_c.specs.declared.kept.Kept.{Kept}
 use Rattle.inp_c.specs.declared.kept.Kept.TheVariants.{Device}
 use Rattle.inp_c.specs.declared.kept_device.KeptDevice.{KeptDevice}
-use Rattle.inp_c.specs.declared.c_event.CEvent.{CEvent}
 use Rattle.inp_c.specs.declared.status.TheConstants.{BAD_HANDLE}
 use Rattle.inp_c.specs.Status.{argument_status}
-use Rattle.inp_c.specs.Told.{told_event, told_untimed, refusal_number}
+use Rattle.inp_c.specs.Told.{told_untimed, refusal_number}
 
 -- what the reader is told of the device
 abbrev pub seen_by_reader : UdevView → EvdevView
@@ -65,10 +65,10 @@ next_number NoDevice = 5
 next_number Closed = 6
 next_number (Full at) = 7
 
--- the event of an answer as C has it; where the answer has none it is the one that C had
-abbrev pub next_event : Next → CEvent → CEvent
-next_event (Success event) had = told_event event
-next_event (Dropped event) had = told_event event
+-- the event of an answer; where the answer has none it is the one that C had
+abbrev pub next_event : Next → Taken → Taken
+next_event (Success event) had = event
+next_event (Dropped event) had = event
 next_event (Sync event) had = told_untimed event
 next_event _ had = had
 
@@ -84,7 +84,7 @@ pub record IsToldStart (before after : Option Kept) (client why : ℕ) : Type 0 
   pub why_is : why ≡ start_refusal answer
 
 -- The reader of the handle's device went on. C is told which answer it is, and its event.
-pub record IsToldNext (before after : Option Kept) (number : ℕ) (event new_event : CEvent) (told : ℕ) : Type 0 where
+pub record IsToldNext (before after : Option Kept) (number : ℕ) (event new_event : Taken) (told : ℕ) : Type 0 where
   pub old : KeptDevice
   pub new : KeptDevice
   pub mode : Mode

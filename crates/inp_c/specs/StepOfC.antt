@@ -1,18 +1,13 @@
 -- The step that a struct of C is.
 use Rattle.std.specs.Prelude.{ℕ, Option, Some, None, nat_eq, nat_lt, if◌then◌else◌}
 use Rattle.std.specs.Option.{option_map}
-use Rattle.inp_model.specs.declared.axis_info.AxisInfo.{AxisInfo}
 use Rattle.inp_model.specs.declared.clock.Clock.{Clock}
 use Rattle.inp_model.specs.declared.clock.Clock.TheVariants.{Realtime, Monotonic, Boottime}
 use Rattle.inp_model.specs.declared.event.Event.{Event}
 use Rattle.inp_model.specs.declared.stamped.TheConstants.{MOMENT_MAX}
 use Rattle.inp_model.specs.declared.step.Step.{Step}
 use Rattle.inp_model.specs.declared.step.Step.TheVariants.{Inject, Tick, Open, Close, Read, Discard, GetKeys, GetSwitches, GetLeds, GetSounds, GetAxis, SetAxis, GetSlots, SyncSlots, Write, Grab, Ungrab, Mask, Clock as ToClock, Revoke, Inhibit, Uninhibit, End}
-use Rattle.inp_c.specs.declared.c_info.CInfo.{CInfo}
 use Rattle.inp_c.specs.declared.c_step.CStep.{CStep}
-
-abbrev pub info_of_c : CInfo → AxisInfo
-info_of_c c = record { value = c.value; minimum = c.minimum; maximum = c.maximum; fuzz = c.fuzz; flat = c.flat; resolution = c.resolution }
 
 abbrev pub event_of_c : CStep → Event
 event_of_c c = record { kind = c.kind; code = c.code; value = c.value }
@@ -39,7 +34,7 @@ step_numbered c =
     else if nat_eq c.step 8 then Some (GetLeds c.client)
     else if nat_eq c.step 9 then Some (GetSounds c.client)
     else if nat_eq c.step 10 then Some (GetAxis c.client c.code)
-    else if nat_eq c.step 11 then Some (SetAxis c.client c.code (info_of_c c.info))
+    else if nat_eq c.step 11 then Some (SetAxis c.client c.code c.info)
     else if nat_eq c.step 12 then Some (GetSlots c.client c.code)
     else if nat_eq c.step 13 then Some (SyncSlots c.client)
     else if nat_eq c.step 14 then Some (Write c.client (event_of_c c) c.moment)

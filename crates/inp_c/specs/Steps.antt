@@ -1,8 +1,9 @@
 -- What a step of a handle's device leaves, and what C is told of it.
-use Rattle.std.specs.Prelude.{◌≡◌, ℕ, ℤ, List, map, Option, Some}
+use Rattle.std.specs.Prelude.{◌≡◌, ℕ, ℤ, List, Option, Some}
 use Rattle.inp_model.specs.declared.event.Event.{Event}
 use Rattle.inp_model.specs.declared.step.Step.{Step}
 use Rattle.inp_model.specs.declared.step.Step.TheVariants.{Inject}
+use Rattle.inp_model.specs.declared.taken.Taken.{Taken}
 use Rattle.inp_model.specs.declared.reply.Reply.{Reply}
 use Rattle.inp_model.specs.declared.reply.Reply.TheVariants.{Took}
 use Rattle.inp_model.specs.Reply.{Answer, IsAnswer, written}
@@ -12,11 +13,10 @@ use Rattle.inp_feedback.specs.UEntry.{steps_in, kept_after_step}
 use Rattle.inp_c.specs.declared.kept.Kept.{Kept}
 use Rattle.inp_c.specs.declared.kept.Kept.TheVariants.{Device}
 use Rattle.inp_c.specs.declared.kept_device.KeptDevice.{KeptDevice}
-use Rattle.inp_c.specs.declared.c_event.CEvent.{CEvent}
 use Rattle.inp_c.specs.declared.c_step.CStep.{CStep}
 use Rattle.inp_c.specs.declared.c_reply.CReply.{CReply}
 use Rattle.inp_c.specs.StepOfC.{step_of_c}
-use Rattle.inp_c.specs.Told.{told, told_event, told_refusal}
+use Rattle.inp_c.specs.Told.{told, told_refusal}
 
 -- how many events a reply says that were read
 abbrev pub read_count : Reply → ℕ
@@ -32,24 +32,24 @@ pub record IsDeviceAnswer (old new : KeptDevice) (x : Step) (given : Answer) : T
   pub reader : new.reader ≡ old.reader
   pub joy : new.joy ≡ old.joy
 
--- The same, with the buffer for events and C's array of values, to whose fronts the answer is written.
-pub record IsKeptStep (old new : KeptDevice) (x : Step) (reply : Reply) (cells new_cells : List ℤ) : Type 0 where
+-- The same, with C's arrays of events and of values, to whose fronts the answer is written; what is behind it stays.
+pub record IsKeptStep (old new : KeptDevice) (x : Step) (reply : Reply) (events new_events : List Taken) (cells new_cells : List ℤ) : Type 0 where
   pub given : Answer
   pub answered : IsDeviceAnswer old new x given
   pub replied : reply ≡ given.reply
-  pub out_written : new.out.items ≡ written given.events old.out.items
+  pub events_written : new_events ≡ written given.events events
   pub cells_written : new_cells ≡ written given.cells cells
 
--- The same, as C is told of it: its reply, with the events and values at the front of C's arrays; what is behind them stays.
-pub record TellsStep (old new : KeptDevice) (x : Step) (reply : CReply) (events new_events : List CEvent) (cells new_cells : List ℤ) : Type 0 where
+-- The same, with the reply that C is told.
+pub record TellsStep (old new : KeptDevice) (x : Step) (reply : CReply) (events new_events : List Taken) (cells new_cells : List ℤ) : Type 0 where
   pub given : Answer
   pub answered : IsDeviceAnswer old new x given
   pub replied : reply ≡ told given.reply
-  pub events_written : new_events ≡ written (map told_event given.events) events
+  pub events_written : new_events ≡ written given.events events
   pub cells_written : new_cells ≡ written given.cells cells
 
 -- A handle keeps a device before and after, which made the step that C gave, and C is told of it.
-pub record IsToldStep (before after : Option Kept) (c : CStep) (reply : CReply) (events new_events : List CEvent) (cells new_cells : List ℤ) : Type 0 where
+pub record IsToldStep (before after : Option Kept) (c : CStep) (reply : CReply) (events new_events : List Taken) (cells new_cells : List ℤ) : Type 0 where
   pub old : KeptDevice
   pub new : KeptDevice
   pub step : Step

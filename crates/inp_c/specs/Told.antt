@@ -1,4 +1,4 @@
--- What C is told of a reply and of an event.
+-- What C is told of a reply, and of an event that has no time.
 use Rattle.std.specs.Prelude.{ℕ, pos, replicate}
 use Rattle.inp_model.specs.declared.axis_info.AxisInfo.{AxisInfo}
 use Rattle.inp_model.specs.declared.event.Event.{Event}
@@ -7,21 +7,13 @@ use Rattle.inp_model.specs.declared.reply.Reply.{Reply}
 use Rattle.inp_model.specs.declared.reply.Reply.TheVariants.{Done, Opened, Took, Discarded, Bits, Axis, Cells, Again, Refused}
 use Rattle.inp_model.specs.declared.reply.Refusal.{Refusal}
 use Rattle.inp_model.specs.declared.reply.Refusal.TheVariants.{BadClient, NoDevice, BadKind, BadCode, BadInfo, Busy, NotGrabber, TooMany, LogFull, NoMemory}
-use Rattle.inp_c.specs.declared.c_info.CInfo.{CInfo}
 use Rattle.inp_c.specs.declared.c_reply.CReply.{CReply}
-use Rattle.inp_c.specs.declared.c_event.CEvent.{CEvent}
 
-abbrev pub told_info : AxisInfo → CInfo
-told_info i = record { value = i.value; minimum = i.minimum; maximum = i.maximum; fuzz = i.fuzz; flat = i.flat; resolution = i.resolution }
+-- an event that a reader synthesised or an owner takes has no time and no place
+abbrev pub told_untimed : Event → Taken
+told_untimed e = record { event = e; time = 0; place = 0 }
 
-abbrev pub told_event : Taken → CEvent
-told_event t = record { kind = t.event.kind; code = t.event.code; value = t.event.value; time = t.time; place = t.place }
-
--- a synthesised event has no time and no place
-abbrev pub told_untimed : Event → CEvent
-told_untimed e = told_event (record { event = e; time = 0; place = 0 })
-
-abbrev pub info_of_zeros : CInfo
+abbrev pub info_of_zeros : AxisInfo
 info_of_zeros = record { value = pos 0; minimum = pos 0; maximum = pos 0; fuzz = pos 0; flat = pos 0; resolution = pos 0 }
 
 abbrev pub reply_of_zeros : CReply
@@ -52,7 +44,7 @@ told (Opened at client ring) = record reply_of_zeros { reply = 1; at = at; clien
 told (Took at count) = record reply_of_zeros { reply = 2; at = at; count = count }
 told (Discarded at count) = record reply_of_zeros { reply = 3; at = at; count = count }
 told (Bits at words) = record reply_of_zeros { reply = 4; at = at; words = words }
-told (Axis at info) = record reply_of_zeros { reply = 5; at = at; info = told_info info }
+told (Axis at info) = record reply_of_zeros { reply = 5; at = at; info = info }
 told (Cells at count slot) = record reply_of_zeros { reply = 6; at = at; count = count; slot = slot }
 told (Again at ends) = record reply_of_zeros { reply = 7; at = at; count = ends }
 told (Refused at why) = record reply_of_zeros { reply = 8; at = at; why = refusal_number why }

@@ -12,7 +12,7 @@ use Rattle.inp_c.specs.declared.c_reply.CReply.{CReply}
 use Rattle.inp_c.specs.declared.c_step.CStep.{CStep}
 use Rattle.inp_c.specs.declared.status.TheConstants.{BAD_HANDLE}
 use Rattle.inp_c.specs.Status.{argument_status}
-use Rattle.inp_c.specs.Told.{told, told_info, info_of_zeros}
+use Rattle.inp_c.specs.Told.{told, info_of_zeros}
 
 -- the kernel's number of a clock
 abbrev pub clock_number : Clock → ℕ
@@ -40,7 +40,7 @@ told_step (GetSwitches client) = step_by 7 client
 told_step (GetLeds client) = step_by 8 client
 told_step (GetSounds client) = step_by 9 client
 told_step (GetAxis client code) = record step_of_zeros { step = 10; client = client; code = code }
-told_step (SetAxis client code info) = record step_of_zeros { step = 11; client = client; code = code; info = told_info info }
+told_step (SetAxis client code info) = record step_of_zeros { step = 11; client = client; code = code; info = info }
 told_step (GetSlots client code) = record step_of_zeros { step = 12; client = client; code = code }
 told_step (SyncSlots client) = step_by 13 client
 told_step (Write client event now) = record step_of_zeros { step = 14; client = client; kind = event.kind; code = event.code; value = event.value; moment = now }

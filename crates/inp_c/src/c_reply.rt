@@ -2,8 +2,7 @@
 ghost use Rattle.std.specs.Prelude.{◌≡◌};
 ghost use Rattle.inp_c.specs.Told.{told, refusal_number};
 
-use crate::c_info::{CInfo, c_info};
-use inp_model::{NO_INFO, Refusal, Reply};
+use inp_model::{AxisInfo, NO_INFO, Refusal, Reply};
 use std::mem::size_of;
 
 /// A reply: its number, and what it tells.
@@ -25,7 +24,7 @@ pub struct CReply {
     /// The bits that were asked for.
     pub words: [u64; 12],
     /// The axis that was asked for.
-    pub info: CInfo,
+    pub info: AxisInfo,
 }
 
 const _: () = prove!(size_of::<CReply>() == 144);
@@ -41,7 +40,7 @@ fn nothing() -> CReply
         slot: 0,
         why: 0,
         words: [0; 12],
-        info: c_info(NO_INFO),
+        info: NO_INFO,
     }
 }
 
@@ -97,7 +96,7 @@ pub(crate) fn c_reply(reply: Reply) -> CReply
         Reply::Axis { at, info } => CReply {
             reply: 5,
             at,
-            info: c_info(info),
+            info,
             ..nothing()
         },
         Reply::Cells { at, count, slot } => CReply {

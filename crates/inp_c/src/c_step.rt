@@ -4,8 +4,7 @@ ghost use Rattle.inp_model.specs.declared.stamped.TheConstants.{MOMENT_MAX};
 ghost use Rattle.inp_model.specs.Step.{moment_of};
 ghost use Rattle.inp_c.specs.StepOfC.{clock_numbered, step_of_c, step_numbered};
 
-use crate::c_info::{CInfo, info_of};
-use inp_model::{Clock, Event, MOMENT_MAX, Step};
+use inp_model::{AxisInfo, Clock, Event, MOMENT_MAX, Step};
 use std::mem::size_of;
 
 /// A step: its number, and what it takes.
@@ -31,7 +30,7 @@ pub struct CStep {
     /// The bits of a mask's word.
     pub bits: u64,
     /// The axis that is described anew.
-    pub info: CInfo,
+    pub info: AxisInfo,
 }
 
 const _: () = prove!(size_of::<CStep>() == 64);
@@ -81,7 +80,7 @@ fn step_numbered(c: &CStep) -> Option<Step>
         11 => Some(Step::SetAxis {
             client,
             code: c.code,
-            info: info_of(&c.info),
+            info: c.info,
         }),
         12 => Some(Step::GetSlots {
             client,

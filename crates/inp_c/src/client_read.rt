@@ -7,15 +7,13 @@ ghost use Rattle.inp_c.specs.ClientRead.{read_status, TellsRead, IsToldRead};
 ghost use Rattle.inp_c.specs.Steps.{read_count};
 ghost use Rattle.inp_c.specs.Told.{told_refusal};
 
-use crate::c_event::CEvent;
 use crate::c_reply::number_of;
 use crate::handle::Handle;
 use crate::kept::Kept;
 use crate::kept_device::KeptDevice;
 use crate::status::{BAD_ARGUMENT, BAD_HANDLE, OK};
-use crate::steps::copy_read;
 use inp_actors::READ_MAX;
-use inp_model::{Reply, Step};
+use inp_model::{Reply, Step, Taken};
 use std::alloc::Global;
 
 /// Reads events of a client to the front of C's array, as many as are there and fit. It tells the place of the
@@ -26,7 +24,7 @@ pub extern "C" fn inputplay_read(
     alloc: Global,
     handle: &mut Handle,
     client: u32,
-    events: &mut [CEvent],
+    events: &mut [Taken],
     at: &mut u32,
     count: &mut u32,
     why: &mut u32,
@@ -52,7 +50,7 @@ pub extern "C" fn inputplay_read(
 fn read_in(
     kept: &mut Kept,
     client: u32,
-    events: &mut [CEvent],
+    events: &mut [Taken],
     at: &mut u32,
     count: &mut u32,
     why: &mut u32,
@@ -79,14 +77,12 @@ fn read_in(
 }
 
 /// Reads events of a client of a device, as many as fit.
-fn read_device(device: &mut KeptDevice, client: u32, events: &mut [CEvent]) -> Reply
+fn read_device(device: &mut KeptDevice, client: u32, events: &mut [Taken]) -> Reply
     requires few { length events.old ≤ READ_MAX }
     ensures { TellsRead device.old device.new client events.old events.new result }
 {
     let count = events.len() as u32;
-    let reply = device.step(Step::Read { client, count }, &mut []);
-    copy_read(device, reply, events);
-    reply
+    device.step(Step::Read { client, count }, events, &mut [])
 }
 
 /// The place of a step, or the history's length where it was not entered.

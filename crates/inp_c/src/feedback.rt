@@ -6,12 +6,12 @@ ghost use Rattle.inp_c.specs.Status.{device_status};
 ghost use Rattle.inp_c.specs.Told.{told_untimed};
 ghost use Rattle.inp_c.specs.Feedback.{IsOwnerTold, FeedsDevice, fed_place, fed_count, fed_full};
 
-use crate::c_event::{CEvent, untimed};
 use crate::handle::Handle;
 use crate::kept::Kept;
 use crate::kept_device::KeptDevice;
 use crate::status::{BAD_HANDLE, OK};
-use inp_model::Event;
+use crate::untimed::untimed;
+use inp_model::{Event, Taken};
 use inp_uinput::{FEEDBACK_MAX, Fed};
 use std::alloc::Global;
 
@@ -21,7 +21,7 @@ use std::alloc::Global;
 pub extern "C" fn inputplay_feedback(
     alloc: Global,
     handle: &mut Handle,
-    events: &mut [CEvent],
+    events: &mut [Taken],
     at: &mut u32,
     count: &mut u32,
     full: &mut u32,
@@ -46,7 +46,7 @@ pub extern "C" fn inputplay_feedback(
 /// The owner's call on what is kept, if it is a device.
 fn feed_in(
     kept: &mut Kept,
-    events: &mut [CEvent],
+    events: &mut [Taken],
     at: &mut u32,
     count: &mut u32,
     full: &mut u32,
@@ -70,7 +70,7 @@ fn feed_in(
 }
 
 /// The owner's call on a device.
-fn feed_device(device: &mut KeptDevice, events: &mut [CEvent]) -> Fed
+fn feed_device(device: &mut KeptDevice, events: &mut [Taken]) -> Fed
     ensures { FeedsDevice device.old device.new events.old events.new result }
 {
     let mut out = [Event {
@@ -86,7 +86,7 @@ fn feed_device(device: &mut KeptDevice, events: &mut [CEvent]) -> Fed
 }
 
 /// Copies events that have no time to the front of C's array.
-fn copy_untimed(taken: &[Event], events: &mut [CEvent])
+fn copy_untimed(taken: &[Event], events: &mut [Taken])
     requires { length taken.now ≤ length events.old }
     ensures { events.new ≡ written (map told_untimed taken.now) events.old }
 {

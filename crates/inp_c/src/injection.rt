@@ -1,13 +1,13 @@
 //! Many events that are injected, for C.
 ghost use Rattle.std.specs.Prelude.{◌≡◌, ◌≢◌, Some};
 ghost use Rattle.inp_c.specs.Contents.{contents};
-ghost use Rattle.inp_c.specs.Injection.{inject_all_status, IsToldInjectAll};
+ghost use Rattle.inp_c.specs.Injection.{are_timely, inject_all_status, IsToldInjectAll};
 
-use crate::c_stamped::{CStamped, are_timely};
 use crate::handle::Handle;
 use crate::kept::Kept;
 use crate::status::{BAD_ARGUMENT, BAD_HANDLE, OK};
 use inp_actors::READ_MAX;
+use inp_model::{MOMENT_MAX, Stamped};
 use std::alloc::Global;
 
 /// Injects events, each at its own moment, as many of them as the history has room for. It tells the place of the first one,
@@ -16,7 +16,7 @@ use std::alloc::Global;
 pub extern "C" fn inputplay_inject_all(
     alloc: Global,
     handle: &mut Handle,
-    events: &[CStamped],
+    events: &[Stamped],
     from: &mut u32,
     count: &mut u32,
 ) -> u32
@@ -36,7 +36,7 @@ pub extern "C" fn inputplay_inject_all(
 }
 
 /// Injects events into what is kept, if it is a device.
-fn inject_all_in(kept: &mut Kept, events: &[CStamped], from: &mut u32, count: &mut u32) -> u32
+fn inject_all_in(kept: &mut Kept, events: &[Stamped], from: &mut u32, count: &mut u32) -> u32
     ensures status { result ≡ inject_all_status (Some kept.old) events.now }
     ensures made { result ≡ OK
         → IsToldInjectAll (Some kept.old) (Some kept.new) events.now from.new count.new }
@@ -53,4 +53,16 @@ fn inject_all_in(kept: &mut Kept, events: &[CStamped], from: &mut u32, count: &m
     *from = injected.from;
     *count = injected.count;
     OK
+}
+
+/// Whether each moment is within its limit.
+fn are_timely(events: &[Stamped]) -> bool
+    ensures { result ≡ are_timely events.now }
+{
+    for event in events {
+        if event.now > MOMENT_MAX {
+            return false;
+        }
+    }
+    true
 }

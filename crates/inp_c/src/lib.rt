@@ -11,17 +11,15 @@
 //! answers, what it leaves in the handle and what it writes, exactly: `status` is an equation, or says of each status when it
 //! comes; `made` says what stands after OK; after any other status the contents are as before, and nothing is written but the
 //! line and the cause of a text that is refused. What C passes as a step is read by `step_of_c` (`specs/StepOfC.antt`), and
-//! what C is told of a reply and of an event is `told` and `told_event` (`specs/Told.antt`).
+//! what C is told of a reply is `told` (`specs/Told.antt`). Events and axes are the structs of `inp_model`, which are laid out
+//! as C's are, so that C's arrays are passed on and not copied.
 //!
 //! What the caller owes is in the header. Nothing checks it.
 #![tactic(auto)]
 
 mod bytes;
-mod c_event;
-mod c_info;
 mod c_picture;
 mod c_reply;
-mod c_stamped;
 mod c_step;
 mod cause;
 mod client_read;
@@ -35,6 +33,7 @@ mod joystick;
 mod kept;
 mod kept_device;
 mod kept_record;
+mod layout;
 mod loaded_streams;
 mod loose;
 mod migration;
@@ -48,4 +47,5 @@ mod step_told;
 mod steps;
 mod streams;
 mod texts;
+mod untimed;
 mod version;

@@ -4,11 +4,12 @@ ghost use Rattle.inp_c.specs.Contents.{contents};
 ghost use Rattle.inp_c.specs.Status.{device_status};
 ghost use Rattle.inp_c.specs.ReaderCalls.{IsToldStart, IsToldNext, IsForced, mode_numbered, start_refusal, next_number, next_event, next_status};
 
-use crate::c_event::{CEvent, c_event, untimed};
 use crate::c_reply::number_of;
 use crate::handle::Handle;
 use crate::kept::Kept;
 use crate::status::{BAD_ARGUMENT, BAD_HANDLE, OK};
+use crate::untimed::untimed;
+use inp_model::Taken;
 use inp_reader::{Mode, Next, Started};
 use std::alloc::Global;
 
@@ -68,7 +69,7 @@ pub extern "C" fn inputplay_reader_next(
     alloc: Global,
     handle: &mut Handle,
     mode: u32,
-    event: &mut CEvent,
+    event: &mut Taken,
     told: &mut u32,
 ) -> u32
     ensures status { result ≡ next_status (contents handle.old) mode }
@@ -87,7 +88,7 @@ pub extern "C" fn inputplay_reader_next(
 }
 
 /// The next event of the reader of what is kept, if it is a device.
-fn next_in(kept: &mut Kept, mode: u32, event: &mut CEvent, told: &mut u32) -> u32
+fn next_in(kept: &mut Kept, mode: u32, event: &mut Taken, told: &mut u32) -> u32
     ensures status { result ≡ next_status (Some kept.old) mode }
     ensures made { result ≡ OK
         → IsToldNext (Some kept.old) (Some kept.new) mode event.old event.new told.new }
@@ -133,12 +134,12 @@ fn next_number(next: Next) -> u32
     }
 }
 
-/// The event of an answer, as C has it, or the one that C had.
-fn next_event(next: Next, had: CEvent) -> CEvent
+/// The event of an answer, or the one that C had.
+fn next_event(next: Next, had: Taken) -> Taken
     ensures { result ≡ next_event next had }
 {
     match next {
-        Next::Success { event } | Next::Dropped { event } => c_event(event),
+        Next::Success { event } | Next::Dropped { event } => event,
         Next::Sync { event } => untimed(event),
         _ => had,
     }

@@ -3,7 +3,6 @@ ghost use Rattle.std.specs.Prelude.{◌≡◌, ◌≢◌, Some};
 ghost use Rattle.inp_c.specs.Contents.{contents};
 ghost use Rattle.inp_c.specs.ToldStep.{clock_number, step_by, told_step, call_status, IsToldCall};
 
-use crate::c_info::c_info;
 use crate::c_reply::{CReply, c_reply};
 use crate::c_step::CStep;
 use crate::handle::Handle;
@@ -80,7 +79,7 @@ fn step_by(step: u32, client: u32) -> CStep
         count: 0,
         clock: 0,
         bits: 0,
-        info: c_info(NO_INFO),
+        info: NO_INFO,
     }
 }
 
@@ -129,7 +128,7 @@ pub(crate) fn c_step(step: Step) -> CStep
         },
         Step::SetAxis { client, code, info } => CStep {
             code,
-            info: c_info(info),
+            info,
             ..step_by(11, client)
         },
         Step::GetSlots { client, code } => CStep {

@@ -1,16 +1,12 @@
 //! Steps of a device, for C.
-ghost use Rattle.std.specs.Prelude.{◌≡◌, ◌≢◌, ◌≤◌, length, map, take, true, Some};
+ghost use Rattle.std.specs.Prelude.{◌≡◌, ◌≢◌, ◌≤◌, length, true, Some};
 ghost use Rattle.inp_model.specs.declared.stamped.TheConstants.{MOMENT_MAX};
 ghost use Rattle.inp_model.specs.Step.{moment_of};
-ghost use Rattle.inp_actors.specs.declared.command.TheConstants.{READ_MAX};
-ghost use Rattle.inp_model.specs.Reply.{written};
 ghost use Rattle.inp_c.specs.Contents.{contents};
 ghost use Rattle.inp_c.specs.Status.{step_status, inject_status, has_room};
-ghost use Rattle.inp_c.specs.Steps.{TellsStep, IsToldStep, IsToldInject, read_count};
-ghost use Rattle.inp_c.specs.Told.{told_event};
+ghost use Rattle.inp_c.specs.Steps.{TellsStep, IsToldStep, IsToldInject};
 ghost use Rattle.inp_c.specs.Injection.{inject_cause};
 
-use crate::c_event::{CEvent, copy_events};
 use crate::c_reply::{CReply, c_reply, number_of};
 use crate::c_step::{CStep, step_of};
 use crate::handle::Handle;
@@ -19,7 +15,7 @@ use crate::kept_device::KeptDevice;
 use crate::status::{BAD_ARGUMENT, BAD_HANDLE, OK};
 use inp_actors::READ_MAX;
 use inp_caps::Caps;
-use inp_model::{Event, MOMENT_MAX, Refusal, Reply, SLOT_VALUES, Stamped, Step};
+use inp_model::{Event, MOMENT_MAX, Refusal, SLOT_VALUES, Stamped, Step, Taken};
 use std::alloc::Global;
 
 /// Makes a step. What it reads stands at the front of the arrays.
@@ -29,7 +25,7 @@ pub extern "C" fn inputplay_step(
     handle: &mut Handle,
     step: &CStep,
     reply: &mut CReply,
-    events: &mut [CEvent],
+    events: &mut [Taken],
     cells: &mut [i32],
 ) -> u32
     ensures status { result
@@ -55,7 +51,7 @@ fn step_in(
     kept: &mut Kept,
     step: &CStep,
     reply: &mut CReply,
-    events: &mut [CEvent],
+    events: &mut [Taken],
     cells: &mut [i32],
 ) -> u32
     ensures status { result
@@ -85,7 +81,7 @@ fn step_device(
     device: &mut KeptDevice,
     step: Step,
     reply: &mut CReply,
-    events: &mut [CEvent],
+    events: &mut [Taken],
     cells: &mut [i32],
 )
     requires moment { moment_of step ≤ MOMENT_MAX }
@@ -94,12 +90,11 @@ fn step_device(
     ensures { TellsStep device.old device.new step reply.new
         events.old events.new cells.old cells.new }
 {
-    let made = device.step(step, cells);
+    let made = device.step(step, events, cells);
     *reply = c_reply(made);
-    copy_read(device, made, events);
 }
 
-/// Whether C's arrays are long enough for a step, and the buffer is.
+/// Whether C's arrays are long enough for a step, which reads no more than the greatest count.
 fn has_room(caps: &Caps, step: Step, events: usize, cells: usize) -> bool
     ensures { result ≡ has_room caps.now step events cells }
 {
@@ -109,18 +104,6 @@ fn has_room(caps: &Caps, step: Step, events: usize, cells: usize) -> bool
             (SLOT_VALUES * caps.slots()) as usize <= cells
         }
         _ => true,
-    }
-}
-
-/// Copies what was read to the front of C's array.
-pub(crate) fn copy_read(device: &KeptDevice, reply: Reply, events: &mut [CEvent])
-    requires fits { read_count reply ≤ length events.old }
-    requires few { read_count reply ≤ READ_MAX }
-    ensures { events.new
-        ≡ written (map told_event (take (read_count reply) device.now.out.items)) events.old }
-{
-    if let Reply::Took { count, .. } = reply {
-        copy_events(&device.out[..count as usize], events);
     }
 }
 

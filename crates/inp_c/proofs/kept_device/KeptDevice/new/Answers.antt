@@ -6,8 +6,6 @@ pub invariant_of-result : goal.invariant_of-result
 invariant_of-result c =
     let fresh = sym (ap (λ (u : UdevView). u.description) c.in_ok-udev.ensures.fresh) in
     record {
-      out_len = c.in_ok-out.ensures.len;
-      stamps_len = c.in_ok-stamps.ensures.len;
       same = c.in_ok-reader.ensures.description ∙ fresh;
       same_joy = c.in_ok-joy.ensures.description ∙ fresh;
     }
