@@ -193,11 +193,12 @@ impl Reader {
         self.session.queued(most)
     }
 
-    /// Hands out the first events of [`queued`](Reader::queued) in one go, so many as there are, as so many calls of
-    /// [`next`](Reader::next) would: the view takes these events over, and a SYN_DROPPED, which is the last of them, makes
-    /// the phase Needed.
+    /// Hands out the first `count` events of [`queued`](Reader::queued) in one go, as so many calls of
+    /// [`next`](Reader::next) would: the view takes these events over, and a SYN_DROPPED, which can only be the last of
+    /// them, makes the phase Needed.
     ///
-    /// It makes no call. A reader that stood at the end of a history stands there still.
+    /// The caller must pass no more than `queued` shows, as for the `consume` of std's `BufRead`. It makes no call. A reader
+    /// that stood at the end of a history stands there still.
     pub fn take_queued(&mut self, count: usize)
         requires queued { length (queued_run count self.old.reading) ≡ count }
         ensures reading { self.new.reading
