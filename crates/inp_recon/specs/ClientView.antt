@@ -1,7 +1,7 @@
 -- The view that a client makes of a history: a fold over its answers and the events that it took
 -- (docs/READER.md, "Faithful views"). A history is written newest first, and is called a past. What ends in _with speaks of
 -- any choice of what is left of a frame, and the one of the same name without it of the device's own.
-use Rattle.std.specs.Prelude.{ℕ, suc, if◌then◌else◌, nat_lt, List, [], ◌∷◌, length, map, take, drop}
+use Rattle.std.specs.Prelude.{ℕ, suc, if◌then◌else◌, nat_lt, List, [], ◌∷◌, ◌++◌, length, map, take, drop}
 use Rattle.inp_model.specs.declared.step.Step.{Step}
 use Rattle.inp_model.specs.Description.{Description}
 use Rattle.inp_model.specs.Step.{client_of, is_same}
@@ -23,6 +23,32 @@ view_after_step_with eats d past client x v =
 unfoldable pub client_view_with : Eats → Description → List Step → ℕ → View
 client_view_with eats d [] client = first_view d
 client_view_with eats d (x ∷ past) client = view_after_step_with eats d past client x (client_view_with eats d past client)
+
+-- an entry that a read of a client took
+pub record ReadEntry : Type 0 where
+  -- the past before the read
+  pub before : List Step
+  -- what the read took, up to and with this entry
+  pub taken : List Entry
+  pub entry : Entry
+
+-- Each of these entries, which a read after this past took behind the ones in `earlier`.
+abbrev pub entries_of_read : List Step → List Entry → List Entry → List ReadEntry
+entries_of_read before earlier [] = []
+entries_of_read before earlier (e ∷ rest) =
+    let taken : List Entry = earlier ++ e ∷ [] in
+    record { before = before; taken = taken; entry = e } ∷ entries_of_read before taken rest
+
+-- all entries that a client's reads took, in order
+unfoldable pub read_entries_with : Eats → Description → List Step → ℕ → List ReadEntry
+read_entries_with eats d [] client = []
+read_entries_with eats d (x ∷ past) client =
+    read_entries_with eats d past client ++ entries_of_read past [] (taken_by_with eats d past client x)
+
+-- the view of a client when it took this entry, the entry included
+abbrev pub view_at_entry_with : Eats → Description → ℕ → ReadEntry → View
+view_at_entry_with eats d client at =
+    view_after_events (client_view_with eats d at.before client) (map event_of at.taken)
 
 -- the past before the read that took event i of a client
 unfoldable pub past_before_read_with : Eats → Description → List Step → ℕ → ℕ → List Step
