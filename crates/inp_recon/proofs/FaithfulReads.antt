@@ -27,7 +27,8 @@ use Rattle.inp_recon.specs.Cells.{cell_index}
 use Rattle.inp_recon.specs.ClientView.{client_view_with}
 use Rattle.inp_recon.specs.Synchronised.{Part, AllKeys, AllSwitches, AllLeds, OneAxis, AllSlots, start_place, sync_place, has_asked, has_asked_where, has_axis, taken_since_start_with, has_no_loss, is_synchronised_with}
 use Rattle.inp_recon.specs.Undisturbed.{is_up_to, is_whole_for, described_from, is_undisturbed_with}
-use Rattle.inp_recon.specs.Faithful.{IsReportAt, IsFollowedWith, AreReadsFaithful}
+use Rattle.inp_recon.specs.Faithful.{IsDeviceState, IsFollowedWith, AreReadsFaithful}
+use Rattle.inp_recon.proofs.ReadEntries.{IsOfRead, of-read}
 use Rattle.inp_recon.proofs.Each.{Each, Each-weaker, and-left, and-right, Each-from_all, all-left, all-right}
 use Rattle.inp_recon.proofs.Over.{over, over-idle, IsIdle}
 use Rattle.inp_recon.proofs.QueuedValues.{Promised}
@@ -141,8 +142,15 @@ asked_where false asked e h = cc
 
 -- ---- one value, at a report that is read
 
+-- item j of these entries is a report of this frame
+record IsReportAt (entries : List Entry) (j : ℕ) (f : Frame) : Type 0 where
+  entry : Entry
+  at : slice_get entries j ≡ Some entry
+  report : is_report (event_of entry) ≡ true
+  frame : entry.frame ≡ Some f
+
 -- a report of a frame, in what a read takes
-pub read-says : {V : Type 0} (eats : Eats) (d : Description) (past : List Step) (client count : ℕ) (t : V → Event → V) (st : List RawItem → V) (v : V)
+read-says : {V : Type 0} (eats : Eats) (d : Description) (past : List Step) (client count : ℕ) (t : V → Event → V) (st : List RawItem → V) (v : V)
     → FollowsReports eats d client t st (start_place past client) (sync_place past client) (described_from d past client) (frames d past) (description_places past) (raw d past) v (queue_with eats d past client)
     → (j : ℕ) (f : Frame) → IsReportAt (taken_by_with eats d past client (Read client count)) j f
     → IsFollowedWith eats d past client (take (suc j) (taken_by_with eats d past client (Read client count))) f
@@ -305,9 +313,12 @@ cells-read eats d past client count receives j f report followed =
 
 -- ---- the law
 
-pub reads-faithful : AreReadsFaithful
-reads-faithful eats d past client count described accepted j f report followed =
-    let receives = receives-read eats d past client count accepted.1 in
+-- all of the view, at an item of what a read takes
+state-read : (eats : Eats) (d : Description) (past : List Step) (client count : ℕ) → IsDescription d → Receives past client
+    → (j : ℕ) (f : Frame) → IsReportAt (taken_by_with eats d past client (Read client count)) j f
+    → IsFollowedWith eats d past client (take (suc j) (taken_by_with eats d past client (Read client count))) f
+    → IsDeviceState d f.cut.until (view_after_events (client_view_with eats d past client) (map event_of (take (suc j) (taken_by_with eats d past client (Read client count)))))
+state-read eats d past client count described receives j f report followed =
     let asked = all-asked eats d past client (take (suc j) (taken_by_with eats d past client (Read client count))) followed.synchronised in
     record {
       keys = flag-read eats d past client count EV_KEY is_repeat_value (key_down d) 768 AllKeys (λ v. v.keys) (keys-class eats d client) receives asked.keys (unsupported-past EV_KEY KEY_MAX 768 d d.keys (λ code. refl) described.keys) j f report followed;
@@ -317,3 +328,14 @@ reads-faithful eats d past client count described accepted j f report followed =
       cells = cells-read eats d past client count receives j f report followed;
       slot = λ some. ap (λ (u : SlotCell). u.0) (cell-read eats d past client count receives j f report followed 0 0 some (omega arith));
     }
+
+pub reads-faithful : AreReadsFaithful
+reads-faithful eats d past client count described accepted j at f is report followed =
+    let es : List Entry = taken_by_with eats d past client (Read client count) in
+    let h : IsOfRead past [] es j at = of-read past [] es j at is in
+    let there : IsReportAt es j f = record { entry = at.entry; at = h.is_entry; report = report.report; frame = report.frame } in
+    let follows : IsFollowedWith eats d past client (take (suc j) es) f =
+    subst (λ (l : List Entry). IsFollowedWith eats d past client l f) h.is_taken (subst (λ (p : List Step). IsFollowedWith eats d p client at.taken f) h.is_before followed) in
+    subst (λ (p : List Step). IsDeviceState d f.cut.until (view_after_events (client_view_with eats d p client) (map event_of at.taken))) (sym h.is_before)
+    (subst (λ (l : List Entry). IsDeviceState d f.cut.until (view_after_events (client_view_with eats d past client) (map event_of l))) (sym h.is_taken)
+    (state-read eats d past client count described (receives-read eats d past client count accepted.1) j f there follows))

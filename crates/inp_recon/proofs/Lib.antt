@@ -21,7 +21,6 @@ pub mod Over
 pub mod QueueEvents
 pub mod QueuedValues
 pub mod ReadEntries
-pub mod SameEntries
 pub mod Shape
 pub mod Sizes
 pub mod SlotBatch

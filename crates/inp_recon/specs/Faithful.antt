@@ -1,5 +1,5 @@
 -- When a client's view is the device's state (docs/READER.md, "Faithful views").
-use Rattle.std.specs.Prelude.{ℕ, suc, ◌≡◌, ◌<◌, pos, true, false, List, ◌∷◌, map, take, slice_get, slice_index_or, Some}
+use Rattle.std.specs.Prelude.{ℕ, ◌≡◌, ◌<◌, pos, true, false, List, [], ◌∷◌, slice_get, slice_index_or, Some}
 use Rattle.inp_model.specs.declared.step.Step.{Step}
 use Rattle.inp_model.specs.declared.step.Step.TheVariants.{Read}
 use Rattle.inp_model.specs.RawItem.{RawItem, Frame}
@@ -9,12 +9,11 @@ use Rattle.inp_model.specs.State.{key_down, switch_on, led_on, axis_value}
 use Rattle.inp_model.specs.Passed.{announced}
 use Rattle.inp_model.specs.Frame.{place}
 use Rattle.inp_model.specs.Left.{Eats, eaten}
-use Rattle.inp_model.specs.Queue.{Entry, event_of, taken_by_with, took_with}
+use Rattle.inp_model.specs.Queue.{Entry, event_of, taken_by_with}
 use Rattle.inp_model.specs.History.{IsHistoryWith}
 use Rattle.inp_model.specs.Reply.{rows}
 use Rattle.inp_recon.specs.declared.view.View.{View}
-use Rattle.inp_recon.specs.View.{view_after_events}
-use Rattle.inp_recon.specs.ClientView.{client_view_with, past_before_read_with, read_up_to_with, view_at_with}
+use Rattle.inp_recon.specs.ClientView.{ReadEntry, entries_of_read, read_entries_with, view_at_with}
 use Rattle.inp_recon.specs.Synchronised.{has_axis, sync_place, is_synchronised_with}
 use Rattle.inp_recon.specs.Undisturbed.{is_undisturbed_with}
 
@@ -30,10 +29,8 @@ pub record IsDeviceState (d : Description) (r : List RawItem) (v : View) : Type 
   -- the slot that was announced last
   pub slot : 0 < d.slots → v.slot ≡ announced d r
 
--- item j of a client's entries is a report of this frame
-pub record IsReportAt (entries : List Entry) (j : ℕ) (f : Frame) : Type 0 where
-  pub entry : Entry
-  pub at : slice_get entries j ≡ Some entry
+-- the entry is a report of this frame
+pub record IsReportOf (entry : Entry) (f : Frame) : Type 0 where
   pub report : is_report (event_of entry) ≡ true
   pub frame : entry.frame ≡ Some f
 
@@ -47,17 +44,17 @@ pub record IsFollowedWith (eats : Eats) (d : Description) (past : List Step) (cl
 -- The view at each report that a client took is the device's state at the end of its frame, where it is followed.
 abbrev pub IsFaithfulWith : Eats → Description → List Step → ℕ → Type 0
 IsFaithfulWith eats d past client =
-    (i : ℕ) (f : Frame) → IsReportAt (took_with eats d past client) i f
-    → IsFollowedWith eats d (past_before_read_with eats d past client i) client (read_up_to_with eats d past client i) f
-    → IsDeviceState d f.cut.until (view_at_with eats d past client i)
+    (i : ℕ) (at : ReadEntry) (f : Frame) → slice_get (read_entries_with eats d past client) i ≡ Some at → IsReportOf at.entry f
+    → IsFollowedWith eats d at.before client at.taken f
+    → IsDeviceState d f.cut.until (view_at_with eats d client at)
 
--- the same of a read after this past, at item j of what it takes
+-- the same of what a read takes after this past
 abbrev pub IsFaithfulReadWith : Eats → Description → List Step → ℕ → ℕ → Type 0
 IsFaithfulReadWith eats d past client count =
-    let taken = taken_by_with eats d past client (Read client count) in
-    (j : ℕ) (f : Frame) → IsReportAt taken j f
-    → IsFollowedWith eats d past client (take (suc j) taken) f
-    → IsDeviceState d f.cut.until (view_after_events (client_view_with eats d past client) (map event_of (take (suc j) taken)))
+    let taken : List Entry = taken_by_with eats d past client (Read client count) in
+    (j : ℕ) (at : ReadEntry) (f : Frame) → slice_get (entries_of_read past [] taken) j ≡ Some at → IsReportOf at.entry f
+    → IsFollowedWith eats d at.before client at.taken f
+    → IsDeviceState d f.cut.until (view_at_with eats d client at)
 
 -- every history is faithful to every client, whatever is left of its frames
 abbrev pub AreFaithful : Type 0

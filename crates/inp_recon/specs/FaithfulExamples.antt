@@ -1,5 +1,5 @@
 -- Short histories worked out by hand: when a client is synchronised and undisturbed, and what its view shows then.
-use Rattle.std.specs.Prelude.{◌≡◌, ℕ, ℤ, pos, Bool, true, false, nat_lt, List, [], ◌∷◌, ◌++◌, map, replicate, reverse, Option, Some, None, ◌&&◌, not, is_some, take}
+use Rattle.std.specs.Prelude.{◌≡◌, ℕ, ℤ, pos, Bool, true, false, nat_lt, List, [], ◌∷◌, ◌++◌, map, replicate, reverse, Option, Some, None, ◌&&◌, not, is_some, slice_get}
 use Rattle.inp_model.specs.declared.event.TheConstants.{EV_KEY, EV_REL, KEY_A}
 use Rattle.inp_model.specs.declared.event.Event.{Event}
 use Rattle.inp_model.specs.declared.filter.Filter.TheVariants.{Eat}
@@ -21,11 +21,11 @@ use Rattle.inp_model.specs.examples.Clients.{without_a}
 use Rattle.inp_model.specs.examples.Slots.{touchpad, slot, x, y, id}
 use Rattle.inp_recon.specs.declared.view.View.{View}
 use Rattle.inp_recon.specs.View.{view_after_events}
-use Rattle.inp_recon.specs.ClientView.{client_view, past_before_read, read_up_to, view_at}
+use Rattle.inp_recon.specs.ClientView.{ReadEntry, client_view, read_entries, view_at}
 use Rattle.inp_recon.specs.Synchronised.{sync_place, is_synchronised}
 use Rattle.inp_recon.specs.Undisturbed.{is_undisturbed}
 use Rattle.inp_model.specs.History.{IsHistory}
-use Rattle.inp_recon.specs.Faithful.{IsReportAt, IsFollowed}
+use Rattle.inp_recon.specs.Faithful.{IsReportOf, IsFollowed}
 use Rattle.inp_recon.specs.Examples.{has_key, axis, x_of, y_of}
 
 -- the keys A and B, the axis X and the motion X
@@ -105,10 +105,13 @@ typed_on = inject_all (key (pos 1) ∷ report ∷ []) ++ Open ∷ GetKeys 0 ∷ 
 
 abbrev pub MeetsTheLaw : Type 0
 MeetsTheLaw =
+    let past : List Step = Read 0 64 ∷ reverse typed_on in
+    let f : Frame = frame_then one_key typed_on in
     IsDescription one_key
-    × IsHistory one_key (Read 0 64 ∷ reverse typed_on)
-    × IsReportAt (taken_after one_key typed_on) 3 (frame_then one_key typed_on)
-    × IsFollowed one_key (reverse typed_on) 0 (take 4 (taken_after one_key typed_on)) (frame_then one_key typed_on)
+    × IsHistory one_key past
+    × (at : ReadEntry) × (slice_get (read_entries one_key past 0) 3 ≡ Some at)
+    × IsReportOf at.entry f
+    × IsFollowed one_key at.before 0 at.taken f
 
 -- A 1, R; X 5, B 1, R; A 0, R; one event is read, the keys and the axis are asked for, and the rest is read
 abbrev pub asked_late : List Step
@@ -200,22 +203,24 @@ FollowsSlots =
 abbrev pub in_parts : List Step
 in_parts = followed ++ Read 0 2 ∷ Read 0 64 ∷ inject_all (key (pos 0) ∷ report ∷ []) ++ Read 0 64 ∷ []
 
--- Events 0 and 1 were taken by the first read, event 2 by the second, events 3 and 4 by the third.
+abbrev pub entries_in_parts : List ReadEntry
+entries_in_parts = read_entries board (reverse in_parts) 0
+
+-- Entries 0 and 1 were taken by the first read, entry 2 by the second, entries 3 and 4 by the third.
 abbrev pub FindsTheRead : Type 0
 FindsTheRead =
-    let past : List Step = reverse in_parts in
-    (past_before_read board past 0 1 ≡ reverse followed)
-    × (past_before_read board past 0 2 ≡ reverse (followed ++ Read 0 2 ∷ []))
-    × (map event_of (read_up_to board past 0 1) ≡ move ∷ key_b ∷ [])
-    × (map event_of (read_up_to board past 0 2) ≡ report ∷ [])
-    × (map event_of (read_up_to board past 0 3) ≡ key (pos 0) ∷ [])
+    let first : List Step = followed in
+    let second : List Step = first ++ Read 0 2 ∷ [] in
+    let third : List Step = second ++ Read 0 64 ∷ inject_all (key (pos 0) ∷ report ∷ []) in
+    (map (λ (at : ReadEntry). at.before) entries_in_parts ≡ map reverse (first ∷ first ∷ second ∷ third ∷ third ∷ []))
+    × (map (λ (at : ReadEntry). map event_of at.taken) entries_in_parts
+    ≡ (move ∷ []) ∷ (move ∷ key_b ∷ []) ∷ (report ∷ []) ∷ (key (pos 0) ∷ []) ∷ (key (pos 0) ∷ report ∷ []) ∷ [])
 
--- the view at an event, that event included
-abbrev pub ViewsEachEvent : Type 0
-ViewsEachEvent =
-    let past : List Step = reverse in_parts in
-    (has_key (view_at board past 0 0) 48 ≡ false) × (has_key (view_at board past 0 1) 48 ≡ true)
-    × (has_key (view_at board past 0 2) 30 ≡ true) × (has_key (view_at board past 0 3) 30 ≡ false)
+-- the view at each entry, that entry included
+abbrev pub ViewsEachEntry : Type 0
+ViewsEachEntry =
+    (map (λ (at : ReadEntry). has_key (view_at board 0 at) 48) entries_in_parts ≡ false ∷ true ∷ true ∷ true ∷ true ∷ [])
+    × (map (λ (at : ReadEntry). has_key (view_at board 0 at) 30) entries_in_parts ≡ true ∷ true ∷ true ∷ false ∷ false ∷ [])
 
 -- Client 1 grabs for a frame of the key A; the frame of the key B comes behind the grab.
 abbrev pub NeedsNoGrabOfKeys : Type 0

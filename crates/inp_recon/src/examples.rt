@@ -1,5 +1,5 @@
 //! What the definitions compute of a few events and answers.
-ghost use Rattle.inp_recon.specs.FaithfulExamples.{FollowsTheDevice, MeetsTheLaw, FollowsSlots, NeedsALaterFrame, IsRightFromTheNextFrameOn, NeedsAllQueries, NeedsNoLoss, NeedsNoGrab, NeedsNoGrabOfKeys, NeedsNoMask, NeedsNoFilter, FollowsBehindAFilter, NeedsNoDescriptionInTheBatch, NeedsNoDescriptionSince, FollowsUpToADescription, FollowsFromADescriptionOn, PromisesNothingWithoutAFrame, FindsTheRead, ViewsEachEvent};
+ghost use Rattle.inp_recon.specs.FaithfulExamples.{FollowsTheDevice, MeetsTheLaw, FollowsSlots, NeedsALaterFrame, IsRightFromTheNextFrameOn, NeedsAllQueries, NeedsNoLoss, NeedsNoGrab, NeedsNoGrabOfKeys, NeedsNoMask, NeedsNoFilter, FollowsBehindAFilter, NeedsNoDescriptionInTheBatch, NeedsNoDescriptionSince, FollowsUpToADescription, FollowsFromADescriptionOn, PromisesNothingWithoutAFrame, FindsTheRead, ViewsEachEntry};
 ghost use Rattle.inp_recon.specs.Examples.{BeginsWithoutContacts, TakesNoRepeat, TakesSwitchesAndLeds, TakesAnAxis, TakesNoOther, TakesNoOtherSlot, GoesOnInTheSlotTold, TellsKeys, TellsAnAxis, TellsNoOther};
 
 /// What the definitions of this crate compute of a few events and answers that were worked out by hand. It does
@@ -37,6 +37,6 @@ pub fn faithful_examples()
     ensures described_later { FollowsUpToADescription }
     ensures described_before { FollowsFromADescriptionOn }
     ensures described_unframed { PromisesNothingWithoutAFrame }
-    ensures read_of_event { FindsTheRead }
-    ensures view_at_event { ViewsEachEvent }
+    ensures read_of_entry { FindsTheRead }
+    ensures view_at_entry { ViewsEachEntry }
 {}

@@ -48,20 +48,22 @@ pub returns-clause-grab_of_keys : goal.returns-clause-grab_of_keys
 unfolding computing
 returns-clause-grab_of_keys c = ((refl, refl, refl, refl), (refl, refl), (refl, refl))
 
-pub returns-clause-read_of_event : goal.returns-clause-read_of_event
+pub returns-clause-read_of_entry : goal.returns-clause-read_of_entry
 unfolding computing
-returns-clause-read_of_event c = (refl, refl, refl, refl, refl)
+returns-clause-read_of_entry c = (refl, refl)
 
-pub returns-clause-view_at_event : goal.returns-clause-view_at_event
+pub returns-clause-view_at_entry : goal.returns-clause-view_at_entry
 unfolding computing
-returns-clause-view_at_event c = (refl, refl, refl, refl)
+returns-clause-view_at_entry c = (refl, refl)
 
 pub returns-clause-law : goal.returns-clause-law
 unfolding computing
 returns-clause-law c = (
   IsDescription-one_key,
   ((((((((((tt, refl), refl), refl), refl), refl), refl), refl), refl), refl)),
-  record { entry = _; at = refl; report = refl; frame = refl },
+  _,
+  refl,
+  record { report = refl; frame = refl },
   record { synchronised = refl; behind = omega arith; undisturbed = refl },
 )
 
