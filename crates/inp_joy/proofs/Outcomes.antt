@@ -69,9 +69,9 @@ hand_out_record-pictures told d j k joy_record GoesOn is = tt
 -- where the picture shows the view at the end of a frame, it is the device's there
 shown-device : (told : EvdevView) (d : Description) (k : Joying) (place : ℕ) (taken : Taken) → taken.place ≡ place → ShowsTheDevice d (reverse told.seen) k.reading taken → k.picture ≡ picture_of_view d k.reading.view → PicturesTheDevice d (reverse told.seen) k place
 shown-device told d k place taken at h shown = record {
-  taken = taken;
-  is_place = at;
-  is_taken = h.is_taken;
+  at = h.at;
+  is_at = h.is_at;
+  is_place = ap (λ (t : Taken). t.place) h.is_taken ∙ at;
   pictures = λ f report followed. shown ∙ device-pictured d f.cut.until k.reading.view (h.shows f report followed);
 }
 

@@ -1,14 +1,11 @@
 -- What `read` of a joystick client promises (docs/RULES.md, "Joystick clients").
-use Rattle.std.specs.Prelude.{◌≡◌, ℕ, ◌+◌, ◌-◌, ◌^◌, ◌<◌, nat_lt, if◌then◌else◌, false, List, [], reverse, map, drop, slice_get, Option, Some, None}
+use Rattle.std.specs.Prelude.{◌≡◌, ℕ, ◌+◌, ◌-◌, ◌^◌, ◌<◌, nat_lt, if◌then◌else◌, false, List, [], reverse, drop, slice_get, Option, Some, None}
 use Rattle.inp_model.specs.declared.step.Step.{Step}
-use Rattle.inp_model.specs.declared.taken.Taken.{Taken}
 use Rattle.inp_model.specs.Description.{Description}
 use Rattle.inp_model.specs.Evdev.{EvdevView}
 use Rattle.inp_model.specs.RawItem.{Frame as DeviceFrame}
-use Rattle.inp_model.specs.Queue.{took}
-use Rattle.inp_model.specs.Reply.{taken_of}
-use Rattle.inp_recon.specs.ClientView.{past_before_read, read_up_to}
-use Rattle.inp_recon.specs.Faithful.{IsReportAt, IsFollowed}
+use Rattle.inp_recon.specs.ClientView.{ReadEntry, read_entries}
+use Rattle.inp_recon.specs.Faithful.{IsReportOf, IsFollowed}
 use Rattle.inp_reader.specs.declared.call_made.CallMade.{CallMade}
 use Rattle.inp_reader.specs.Says.{Says}
 use Rattle.inp_reader.specs.TrueView.{index_handed_out}
@@ -58,12 +55,12 @@ JoyStands told joy = StandsAt joy.description (reverse told.seen) joy.joying.rea
 -- A report that its client took ended the frame of this place. Where the client could follow the device up to that frame,
 -- the picture is the device's at the frame's end.
 pub record PicturesTheDevice (d : Description) (past : List Step) (j : Joying) (place : ℕ) : Type 0 where
-  pub taken : Taken
-  pub is_place : taken.place ≡ place
-  pub is_taken : slice_get (map taken_of (took d past j.reading.client)) (index_handed_out d past j.reading) ≡ Some taken
+  pub at : ReadEntry
+  pub is_at : slice_get (read_entries d past j.reading.client) (index_handed_out d past j.reading) ≡ Some at
+  pub is_place : at.entry.taken.place ≡ place
   pub pictures : (f : DeviceFrame)
-      → IsReportAt (took d past j.reading.client) (index_handed_out d past j.reading) f
-      → IsFollowed d (past_before_read d past j.reading.client (index_handed_out d past j.reading)) j.reading.client (read_up_to d past j.reading.client (index_handed_out d past j.reading)) f
+      → IsReportOf at.entry f
+      → IsFollowed d at.before j.reading.client at.taken f
       → j.picture ≡ picture_of_device d f.cut.until
 
 -- what `read` answered, where a frame ended

@@ -1,5 +1,5 @@
 -- The view that a client makes of a history, by what it read and asked for since its start.
-use Rattle.std.proofs.Common.{◌≡◌, ◌≤◌, ◌<◌, ◌⊎◌, inl, inr, ℕ, zero, suc, ◌+◌, ◌-◌, nat_eq, nat_lt, Bool, true, false, ◌&&◌, ◌||◌, List, [], ◌∷◌, ◌++◌, length, map, take, drop, refl, sym, ap, subst, ◌∙◌, arith, append-nil, append_assoc, length-append, if◌then◌else◌, ℤ, Option, Some, None}
+use Rattle.std.proofs.Common.{◌≡◌, ◌≤◌, ◌<◌, ◌⊎◌, inl, inr, ℕ, zero, suc, ◌+◌, ◌-◌, nat_eq, nat_lt, Bool, true, false, ◌&&◌, ◌||◌, List, [], ◌∷◌, ◌++◌, length, map, take, refl, sym, ap, subst, ◌∙◌, arith, append-nil, append_assoc, length-append, if◌then◌else◌, ℤ, Option, Some, None}
 use Rattle.std.proofs.lemmas.Bool.{true≢false, false≢true, eqb-true, cond-false, cond-true, and_parts, cases_lt, lt-ltb, le-ltb, ltb-true, ltb-false, cond_both}
 use Rattle.std.proofs.lemmas.List.{map-append, take-append-le, length-map, take-map}
 use Rattle.std.proofs.lemmas.List.Concat.{flat_map-append}
@@ -15,7 +15,10 @@ use Rattle.inp_model.specs.Run.{Call}
 use Rattle.inp_model.specs.Step.{client_of, is_same}
 use Rattle.inp_recon.specs.declared.view.View.{View}
 use Rattle.inp_recon.specs.View.{IsSizedFor, first_view, view_after_events, view_after_answer}
-use Rattle.inp_recon.specs.ClientView.{view_after_step, client_view, client_view_with, past_before_read, past_before_read_with, view_at}
+use Rattle.inp_recon.specs.ClientView.{ReadEntry, view_after_step, client_view, client_view_with, read_entries, view_at}
+use Rattle.inp_recon.proofs.ReadEntries.{IsOfRead, of-read, entry-before, entry-behind}
+use Rattle.inp_model.specs.Left.{eaten}
+use Rattle.std.specs.Prelude.{slice_get}
 use Rattle.inp_model.specs.History.{IsHistory}
 use Rattle.inp_recon.proofs.Folds.{view_after_events-append}
 use Rattle.inp_recon.proofs.Sizes.{IsSizedFor-first_view}
@@ -229,45 +232,28 @@ upto-last v (c ∷ calls) call j h k =
     ∙ upto-last next calls call (j - n) (omega (arith, h, long)) (omega (arith, k, long, above))
     ∙ ap (λ (i : ℕ). view_after_events (fold_calls next calls) (taken_events (take i call.answer.events))) same
 
--- one more step leaves the view at an earlier event
-pub at-earlier : (d : Description) (past : List Step) (client i : ℕ) (x : Step) → i < length (took d past client) → view_at d (x ∷ past) client i ≡ view_at d past client i
-unfolding took_with past_before_read_with
-at-earlier d past client i x h =
-    let T : List Entry = took d past client in
-    let E : List Entry = taken_by d past client x in
-    let earlier : List Step = past_before_read d past client i in
-    let same : (if nat_lt i (length T) then earlier else past) ≡ earlier = cond-true (nat_lt i (length T)) earlier past (lt-ltb i (length T) h) in
-    let front : take (suc i) (T ++ E) ≡ take (suc i) T = take-append-le (suc i) T E (omega (arith, h)) in
-    ap (λ (p : List Step). view_after_events (client_view d p client) (map event_of (drop (length (took d p client)) (take (suc i) (T ++ E))))) same
-    ∙ ap (λ (es : List Entry). view_after_events (client_view d earlier client) (map event_of (drop (length (took d earlier client)) es))) front
-
-take-behind : (xs ys : List Entry) (n : ℕ) → length xs ≤ n → drop (length xs) (take n (xs ++ ys)) ≡ take (n - length xs) ys
-take-behind [] ys n h = ap (λ (k : ℕ). take k ys) (omega arith)
-take-behind (x ∷ xs) ys zero h = absurd (omega (arith, h))
-take-behind (x ∷ xs) ys (suc n) h =
-    let e : n - length xs ≡ suc n - suc (length xs) = omega arith in
-    take-behind xs ys n (omega (arith, h)) ∙ ap (λ (k : ℕ). take k ys) e
-
 -- the view at an event of the last step
-pub at-last : (d : Description) (past : List Step) (client i : ℕ) (x : Step) → length (took d past client) ≤ i → view_at d (x ∷ past) client i ≡ view_after_events (client_view d past client) (map event_of (take (suc i - length (took d past client)) (taken_by d past client x)))
-unfolding took_with past_before_read_with
-at-last d past client i x h =
-    let T : List Entry = took d past client in
+pub at-last : (d : Description) (past : List Step) (client i : ℕ) (x : Step) (at : ReadEntry) → length (took d past client) ≤ i → slice_get (read_entries d (x ∷ past) client) i ≡ Some at
+    → view_at d client at ≡ view_after_events (client_view d past client) (map event_of (take (suc i - length (took d past client)) (taken_by d past client x)))
+at-last d past client i x at h is =
+    let k : ℕ = i - length (took d past client) in
     let E : List Entry = taken_by d past client x in
-    let earlier : List Step = past_before_read d past client i in
-    let same : (if nat_lt i (length T) then earlier else past) ≡ past = cond-false (nat_lt i (length T)) earlier past (le-ltb i (length T) h) in
-    ap (λ (p : List Step). view_after_events (client_view d p client) (map event_of (drop (length (took d p client)) (take (suc i) (T ++ E))))) same
-    ∙ ap (λ (es : List Entry). view_after_events (client_view d past client) (map event_of es)) (take-behind T E (suc i) (omega (arith, h)))
+    let n : suc k ≡ suc i - length (took d past client) = omega (arith, h) in
+    let o : IsOfRead past [] E k at = of-read past [] E k at (sym (entry-behind (eaten d) d past client i x h) ∙ is) in
+    ap (λ (p : List Step). view_after_events (client_view d p client) (map event_of at.taken)) o.is_before
+    ∙ ap (λ (es : List Entry). view_after_events (client_view d past client) (map event_of es)) o.is_taken
+    ∙ ap (λ (m : ℕ). view_after_events (client_view d past client) (map event_of (take m E))) n
 
 pub taken-events : (d : Description) (past : List Step) (client n : ℕ) (x : Step) → refused d past x ≡ None → is_use_of client x ≡ true → map event_of (take n (taken_by d past client x)) ≡ taken_events (take n (answer d past x).events)
 taken-events d past client n x accepts used =
     sym (map-taken (take n (taken_by d past client x))) ∙ ap (λ (ts : List Taken). taken_events ts) (sym (take-map taken_of n (taken_by d past client x)) ∙ ap (λ (ts : List Taken). take n ts) (used-taken d past client x accepts used))
 
 -- the view at event j of what the client took since its start
-pub view_at-since : (d : Description) (past : List Step) (client j : ℕ) → IsHistory d past → j < length (taken_by_calls (calls_since d past client)) → view_at d past client (length (taken_at_start d past client) + j) ≡ view_upto (view_at_start d past client) (calls_since d past client) j
+pub view_at-since : (d : Description) (past : List Step) (client j : ℕ) (at : ReadEntry) → IsHistory d past → j < length (taken_by_calls (calls_since d past client))
+    → slice_get (read_entries d past client) (length (taken_at_start d past client) + j) ≡ Some at → view_at d client at ≡ view_upto (view_at_start d past client) (calls_since d past client) j
 unfolding calls_since view_at_start taken_at_start
-view_at-since d [] client j h k = absurd (omega (arith, k))
-view_at-since d (x ∷ past) client j h k = by (is_start past client x) (is_use_of client x) refl refl k (λ m. view_at-since d past client j h.0 m)
+view_at-since d [] client j at h k is = absurd (omega (arith, k))
+view_at-since d (x ∷ past) client j at h k is = by (is_start past client x) (is_use_of client x) refl refl k is (λ m e. view_at-since d past client j at h.0 m e)
   where
     call : Call
     call = record { step = x; answer = answer d past x }
@@ -288,22 +274,23 @@ view_at-since d (x ∷ past) client j h k = by (is_start past client x) (is_use_
     long = length-took d past client h.0
 
     by : (starts used : Bool) → is_start past client x ≡ starts → is_use_of client x ≡ used → j < length (taken_by_calls (if starts then [] else if used then C ++ call ∷ [] else C))
-        → (j < length (taken_by_calls C) → view_at d past client (length B + j) ≡ view_upto v C j)
-        → view_at d (x ∷ past) client (length (if starts then T else B) + j) ≡ view_upto (if starts then client_view d past client else v) (if starts then [] else if used then C ++ call ∷ [] else C) j
-    by true used s u below rest = absurd (omega (arith, below))
-    by false true s u below rest = elim (cases_lt j (length (taken_by_calls C))) [
-      | inl before ↦ at-earlier d past client (length B + j) x (omega (arith, long, before)) ∙ rest before ∙ sym (upto-before v C call j before)
+        → slice_get (read_entries d (x ∷ past) client) (length (if starts then T else B) + j) ≡ Some at
+        → (j < length (taken_by_calls C) → slice_get (read_entries d past client) (length B + j) ≡ Some at → view_at d client at ≡ view_upto v C j)
+        → view_at d client at ≡ view_upto (if starts then client_view d past client else v) (if starts then [] else if used then C ++ call ∷ [] else C) j
+    by true used s u below found rest = absurd (omega (arith, below))
+    by false true s u below found rest = elim (cases_lt j (length (taken_by_calls C))) [
+      | inl before ↦ rest before (sym (entry-before (eaten d) d past client (length B + j) x (omega (arith, long, before))) ∙ found) ∙ sym (upto-before v C call j before)
       | inr behind ↦
           (let n : ℕ = suc (length B + j) - length T in
           let same : n ≡ suc j - length (taken_by_calls C) = omega (arith, long, behind) in
           let within : j < length (taken_by_calls C) + length call.answer.events = omega (arith, below, ap (λ (ts : List Taken). length ts) (taken_by_calls-push C call), length-append (taken_by_calls C) call.answer.events) in
-          at-last d past client (length B + j) x (omega (arith, long, behind))
+          at-last d past client (length B + j) x at (omega (arith, long, behind)) found
           ∙ ap (λ (es : List Event). view_after_events (client_view d past client) es) (taken-events d past client n x h.1 u)
           ∙ ap (λ (w : View). view_after_events w (taken_events (take n call.answer.events))) (client_view-since d past client h.0)
           ∙ ap (λ (m : ℕ). view_after_events (fold_calls v C) (taken_events (take m call.answer.events))) same
           ∙ sym (upto-last v C call j behind within))
     ]
-    by false false s u below rest = at-earlier d past client (length B + j) x (omega (arith, long, below)) ∙ rest below
+    by false false s u below found rest = rest below (sym (entry-before (eaten d) d past client (length B + j) x (omega (arith, long, below))) ∙ found)
 
 -- Queries, and then reads
 
@@ -412,15 +399,16 @@ none-takes d (call ∷ asked) reads h no_reads =
     (ap (λ (a : Answer). a.events) h.1 ∙ no_read-takes d h.0 call.step no_reads.0, none-takes d asked reads h.2 no_reads.1)
 
 -- The view at event j of what came behind the queries, which are all of a start.
-pub view_at-behind : (d : Description) (past : List Step) (client j : ℕ) (asked reads : List Call) → IsHistory d past → calls_since d past client ≡ asked ++ reads → steps_of asked ≡ queries d client → AreReads reads → j < length (taken_by_calls reads)
-    → view_at d past client (length (taken_at_start d past client) + j) ≡ view_after_events (view_after_answers (view_at_start d past client) asked) (taken_events (take (suc j) (taken_by_calls reads)))
-view_at-behind d past client j asked reads h since steps are below =
+pub view_at-behind : (d : Description) (past : List Step) (client j : ℕ) (asked reads : List Call) (at : ReadEntry) → IsHistory d past → calls_since d past client ≡ asked ++ reads → steps_of asked ≡ queries d client → AreReads reads → j < length (taken_by_calls reads)
+    → slice_get (read_entries d past client) (length (taken_at_start d past client) + j) ≡ Some at
+    → view_at d client at ≡ view_after_events (view_after_answers (view_at_start d past client) asked) (taken_events (take (suc j) (taken_by_calls reads)))
+view_at-behind d past client j asked reads at h since steps are below is =
     let no_reads : Each IsNoRead (steps_of asked) = subst (λ (xs : List Step). Each IsNoRead xs) (sym steps) (no_read-queries d client) in
     let of_pasts : AreOfPasts d (asked ++ reads) = subst (λ (cs : List Call). AreOfPasts d cs) since (of_pasts-since d past client) in
     let none : NoneTakes asked = none-takes d asked reads of_pasts no_reads in
     let all : taken_by_calls (calls_since d past client) ≡ taken_by_calls asked ++ taken_by_calls reads = ap (λ (cs : List Call). taken_by_calls cs) since ∙ flat_map-append (λ (c : Call). c.answer.events) asked reads in
     let within : j < length (taken_by_calls (calls_since d past client)) = omega (arith, below, ap (λ (ts : List Taken). length ts) all, length-append (taken_by_calls asked) (taken_by_calls reads)) in
-    view_at-since d past client j h within
+    view_at-since d past client j at h within is
     ∙ ap (λ (cs : List Call). view_upto (view_at_start d past client) cs j) since
     ∙ upto-asked (view_at_start d past client) asked reads j none
     ∙ upto-reads (view_after_answers (view_at_start d past client) asked) reads j are below

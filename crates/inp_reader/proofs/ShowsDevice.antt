@@ -17,7 +17,8 @@ use Rattle.inp_model.specs.Reply.{taken_of, rows}
 use Rattle.inp_model.specs.Run.{Call}
 use Rattle.inp_recon.specs.declared.view.View.{View}
 use Rattle.inp_recon.specs.View.{IsSizedFor, with_value_at, first_view, view_after_event, view_after_events, keys_after_event, bits_after_event, slot_after_event, cells_after_event}
-use Rattle.inp_recon.specs.ClientView.{view_at}
+use Rattle.inp_recon.specs.ClientView.{ReadEntry, read_entries, view_at}
+use Rattle.inp_recon.proofs.ReadEntries.{HasEntry, entry-of}
 use Rattle.inp_model.specs.RawItem.{RawItem, Occurred, Described}
 use Rattle.inp_model.specs.Left.{eaten}
 use Rattle.inp_model.specs.History.{IsHistory}
@@ -59,15 +60,15 @@ handed-is-taken d past r t h history =
     ∙ at-it B h.before r.queue t (index_handed_out d past r) (index-is d past r t h history ∙ ap (λ (n : ℕ). n + length h.before) (sym (length-map (taken_at_start d past r.client) taken_of)))
 
 -- the client's view then: the same answers and events, from the view at its start
-view-then : (d : Description) (past : List Step) (r : Reading) (t : Taken) (h : IsHandedOut d past r t) → IsHistory d past
-    → view_at d past r.client (index_handed_out d past r) ≡ view_after_events (view_after_answers (view_at_start d past r.client) h.asked) (taken_events (h.before ++ t ∷ []))
-view-then d past r t h history =
+view-then : (d : Description) (past : List Step) (r : Reading) (t : Taken) (at : ReadEntry) (h : IsHandedOut d past r t) → IsHistory d past → slice_get (read_entries d past r.client) (index_handed_out d past r) ≡ Some at
+    → view_at d r.client at ≡ view_after_events (view_after_answers (view_at_start d past r.client) h.asked) (taken_events (h.before ++ t ∷ []))
+view-then d past r t at h history is =
     let j : ℕ = length h.before in
     let front : length (h.before ++ t ∷ []) ≡ suc j = length-append h.before (t ∷ []) ∙ omega arith in
     let below : j < length (taken_by_calls h.reads) = omega (arith, front, ap (λ (ts : List Taken). length ts) h.taken, length-append (h.before ++ t ∷ []) r.queue) in
     let first : take (suc j) (taken_by_calls h.reads) ≡ h.before ++ t ∷ [] = ap (λ (ts : List Taken). take (suc j) ts) h.taken ∙ take_at (h.before ++ t ∷ []) r.queue (suc j) front in
-    ap (λ (i : ℕ). view_at d past r.client i) (index-is d past r t h history)
-    ∙ view_at-behind d past r.client j h.asked h.reads history h.calls h.queries h.reads_only below
+    view_at-behind d past r.client j h.asked h.reads at history h.calls h.queries h.reads_only below
+    (ap (λ (i : ℕ). slice_get (read_entries d past r.client) i) (sym (index-is d past r t h history)) ∙ is)
     ∙ ap (λ (ts : List Taken). view_after_events (view_after_answers (view_at_start d past r.client) h.asked) (taken_events ts)) first
 
 -- Two views that agree in what the device has
@@ -132,15 +133,15 @@ agree-events which v w [] a = a
 agree-events which v w (e ∷ es) a = agree-events which (view_after_event v e) (view_after_event w e) es (agree-event which v w e a)
 
 -- the client's view and the reader's agree in all that the device has
-pub agree-then : (d : Description) (past : List Step) (r : Reading) (t : Taken) → IsHandedOut d past r t → IsHistory d past → AgreeBut (what_is_had d) [] (view_at d past r.client (index_handed_out d past r)) r.view
-agree-then d past r t h history =
+pub agree-then : (d : Description) (past : List Step) (r : Reading) (t : Taken) (at : ReadEntry) → IsHandedOut d past r t → IsHistory d past → slice_get (read_entries d past r.client) (index_handed_out d past r) ≡ Some at → AgreeBut (what_is_had d) [] (view_at d r.client at) r.view
+agree-then d past r t at h history is =
     let base : View = view_at_start d past r.client in
     let good : AreAnswered d h.asked × AreAccepted h.asked = good-first d h.asked h.reads (subst (λ (cs : List Call). AreAnswered d cs × AreAccepted cs) h.calls (since-good d past r.client history)) in
     let begun : AgreeBut (what_is_had d) (steps_of h.asked) base (first_view d) = subst (λ (xs : List Step). AgreeBut (what_is_had d) xs base (first_view d)) (sym h.queries) (agree-had d r.client base (first_view d) (sized-at-start d past r.client) (IsSizedFor-first_view d)) in
     let told : AgreeBut (what_is_had d) [] (view_after_answers base h.asked) (view_after_answers (first_view d) h.asked) = agree-answers (what_is_had d) d h.asked base (first_view d) good.0 good.1 (sized-at-start d past r.client).cells begun in
     let es : List Event = taken_events (h.before ++ t ∷ []) in
     let then_it : AgreeBut (what_is_had d) [] (view_after_events (view_after_answers base h.asked) es) (view_after_events (view_after_answers (first_view d) h.asked) es) = agree-events (what_is_had d) (view_after_answers base h.asked) (view_after_answers (first_view d) h.asked) es told in
-    subst (λ (v : View). AgreeBut (what_is_had d) [] v r.view) (sym (view-then d past r t h history))
+    subst (λ (v : View). AgreeBut (what_is_had d) [] v r.view) (sym (view-then d past r t at h history is))
     (subst (λ (w : View). AgreeBut (what_is_had d) [] (view_after_events (view_after_answers base h.asked) es) w) (sym h.view) then_it)
 
 -- What the device cannot have is off
@@ -194,9 +195,13 @@ state-shown d r v w a s h = record {
 
 -- a reader that handed out an event shows the device, where every history is faithful to every client
 pub shows-device : AreFaithful → (d : Description) (past : List Step) (r : Reading) (t : Taken) → IsDescription d → IsHistory d past → IsSpare d r.view → IsHandedOut d past r t → ShowsTheDevice d past r t
-shows-device law d past r t is history spare h = record {
-  is_taken = handed-is-taken d past r t h history;
-  shows = λ f report followed.
-      state-shown d f.cut.until (view_at d past r.client (index_handed_out d past r)) r.view (agree-then d past r t h history) spare
-      (law (eaten d) d past r.client is history (index_handed_out d past r) f report followed);
-}
+shows-device law d past r t is history spare h =
+    let e : HasEntry (eaten d) d past r.client (index_handed_out d past r) t = entry-of (eaten d) d past r.client (index_handed_out d past r) t (handed-is-taken d past r t h history) in
+    record {
+      at = e.at;
+      is_at = e.is_at;
+      is_taken = e.is_taken;
+      shows = λ f report followed.
+          state-shown d f.cut.until (view_at d r.client e.at) r.view (agree-then d past r t e.at h history e.is_at) spare
+          (law (eaten d) d past r.client is history (index_handed_out d past r) e.at f e.is_at report followed);
+    }

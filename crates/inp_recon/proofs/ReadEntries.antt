@@ -1,10 +1,15 @@
 -- The entries that a client's reads took: which one stands at an index, and that one more step leaves the earlier ones.
-use Rattle.std.proofs.Common.{◌≡◌, ◌<◌, ◌≤◌, ℕ, zero, suc, ◌+◌, ◌-◌, List, [], ◌∷◌, ◌++◌, length, take, refl, ap, subst, ◌∙◌, arith, append_assoc, length-append, Some, None}
-use Rattle.std.specs.Prelude.{slice_get}
+use Rattle.std.proofs.Common.{◌≡◌, ◌<◌, ◌≤◌, inl, inr, ℕ, zero, suc, ◌+◌, ◌-◌, List, [], ◌∷◌, ◌++◌, length, map, take, refl, sym, ap, subst, ◌∙◌, arith, append_assoc, length-append, Option, Some, None}
+use Rattle.std.specs.Prelude.{slice_get, option_map}
+use Rattle.std.proofs.lemmas.Bool.{cases_lt}
+use Rattle.std.proofs.lemmas.List.{length-map}
+use Rattle.std.proofs.lemmas.Option.{slice_get_within, slice_get-map}
+use Rattle.inp_model.specs.declared.taken.Taken.{Taken}
 use Rattle.inp_model.specs.declared.step.Step.{Step}
 use Rattle.inp_model.specs.Description.{Description}
 use Rattle.inp_model.specs.Left.{Eats}
 use Rattle.inp_model.specs.Queue.{Entry, taken_by_with, took_with}
+use Rattle.inp_model.specs.Reply.{taken_of}
 use Rattle.inp_recon.specs.ClientView.{ReadEntry, entries_of_read, read_entries_with}
 
 -- ---- one of two lists
@@ -80,3 +85,37 @@ unfolding read_entries_with
 entry-behind eats d past client i x h =
     get-behind (read_entries_with eats d past client) (entries_of_read past [] (taken_by_with eats d past client x)) i (omega (arith, h, length-read_entries eats d past client))
     ∙ ap (λ (n : ℕ). slice_get (entries_of_read past [] (taken_by_with eats d past client x)) (i - n)) (length-read_entries eats d past client)
+
+pub entry-kept : (eats : Eats) (d : Description) (past : List Step) (client i : ℕ) (x : Step) (at : ReadEntry) → slice_get (read_entries_with eats d past client) i ≡ Some at → slice_get (read_entries_with eats d (x ∷ past) client) i ≡ Some at
+entry-kept eats d past client i x at is =
+    entry-before eats d past client i x (omega (arith, slice_get_within (read_entries_with eats d past client) i at is, length-read_entries eats d past client)) ∙ is
+
+-- ---- which event it is
+
+-- the one of the same index
+pub entry-took : (eats : Eats) (d : Description) (past : List Step) (client i : ℕ) (at : ReadEntry) → slice_get (read_entries_with eats d past client) i ≡ Some at → slice_get (took_with eats d past client) i ≡ Some at.entry
+unfolding read_entries_with took_with
+entry-took eats d [] client i at is = absurd (let bad : None ≡ Some at = is in cc)
+entry-took eats d (x ∷ past) client i at is = elim (cases_lt i (length (took_with eats d past client))) [
+  | inl early ↦
+      (get-front (took_with eats d past client) (taken_by_with eats d past client x) i early
+      ∙ entry-took eats d past client i at (sym (entry-before eats d past client i x early) ∙ is))
+  | inr late ↦
+      (get-behind (took_with eats d past client) (taken_by_with eats d past client x) i late
+      ∙ (of-read past [] (taken_by_with eats d past client x) (i - length (took_with eats d past client)) at (sym (entry-behind eats d past client i x late) ∙ is)).is_entry)
+]
+
+-- where a client took this event at an index, the entry there
+pub record HasEntry (eats : Eats) (d : Description) (past : List Step) (client i : ℕ) (taken : Taken) : Type 0 where
+  pub at : ReadEntry
+  pub is_at : slice_get (read_entries_with eats d past client) i ≡ Some at
+  pub is_taken : taken_of at.entry ≡ taken
+
+pub entry-of : (eats : Eats) (d : Description) (past : List Step) (client i : ℕ) (taken : Taken) → slice_get (map taken_of (took_with eats d past client)) i ≡ Some taken → HasEntry eats d past client i taken
+entry-of eats d past client i taken is =
+    let T : List Entry = took_with eats d past client in
+    let within : i < length T = omega (arith, slice_get_within (map taken_of T) i taken is, length-map T taken_of) in
+    let found : (at : ReadEntry) × (slice_get (read_entries_with eats d past client) i ≡ Some at) = entry-there eats d past client i within in
+    let same : Some (taken_of found.0.entry) ≡ Some taken =
+    sym (slice_get-map taken_of T i ∙ ap (λ (o : Option Entry). option_map taken_of o) (entry-took eats d past client i found.0 found.1)) ∙ is in
+    record { at = found.0; is_at = found.1; is_taken = cc }
