@@ -1,5 +1,5 @@
 -- What a job's view is at each report that it took (docs/RUNS.md, "What a sight tells of the device").
-use Rattle.std.specs.Prelude.{ℕ, suc, ◌+◌, ◌-◌, ◌≡◌, ◌<◌, pos, Bool, true, false, ◌&&◌, if◌then◌else◌, nat_eq, List, [], ◌∷◌, length, map, take, reverse, slice_get, slice_index_or, Option, Some, None, option_map}
+use Rattle.std.specs.Prelude.{ℕ, suc, ◌+◌, ◌-◌, ◌≡◌, ◌<◌, pos, Bool, true, false, ◌&&◌, if◌then◌else◌, nat_eq, List, [], ◌∷◌, length, take, reverse, slice_get, slice_index_or, Option, Some, None, option_map}
 use Rattle.inp_model.specs.declared.taken.Taken.{Taken}
 use Rattle.inp_model.specs.declared.step.Step.{Step}
 use Rattle.inp_model.specs.declared.step.Step.TheVariants.{Read}
@@ -14,8 +14,8 @@ use Rattle.inp_actors.specs.declared.role.Role.{Role}
 use Rattle.inp_actors.specs.declared.role.Role.TheVariants.{Source, Client, Tap, Joy, Owner}
 use Rattle.inp_recon.specs.declared.view.View.{View}
 use Rattle.inp_recon.specs.View.{first_view}
-use Rattle.inp_recon.specs.ClientView.{past_before_read, read_up_to, view_at}
-use Rattle.inp_recon.specs.Faithful.{IsReportAt, IsFollowed, IsDeviceState}
+use Rattle.inp_recon.specs.ClientView.{ReadEntry, read_entries, view_at}
+use Rattle.inp_recon.specs.Faithful.{IsReportOf, IsFollowed, IsDeviceState}
 use Rattle.inp_recon.specs.Synchronised.{has_axis, is_synchronised}
 use Rattle.inp_reader.specs.declared.reader.TheConstants.{NO_CLIENT}
 use Rattle.inp_script.specs.declared.sight.Sight.{Sight}
@@ -81,7 +81,9 @@ index_in_history d history sight = option_map (index_behind d history (reads_as 
 pub record IsOwnEvent (d : Description) (history : List Step) (sight : List Sight) (taken : Taken) : Type 0 where
   pub index : ℕ
   pub is_own : index_in_history d history sight ≡ Some index
-  pub is_taken : slice_get (map taken_of (took d (reverse history) (reads_as sight))) index ≡ Some taken
+  pub at : ReadEntry
+  pub is_at : slice_get (read_entries d (reverse history) (reads_as sight)) index ≡ Some at
+  pub is_taken : taken_of at.entry ≡ taken
 
 -- each event that a job took is such
 abbrev pub AreEventsOwn : Description → List Step → List Sight → Type 0
@@ -117,9 +119,10 @@ pub record ShowsAt (d : Description) (past : List Step) (client : ℕ) (own : Op
   -- which of the events that the client took
   pub index : ℕ
   pub is_own : own ≡ Some index
-  pub is_taken : slice_get (map taken_of (took d past client)) index ≡ Some taken
-  pub agrees : is_synchronised d (past_before_read d past client index) client (read_up_to d past client index) ≡ true
-      → AgreesIn d view (view_at d past client index)
+  pub at : ReadEntry
+  pub is_at : slice_get (read_entries d past client) index ≡ Some at
+  pub is_taken : taken_of at.entry ≡ taken
+  pub agrees : is_synchronised d at.before client at.taken ≡ true → AgreesIn d view (view_at d client at)
 
 -- the same of the last event of a sight, and of the client that the job reads as then
 abbrev pub IsSeenAt : Description → List Step → Role → List Sight → Taken → Type 0
@@ -137,8 +140,7 @@ AreReportsSeen d history role sight =
 pub record ShowsTheState (d : Description) (past : List Step) (client : ℕ) (own : Option ℕ) (taken : Taken) (view : View) : Type 0 where
   pub index : ℕ
   pub is_own : own ≡ Some index
-  pub is_taken : slice_get (map taken_of (took d past client)) index ≡ Some taken
-  pub shows : (f : Frame)
-      → IsReportAt (took d past client) index f
-      → IsFollowed d (past_before_read d past client index) client (read_up_to d past client index) f
-      → IsDeviceState d f.cut.until view
+  pub at : ReadEntry
+  pub is_at : slice_get (read_entries d past client) index ≡ Some at
+  pub is_taken : taken_of at.entry ≡ taken
+  pub shows : (f : Frame) → IsReportOf at.entry f → IsFollowed d at.before client at.taken f → IsDeviceState d f.cut.until view

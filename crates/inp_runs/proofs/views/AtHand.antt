@@ -1,5 +1,5 @@
 -- The events that a reader has at hand are the last ones that its client took, and the index of the next is its own.
-use Rattle.std.proofs.Common.{◌≡◌, ◌⊎◌, inl, inr, ℕ, zero, suc, ◌+◌, ◌-◌, Bool, true, false, if◌then◌else◌, List, [], ◌∷◌, ◌++◌, length, map, drop, reverse, refl, sym, ap, subst, ◌∙◌, arith, append-nil, append_assoc, length-append, Option, Some, None}
+use Rattle.std.proofs.Common.{◌≡◌, ◌⊎◌, inl, inr, ℕ, suc, ◌+◌, ◌-◌, Bool, true, false, if◌then◌else◌, List, [], ◌∷◌, ◌++◌, length, map, drop, reverse, refl, sym, ap, subst, ◌∙◌, arith, append-nil, append_assoc, length-append, Option, Some, None}
 use Rattle.std.specs.Prelude.{slice_get, option_map}
 use Rattle.std.proofs.lemmas.Bool.{false≢true, eq-eqb}
 use Rattle.std.proofs.lemmas.List.{length-map, map-append}
@@ -10,10 +10,12 @@ use Rattle.inp_model.specs.declared.reply.Reply.{Reply}
 use Rattle.inp_model.specs.Description.{Description}
 use Rattle.inp_model.specs.Past.{past_at}
 use Rattle.inp_model.specs.Queue.{Entry, taken_by, took, took_with}
-use Rattle.inp_model.specs.Reply.{Answer, IsAnswer, answer, accepted, refused, is_accepted, taken_of}
+use Rattle.inp_model.specs.Reply.{Answer, IsAnswer, answer, refused, is_accepted, taken_of}
 use Rattle.inp_model.specs.Run.{Call, HasPlace, place_of, next_place}
 use Rattle.inp_recon.specs.declared.view.View.{View}
 use Rattle.inp_recon.specs.Synchronised.{is_dropped}
+use Rattle.inp_recon.proofs.ReadEntries.{entry-took}
+use Rattle.inp_model.specs.Left.{eaten}
 use Rattle.inp_runs.specs.LossCauses.{IsCausedAt}
 use Rattle.inp_runs.proofs.losses.Causes.{all_taken-caused}
 use Rattle.inp_reader.specs.ReaderPlace.{is_use_of}
@@ -33,29 +35,16 @@ use Rattle.inp_joy.proofs.Lists.{slice_get-left}
 
 -- ---- an event that a job took
 
--- an entry of an event at a place
-record IsEntryAt (entries : List Entry) (index : ℕ) (taken : Taken) : Type 0 where
-  entry : Entry
-  at : slice_get entries index ≡ Some entry
-  same : entry.taken ≡ taken
-
-entry-at : (entries : List Entry) (index : ℕ) (taken : Taken) → slice_get (map taken_of entries) index ≡ Some taken → IsEntryAt entries index taken
-entry-at [] index taken h = absurd cc
-entry-at (e ∷ entries) zero taken h = record { entry = e; at = refl; same = (let k : Some e.taken ≡ Some taken = h in cc) }
-entry-at (e ∷ entries) (suc index) taken h =
-    let more : IsEntryAt entries index taken = entry-at entries index taken h in
-    record { entry = more.entry; at = more.at; same = more.same }
-
 -- so it has its cause, if it tells of a loss
 pub own-caused : (d : Description) (h : List Step) (sight : List Sight) (taken : Taken) → IsOwnEvent d h sight taken → is_dropped taken.event ≡ true → HasLossCause d h sight taken
 own-caused d h sight taken o lost =
-    let e : IsEntryAt (took d (reverse h) (reads_as sight)) o.index taken = entry-at (took d (reverse h) (reads_as sight)) o.index taken o.is_taken in
-    subst (λ (t : Taken). IsCausedAt d (reverse h) (reads_as sight) t.place) e.same
-    (all_taken-caused d (reverse h) (reads_as sight) o.index e.entry e.at (ap (λ (t : Taken). is_dropped t.event) e.same ∙ lost))
+    let client : ℕ = reads_as sight in
+    subst (λ (t : Taken). IsCausedAt d (reverse h) client t.place) o.is_taken
+    (all_taken-caused d (reverse h) client o.index o.at.entry (entry-took (eaten d) d (reverse h) client o.index o.at o.is_at) (ap (λ (t : Taken). is_dropped t.event) o.is_taken ∙ lost))
 
 -- a view that is shown at the event's own index tells so
 pub shown-own : (d : Description) (h : List Step) (sight : List Sight) (taken : Taken) (view : View) → ShowsAt d (reverse h) (reads_as sight) (index_in_history d h sight) taken view → IsOwnEvent d h sight taken
-shown-own d h sight taken view s = record { index = s.index; is_own = s.is_own; is_taken = s.is_taken }
+shown-own d h sight taken view s = record { index = s.index; is_own = s.is_own; at = s.at; is_at = s.is_at; is_taken = s.is_taken }
 
 -- the index of an event that a reader handed out
 pub index-took : (d : Description) (h : List Step) (client : ℕ) (sight : List Sight) (taken : Taken) → reads_as (sight ++ Took taken ∷ []) ≡ client

@@ -2,8 +2,7 @@
 use Rattle.std.proofs.Common.{◌≡◌, ◌≤◌, ◌<◌, ◌⊎◌, inl, inr, ℕ, suc, Bool, true, false, List, [], ◌∷◌, ◌++◌, length, map, take, reverse, refl, sym, ap, subst, ◌∙◌, arith, append-nil, Option, Some, None}
 use Rattle.std.specs.Prelude.{Result, Ok, Err, slice_get}
 use Rattle.std.proofs.lemmas.Bool.{true≢false, cond-true}
-use Rattle.std.proofs.lemmas.List.{length-map, length-reverse, length-take}
-use Rattle.std.proofs.lemmas.Option.{slice_get_within}
+use Rattle.std.proofs.lemmas.List.{length-reverse, length-take}
 use Rattle.inp_model.specs.declared.taken.Taken.{Taken}
 use Rattle.inp_model.specs.declared.step.Step.{Step}
 use Rattle.inp_model.specs.declared.step.Step.TheVariants.{Open}
@@ -17,6 +16,8 @@ use Rattle.inp_model.specs.Run.{Call, HasPlace, IsLegalFrom, place_of, next_plac
 use Rattle.inp_model.specs.Step.{client_of}
 use Rattle.inp_recon.specs.declared.view.View.{View}
 use Rattle.inp_recon.specs.ClientView.{view_at}
+use Rattle.inp_recon.proofs.ReadEntries.{HasEntry, entry-of}
+use Rattle.inp_model.specs.Left.{eaten}
 use Rattle.inp_model.specs.History.{IsHistory}
 use Rattle.inp_recon.proofs.Each.{Each}
 use Rattle.inp_model.proofs.Opens.{is_open-lt, opens-le}
@@ -66,15 +67,17 @@ handed-shows : (d : Description) (past : List Step) (r : Reading) (t : Taken) �
 handed-shows d past r t history spare out =
     let i : ℕ = index_handed_out d past r in
     let is : slice_get (map taken_of (took d past r.client)) i ≡ Some t = handed-is-taken d past r t out history in
-    let within : i < length (took d past r.client) = omega (arith, slice_get_within (map taken_of (took d past r.client)) i t is, length-map (took d past r.client) taken_of) in
+    let e : HasEntry (eaten d) d past r.client i t = entry-of (eaten d) d past r.client i t is in
     let bare : HasNoOthers d r.view = record { keys = spare.keys; switches = spare.switches; leds = spare.leds } in
     record {
       index = i;
       is_own = refl;
-      is_taken = is;
+      at = e.at;
+      is_at = e.is_at;
+      is_taken = e.is_taken;
       agrees = λ synchronised.
-          agrees-back d (view_at d past r.client i) r.view
-          (agrees-had d (view_at d past r.client i) r.view (agree-then d past r t out history) (no-others-at d past r.client i history within) bare (sized-at d past r.client i) spare.sized);
+          agrees-back d (view_at d r.client e.at) r.view
+          (agrees-had d (view_at d r.client e.at) r.view (agree-then d past r t e.at out history e.is_at) (no-others-at d past r.client i e.at history e.is_at) bare (sized-at d r.client e.at) spare.sized);
     }
 
 -- Calls of a history

@@ -20,6 +20,9 @@ use Rattle.inp_actors.specs.declared.command.Command.{Command}
 use Rattle.inp_actors.specs.declared.command.Command.TheVariants.{Open, Close, Grab, Ungrab, Revoke, Mask, Clock, Write, SetAxis, Next as ToNext, Skip, Follow, Force}
 use Rattle.inp_actors.specs.declared.role.Role.TheVariants.{Client}
 use Rattle.inp_actors.specs.Command.{is_command_of}
+use Rattle.inp_recon.proofs.ReadEntries.{HasEntry, entry-of}
+use Rattle.inp_recon.specs.ClientView.{read_entries}
+use Rattle.inp_model.specs.Left.{eaten}
 use Rattle.inp_recon.specs.declared.view.View.{View}
 use Rattle.inp_recon.specs.View.{first_view}
 use Rattle.inp_model.specs.History.{IsHistory}
@@ -135,10 +138,13 @@ module _ (d : Description) (h : List Step) (Q : ℕ → Type 0) (history : IsHis
       let now : reads_as (j.sight ++ Took taken ∷ []) ≡ client = client_after-append NO_CLIENT j.sight (Took taken ∷ []) ∙ reads in
       let is : slice_get (map taken_of (took d (reverse h) client)) i ≡ Some taken =
       taken-later d h least client i taken (hand-taken d h least client (read_after_sight client None j.sight) taken j.reading.queue rest) in
+      let e : HasEntry (eaten d) d (reverse h) client i taken = entry-of (eaten d) d (reverse h) client i taken is in
       record {
         index = i;
         is_own = took-index least j taken reads rest;
-        is_taken = subst (λ (n : ℕ). slice_get (map taken_of (took d (reverse h) n)) i ≡ Some taken) (sym now) is;
+        at = e.at;
+        is_at = subst (λ (n : ℕ). slice_get (read_entries d (reverse h) n) i ≡ Some e.at) (sym now) e.is_at;
+        is_taken = e.is_taken;
       }
 
   took-seen : (least : ℕ) (j : Job) (taken : Taken) → client_fold d h (settled (first_view d)) (j.sight ++ Took taken ∷ []) ≡ settled j.reading.view → reads_as j.sight ≡ j.reading.client

@@ -2,8 +2,8 @@
 use Rattle.std.proofs.Common.{◌≡◌, ◌≤◌, ◌<◌, inl, inr, ℕ, zero, suc, ◌+◌, ◌-◌, nat_eq, nat_lt, Bool, true, false, not, if◌then◌else◌, ℤ, List, [], ◌∷◌, ◌++◌, length, map, take, drop, reverse, replicate, get_or, refl, sym, ap, subst, ◌∙◌, arith, append-nil, append_assoc, take-append-drop, Option, Some, None}
 use Rattle.std.specs.Prelude.{slice_get}
 use Rattle.std.specs.List.{All}
-use Rattle.std.proofs.lemmas.Bool.{true≢false, cond-false, cond-true, cases_lt, lt-ltb, false_from_ne_true, cond_both}
-use Rattle.std.proofs.lemmas.List.{ext_get_or, length-map, length-replicate, length-take, map-append, nil_from_length, reverse-append, take_more}
+use Rattle.std.proofs.lemmas.Bool.{true≢false, cond-false, cases_lt, lt-ltb, false_from_ne_true, cond_both}
+use Rattle.std.proofs.lemmas.List.{ext_get_or, length-replicate, length-take, nil_from_length, reverse-append, take_more}
 use Rattle.std.proofs.lemmas.List.Elements.{All-nil, All-head, All-tail, All-take}
 use Rattle.std.proofs.lemmas.List.FromFn.{length-map-range_with_len}
 use Rattle.std.proofs.lemmas.Option.{slice_get_within, get_or_from_slice_get}
@@ -18,15 +18,16 @@ use Rattle.inp_model.specs.Description.{Description, has_kind}
 use Rattle.inp_model.specs.Evdev.{is_again}
 use Rattle.inp_model.specs.Event.{is_repeat}
 use Rattle.inp_model.specs.Past.{past_at}
-use Rattle.inp_model.specs.Queue.{Entry, event_of, taken_by, took, took_with}
+use Rattle.inp_model.specs.Queue.{Entry, event_of, taken_by, took}
 use Rattle.inp_model.specs.Raw.{raw}
-use Rattle.inp_model.specs.Reply.{Answer, IsAnswer, answer, answer_by, accepted, refused, is_accepted, past_after, taken_of, bitmap_of, code_on}
+use Rattle.inp_model.specs.Reply.{Answer, IsAnswer, answer, answer_by, accepted, refused, is_accepted, past_after, bitmap_of, code_on}
 use Rattle.inp_model.specs.Run.{Call, IsLegalFrom, HasPlace, place_of, next_place}
 use Rattle.inp_recon.specs.declared.view.View.{View}
 use Rattle.inp_recon.specs.View.{IsSizedFor, key_count, code_count, with_flag, bits_in, flags_after_reply, keys_after_answer, switches_after_answer, leds_after_answer, first_view, view_after_event, view_after_events, view_after_answer}
-use Rattle.inp_recon.specs.ClientView.{view_after_step, client_view, client_view_with, past_before_read, past_before_read_with, read_up_to, view_at}
+use Rattle.inp_recon.specs.ClientView.{ReadEntry, view_after_step, client_view, client_view_with, read_entries, read_entries_with, view_at}
+use Rattle.inp_recon.proofs.ReadEntries.{entry-before, entry-kept}
+use Rattle.inp_model.specs.Left.{eaten}
 use Rattle.inp_model.specs.History.{IsHistory}
-use Rattle.inp_recon.specs.Synchronised.{is_synchronised}
 use Rattle.inp_recon.proofs.Each.{Each}
 use Rattle.inp_recon.proofs.Sizes.{IsSizedFor-after_events}
 use Rattle.inp_recon.proofs.ToldBits.{told_flag}
@@ -36,7 +37,7 @@ use Rattle.inp_reader.specs.ReaderPlace.{is_use_of, taken_events}
 use Rattle.inp_reader.proofs.AgreedViews.{AgreeBut}
 use Rattle.inp_model.proofs.Refused.{refused-not_accepted}
 use Rattle.inp_reader.proofs.Calls.{IsPlaceOf, place-least}
-use Rattle.inp_reader.proofs.ClientViews.{at-earlier, at-last, idle-step, idle-taken, used-view, taken-events}
+use Rattle.inp_reader.proofs.ClientViews.{at-last, idle-step, idle-taken, used-view, taken-events}
 use Rattle.inp_reader.proofs.PastsAtCalls.{AreQuiet, IsMet, AreMet, AreAllOwn, later_own, past_before, quiet-from_places, quiet-reversed, slice_get-taken, slice_get-behind}
 use Rattle.inp_reader.proofs.ShowsDevice.{what_is_had, no-key-down, nothing-on}
 use Rattle.inp_reader.proofs.SpareAgrees.{no-keys, no-switches, no-leds, keys-stay}
@@ -46,7 +47,6 @@ use Rattle.inp_script.specs.declared.sight.Sight.TheVariants.{Call as CallSight,
 use Rattle.inp_script.specs.Sight.{call_sight, again_sight}
 use Rattle.inp_script.proofs.Told.{noted_sight}
 use Rattle.inp_runs.specs.JobViews.{AgreesIn, ShowsAt}
-use Rattle.inp_joy.proofs.Lists.{slice_get-left}
 use Rattle.inp_script.proofs.Runs.{next_place-within}
 use Rattle.inp_model.proofs.Injection.{past-shorter}
 
@@ -93,30 +93,14 @@ at_each-noted P before (call ∷ calls) =
 -- ---- a history that grows
 
 shows-one : (d : Description) (past : List Step) (client : ℕ) (own : Option ℕ) (taken : Taken) (view : View) (x : Step) → ShowsAt d past client own taken view → ShowsAt d (x ∷ past) client own taken view
-unfolding took_with past_before_read_with
-shows-one d past client own taken view x s =
-    let T : List Entry = took d past client in
-    let E : List Entry = taken_by d past client x in
-    let i : ℕ = s.index in
-    let earlier : List Step = past_before_read d past client i in
-    let within : i < length T = omega (arith, slice_get_within (map taken_of T) i taken s.is_taken, length-map T taken_of) in
-    let same : (if nat_lt i (length T) then earlier else past) ≡ earlier = cond-true (nat_lt i (length T)) earlier past (lt-ltb i (length T) within) in
-    let front : take (suc i) (T ++ E) ≡ take (suc i) T = take-front (suc i) T E within in
-    let before : (n : ℕ) → drop n (take (suc i) (T ++ E)) ≡ drop n (take (suc i) T) = λ n. ap (λ (es : List Entry). drop n es) front in
-    let synchronised : is_synchronised d (past_before_read d (x ∷ past) client i) client (read_up_to d (x ∷ past) client i) ≡ is_synchronised d earlier client (read_up_to d past client i) =
-    ap (λ (p : List Step). is_synchronised d p client (drop (length (took d p client)) (take (suc i) (T ++ E)))) same
-    ∙ ap (λ (es : List Entry). is_synchronised d earlier client es) (before (length (took d earlier client))) in
-    record {
-      index = i;
-      is_own = s.is_own;
-      is_taken = ap (λ (ts : List Taken). slice_get ts i) (map-append taken_of T E) ∙ slice_get-left (map taken_of T) (map taken_of E) i taken s.is_taken;
-      agrees = λ h. subst (λ (v : View). AgreesIn d view v) (sym (at-earlier d past client i x within)) (s.agrees (sym synchronised ∙ h));
-    }
-  where
-    take-front : (n : ℕ) (xs ys : List Entry) → n ≤ length xs → take n (xs ++ ys) ≡ take n xs
-    take-front zero xs ys h = refl
-    take-front (suc n) [] ys h = absurd (omega (arith, h))
-    take-front (suc n) (x ∷ xs) ys h = ap (λ (es : List Entry). x ∷ es) (take-front n xs ys (omega (arith, h)))
+shows-one d past client own taken view x s = record {
+  index = s.index;
+  is_own = s.is_own;
+  at = s.at;
+  is_at = entry-kept (eaten d) d past client s.index x s.at s.is_at;
+  is_taken = s.is_taken;
+  agrees = s.agrees;
+}
 
 -- what a client took stays so
 pub shows-later : (d : Description) (more past : List Step) (client : ℕ) (own : Option ℕ) (taken : Taken) (view : View) → ShowsAt d past client own taken view → ShowsAt d (more ++ past) client own taken view
@@ -218,12 +202,12 @@ take-none (suc n) [] h = refl
 take-none (suc n) (e ∷ es) h = absurd cc
 
 -- the view at an event
-pub no-others-at : (d : Description) (past : List Step) (client i : ℕ) → IsHistory d past → i < length (took d past client) → HasNoOthers d (view_at d past client i)
-unfolding took_with
-no-others-at d [] client i h within = absurd (omega (arith, within))
-no-others-at d (x ∷ past) client i h within = elim (cases_lt i (length (took d past client))) [
-  | inl before ↦ subst (HasNoOthers d) (sym (at-earlier d past client i x before)) (no-others-at d past client i h.0 before)
-  | inr behind ↦ subst (HasNoOthers d) (sym (at-last d past client i x behind)) (by (is_use_of client x) refl)
+pub no-others-at : (d : Description) (past : List Step) (client i : ℕ) (at : ReadEntry) → IsHistory d past → slice_get (read_entries d past client) i ≡ Some at → HasNoOthers d (view_at d client at)
+unfolding read_entries_with
+no-others-at d [] client i at h is = absurd (let bad : None ≡ Some at = is in cc)
+no-others-at d (x ∷ past) client i at h is = elim (cases_lt i (length (took d past client))) [
+  | inl before ↦ no-others-at d past client i at h.0 (sym (entry-before (eaten d) d past client i x before) ∙ is)
+  | inr behind ↦ subst (HasNoOthers d) (sym (at-last d past client i x at behind is)) (by (is_use_of client x) refl)
 ]
   where
     v : View
@@ -265,8 +249,8 @@ agrees-had d v w a s t sized_v sized_w = record {
     by zero none = nil_from_length v.cells (omega (arith, none, sized_v.cells)) ∙ sym (nil_from_length w.cells (omega (arith, none, sized_w.cells)))
     by (suc n) some = a.cells (ap (λ (k : ℕ). nat_lt 0 k) some ∙ lt-ltb 0 (suc n) (omega arith)) refl
 
-pub sized-at : (d : Description) (past : List Step) (client i : ℕ) → IsSizedFor d.slots (view_at d past client i)
-sized-at d past client i = IsSizedFor-after_events d.slots (client_view d (past_before_read d past client i) client) (map event_of (read_up_to d past client i)) (client_view-sized d (past_before_read d past client i) client)
+pub sized-at : (d : Description) (client : ℕ) (at : ReadEntry) → IsSizedFor d.slots (view_at d client at)
+sized-at d client at = IsSizedFor-after_events d.slots (client_view d at.before client) (map event_of at.taken) (client_view-sized d at.before client)
 
 -- ---- the pasts of calls
 

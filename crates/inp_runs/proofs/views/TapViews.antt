@@ -2,7 +2,7 @@
 use Rattle.std.proofs.Common.{◌≡◌, ◌≤◌, ◌<◌, ◌⊎◌, inl, inr, ℕ, zero, suc, ◌+◌, ◌-◌, nat_eq, nat_lt, Bool, true, false, ◌&&◌, ◌||◌, not, if◌then◌else◌, ℤ, pos, List, [], ◌∷◌, ◌++◌, length, map, take, drop, reverse, refl, sym, ap, subst, ◌∙◌, arith, append-nil, append_assoc, length-append, Option, Some, None}
 use Rattle.std.specs.Prelude.{slice_get, slice_index_or}
 use Rattle.std.specs.List.{All, list_all, range_with_len}
-use Rattle.std.proofs.lemmas.Bool.{true≢false, false≢true, cond-false, cond-true, and_parts, cases_lt, eqb-true, eq-eqb, lt-ltb, le-ltb}
+use Rattle.std.proofs.lemmas.Bool.{true≢false, false≢true, cond-false, cond-true, and_parts, cases_lt, eqb-true, eq-eqb, lt-ltb}
 use Rattle.std.proofs.lemmas.List.{length-map, length-reverse, length-take, map-append, take_at, get_or_past}
 use Rattle.std.proofs.lemmas.List.Elements.{All-take}
 use Rattle.inp_model.specs.declared.event.Event.{Event}
@@ -27,7 +27,9 @@ use Rattle.inp_actors.specs.declared.role.Role.TheVariants.{Tap}
 use Rattle.inp_actors.specs.Command.{is_command_of}
 use Rattle.inp_recon.specs.declared.view.View.{View}
 use Rattle.inp_recon.specs.View.{IsSizedFor, code_count, first_view, view_after_events, view_after_answer}
-use Rattle.inp_recon.specs.ClientView.{client_view, client_view_with, past_before_read, past_before_read_with, view_at}
+use Rattle.inp_recon.specs.ClientView.{client_view, client_view_with, view_at}
+use Rattle.inp_recon.proofs.ReadEntries.{IsOfRead, HasEntry, of-read, entry-behind, entry-of}
+use Rattle.inp_model.specs.Left.{eaten}
 use Rattle.inp_model.specs.History.{IsHistory}
 use Rattle.inp_recon.specs.Synchronised.{Part, AllKeys, AllSwitches, AllLeds, OneAxis, AllSlots, asks_for, has_asked, has_asked_where, has_axis, is_synchronised, is_synchronised_with, is_start}
 use Rattle.inp_recon.proofs.Each.{and-left, and-right}
@@ -256,7 +258,7 @@ front-of done rest es t h =
 
 read-shows : (d : Description) (past : List Step) (client : ℕ) (x : Step) (v : View) (done rest : List Taken) (t : Taken) → IsHistory d (x ∷ past) → is_use_of client x ≡ true → (answer d past x).events ≡ done ++ t ∷ rest → HasNoOthers d v → IsSizedFor d.slots v → IsAsked d past client v
     → ShowsAt d (x ∷ past) client (Some (length (took d past client) + length done)) t (view_after_events v (taken_events (done ++ t ∷ [])))
-unfolding took_with past_before_read_with
+unfolding took_with
 read-shows d past client x v done rest t history used is bare sized a =
     let T : List Entry = took d past client in
     let E : List Entry = taken_by d past client x in
@@ -266,29 +268,31 @@ read-shows d past client x v done rest t history used is bare sized a =
     let given : Answer = answer d past x in
     let told : map taken_of E ≡ given.events = used-taken d past client x history.1 used in
     let n : suc i - length T ≡ suc (length done) = omega arith in
-    let before : (if nat_lt i (length T) then past_before_read d past client i else past) ≡ past = cond-false (nat_lt i (length T)) (past_before_read d past client i) past (le-ltb i (length T) behind) in
-    let at : view_at d (x ∷ past) client i ≡ view_after_events (client_view d past client) es =
-    at-last d past client i x behind
+    let own : slice_get (map taken_of (T ++ E)) i ≡ Some t =
+    ap (λ (ts : List Taken). slice_get ts i) (map-append taken_of T E ∙ ap (λ (ts : List Taken). map taken_of T ++ ts) (told ∙ is ∙ sym (append_assoc done (t ∷ []) rest)))
+    ∙ at-it (map taken_of T) done rest t i (ap (λ (m : ℕ). m + length done) (sym (length-map T taken_of))) in
+    let e : HasEntry (eaten d) d (x ∷ past) client i t = entry-of (eaten d) d (x ∷ past) client i t own in
+    let o : IsOfRead past [] E (i - length T) e.at = of-read past [] E (i - length T) e.at (sym (entry-behind (eaten d) d past client i x behind) ∙ e.is_at) in
+    let view : view_at d client e.at ≡ view_after_events (client_view d past client) es =
+    at-last d past client i x e.at behind e.is_at
     ∙ ap (λ (l : List Event). view_after_events (client_view d past client) l) (taken-events d past client (suc i - length T) x history.1 used)
     ∙ ap (λ (m : ℕ). view_after_events (client_view d past client) (taken_events (take m given.events))) n
     ∙ ap (λ (l : List Taken). view_after_events (client_view d past client) (taken_events l)) (front-of done rest given.events t is) in
-    let within : i < length (T ++ E) = omega (arith, length-append T E, length-map E taken_of, ap (λ (ts : List Taken). length ts) (told ∙ is), length-append done (t ∷ rest)) in
     let all : All (λ (u : Taken). is_event_of d u.event ≡ true) (done ++ t ∷ []) =
     subst (λ (ts : List Taken). All (λ (u : Taken). is_event_of d u.event ≡ true) ts) (front-of done rest given.events t is) (All-take (λ (u : Taken). is_event_of d u.event ≡ true) (suc (length done)) given.events (events-of d past x given (inl refl))) in
     record {
       index = i;
       is_own = refl;
-      is_taken =
-          ap (λ (ts : List Taken). slice_get ts i) (map-append taken_of T E ∙ ap (λ (ts : List Taken). map taken_of T ++ ts) (told ∙ is ∙ sym (append_assoc done (t ∷ []) rest)))
-          ∙ at-it (map taken_of T) done rest t i (ap (λ (m : ℕ). m + length done) (sym (length-map T taken_of)));
+      at = e.at;
+      is_at = e.is_at;
+      is_taken = e.is_taken;
       agrees = λ h.
-          let synchronised : is_synchronised d past client (drop (length T) (take (suc i) (T ++ E))) ≡ true =
-          sym (ap (λ (p : List Step). is_synchronised d p client (drop (length (took d p client)) (take (suc i) (T ++ E)))) before) ∙ h in
-          let had : AgreeBut (what_is_had d) [] v (client_view d past client) = all-asked d past client (drop (length T) (take (suc i) (T ++ E))) v (client_view d past client) synchronised a.agree in
-          agrees-had d (view_after_events v es) (view_at d (x ∷ past) client i)
-          (subst (λ (w : View). AgreeBut (what_is_had d) [] (view_after_events v es) w) (sym at) (agree-events (what_is_had d) v (client_view d past client) es had))
-          (no-others-events d v (done ++ t ∷ []) all bare) (no-others-at d (x ∷ past) client i history within)
-          (IsSizedFor-after_events d.slots v es sized) (sized-at d (x ∷ past) client i);
+          let synchronised : is_synchronised d past client e.at.taken ≡ true = subst (λ (p : List Step). is_synchronised d p client e.at.taken ≡ true) o.is_before h in
+          let had : AgreeBut (what_is_had d) [] v (client_view d past client) = all-asked d past client e.at.taken v (client_view d past client) synchronised a.agree in
+          agrees-had d (view_after_events v es) (view_at d client e.at)
+          (subst (λ (w : View). AgreeBut (what_is_had d) [] (view_after_events v es) w) (sym view) (agree-events (what_is_had d) v (client_view d past client) es had))
+          (no-others-events d v (done ++ t ∷ []) all bare) (no-others-at d (x ∷ past) client i e.at history e.is_at)
+          (IsSizedFor-after_events d.slots v es sized) (sized-at d client e.at);
     }
 
 -- ---- a call of a tap

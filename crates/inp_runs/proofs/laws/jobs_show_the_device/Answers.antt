@@ -24,8 +24,10 @@ shown : (d : Description) (past : List Step) (client : ℕ) (own : Option ℕ) (
 shown d past client own taken view faithful s = record {
   index = s.index;
   is_own = s.is_own;
+  at = s.at;
+  is_at = s.is_at;
   is_taken = s.is_taken;
-  shows = λ f report followed. state-agrees d f.cut.until view _ (s.agrees followed.synchronised) (faithful s.index f report followed);
+  shows = λ f report followed. state-agrees d f.cut.until view _ (s.agrees followed.synchronised) (faithful s.index s.at f s.is_at report followed);
 }
 
 pub returns : goal.returns
