@@ -22,6 +22,8 @@ pub mod QueueEvents
 pub mod QueuedValues
 pub mod ReadEntries
 pub mod Shape
+pub mod SameUndisturbed
+pub mod SinceStart
 pub mod Sizes
 pub mod SlotBatch
 pub mod SlotCells

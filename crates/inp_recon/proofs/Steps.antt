@@ -1,5 +1,5 @@
 -- What a step adds to a past: raw events, frames and entries, and where their places lie.
-use Rattle.std.proofs.Common.{◌≡◌, ◌⊎◌, ◌<◌, ◌≤◌, ℕ, suc, Bool, true, false, ◌||◌, if◌then◌else◌, nat_eq, List, [], ◌∷◌, ◌++◌, length, map, drop, refl, sym, ap, subst, ◌∙◌, Some, None, inl, inr, arith}
+use Rattle.std.proofs.Common.{◌≡◌, ◌⊎◌, ◌<◌, ◌≤◌, ℕ, suc, Bool, true, false, ◌||◌, if◌then◌else◌, nat_eq, List, [], ◌∷◌, ◌++◌, length, map, drop, refl, sym, ap, subst, ◌∙◌, Some, None, inl, inr, arith, length-append}
 use Rattle.inp_model.specs.declared.event.Event.{Event}
 use Rattle.inp_model.specs.declared.step.Step.{Step}
 use Rattle.inp_model.specs.declared.step.Step.TheVariants.{Open, Discard}
@@ -74,6 +74,17 @@ unfolding is_open
 start-before [] client h = absurd (let e : false ≡ true = h.is_there in cc)
 start-before (x ∷ past) client h = start-below past client x
 
+-- the last query is no earlier than the start
+pub start-before_sync : (past : List Step) (client : ℕ) → start_place past client ≤ sync_place past client
+unfolding start_place sync_place
+start-before_sync [] client = omega arith
+start-before_sync (x ∷ past) client = by (is_start past client x) (is_query_of client x) (start-before_sync past client)
+  where
+    by : (starts asks : Bool) → start_place past client ≤ sync_place past client → (if starts then length past else start_place past client) ≤ (if starts || asks then length past else sync_place past client)
+    by true asks h = omega arith
+    by false true h = start-within past client
+    by false false h = h
+
 -- ---- a client that receives frames, before the step
 
 still_open : (opening closing before : Bool) → opening ≡ false → (if opening then true else if closing then false else before) ≡ true → before ≡ true
@@ -128,7 +139,14 @@ left-each G loss eats d past client x h = by (is_start past client x) refl
     by true e = at_start (start_left eats d past client x e)
     by false e = at_call _ (left_by eats d past client x e)
 
--- ---- each queued entry was entered before the past's end
+-- ---- each queued entry is of a frame of the past
+
+-- a step of the past ended the frame
+abbrev pub IsFrameIn : List Step → Frame → Type 0
+IsFrameIn past f = (later : List Step) × (past ≡ later ++ f.step ∷ f.before)
+
+abbrev pub IsPassedIn : List Step → Entry → Type 0
+IsPassedIn past x = (f : Frame) → x.frame ≡ Some f → IsFrameIn past f
 
 abbrev pub IsPlacedBelow : ℕ → Entry → Type 0
 IsPlacedBelow n x = (f : Frame) → x.frame ≡ Some f → place f < n
@@ -150,28 +168,35 @@ entries-each G eats d client past s h (c ∷ cs) =
     Each-append G (entries_of_with eats d client (frame_of past s c)) (entries_with eats d client (map (frame_of past s) cs))
     (entries_of-each G eats d client (frame_of past s c) (h c)) (entries-each G eats d client past s h cs)
 
-pub queue-placed : (eats : Eats) (d : Description) (past : List Step) (client : ℕ) → Each (IsPlacedBelow (length past)) (queue_with eats d past client)
+pub queue-passed : (eats : Eats) (d : Description) (past : List Step) (client : ℕ) → Each (IsPassedIn past) (queue_with eats d past client)
 unfolding queue_with
-queue-placed eats d [] client = tt
-queue-placed eats d (x ∷ past) client = more (queue-placed eats d past client)
+queue-passed eats d [] client = tt
+queue-passed eats d (x ∷ past) client = more (queue-passed eats d past client)
   where
-    n : ℕ
-    n = suc (length past)
+    In : Entry → Type 0
+    In = IsPassedIn (x ∷ past)
 
-    none : (e : Entry) → e.frame ≡ None → IsPlacedBelow n e
-    none e h = λ f k. let bad : None ≡ Some f = sym h ∙ k in cc
+    none : (e : Entry) → e.frame ≡ None → In e
+    none e h = λ f k. absurd (let bad : None ≡ Some f = sym h ∙ k in cc)
 
-    here : (c : Cut) (e : Event) → IsPlacedBelow n (entry d client (frame_of past x c) e)
-    here c e = λ f k. let is : frame_of past x c ≡ f = cc in subst (λ (g : Frame). place g < n) is (omega arith)
+    here : (c : Cut) (e : Event) → In (entry d client (frame_of past x c) e)
+    here c e = λ f k. let is : frame_of past x c ≡ f = cc in subst (IsFrameIn (x ∷ past)) is ([], refl)
 
-    more : Each (IsPlacedBelow (length past)) (queue_with eats d past client) → Each (IsPlacedBelow n) (queue_with eats d (x ∷ past) client)
+    more : Each (IsPassedIn past) (queue_with eats d past client) → Each In (queue_with eats d (x ∷ past) client)
     more h =
-        let old : Each (IsPlacedBelow n) (queue_with eats d past client) =
-        Each-weaker (IsPlacedBelow (length past)) (IsPlacedBelow n) (λ e k f i. (let m : place f < length past = k f i in omega (arith, m))) (queue_with eats d past client) h in
-        subst (Each (IsPlacedBelow n)) (sym (queue-step eats d past client x))
-        (put_all-each (IsPlacedBelow n) (λ e k. k) (ring d) (left_in_queue eats d past client x) _
-        (left-each (IsPlacedBelow n) (λ e loss k. none e k) eats d past client x old)
-        (entries-each (IsPlacedBelow n) eats d client past x here (cuts d (raw d past) (raw_of_step d past x))))
+        let old : Each In (queue_with eats d past client) =
+        Each-weaker (IsPassedIn past) In (λ e k f i. (let m : IsFrameIn past f = k f i in (x ∷ m.0, ap (λ (p : List Step). x ∷ p) m.1))) (queue_with eats d past client) h in
+        subst (Each In) (sym (queue-step eats d past client x))
+        (put_all-each In (λ e k. k) (ring d) (left_in_queue eats d past client x) _
+        (left-each In (λ e loss k. none e k) eats d past client x old)
+        (entries-each In eats d client past x here (cuts d (raw d past) (raw_of_step d past x))))
+
+frame-below : (past : List Step) (f : Frame) → IsFrameIn past f → place f < length past
+frame-below past f h = omega (arith, ap length h.1, length-append h.0 (f.step ∷ f.before))
+
+pub queue-placed : (eats : Eats) (d : Description) (past : List Step) (client : ℕ) → Each (IsPlacedBelow (length past)) (queue_with eats d past client)
+queue-placed eats d past client =
+    Each-weaker (IsPassedIn past) (IsPlacedBelow (length past)) (λ e k f i. frame-below past f (k f i)) (queue_with eats d past client) (queue-passed eats d past client)
 
 -- ---- frames in order
 
