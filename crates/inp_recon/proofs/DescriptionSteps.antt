@@ -15,7 +15,6 @@ use Rattle.inp_model.specs.Frame.{frame_of, frames_of_step, frames}
 use Rattle.inp_model.specs.Left.{Eats}
 use Rattle.inp_model.specs.Queue.{is_empty, queue_with}
 use Rattle.inp_recon.specs.Synchronised.{is_start}
-use Rattle.inp_recon.specs.Undisturbed.{frames_end, described_from}
 use Rattle.inp_recon.proofs.Each.{Each, Each-weaker}
 use Rattle.inp_recon.proofs.CallsLeft.{left_in_queue}
 use Rattle.inp_recon.proofs.FrameSteps.{IsEventItem}
@@ -55,6 +54,20 @@ start-undescribed past client (Discard reader) h = refl
 start-undescribed past client x h = let bad : false ≡ true = h in absurd cc
 
 -- ---- their places
+
+-- how long the past was behind the last step that ended a frame, 0 where none did
+unfoldable pub frames_end : Description → List Step → ℕ
+frames_end d [] = 0
+frames_end d (x ∷ past) =
+    let before = frames_end d past in
+    if is_empty (frames_of_step d past x) then before else suc (length past)
+
+-- the same at the client's start
+unfoldable pub described_from : Description → List Step → ℕ → ℕ
+described_from d [] client = 0
+described_from d (x ∷ past) client =
+    let before = described_from d past client in
+    if is_start past client x then frames_end d past else before
 
 pub places-described : (past : List Step) (x : Step) → is_description x ≡ true → description_places (x ∷ past) ≡ length past ∷ description_places past
 unfolding description_places

@@ -1,5 +1,6 @@
 -- What holds of each item of a list, by recursion on the list, and tests of lists.
-use Rattle.std.proofs.Common.{◌≡◌, ℕ, suc, zero, Bool, true, false, ◌&&◌, List, [], ◌∷◌, ◌++◌, map, take, drop, refl}
+use Rattle.std.proofs.Common.{◌≡◌, ℕ, suc, zero, Bool, true, false, ◌&&◌, List, [], ◌∷◌, ◌++◌, map, take, drop, refl, subst, Some, None}
+use Rattle.std.specs.Prelude.{slice_get}
 use Rattle.std.proofs.lemmas.Bool.{and_from}
 use Rattle.std.specs.List.{list_all}
 
@@ -36,6 +37,11 @@ pub Each-drop : {X : Type 0} (P : X → Type 0) (n : ℕ) (xs : List X) → Each
 Each-drop P zero xs h = h
 Each-drop P (suc n) [] h = tt
 Each-drop P (suc n) (x ∷ xs) h = Each-drop P n xs h.1
+
+pub Each-at : {X : Type 0} (P : X → Type 0) (xs : List X) (i : ℕ) (x : X) → Each P xs → slice_get xs i ≡ Some x → P x
+Each-at P [] i x h is = absurd (let bad : None ≡ Some x = is in cc)
+Each-at P (y ∷ xs) zero x h is = let same : y ≡ x = (let s : Some y ≡ Some x = is in cc) in subst P same h.0
+Each-at P (y ∷ xs) (suc i) x h is = Each-at P xs i x h.1 is
 
 -- ---- tests
 

@@ -1,8 +1,8 @@
 -- What a client reads is faithful: at each report that is followed, each value is the device's.
-use Rattle.std.proofs.Common.{◌≡◌, ◌<◌, ◌≤◌, ℕ, zero, suc, ◌+◌, ◌/◌, ◌%◌, ℤ, pos, Bool, true, false, ◌&&◌, ◌||◌, not, if◌then◌else◌, nat_eq, nat_lt, nat_le, min, List, [], ◌∷◌, length, map, take, get_or, refl, sym, ap, subst, ◌∙◌, arith, Option, Some, None, inl, inr}
+use Rattle.std.proofs.Common.{◌≡◌, ◌<◌, ◌≤◌, ℕ, zero, suc, ◌+◌, ◌/◌, ◌%◌, ℤ, pos, Bool, true, false, ◌&&◌, ◌||◌, not, if◌then◌else◌, nat_eq, nat_lt, nat_le, min, List, [], ◌∷◌, ◌++◌, length, map, take, get_or, refl, sym, ap, subst, ◌∙◌, append_assoc, arith, Option, Some, None, inl, inr}
 use Rattle.std.specs.Prelude.{slice_get}
 use Rattle.std.specs.List.{list_all, range_with_len}
-use Rattle.std.proofs.lemmas.Bool.{eq-eqb, ne_eqb, lt-ltb, le-leb, leb-true, le-ltb, cases_lt, cases_order, and_from, not-true, and_right, not-false}
+use Rattle.std.proofs.lemmas.Bool.{eq-eqb, ne_eqb, lt-ltb, le-leb, cases_lt, cases_order, and_from, not-true, and_right, not-false}
 use Rattle.std.proofs.lemmas.List.{get_or_past, ext_get_or}
 use Rattle.inp_model.specs.declared.event.TheConstants.{EV_KEY, EV_ABS, EV_SW, EV_LED, KEY_MAX, SW_MAX, LED_MAX, ABS_MAX}
 use Rattle.inp_model.specs.declared.multi_touch.TheConstants.{ABS_MT_TOUCH_MAJOR, ABS_MT_TOOL_Y}
@@ -26,15 +26,18 @@ use Rattle.inp_recon.specs.View.{IsSizedFor, view_after_events}
 use Rattle.inp_recon.specs.Cells.{cell_index}
 use Rattle.inp_recon.specs.ClientView.{client_view_with}
 use Rattle.inp_recon.specs.Synchronised.{Part, AllKeys, AllSwitches, AllLeds, OneAxis, AllSlots, start_place, sync_place, has_asked, has_asked_where, has_axis, taken_since_start_with, has_no_loss, is_synchronised_with}
-use Rattle.inp_recon.specs.Undisturbed.{is_up_to, is_whole_for, described_from, is_undisturbed_with}
+use Rattle.inp_recon.specs.Undisturbed.{is_whole_for, frames_since_start, steps_since_frame_before_start, is_undisturbed_with}
+use Rattle.inp_recon.proofs.DescriptionSteps.{described_from, AreBelow}
+use Rattle.inp_recon.proofs.SinceStart.{Each-filter, frames-since, before-start, described-later}
+use Rattle.inp_recon.proofs.Steps.{IsFrameIn, IsPassedIn, queue-passed, start-before_sync}
 use Rattle.inp_recon.specs.Faithful.{IsDeviceState, IsFollowedWith, AreReadsFaithful}
 use Rattle.inp_recon.proofs.ReadEntries.{IsOfRead, of-read}
-use Rattle.inp_recon.proofs.Each.{Each, Each-weaker, and-left, and-right, Each-from_all, all-left, all-right}
+use Rattle.inp_recon.proofs.Each.{Each, Each-weaker, Each-take, Each-at, and-left, and-right, Each-from_all, all-left, all-right}
 use Rattle.inp_recon.proofs.Over.{over, over-idle, IsIdle}
 use Rattle.inp_recon.proofs.QueuedValues.{Promised}
 use Rattle.inp_recon.proofs.FrameEntries.{Receives}
 use Rattle.inp_recon.proofs.FrameSteps.{Says}
-use Rattle.inp_recon.proofs.FollowedValues.{AreWholeTo, IsBehind, FollowsReports}
+use Rattle.inp_recon.proofs.FollowedValues.{IsBehind, FollowsReports}
 use Rattle.inp_recon.proofs.Sizes.{IsSizedFor-after_events}
 use Rattle.inp_recon.proofs.ViewSteps.{length-rows, client_view_with-sized}
 use Rattle.inp_recon.proofs.AxisPasses.{axis_after}
@@ -85,28 +88,24 @@ Promised-item P t v (y ∷ q) (suc j) x at report none h =
 
 -- ---- what is known where a frame is followed
 
-whole_to : (eats : Eats) (start client : ℕ) (f : Frame) (fs : List Frame) → Each (λ g. (not (nat_lt start (place g) && is_up_to f g) || is_whole_for eats client g) ≡ true) fs → AreWholeTo eats start client f fs
-whole_to eats start client f fs h = Each-weaker _ _ (λ g k behind ended. one (nat_lt start (place g) && is_up_to f g) (is_whole_for eats client g) (ap (λ (b : Bool). b && is_up_to f g) (lt-ltb start (place g) behind) ∙ le-leb (length g.cut.until) (length f.cut.until) ended) k) fs h
-  where
-    one : (a b : Bool) → a ≡ true → (not a || b) ≡ true → b ≡ true
-    one true b e k = k
-    one false b e k = cc
-
-undescribed_to : (from to : ℕ) (ps : List ℕ) → Each (λ p. (nat_lt p from || nat_le to p) ≡ true) ps → Each (λ p. from ≤ p → to ≤ p) ps
-undescribed_to from to ps h = Each-weaker _ _ (λ p k late. leb-true to p (one (nat_lt p from) (nat_le to p) (le-ltb p from late) k)) ps h
-  where
-    one : (a b : Bool) → a ≡ false → (a || b) ≡ true → b ≡ true
-    one true b e k = cc
-    one false b e k = k
-
-pub behind-followed : (eats : Eats) (d : Description) (past : List Step) (client : ℕ) (taken : List Entry) (f : Frame) → IsFollowedWith eats d past client taken f
+pub behind-followed : (eats : Eats) (d : Description) (past : List Step) (client : ℕ) (taken : List Entry) (f : Frame) → IsFrameIn past f → IsFollowedWith eats d past client taken f
     → IsBehind eats (start_place past client) (sync_place past client) (described_from d past client) client (frames d past) (description_places past) f
 unfolding is_undisturbed_with
-behind-followed eats d past client taken f h = (
-  h.behind,
-  whole_to eats (start_place past client) client f (frames d past) (Each-from_all _ (frames d past) (and-left _ _ h.undisturbed)),
-  undescribed_to (described_from d past client) (place f) (description_places past) (Each-from_all _ (description_places past) (and-right _ _ h.undisturbed)),
-)
+behind-followed eats d past client taken f frame h =
+    let starts : start_place past client < place f = omega (arith, h.behind, start-before_sync past client) in
+    let split : past ≡ (frame.0 ++ f.step ∷ []) ++ f.before = frame.1 ∙ sym (append_assoc frame.0 (f.step ∷ []) f.before) in
+    let fs : List Frame = frames_since_start d past client in
+    let kept : Each (λ g. nat_le (length g.cut.until) (length f.cut.until) ≡ true → is_whole_for eats client g ≡ true) fs =
+    Each-filter (λ g. nat_le (length g.cut.until) (length f.cut.until)) (is_whole_for eats client) fs (and-left _ _ h.undisturbed) in
+    let whole : Each (λ g. length g.cut.until ≤ length f.cut.until → is_whole_for eats client g ≡ true) fs =
+    Each-weaker _ _ (λ g k ended. k (le-leb (length g.cut.until) (length f.cut.until) ended)) fs kept in
+    let below : AreBelow (described_from d f.before client) (description_places f.before) =
+    before-start d f.before client (Each-from_all _ (steps_since_frame_before_start d f.before client) (and-right _ _ h.undisturbed)) in (
+      h.behind,
+      frames-since d past client (λ g. length g.cut.until ≤ length f.cut.until → is_whole_for eats client g ≡ true) whole,
+      subst (λ (p : List Step). Each (λ q. described_from d p client ≤ q → place f ≤ q) (description_places p)) (sym split)
+          (described-later d (frame.0 ++ f.step ∷ []) f.before client (subst (λ (p : List Step). start_place p client < length f.before) split starts) below),
+    )
 
 -- what a synchronised client asked for, and that it took no loss
 pub record HasAskedForAll (eats : Eats) (d : Description) (past : List Step) (client : ℕ) (taken : List Entry) : Type 0 where
@@ -158,13 +157,22 @@ read-says : {V : Type 0} (eats : Eats) (d : Description) (past : List Step) (cli
 read-says {V} eats d past client count t st v h j f report followed =
     Promised-item P t v taken j report.entry report.at report.report none
     (subst (Promised P t v) (sym (taken-read eats d past client count)) (Promised-take P t v (min count (visible event_of (queue_with eats d past client))) (queue_with eats d past client) h.reports))
-    f report.frame (behind-followed eats d past client (take (suc j) taken) f followed)
+    f report.frame (behind-followed eats d past client (take (suc j) taken) f frame followed)
   where
     taken : List Entry
     taken = taken_by_with eats d past client (Read client count)
 
     P : Entry → V → Type 0
     P = Says st (IsBehind eats (start_place past client) (sync_place past client) (described_from d past client) client (frames d past) (description_places past))
+
+    frame : IsFrameIn past f
+    frame = Each-at (IsPassedIn past) taken j report.entry passed report.at f report.frame
+      where
+        q : List Entry
+        q = queue_with eats d past client
+
+        passed : Each (IsPassedIn past) taken
+        passed = subst (Each (IsPassedIn past)) (sym (taken-read eats d past client count)) (Each-take (IsPassedIn past) (min count (visible event_of q)) q (queue-passed eats d past client))
 
     none : has_no_loss (take (suc j) taken) ≡ true
     none = (all-asked eats d past client (take (suc j) taken) followed.synchronised).now

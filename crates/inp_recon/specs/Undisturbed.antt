@@ -1,5 +1,5 @@
 -- When nothing was kept from a client and no axis was described anew (docs/READER.md, "Faithful views").
-use Rattle.std.specs.Prelude.{ℕ, suc, Bool, true, ◌&&◌, ◌||◌, not, if◌then◌else◌, nat_eq, nat_lt, nat_le, List, [], ◌∷◌, ◌++◌, length, filter}
+use Rattle.std.specs.Prelude.{ℕ, suc, Bool, true, ◌&&◌, ◌||◌, not, if◌then◌else◌, nat_eq, nat_le, List, [], ◌∷◌, ◌++◌, length, filter}
 use Rattle.std.specs.List.{list_all}
 use Rattle.inp_model.specs.declared.event.TheConstants.{EV_KEY, EV_ABS, EV_SW, EV_LED}
 use Rattle.inp_model.specs.declared.event.Event.{Event}
@@ -7,11 +7,11 @@ use Rattle.inp_model.specs.declared.step.Step.{Step}
 use Rattle.inp_model.specs.RawItem.{Frame}
 use Rattle.inp_model.specs.Description.{Description}
 use Rattle.inp_model.specs.Step.{is_description}
-use Rattle.inp_model.specs.Past.{holder, is_other, admits, description_places}
-use Rattle.inp_model.specs.Frame.{place, frames_of_step, frames}
+use Rattle.inp_model.specs.Past.{holder, is_other, admits}
+use Rattle.inp_model.specs.Frame.{frames_of_step}
 use Rattle.inp_model.specs.Left.{Eats, eaten, is_left}
 use Rattle.inp_model.specs.Queue.{is_empty}
-use Rattle.inp_recon.specs.Synchronised.{is_start, start_place}
+use Rattle.inp_recon.specs.Synchronised.{is_start}
 
 -- the types of the events that a view follows
 abbrev pub is_viewed : ℕ → Bool
@@ -58,40 +58,10 @@ steps_since_frame_before_start d (x ∷ past) client =
 
 -- Since the client's start, up to this frame, each frame was whole for it; and no axis was described anew since the last
 -- frame before the start, up to this one.
-unfoldable pub is_undisturbed_by_steps : Eats → Description → List Step → ℕ → Frame → Bool
-is_undisturbed_by_steps eats d past client f =
-    list_all (is_whole_for eats client) (frames_up_to f (frames_since_start d past client))
-    && list_all (λ x. not (is_description x)) (steps_since_frame_before_start d f.before client)
-
--- the other frame ended no later, counted in raw events and descriptions
-abbrev pub is_up_to : Frame → Frame → Bool
-is_up_to f other = nat_le (length other.cut.until) (length f.cut.until)
-
--- how long the past was behind the last step that ended a frame, 0 where none did
-unfoldable pub frames_end : Description → List Step → ℕ
-frames_end d [] = 0
-frames_end d (x ∷ past) =
-    let before = frames_end d past in
-    if is_empty (frames_of_step d past x) then before else suc (length past)
-
--- The same at the client's start: a description from this place on may be undone in the client's view by events that
--- waited in the batch at the start.
-unfoldable pub described_from : Description → List Step → ℕ → ℕ
-described_from d [] client = 0
-described_from d (x ∷ past) client =
-    let before = described_from d past client in
-    if is_start past client x then frames_end d past else before
-
--- no axis was described anew from one place on and before another
-abbrev pub is_undescribed : ℕ → ℕ → List Step → Bool
-is_undescribed from to past = list_all (λ at. nat_lt at from || nat_le to at) (description_places past)
-
--- All frames since the client's start, up to this one, are whole for it; and no axis was described anew from the last
--- frame before the start on up to this one.
 unfoldable pub is_undisturbed_with : Eats → Description → List Step → ℕ → Frame → Bool
 is_undisturbed_with eats d past client f =
-    list_all (λ g. not (nat_lt (start_place past client) (place g) && is_up_to f g) || is_whole_for eats client g) (frames d past)
-    && is_undescribed (described_from d past client) (place f) past
+    list_all (is_whole_for eats client) (frames_up_to f (frames_since_start d past client))
+    && list_all (λ x. not (is_description x)) (steps_since_frame_before_start d f.before client)
 
 abbrev pub is_undisturbed : Description → List Step → ℕ → Frame → Bool
 is_undisturbed d past client f = is_undisturbed_with (eaten d) d past client f
