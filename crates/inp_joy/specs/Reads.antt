@@ -58,10 +58,7 @@ pub record PicturesTheDevice (d : Description) (past : List Step) (j : Joying) (
   pub at : ReadEntry
   pub is_at : slice_get (read_entries d past j.reading.client) (index_handed_out d past j.reading) ≡ Some at
   pub is_place : at.entry.taken.place ≡ place
-  pub pictures : (f : DeviceFrame)
-      → IsReportOf at.entry f
-      → IsFollowed d at.before j.reading.client at.taken f
-      → j.picture ≡ picture_of_device d f.cut.until
+  pub pictures : (f : DeviceFrame) → IsReportOf at.entry f → IsFollowed d j.reading.client at f → j.picture ≡ picture_of_device d f.cut.until
 
 -- what `read` answered, where a frame ended
 abbrev pub ReadPictures : EvdevView → Description → Joying → JoyRead → Type 0

@@ -24,7 +24,7 @@ pub record ShowsTheDevice (d : Description) (past : List Step) (r : Reading) (ta
   pub at : ReadEntry
   pub is_at : slice_get (read_entries d past r.client) (index_handed_out d past r) ≡ Some at
   pub is_taken : taken_of at.entry ≡ taken
-  pub shows : (f : Frame) → IsReportOf at.entry f → IsFollowed d at.before r.client at.taken f → IsDeviceState d f.cut.until r.view
+  pub shows : (f : Frame) → IsReportOf at.entry f → IsFollowed d r.client at f → IsDeviceState d f.cut.until r.view
 
 -- what `next` answered, where it handed out an event of the device
 abbrev pub AnswerShows : EvdevView → ReaderView → Next → Type 0

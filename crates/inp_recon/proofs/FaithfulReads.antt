@@ -30,7 +30,7 @@ use Rattle.inp_recon.specs.Undisturbed.{is_whole_for, frames_since_start, steps_
 use Rattle.inp_recon.proofs.DescriptionSteps.{described_from, AreBelow}
 use Rattle.inp_recon.proofs.SinceStart.{Each-filter, frames-since, before-start, described-later}
 use Rattle.inp_recon.proofs.Steps.{IsFrameIn, IsPassedIn, queue-passed, start-before_sync}
-use Rattle.inp_recon.specs.Faithful.{IsDeviceState, IsFollowedWith, AreReadsFaithful}
+use Rattle.inp_recon.specs.Faithful.{IsDeviceState, AreReadsFaithful}
 use Rattle.inp_recon.proofs.ReadEntries.{IsOfRead, of-read}
 use Rattle.inp_recon.proofs.Each.{Each, Each-weaker, Each-take, Each-at, and-left, and-right, Each-from_all, all-left, all-right}
 use Rattle.inp_recon.proofs.Over.{over, over-idle, IsIdle}
@@ -88,7 +88,13 @@ Promised-item P t v (y ∷ q) (suc j) x at report none h =
 
 -- ---- what is known where a frame is followed
 
-pub behind-followed : (eats : Eats) (d : Description) (past : List Step) (client : ℕ) (taken : List Entry) (f : Frame) → IsFrameIn past f → IsFollowedWith eats d past client taken f
+-- a client that has taken these entries after this past follows the device up to the frame
+pub record IsFollowedTo (eats : Eats) (d : Description) (past : List Step) (client : ℕ) (taken : List Entry) (f : Frame) : Type 0 where
+  pub synchronised : is_synchronised_with eats d past client taken ≡ true
+  pub behind : sync_place past client < place f
+  pub undisturbed : is_undisturbed_with eats d past client f ≡ true
+
+pub behind-followed : (eats : Eats) (d : Description) (past : List Step) (client : ℕ) (taken : List Entry) (f : Frame) → IsFrameIn past f → IsFollowedTo eats d past client taken f
     → IsBehind eats (start_place past client) (sync_place past client) (described_from d past client) client (frames d past) (description_places past) f
 unfolding is_undisturbed_with
 behind-followed eats d past client taken f frame h =
@@ -152,7 +158,7 @@ record IsReportAt (entries : List Entry) (j : ℕ) (f : Frame) : Type 0 where
 read-says : {V : Type 0} (eats : Eats) (d : Description) (past : List Step) (client count : ℕ) (t : V → Event → V) (st : List RawItem → V) (v : V)
     → FollowsReports eats d client t st (start_place past client) (sync_place past client) (described_from d past client) (frames d past) (description_places past) (raw d past) v (queue_with eats d past client)
     → (j : ℕ) (f : Frame) → IsReportAt (taken_by_with eats d past client (Read client count)) j f
-    → IsFollowedWith eats d past client (take (suc j) (taken_by_with eats d past client (Read client count))) f
+    → IsFollowedTo eats d past client (take (suc j) (taken_by_with eats d past client (Read client count))) f
     → over t v (map event_of (take (suc j) (taken_by_with eats d past client (Read client count)))) ≡ st f.cut.until
 read-says {V} eats d past client count t st v h j f report followed =
     Promised-item P t v taken j report.entry report.at report.report none
@@ -193,7 +199,7 @@ flag-read : (eats : Eats) (d : Description) (past : List Step) (client count : �
     → Receives past client → has_asked_where (has_kind d kind) part past client ≡ true
     → ((code : ℕ) → flags_count ≤ code → supports d kind code ≡ false)
     → (j : ℕ) (f : Frame) → IsReportAt (taken_by_with eats d past client (Read client count)) j f
-    → IsFollowedWith eats d past client (take (suc j) (taken_by_with eats d past client (Read client count))) f
+    → IsFollowedTo eats d past client (take (suc j) (taken_by_with eats d past client (Read client count))) f
     → (code : ℕ) → get_or (flags (view_after_events (client_view_with eats d past client) (map event_of (take (suc j) (taken_by_with eats d past client (Read client count)))))) code false ≡ on f.cut.until code
 flag-read eats d past client count kind skips on flags_count part flags c receives asked beyond j f report followed code =
     elim (cases_lt code flags_count) [
@@ -253,7 +259,7 @@ axis-within d described code has = elim (cases_lt code 64) [
 
 axis-read : (eats : Eats) (d : Description) (past : List Step) (client count : ℕ) → IsDescription d → Receives past client
     → (j : ℕ) (f : Frame) → IsReportAt (taken_by_with eats d past client (Read client count)) j f
-    → IsFollowedWith eats d past client (take (suc j) (taken_by_with eats d past client (Read client count))) f
+    → IsFollowedTo eats d past client (take (suc j) (taken_by_with eats d past client (Read client count))) f
     → (code : ℕ) → has_axis d code ≡ true
     → get_or (view_after_events (client_view_with eats d past client) (map event_of (take (suc j) (taken_by_with eats d past client (Read client count))))).axes code (pos 0) ≡ axis_value d f.cut.until code
 axis-read eats d past client count described receives j f report followed code has =
@@ -275,7 +281,7 @@ slot_code k h = and_from _ _ (le-leb ABS_MT_TOUCH_MAJOR (48 + k) (omega arith)) 
 
 cell-read : (eats : Eats) (d : Description) (past : List Step) (client count : ℕ) → Receives past client
     → (j : ℕ) (f : Frame) → IsReportAt (taken_by_with eats d past client (Read client count)) j f
-    → IsFollowedWith eats d past client (take (suc j) (taken_by_with eats d past client (Read client count))) f
+    → IsFollowedTo eats d past client (take (suc j) (taken_by_with eats d past client (Read client count))) f
     → (slot k : ℕ) → (within : slot < d.slots) (h : k < 14)
     → let v = view_after_events (client_view_with eats d past client) (map event_of (take (suc j) (taken_by_with eats d past client (Read client count)))) in
     pair v.slot (get_or v.cells (cell_index (pos slot) (48 + k)) (pos 0)) ≡ pair (announced d f.cut.until) (cell d f.cut.until (pos slot) (48 + k))
@@ -293,7 +299,7 @@ cell-read eats d past client count receives j f report followed slot k within h 
 
 cells-read : (eats : Eats) (d : Description) (past : List Step) (client count : ℕ) → Receives past client
     → (j : ℕ) (f : Frame) → IsReportAt (taken_by_with eats d past client (Read client count)) j f
-    → IsFollowedWith eats d past client (take (suc j) (taken_by_with eats d past client (Read client count))) f
+    → IsFollowedTo eats d past client (take (suc j) (taken_by_with eats d past client (Read client count))) f
     → (view_after_events (client_view_with eats d past client) (map event_of (take (suc j) (taken_by_with eats d past client (Read client count))))).cells ≡ rows d f.cut.until
 cells-read eats d past client count receives j f report followed =
     ext_get_or (pos 0) after.cells (rows d f.cut.until) (sized.cells ∙ sym (length-rows d f.cut.until)) each
@@ -324,7 +330,7 @@ cells-read eats d past client count receives j f report followed =
 -- all of the view, at an item of what a read takes
 state-read : (eats : Eats) (d : Description) (past : List Step) (client count : ℕ) → IsDescription d → Receives past client
     → (j : ℕ) (f : Frame) → IsReportAt (taken_by_with eats d past client (Read client count)) j f
-    → IsFollowedWith eats d past client (take (suc j) (taken_by_with eats d past client (Read client count))) f
+    → IsFollowedTo eats d past client (take (suc j) (taken_by_with eats d past client (Read client count))) f
     → IsDeviceState d f.cut.until (view_after_events (client_view_with eats d past client) (map event_of (take (suc j) (taken_by_with eats d past client (Read client count)))))
 state-read eats d past client count described receives j f report followed =
     let asked = all-asked eats d past client (take (suc j) (taken_by_with eats d past client (Read client count))) followed.synchronised in
@@ -342,8 +348,9 @@ reads-faithful eats d past client count described accepted j at f is report foll
     let es : List Entry = taken_by_with eats d past client (Read client count) in
     let h : IsOfRead past [] es j at = of-read past [] es j at is in
     let there : IsReportAt es j f = record { entry = at.entry; at = h.is_entry; report = report.report; frame = report.frame } in
-    let follows : IsFollowedWith eats d past client (take (suc j) es) f =
-    subst (λ (l : List Entry). IsFollowedWith eats d past client l f) h.is_taken (subst (λ (p : List Step). IsFollowedWith eats d p client at.taken f) h.is_before followed) in
+    let follows : IsFollowedTo eats d past client (take (suc j) es) f =
+    subst (λ (l : List Entry). IsFollowedTo eats d past client l f) h.is_taken
+    (subst (λ (p : List Step). IsFollowedTo eats d p client at.taken f) h.is_before (record { synchronised = followed.synchronised; behind = followed.behind; undisturbed = followed.undisturbed })) in
     subst (λ (p : List Step). IsDeviceState d f.cut.until (view_after_events (client_view_with eats d p client) (map event_of at.taken))) (sym h.is_before)
     (subst (λ (l : List Entry). IsDeviceState d f.cut.until (view_after_events (client_view_with eats d past client) (map event_of l))) (sym h.is_taken)
     (state-read eats d past client count described (receives-read eats d past client count accepted.1) j f there follows))

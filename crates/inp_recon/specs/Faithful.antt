@@ -34,18 +34,18 @@ pub record IsReportOf (entry : Entry) (f : Frame) : Type 0 where
   pub report : is_report (event_of entry) ≡ true
   pub frame : entry.frame ≡ Some f
 
--- After this past a client that has taken these entries of its queue is synchronised, the frame was passed behind its
--- last query, nothing was kept from the client up to the frame, and no axis was described anew.
-pub record IsFollowedWith (eats : Eats) (d : Description) (past : List Step) (client : ℕ) (taken : List Entry) (f : Frame) : Type 0 where
-  pub synchronised : is_synchronised_with eats d past client taken ≡ true
-  pub behind : sync_place past client < place f
-  pub undisturbed : is_undisturbed_with eats d past client f ≡ true
+-- When a client took this entry it was synchronised, the frame was passed behind its last query, nothing was kept from
+-- the client up to the frame, and no axis was described anew.
+pub record IsFollowedWith (eats : Eats) (d : Description) (client : ℕ) (at : ReadEntry) (f : Frame) : Type 0 where
+  pub synchronised : is_synchronised_with eats d at.before client at.taken ≡ true
+  pub behind : sync_place at.before client < place f
+  pub undisturbed : is_undisturbed_with eats d at.before client f ≡ true
 
 -- The view at each report that a client took is the device's state at the end of its frame, where it is followed.
 abbrev pub IsFaithfulWith : Eats → Description → List Step → ℕ → Type 0
 IsFaithfulWith eats d past client =
     (i : ℕ) (at : ReadEntry) (f : Frame) → slice_get (read_entries_with eats d past client) i ≡ Some at → IsReportOf at.entry f
-    → IsFollowedWith eats d at.before client at.taken f
+    → IsFollowedWith eats d client at f
     → IsDeviceState d f.cut.until (view_at_with eats d client at)
 
 -- the same of what a read takes after this past
@@ -53,7 +53,7 @@ abbrev pub IsFaithfulReadWith : Eats → Description → List Step → ℕ → �
 IsFaithfulReadWith eats d past client count =
     let taken : List Entry = taken_by_with eats d past client (Read client count) in
     (j : ℕ) (at : ReadEntry) (f : Frame) → slice_get (entries_of_read past [] taken) j ≡ Some at → IsReportOf at.entry f
-    → IsFollowedWith eats d at.before client at.taken f
+    → IsFollowedWith eats d client at f
     → IsDeviceState d f.cut.until (view_at_with eats d client at)
 
 -- every history is faithful to every client, whatever is left of its frames
@@ -69,8 +69,8 @@ AreReadsFaithful =
 
 -- of the device's own choice of what is left
 
-abbrev pub IsFollowed : Description → List Step → ℕ → List Entry → Frame → Type 0
-IsFollowed d past client taken f = IsFollowedWith (eaten d) d past client taken f
+abbrev pub IsFollowed : Description → ℕ → ReadEntry → Frame → Type 0
+IsFollowed d client at f = IsFollowedWith (eaten d) d client at f
 
 abbrev pub IsFaithful : Description → List Step → ℕ → Type 0
 IsFaithful d past client = IsFaithfulWith (eaten d) d past client

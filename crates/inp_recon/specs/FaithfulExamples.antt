@@ -111,7 +111,7 @@ MeetsTheLaw =
     × IsHistory one_key past
     × (at : ReadEntry) × (slice_get (read_entries one_key past 0) 3 ≡ Some at)
     × IsReportOf at.entry f
-    × IsFollowed one_key at.before 0 at.taken f
+    × IsFollowed one_key 0 at f
 
 -- A 1, R; X 5, B 1, R; A 0, R; one event is read, the keys and the axis are asked for, and the rest is read
 abbrev pub asked_late : List Step

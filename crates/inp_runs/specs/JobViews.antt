@@ -143,4 +143,4 @@ pub record ShowsTheState (d : Description) (past : List Step) (client : ℕ) (ow
   pub at : ReadEntry
   pub is_at : slice_get (read_entries d past client) index ≡ Some at
   pub is_taken : taken_of at.entry ≡ taken
-  pub shows : (f : Frame) → IsReportOf at.entry f → IsFollowed d at.before client at.taken f → IsDeviceState d f.cut.until view
+  pub shows : (f : Frame) → IsReportOf at.entry f → IsFollowed d client at f → IsDeviceState d f.cut.until view
