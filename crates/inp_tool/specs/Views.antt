@@ -1,6 +1,6 @@
 -- A record worked out by hand: at which reports a client's view can be trusted, and what the view shows there
 -- (docs/PROMISES.md, "An example").
-use Rattle.std.specs.Prelude.{◌^◌, ◌-◌, ℕ, zero, suc, ℤ, pos, ◌≡◌, Bool, true, false, nat_lt, ◌&&◌, List, [], ◌∷◌, ◌++◌, map, filter, take, replicate, reverse}
+use Rattle.std.specs.Prelude.{◌^◌, ◌-◌, ℕ, zero, suc, ℤ, pos, ◌≡◌, Bool, true, false, nat_lt, ◌&&◌, List, [], ◌∷◌, ◌++◌, map, filter, take, replicate, reverse, slice_get, Some}
 use Rattle.inp_model.specs.declared.event.TheConstants.{EV_KEY, EV_REL, KEY_A}
 use Rattle.inp_model.specs.declared.event.Event.{Event}
 use Rattle.inp_model.specs.declared.clock.Clock.TheVariants.{Monotonic}
@@ -10,15 +10,13 @@ use Rattle.inp_model.specs.Description.{Description, one_key}
 use Rattle.inp_model.specs.State.{key_down}
 use Rattle.inp_model.specs.RawItem.{Frame}
 use Rattle.inp_model.specs.Frame.{place}
-use Rattle.inp_model.specs.Queue.{Entry, event_of, ends_in_report, taken_by}
+use Rattle.inp_model.specs.Queue.{Entry, event_of, taken_by}
 use Rattle.inp_model.specs.examples.Frames.{report}
-use Rattle.inp_recon.specs.declared.view.View.{View}
-use Rattle.inp_recon.specs.View.{view_after_events}
-use Rattle.inp_recon.specs.ClientView.{client_view}
+use Rattle.inp_recon.specs.ClientView.{ReadEntry, entries_of_read, view_at}
 use Rattle.inp_recon.specs.Synchronised.{sync_place, is_dropped, is_synchronised}
 use Rattle.inp_recon.specs.Undisturbed.{is_undisturbed}
+use Rattle.inp_recon.specs.Faithful.{IsReportOf}
 use Rattle.inp_recon.specs.Examples.{event, has_key}
-use Rattle.inp_recon.specs.FaithfulExamples.{last_frame, or_none}
 
 abbrev pub KEY_B : ℕ
 KEY_B = 48
@@ -71,26 +69,17 @@ steps = first_steps ++ motion 33 4000 ++ last_steps
 abbrev pub past_till : ℕ → List Step
 past_till at = reverse (take at steps)
 
--- what the read at this place took, up to item j
-abbrev pub taken_up_to : ℕ → ℕ → ℕ → List Entry
-taken_up_to at client j = take (suc j) (taken_by keyboard (past_till at) client (Read client 64))
+-- what the read at this place took
+abbrev pub entries_of : ℕ → ℕ → List ReadEntry
+entries_of at client = entries_of_read (past_till at) [] (taken_by keyboard (past_till at) client (Read client 64))
 
--- the frame of that item
-abbrev pub frame_at : ℕ → ℕ → ℕ → Frame
-frame_at at client j = or_none (last_frame (taken_up_to at client j))
-
--- the client's view then, that item included
-abbrev pub view_then : ℕ → ℕ → ℕ → View
-view_then at client j =
-    view_after_events (client_view keyboard (past_till at) client) (map event_of (taken_up_to at client j))
-
--- whether the promise speaks there: the client is synchronised, the frame was passed behind its last query, and nothing was
--- kept from it
-abbrev pub speaks : ℕ → ℕ → ℕ → Bool
-speaks at client j =
-    is_synchronised keyboard (past_till at) client (taken_up_to at client j)
-    && nat_lt (sync_place (past_till at) client) (place (frame_at at client j))
-    && is_undisturbed keyboard (past_till at) client (frame_at at client j)
+-- whether the promise speaks of this entry and its frame: the client is synchronised, the frame was passed behind its last
+-- query, and nothing was kept from it
+abbrev pub speaks : ℕ → ReadEntry → Frame → Bool
+speaks client taken f =
+    is_synchronised keyboard taken.before client taken.taken
+    && nat_lt (sync_place taken.before client) (place f)
+    && is_undisturbed keyboard taken.before client f
 
 -- which of the keys A and B are down
 abbrev pub down : (ℕ → Bool) → List ℕ
@@ -100,10 +89,12 @@ down is_down = filter is_down (KEY_A ∷ KEY_B ∷ [])
 -- view, and on the device at the end of the report's frame?
 abbrev pub Shows : ℕ → ℕ → ℕ → Bool → List ℕ → List ℕ → Type 0
 Shows at client j speaking in_view on_device =
-    (ends_in_report event_of (taken_up_to at client j) ≡ true)
-    × (speaks at client j ≡ speaking)
-    × (down (has_key (view_then at client j)) ≡ in_view)
-    × (down (key_down keyboard (frame_at at client j).cut.until) ≡ on_device)
+    (taken : ReadEntry) × (f : Frame)
+    × (slice_get (entries_of at client) j ≡ Some taken)
+    × IsReportOf taken.entry f
+    × (speaks client taken f ≡ speaking)
+    × (down (has_key (view_at keyboard client taken)) ≡ in_view)
+    × (down (key_down keyboard f.cut.until) ≡ on_device)
 
 -- what the read at this place took of losses: the places of the steps by which they came
 abbrev pub losses : ℕ → ℕ → List ℕ
