@@ -23,7 +23,7 @@ use Rattle.inp_model.specs.Reply.{accepted_with, present_value, axis_answer}
 use Rattle.inp_recon.specs.declared.view.View.{View}
 use Rattle.inp_recon.specs.View.{IsSizedFor, with_value_at, view_after_event, view_after_events, view_after_answer}
 use Rattle.inp_recon.specs.ClientView.{client_view_with}
-use Rattle.inp_recon.specs.Synchronised.{OneAxis, asks_for, is_start, start_place, has_axis, taken_since_start_with, has_no_loss, has_asked}
+use Rattle.inp_recon.specs.Synchronised.{OneAxis, asks_for, is_start, has_axis, taken_since_start_with, has_no_loss, has_asked}
 use Rattle.inp_recon.specs.Undisturbed.{is_whole_for}
 use Rattle.inp_recon.proofs.Each.{Each, Each-left, Each-right, and-left, and-right, all-left, all-right}
 use Rattle.inp_recon.proofs.Over.{over, over-append, IsIdle}
@@ -33,7 +33,7 @@ use Rattle.inp_recon.proofs.FrameEntries.{Receives}
 use Rattle.inp_recon.proofs.FrameSteps.{frames_by, offered_to, passed_by, passes_all, all_grown}
 use Rattle.inp_recon.proofs.Shape.{start-empties}
 use Rattle.inp_recon.proofs.DescriptionSteps.{frames_end, described_from, items-are_events, start-undescribed, places-described, places-same, AreBelow, described_from-within, described-same, described-start, is_settled, raw-settled}
-use Rattle.inp_recon.proofs.Steps.{raw-step, queue-step, frames-step, start-same, start-before, receives-before}
+use Rattle.inp_recon.proofs.Steps.{start_place, raw-step, queue-step, frames-step, start-same, start-before, receives-before}
 use Rattle.inp_recon.proofs.FlagClasses.{kind_asked}
 use Rattle.inp_recon.proofs.AxisPasses.{sets_axis, value_of, axis_after, unkind-idle, multi_touch-idle, axis-unviewed, axis-passes}
 use Rattle.inp_recon.proofs.FollowedValues.{Spares, AreWhole, IsClear, call-keeps, Stands, stands}

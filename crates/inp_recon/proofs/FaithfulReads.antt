@@ -25,11 +25,11 @@ use Rattle.inp_recon.specs.declared.view.View.{View}
 use Rattle.inp_recon.specs.View.{IsSizedFor, view_after_events}
 use Rattle.inp_recon.specs.Cells.{cell_index}
 use Rattle.inp_recon.specs.ClientView.{client_view_with}
-use Rattle.inp_recon.specs.Synchronised.{Part, AllKeys, AllSwitches, AllLeds, OneAxis, AllSlots, start_place, sync_place, has_asked, has_asked_where, has_axis, taken_since_start_with, has_no_loss, is_synchronised_with}
+use Rattle.inp_recon.specs.Synchronised.{Part, AllKeys, AllSwitches, AllLeds, OneAxis, AllSlots, sync_place, has_asked, has_asked_where, has_axis, taken_since_start_with, has_no_loss, is_synchronised_with}
 use Rattle.inp_recon.specs.Undisturbed.{is_whole_for, frames_since_start, steps_since_frame_before_start, is_undisturbed_with}
 use Rattle.inp_recon.proofs.DescriptionSteps.{described_from, AreBelow}
 use Rattle.inp_recon.proofs.SinceStart.{Each-filter, frames-since, before-start, described-later}
-use Rattle.inp_recon.proofs.Steps.{IsFrameIn, IsPassedIn, queue-passed, start-before_sync}
+use Rattle.inp_recon.proofs.Steps.{start_place, IsFrameIn, IsPassedIn, queue-passed, start-before_sync}
 use Rattle.inp_recon.specs.Faithful.{IsDeviceState, AreReadsFaithful}
 use Rattle.inp_recon.proofs.ReadEntries.{IsOfRead, of-read}
 use Rattle.inp_recon.proofs.Each.{Each, Each-weaker, Each-take, Each-at, and-left, and-right, Each-from_all, all-left, all-right}

@@ -15,7 +15,7 @@ use Rattle.inp_model.specs.Raw.{raw, raw_of_step}
 use Rattle.inp_model.specs.Frame.{place, frame_of, frames}
 use Rattle.inp_model.specs.Left.{Eats}
 use Rattle.inp_model.specs.Queue.{Entry, event_of, taken_by_with, queue_with}
-use Rattle.inp_recon.specs.Synchronised.{Part, AllKeys, AllSwitches, AllLeds, OneAxis, AllSlots, asks_for, is_query_of, is_start, start_place, sync_place, has_asked, taken_since_start_with, has_no_loss}
+use Rattle.inp_recon.specs.Synchronised.{Part, AllKeys, AllSwitches, AllLeds, OneAxis, AllSlots, asks_for, is_query_of, is_start, sync_place, has_asked, taken_since_start_with, has_no_loss}
 use Rattle.inp_recon.specs.Undisturbed.{is_viewed, is_whole_for}
 use Rattle.inp_recon.proofs.Each.{Each, Each-append, Each-left, Each-right, Each-weaker, all-left, all-right, all-take_drop}
 use Rattle.inp_recon.proofs.Over.{over, IsIdle}
@@ -26,7 +26,7 @@ use Rattle.inp_recon.proofs.CallsLeft.{LeftBy, ByRead, ByLoss, ByFlush, ByNone, 
 use Rattle.inp_recon.proofs.FrameEntries.{Receives}
 use Rattle.inp_recon.proofs.FrameSteps.{IsEventItem, frames_by, offered_to, passed_by, passes_all, Says, Wants, all_grown, all_promised}
 use Rattle.inp_recon.proofs.DescriptionSteps.{described_from, items-are_events, frames-described, queue-described, places-described, places-same, AreBelow, places-below, places-early, described_from-within, described-same}
-use Rattle.inp_recon.proofs.Steps.{raw-step, queue-step, frames-step, start-same, sync-same, sync-query, start-before, receives-before, left-each, IsPlacedBelow, queue-placed, IsEndedWithin, frames-within}
+use Rattle.inp_recon.proofs.Steps.{start_place, raw-step, queue-step, frames-step, start-same, sync-same, sync-query, start-before, receives-before, left-each, IsPlacedBelow, queue-placed, IsEndedWithin, frames-within}
 
 -- ---- frames and descriptions since the client's start
 

@@ -8,8 +8,9 @@ use Rattle.inp_model.specs.Step.{is_description}
 use Rattle.inp_model.specs.Past.{description_places}
 use Rattle.inp_model.specs.Frame.{place, frame_of, cuts_of_step, frames_of_step, frames}
 use Rattle.inp_model.specs.Queue.{is_empty}
-use Rattle.inp_recon.specs.Synchronised.{is_start, start_place}
+use Rattle.inp_recon.specs.Synchronised.{is_start}
 use Rattle.inp_recon.specs.Undisturbed.{frames_since_start, steps_since_frame, steps_since_frame_before_start}
+use Rattle.inp_recon.proofs.Steps.{start_place}
 use Rattle.inp_recon.proofs.Each.{Each, Each-append, Each-left, Each-right, Each-weaker, and-left, and-right}
 use Rattle.inp_recon.proofs.DescriptionSteps.{frames_end, described_from, places-same, AreBelow, places-below}
 

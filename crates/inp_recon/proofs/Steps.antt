@@ -12,7 +12,7 @@ use Rattle.inp_model.specs.Raw.{raw, raw_and_timer, raw_of_step}
 use Rattle.inp_model.specs.Frame.{place, frame_of, frames_of_step, frames}
 use Rattle.inp_model.specs.Left.{Eats}
 use Rattle.inp_model.specs.Queue.{Entry, event_of, visible, entry, entries_of_with, entries_with, queue_with, is_offered}
-use Rattle.inp_recon.specs.Synchronised.{is_dropped, is_start, is_query_of, start_place, sync_place}
+use Rattle.inp_recon.specs.Synchronised.{is_dropped, is_start, is_query_of, sync_place}
 use Rattle.inp_recon.proofs.Each.{Each, Each-append, Each-weaker, Each-drop}
 use Rattle.inp_recon.proofs.QueuedValues.{put_all-each, flush-each}
 use Rattle.inp_recon.proofs.Cuts.{NoCut, OneCut, cut_cases}
@@ -34,6 +34,13 @@ unfolding frames
 frames-step d past x = refl
 
 -- ---- a client's last start and last query
+
+-- the place of the client's last start
+unfoldable pub start_place : List Step → ℕ → ℕ
+start_place [] client = 0
+start_place (x ∷ past) client =
+    let before = start_place past client in
+    if is_start past client x then length past else before
 
 pub start-same : (past : List Step) (client : ℕ) (x : Step) → is_start past client x ≡ false → start_place (x ∷ past) client ≡ start_place past client
 unfolding start_place

@@ -46,13 +46,6 @@ is_discard_of client _ = false
 abbrev pub is_start : List Step → ℕ → Step → Bool
 is_start past client x = is_opening past client x || is_discard_of client x
 
--- the place of the client's last start
-unfoldable pub start_place : List Step → ℕ → ℕ
-start_place [] client = 0
-start_place (x ∷ past) client =
-    let before = start_place past client in
-    if is_start past client x then length past else before
-
 -- the place of the client's last query since its start, or of the start where it made none
 unfoldable pub sync_place : List Step → ℕ → ℕ
 sync_place [] client = 0
