@@ -36,3 +36,4 @@ pub mod LessEffort
 pub mod UseAlone
 pub mod ShowsDevice
 pub mod Rooms
+pub mod OldTalks

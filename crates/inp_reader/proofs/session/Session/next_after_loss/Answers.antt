@@ -8,4 +8,4 @@ returns-in-Some-clause-says g c =
 
 pub returns-in-None-clause-says : goal.returns-in-None-clause-says
 returns-in-None-clause-says g c =
-    says-synchronised _ _ _ _ _ _ _ c.args.mode (reading_of c.args.self.now) (reading_of c.synchronise.new.self) c.synchronise.new.self.asker.view _ c.in-None.ensures.says c.in-None.ensures.reading c.go_on.ensures.says
+    says-synchronised _ _ _ _ _ _ _ c.args.caps.now c.args.mode (reading_of c.args.self.now) (reading_of c.synchronise.new.self) c.synchronise.new.self.asker.view _ c.in-None.ensures.says c.in-None.ensures.reading c.go_on.ensures.says
