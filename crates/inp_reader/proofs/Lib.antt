@@ -36,4 +36,3 @@ pub mod LessEffort
 pub mod UseAlone
 pub mod ShowsDevice
 pub mod Rooms
-pub mod OldTalks

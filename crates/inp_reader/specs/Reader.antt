@@ -209,10 +209,10 @@ talk_after_sync Synchronising r (Ok view) = finish (handing (after_full_sync r v
 
 -- what a call of `next` does, by the mode and the phase (docs/READER.md, "The reader"):
 --
---            Normal                                    Sync
---   Plain    hands out an event that it read           asks for nothing and answers Synced
---   Needed   synchronises first                        synchronises first
---   Handing  drops synthesised events, and reads on    hands out the next synthesised event
+--            Normal                                   Sync
+--   Plain    hands out an event that it read          asks for nothing and answers Synced
+--   Needed   synchronises, then as in Handing         synchronises, then as in Handing
+--   Handing  drops synthesised events, and reads on   hands out a synthesised event, or answers Synced
 abbrev pub talk_in : Description → Mode → Phase → Reading → Talk (Next × Reading)
 talk_in d Normal Plain r = read_talk r
 talk_in d Synchronising Plain r = finish (Synced, r)
