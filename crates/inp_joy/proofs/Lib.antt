@@ -17,3 +17,4 @@ pub mod MoreTurns
 pub mod NewJoys
 pub mod TurnCases
 pub mod Records
+pub mod OldTurns
