@@ -17,4 +17,3 @@ pub mod MoreTurns
 pub mod NewJoys
 pub mod TurnCases
 pub mod Records
-pub mod OldTurns

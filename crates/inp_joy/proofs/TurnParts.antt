@@ -11,7 +11,7 @@ use Rattle.inp_reader.specs.declared.next.Next.TheVariants.{Success, Dropped}
 use Rattle.inp_reader.specs.declared.started.Started.{Started}
 use Rattle.inp_reader.specs.Reader.{Reading, next_talk, start_talk}
 use Rattle.inp_reader.specs.Says.{Says}
-use Rattle.inp_reader.specs.Talk.{Talk, finish}
+use Rattle.inp_reader.specs.Talk.{finish}
 use Rattle.inp_reader.proofs.SaysInTurn.{says-nothing, says-then}
 use Rattle.inp_joy.specs.declared.joy_read.JoyRead.{JoyRead}
 use Rattle.inp_joy.specs.declared.joy_record.JoyRecord.{JoyRecord}
