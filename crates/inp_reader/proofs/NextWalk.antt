@@ -305,6 +305,24 @@ pub next-asks : (P : Step → Type 0) (d : Description) (mode : Mode) (r : Readi
 next-asks P d mode r of =
     meets-asks P (next_talk d mode r) (next-meets (λ (s : Unit {0}) (x : Step). P x) AnyAnswer (λ (s : Unit {0}) (o : Reading). r.client ≡ o.client) (λ (s : Unit {0}) (o : Next × Reading). Unit {0}) d mode (next-asks-rules d r.client mode P of) tt r refl)
 
+-- ---- the rows that the code follows
+
+-- in phase Plain a Sync call asks for nothing
+pub plain-synced : (d : Description) (mode : Mode) (r : Reading) → mode ≡ Synchronising → talk_in d mode Plain r ≡ finish (Synced, r)
+plain-synced d mode r is = ap (λ (m : Mode). talk_in d m Plain r) is
+
+-- in phase Handing it hands out the next synthesised event
+pub handing-made : (d : Description) (mode : Mode) (r : Reading) → mode ≡ Synchronising → talk_in d mode Handing r ≡ finish (handing r)
+handing-made d mode r is = ap (λ (m : Mode). talk_in d m Handing r) is
+
+-- behind a synchronisation a call goes on as in phase Handing
+pub synced-handing : (d : Description) (mode : Mode) (r s : Reading) (view : View) → s ≡ after_full_sync r view → talk_in d mode Handing s ≡ talk_after_sync mode r (Ok view)
+synced-handing d mode r s view same = ap (λ (t : Reading). talk_in d mode Handing t) same ∙ by mode
+  where
+    by : (m : Mode) → talk_in d m Handing (after_full_sync r view) ≡ talk_after_sync m r (Ok view)
+    by Normal = refl
+    by Synchronising = refl
+
 -- in phase Plain a `next` hands out the first event of the queue, and makes no call
 pub next-queued : (d : Description) (r : Reading) (t : Taken) (q : List Taken) → r.phase ≡ Plain → r.queue ≡ t ∷ q → next_talk d Normal r ≡ finish (hand_out_event r t q)
 unfolding read_talk

@@ -13,14 +13,13 @@ use Rattle.inp_model.specs.Reply.{Answer, is_accepted}
 use Rattle.inp_recon.specs.declared.view.View.{View}
 use Rattle.inp_reader.specs.declared.call_made.CallMade.{CallMade}
 use Rattle.inp_reader.specs.declared.mode.Mode.{Mode}
-use Rattle.inp_reader.specs.declared.mode.Mode.TheVariants.{Normal, Sync as Synchronising}
-use Rattle.inp_reader.specs.declared.phase.Phase.TheVariants.{Plain, Needed, Handing}
+use Rattle.inp_reader.specs.declared.phase.Phase.TheVariants.{Plain, Needed}
 use Rattle.inp_reader.specs.declared.next.Next.{Next}
 use Rattle.inp_reader.specs.declared.started.Started.{Started}
 use Rattle.inp_reader.specs.declared.started.Started.TheVariants.{Opened as StartedOn}
 use Rattle.inp_reader.specs.Talk.{Talk, finish, ask, and_then}
 use Rattle.inp_reader.specs.ReaderCalls.{MakesRead}
-use Rattle.inp_reader.specs.Reader.{Reading, ask_each, read_or_hand_out, read_talk, after_read, hand_out, stop_of, start_stop_of, after_open, after_queries, start_talk, after_full_sync, after_failed_sync, talk_after_sync, talk_in}
+use Rattle.inp_reader.specs.Reader.{Reading, ask_each, read_or_hand_out, read_talk, after_read, hand_out, stop_of, start_stop_of, after_open, after_queries, start_talk, after_failed_sync, talk_after_sync}
 use Rattle.inp_reader.specs.Says.{Says, kept_call}
 use Rattle.inp_reader.proofs.SaysInTurn.{says-nothing, says-then, says-call}
 
@@ -100,16 +99,11 @@ says-unsynchronised before after old new talk mode r s reply next h same stopped
     (says-still after new new (talk_after_sync mode r (Err reply)) result refl
     (ap (λ (n : Next). finish (n, after_failed_sync r)) (sym stopped) ∙ ap (λ (t : Reading). finish (next, t)) (sym same)))
 
--- behind one that was not the call goes on as in phase Handing
-as_handing : (d : Description) (mode : Mode) (r : Reading) (view : View) → talk_in d mode Handing (after_full_sync r view) ≡ talk_after_sync mode r (Ok view)
-as_handing d Normal r view = refl
-as_handing d Synchronising r view = refl
-
-pub says-synchronised : (before between after : EvdevView) (old mid new : List CallMade) (talk : Talk (Result View Reply)) (d : Description) (mode : Mode) (r s : Reading) (view : View) (result : Next × Reading)
-    → Says before between old mid talk (Ok view) → s ≡ after_full_sync r view → Says between after mid new (talk_in d mode Handing s) result → Says before after old new (and_then talk (talk_after_sync mode r)) result
-says-synchronised before between after old mid new talk d mode r s view result h same k =
-    says-then before between after old mid new talk (talk_after_sync mode r) (Ok view) result h
-    (subst (λ (t : Talk (Next × Reading)). Says between after mid new t result) (ap (λ (t : Reading). talk_in d mode Handing t) same ∙ as_handing d mode r view) k)
+-- one that was not, and what follows it
+pub says-synchronised : (before between after : EvdevView) (old mid new : List CallMade) (talk : Talk (Result View Reply)) (rest : Talk (Next × Reading)) (mode : Mode) (r : Reading) (view : View) (result : Next × Reading)
+    → Says before between old mid talk (Ok view) → rest ≡ talk_after_sync mode r (Ok view) → Says between after mid new rest result → Says before after old new (and_then talk (talk_after_sync mode r)) result
+says-synchronised before between after old mid new talk rest mode r view result h is k =
+    says-then before between after old mid new talk (talk_after_sync mode r) (Ok view) result h (subst (λ (t : Talk (Next × Reading)). Says between after mid new t result) is k)
 
 -- Starting
 
