@@ -4,7 +4,6 @@ use Rattle.std.specs.Prelude.{Result, Ok, Err, slice_get}
 use Rattle.std.proofs.lemmas.Bool.{true≢false, cond_both}
 use Rattle.std.proofs.lemmas.Option.{same_Some}
 use Rattle.inp_model.specs.declared.stamped.Stamped.{Stamped}
-use Rattle.inp_model.specs.declared.taken.Taken.{Taken}
 use Rattle.inp_model.specs.declared.step.Step.{Step}
 use Rattle.inp_model.specs.declared.step.Step.TheVariants.{Inject, Open as ToOpen, Read as ToRead, Discard as ToDiscard, GetKeys, GetSwitches, GetLeds, GetAxis, SyncSlots as ToSyncSlots, End}
 use Rattle.inp_model.specs.declared.reply.Reply.{Reply}
