@@ -1,7 +1,7 @@
 -- What a turn leaves its reader to do.
-use Rattle.std.proofs.Common.{◌≡◌, ℕ, ◌≤◌, ◌<◌, true, Some, None, sym, subst, arith}
+use Rattle.std.proofs.Common.{◌≡◌, ℕ, ◌≤◌, ◌<◌, Some, None, sym, subst, arith}
 use Rattle.std.specs.Prelude.{Option}
-use Rattle.std.proofs.lemmas.Bool.{true≢false, cond_both}
+use Rattle.std.proofs.lemmas.Bool.{cond_both}
 use Rattle.inp_model.specs.Description.{Description}
 use Rattle.inp_model.specs.Event.{is_report}
 use Rattle.inp_reader.specs.declared.next.Next.{Next}
@@ -12,7 +12,7 @@ use Rattle.inp_joy.specs.declared.joy_read.JoyRead.TheVariants.{Frame, More}
 use Rattle.inp_joy.specs.declared.joy_record.JoyRecord.{JoyRecord}
 use Rattle.inp_joy.specs.declared.turn_end.TurnEnd.{TurnEnd}
 use Rattle.inp_joy.specs.declared.turn_end.TurnEnd.TheVariants.{Hands, Stops, GoesOn}
-use Rattle.inp_joy.specs.Joy.{Joying, JoyTurn, gives, goes_on, hand_out_record, joy_read_of, is_lost, joy_record_of, record_or_on, joying_after_next}
+use Rattle.inp_joy.specs.Joy.{Joying, JoyTurn, gives, goes_on, hand_out_record, joy_read_of, joy_record_of, record_or_on, joying_after_next}
 use Rattle.inp_joy.specs.Kept.{turn_of_end, IsTurnEndLess}
 use Rattle.inp_joy.specs.Reads.{IsReadLess}
 
@@ -70,17 +70,6 @@ after_next-less d j (FullHistory at) after before h = tt
 
 pub next-less : (d : Description) (j k : Joying) (next : Next) (outcome : TurnEnd) (after before : ℕ) → turn_of_end outcome k ≡ joying_after_next d j next → IsLess next after before → IsTurnEndLess outcome after before
 next-less d j k next outcome after before is h = outcome-less k outcome (joying_after_next d j next) after before is (after_next-less d j next after before h)
-
--- one that lost some
-pub lost-less : (next : Next) (after before : ℕ) → is_lost next ≡ true → IsLess next after before → after < before
-lost-less (Dropped taken) after before lost h = h
-lost-less (Success taken) after before lost h = absurd (true≢false (sym lost))
-lost-less (Sync event) after before lost h = absurd (true≢false (sym lost))
-lost-less Synced after before lost h = absurd (true≢false (sym lost))
-lost-less (NothingVisible at ends) after before lost h = absurd (true≢false (sym lost))
-lost-less Revoked after before lost h = absurd (true≢false (sym lost))
-lost-less NotOpen after before lost h = absurd (true≢false (sym lost))
-lost-less (FullHistory at) after before lost h = absurd (true≢false (sym lost))
 
 -- after what left no more
 read-less : (read : JoyRead) (after between before : ℕ) → IsReadLess read after between → between ≤ before → IsReadLess read after before

@@ -3,6 +3,7 @@ use Rattle.std.proofs.Common.{◌≡◌, ℕ, Bool, true, false, ◌&&◌, List,
 use Rattle.std.specs.Prelude.{Result, Ok, Err}
 use Rattle.std.proofs.lemmas.Bool.{true≢false}
 use Rattle.inp_model.specs.declared.event.Event.{Event}
+use Rattle.inp_model.specs.declared.taken.Taken.{Taken}
 use Rattle.inp_model.specs.declared.step.Step.{Step}
 use Rattle.inp_model.specs.declared.reply.Reply.{Reply}
 use Rattle.inp_model.specs.declared.reply.Reply.TheVariants.{Refused as StepRefused}
@@ -25,7 +26,7 @@ use Rattle.inp_reader.specs.Talk.{EndsWith}
 use Rattle.inp_reader.proofs.Calls.{AreAccepted}
 use Rattle.inp_reader.proofs.Meets.{Any, AnyAnswer, any-run, Runs, meets-always, meets-ends}
 use Rattle.inp_reader.proofs.NextWalk.{sync-meets, Queried, start-meets, Renewed, NextRules, Handed, needed-meets, next-ends, stop-cases}
-use Rattle.inp_joy.specs.Joy.{joy_read_of, is_lost}
+use Rattle.inp_joy.specs.Joy.{joy_read_of}
 
 -- In Normal mode, where no synchronisation is needed
 
@@ -171,18 +172,8 @@ next-accepted d mode r calls result goes ends =
     are-accepted calls (next-ends Any Accepting AreSoFar AreWhereOn d mode (accepted-rules d mode) true (all_accepted true calls) r calls result refl (accepting-run true calls) ends goes)
 
 -- after lost events a synchronisation is needed
-pub lost-in : (view : View) (next : Next) (s : Reading) → is_lost next ≡ true → IsTaken view next s → is_needed s.phase ≡ true
-lost-in view (Dropped taken) s lost h = h
-lost-in view (Success taken) s lost h = absurd (true≢false (sym lost))
-lost-in view (Sync event) s lost h = absurd (true≢false (sym lost))
-lost-in view Synced s lost h = absurd (true≢false (sym lost))
-lost-in view (Again at ends) s lost h = absurd (true≢false (sym lost))
-lost-in view NoDevice s lost h = absurd (true≢false (sym lost))
-lost-in view Closed s lost h = absurd (true≢false (sym lost))
-lost-in view (Full at) s lost h = absurd (true≢false (sym lost))
-
-pub lost-needed : (d : Description) (r s : Reading) (calls : List Call) (next : Next) → is_needed r.phase ≡ false → EndsWith (next_talk d Normal r) calls (next, s) → is_lost next ≡ true → is_needed s.phase ≡ true
-lost-needed d r s calls next plain h lost = lost-in r.view next s lost (next-taken d r calls (next, s) plain h)
+pub lost-needed : (d : Description) (r s : Reading) (calls : List Call) (taken : Taken) → is_needed r.phase ≡ false → EndsWith (next_talk d Normal r) calls (Dropped taken, s) → is_needed s.phase ≡ true
+lost-needed d r s calls taken plain h = next-taken d r calls (Dropped taken, s) plain h
 
 -- Starting
 

@@ -1,5 +1,5 @@
 -- The records that a joystick client hands out: their bytes tell them.
-use Rattle.std.proofs.Common.{◌≡◌, ℕ, zero, suc, ◌<◌, ◌+◌, ◌%◌, ◌/◌, ◌^◌, ℤ, pos, negsuc, Bool, true, false, if◌then◌else◌, nat_lt, nat_eq, int_eq, List, [], ◌∷◌, ◌++◌, map, Some, None, refl, ap, subst, ◌∙◌, arith}
+use Rattle.std.proofs.Common.{◌≡◌, ℕ, zero, suc, ◌<◌, ◌+◌, ◌%◌, ◌/◌, ◌^◌, ℤ, pos, negsuc, Bool, true, false, if◌then◌else◌, nat_lt, nat_eq, int_eq, List, [], ◌∷◌, ◌++◌, map, Some, None, ap, subst, ◌∙◌, arith}
 use Rattle.std.specs.Prelude.{Option, slice_get}
 use Rattle.std.specs.Int.{w16, cast_unsigned, cast_signed}
 use Rattle.std.specs.Int.RustNames.{FitsSigned}
@@ -14,7 +14,7 @@ use Rattle.inp_model.specs.Event.{is_repeat, is_report, is_set}
 use Rattle.inp_model.specs.Run.{Call}
 use Rattle.inp_recon.specs.declared.view.View.{View}
 use Rattle.inp_reader.specs.declared.next.Next.{Next}
-use Rattle.inp_reader.specs.declared.next.Next.TheVariants.{Success, Dropped, Sync, Again as NothingVisible, Synced, NoDevice as Revoked, Closed as NotOpen, Full as FullHistory}
+use Rattle.inp_reader.specs.declared.next.Next.TheVariants.{Success}
 use Rattle.inp_reader.specs.Synthesis.{bit_value}
 use Rattle.inp_reader.specs.Talk.{EndsWith}
 use Rattle.inp_joy.specs.declared.joy_read.JoyRead.{JoyRead}
@@ -22,7 +22,7 @@ use Rattle.inp_joy.specs.declared.joy_read.JoyRead.TheVariants.{Record, Frame, A
 use Rattle.inp_joy.specs.declared.joy_record.JoyRecord.{JoyRecord}
 use Rattle.inp_joy.specs.JoyRecord.{bytes_of_record, record_in, within_16_bits, startup_button, startup_axis}
 use Rattle.inp_joy.specs.Codes.{buttons, axes, number_among}
-use Rattle.inp_joy.specs.Joy.{Joying, JoyAnswer, JoyTurn, gives, goes_on, hand_out_record, next_in_startup, map_numbered, startup, last_value, record_of_key, record_of_axis, joy_record_of, record_or_on, event_or_on, joy_read_of, event_handed_out, stop_or_event, joying_after_next, stop_or_startup, turns, with_reading}
+use Rattle.inp_joy.specs.Joy.{Joying, JoyAnswer, JoyTurn, gives, goes_on, hand_out_record, next_in_startup, map_numbered, startup, last_value, record_of_key, record_of_axis, joy_record_of, record_or_on, joy_read_of, stop_or_on, joying_after_next, joying_after_sync, turns, with_reading, with_startup}
 use Rattle.inp_joy.specs.Picture.{PictureView, is_down_in, value_in}
 use Rattle.inp_joy.proofs.TurnCases.{Synchronises, TurnCase, of_startup, of_sync, of_loss, of_next, turn-case, turns-all}
 
@@ -137,41 +137,27 @@ turn-same : (t u : JoyTurn) → t ≡ u → IsTurnAsSaid t → IsTurnAsSaid u
 turn-same t u e h = subst (λ (x : JoyTurn). IsTurnAsSaid x) e h
 
 -- the answers of a reader that end a read hand out no record
-stopped-said : (next : Next) (read : JoyRead) → joy_read_of next ≡ Some read → HandsOutAsSaid read None
-stopped-said (NothingVisible at ends) read h = let e : Again at ends ≡ read = cc in subst (λ (x : JoyRead). HandsOutAsSaid x None) e tt
-stopped-said Revoked read h = let e : NoDevice ≡ read = cc in subst (λ (x : JoyRead). HandsOutAsSaid x None) e tt
-stopped-said NotOpen read h = let e : Closed ≡ read = cc in subst (λ (x : JoyRead). HandsOutAsSaid x None) e tt
-stopped-said (FullHistory at) read h = let e : Full at ≡ read = cc in subst (λ (x : JoyRead). HandsOutAsSaid x None) e tt
-stopped-said (Success taken) read h = absurd cc
-stopped-said (Dropped taken) read h = absurd cc
-stopped-said (Sync event) read h = absurd cc
-stopped-said Synced read h = absurd cc
-
-sync-said : (j : Joying) (next : Next) (stop : Option JoyRead) → joy_read_of next ≡ stop → IsTurnAsSaid (stop_or_startup j stop)
-sync-said j next None is = tt
-sync-said j next (Some read) is = stopped-said next read is
+stop-said : (j here : Joying) (next : Next) → IsTurnAsSaid (stop_or_on j here (joy_read_of next))
+stop-said j here (Success taken) = tt
+stop-said j here _ = tt
 
 sync_turn-said : (d : Description) (j : Joying) (calls : List Call) (t : JoyTurn) → Synchronises d j calls t → IsTurnAsSaid t
-sync_turn-said d j calls t s = turn-same (stop_or_startup (with_reading j s.reading) (joy_read_of s.next)) t s.comes_to (sync-said (with_reading j s.reading) s.next (joy_read_of s.next) refl)
+sync_turn-said d j calls t s = turn-same (joying_after_sync j (s.next, s.reading)) t s.comes_to (stop-said (with_reading j s.reading) (with_startup s.reading) s.next)
 
 made-said : (j : Joying) (o : Option JoyRecord) → FitsIf o → IsTurnAsSaid (record_or_on j o)
 made-said j None h = tt
 made-said j (Some r) h = h
 
-event-said : (d : Description) (j : Joying) (event : Option Taken) → IsTurnAsSaid (event_or_on d j event)
-event-said d j None = tt
-event-said d j (Some taken) =
+next-said : (d : Description) (j : Joying) (next : Next) → IsTurnAsSaid (joying_after_next d j next)
+next-said d j (Success taken) =
     cond_both (is_report taken.event) _ _ IsTurnAsSaid (λ _. tt) (λ _. made-said j (joy_record_of d j.picture taken) (event-fits d j.picture taken))
-
-next-said : (d : Description) (j : Joying) (next : Next) (stop : Option JoyRead) (event : Option Taken) → joy_read_of next ≡ stop → IsTurnAsSaid (stop_or_event d j stop event)
-next-said d j next None event is = event-said d j event
-next-said d j next (Some read) event is = stopped-said next read is
+next-said d j next = stop-said j j next
 
 turn-said : (d : Description) (j : Joying) (calls : List Call) (t : JoyTurn) → TurnCase d j calls t → IsTurnAsSaid t
 turn-said d j calls t (of_startup r at none is) = turn-same (gives (hand_out_record (next_in_startup j) r)) t is (startup-fits d j.reading.view j.handed r at)
 turn-said d j calls t (of_sync needed s) = sync_turn-said d j calls t s
-turn-said d j calls t (of_loss first second next r plain whole h lost s) = sync_turn-said d (with_reading j r) second t s
-turn-said d j calls t (of_next next r plain h kept is) = turn-same (joying_after_next d (with_reading j r) next) t is (next-said d (with_reading j r) next (joy_read_of next) (event_handed_out next) refl)
+turn-said d j calls t (of_loss first second taken r plain whole h s) = sync_turn-said d (with_reading j r) second t s
+turn-said d j calls t (of_next next r plain h is) = turn-same (joying_after_next d (with_reading j r) next) t is (next-said d (with_reading j r) next)
 
 -- each answer of a read
 pub turns-said : (d : Description) (n count : ℕ) (j : Joying) (calls : List Call) (answer : JoyAnswer) → EndsWith (turns d n count j) calls (Some answer) → IsAnswerAsSaid answer

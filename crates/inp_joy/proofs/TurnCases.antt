@@ -1,26 +1,28 @@
 -- How a turn of a read went, and what holds of a read since it holds of its turns.
-use Rattle.std.proofs.Common.{◌≡◌, ℕ, zero, suc, ◌+◌, Bool, true, false, if◌then◌else◌, List, [], ◌∷◌, ◌++◌, Some, None, refl, sym, ap, subst, ◌∙◌, append-nil}
+use Rattle.std.proofs.Common.{◌≡◌, ℕ, zero, suc, ◌+◌, true, false, if◌then◌else◌, List, [], ◌∷◌, ◌++◌, Some, None, refl, sym, ap, subst, ◌∙◌, append-nil}
 use Rattle.std.specs.Prelude.{Option, slice_get}
 use Rattle.std.proofs.lemmas.Bool.{cond_both}
+use Rattle.inp_model.specs.declared.taken.Taken.{Taken}
 use Rattle.inp_model.specs.Description.{Description}
 use Rattle.inp_model.specs.Reply.{is_accepted}
 use Rattle.inp_model.specs.Run.{Call}
 use Rattle.inp_reader.specs.declared.mode.Mode.TheVariants.{Normal, Sync as Synchronising}
 use Rattle.inp_reader.specs.declared.next.Next.{Next}
+use Rattle.inp_reader.specs.declared.next.Next.TheVariants.{Dropped}
 use Rattle.inp_reader.specs.Reader.{Reading, next_talk}
 use Rattle.inp_reader.specs.ReaderPlace.{is_needed}
 use Rattle.inp_reader.specs.Talk.{Talk, finish, ask, LeadsTo, EndsWith}
 use Rattle.inp_reader.proofs.Calls.{IsSplit, split-and_then, finished}
 use Rattle.inp_joy.specs.declared.joy_read.JoyRead.TheVariants.{More}
 use Rattle.inp_joy.specs.declared.joy_record.JoyRecord.{JoyRecord}
-use Rattle.inp_joy.specs.Joy.{Joying, JoyAnswer, JoyTurn, gives, goes_on, hand_out_record, next_in_startup, startup, is_long, is_lost, joy_read_of, joying_after_next, stop_or_startup, joying_after_sync, sync_turn, after_normal, event_turn, record_or_turn, turn_talk, with_count, after_turn, turns, stop_with, with_reading}
+use Rattle.inp_joy.specs.Joy.{Joying, JoyAnswer, JoyTurn, gives, goes_on, hand_out_record, next_in_startup, startup, is_long, joying_after_next, joying_after_sync, sync_turn, after_normal, event_turn, record_or_turn, turn_talk, with_count, after_turn, turns, stop_with, with_reading}
 
 -- The calls are those of a synchronisation, and the turn comes to what its answer says.
 pub record Synchronises (d : Description) (j : Joying) (calls : List Call) (t : JoyTurn) : Type 0 where
   pub next : Next
   pub reading : Reading
   pub talk_ends : EndsWith (next_talk d Synchronising j.reading) calls (next, reading)
-  pub comes_to : stop_or_startup (with_reading j reading) (joy_read_of next) ≡ t
+  pub comes_to : joying_after_sync j (next, reading) ≡ t
 
 -- no call follows
 alone : (calls first later : List Call) → calls ≡ first ++ later → later ≡ [] → calls ≡ first
@@ -46,22 +48,21 @@ pub data TurnCase (d : Description) (j : Joying) (calls : List Call) (t : JoyTur
   -- a synchronisation was needed
   of_sync : is_needed j.reading.phase ≡ true → Synchronises d j calls t → TurnCase d j calls t
   -- events were lost, and a synchronisation followed
-  of_loss : (first second : List Call) (next : Next) (r : Reading) → is_needed j.reading.phase ≡ false → calls ≡ first ++ second → EndsWith (next_talk d Normal j.reading) first (next, r) → is_lost next ≡ true → Synchronises d (with_reading j r) second t → TurnCase d j calls t
+  of_loss : (first second : List Call) (taken : Taken) (r : Reading) → is_needed j.reading.phase ≡ false → calls ≡ first ++ second → EndsWith (next_talk d Normal j.reading) first (Dropped taken, r) → Synchronises d (with_reading j r) second t → TurnCase d j calls t
   -- none were lost
-  of_next : (next : Next) (r : Reading) → is_needed j.reading.phase ≡ false → EndsWith (next_talk d Normal j.reading) calls (next, r) → is_lost next ≡ false → joying_after_next d (with_reading j r) next ≡ t → TurnCase d j calls t
+  of_next : (next : Next) (r : Reading) → is_needed j.reading.phase ≡ false → EndsWith (next_talk d Normal j.reading) calls (next, r) → joying_after_next d (with_reading j r) next ≡ t → TurnCase d j calls t
 
 event_turn-case : (d : Description) (j : Joying) (calls : List Call) (t : JoyTurn) → is_needed j.reading.phase ≡ false → EndsWith (event_turn d j) calls t → TurnCase d j calls t
 unfolding event_turn
 event_turn-case d j calls t plain h =
     let s : IsSplit (next_talk d Normal j.reading) (after_normal d j) calls t = split-and_then (next_talk d Normal j.reading) (after_normal d j) calls t h in
-    by_flag s.between.0 s.between.1 s.first s.later (is_lost s.between.0) refl s.calls_are s.first_ends s.later_ends
+    by_next s.between.0 s.between.1 s.first s.later s.calls_are s.first_ends s.later_ends
   where
-    by_flag : (next : Next) (r : Reading) (first later : List Call) (b : Bool) → is_lost next ≡ b → calls ≡ first ++ later → EndsWith (next_talk d Normal j.reading) first (next, r)
-        → EndsWith (if b then sync_turn d (with_reading j r) else finish (joying_after_next d (with_reading j r) next)) later t → TurnCase d j calls t
-    by_flag next r first later true lost whole e k = of_loss first later next r plain whole e lost (synchronises d (with_reading j r) later t k)
-    by_flag next r first later false lost whole e k =
+    by_next : (next : Next) (r : Reading) (first later : List Call) → calls ≡ first ++ later → EndsWith (next_talk d Normal j.reading) first (next, r) → EndsWith (after_normal d j (next, r)) later t → TurnCase d j calls t
+    by_next (Dropped taken) r first later whole e k = of_loss first later taken r plain whole e (synchronises d (with_reading j r) later t k)
+    by_next next r first later whole e k =
         let f : (later ≡ []) × (joying_after_next d (with_reading j r) next ≡ t) = finished (joying_after_next d (with_reading j r) next) t later k in
-        of_next next r plain (subst (λ (cs : List Call). EndsWith (next_talk d Normal j.reading) cs (next, r)) (sym (alone calls first later whole f.0)) e) lost f.1
+        of_next next r plain (subst (λ (cs : List Call). EndsWith (next_talk d Normal j.reading) cs (next, r)) (sym (alone calls first later whole f.0)) e) f.1
 
 case-of : (d : Description) (j : Joying) (o : Option JoyRecord) (calls : List Call) (t : JoyTurn) → slice_get (startup d j.reading.view) j.handed ≡ o → EndsWith (record_or_turn d j o) calls t → TurnCase d j calls t
 case-of d j None calls t is h =

@@ -25,12 +25,12 @@ use Rattle.inp_joy.specs.declared.joy_record.JoyRecord.{JoyRecord}
 use Rattle.inp_joy.specs.declared.turn_end.TurnEnd.{TurnEnd}
 use Rattle.inp_joy.specs.declared.turn_end.TurnEnd.TheVariants.{Hands, Stops, GoesOn}
 use Rattle.inp_joy.specs.Codes.{startup_len}
-use Rattle.inp_joy.specs.Joy.{Joying, JoyAnswer, JoyTurn, gives, goes_on, hand_out_record, stop_with, with_reading, with_startup, without_startup, next_in_startup, is_startup_over, joying_after_start, startup, joy_read_of, is_lost, joy_record_of, record_or_on, event_handed_out, joying_after_event, stop_or_event, joying_after_next, stop_or_startup, joying_after_sync, sync_turn, after_normal, event_turn, record_or_turn, turn_talk}
+use Rattle.inp_joy.specs.Joy.{Joying, JoyAnswer, JoyTurn, gives, goes_on, hand_out_record, stop_with, with_reading, with_startup, without_startup, next_in_startup, is_startup_over, joying_after_start, startup, joy_read_of, joy_record_of, record_or_on, joying_after_event, stop_or_on, joying_after_next, joying_after_sync, sync_turn, after_normal, event_turn, record_or_turn, turn_talk}
 use Rattle.inp_joy.specs.Kept.{turn_of_end}
 use Rattle.inp_joy.specs.Picture.{PictureView, picture_after_if, picture_of_view}
 use Rattle.inp_joy.specs.Reads.{IsPictured}
 use Rattle.inp_joy.proofs.Events.{event-pictured, report-none}
-use Rattle.inp_joy.proofs.Nexts.{lost-in, IsLeftByStart, IsTaken, IsSynced, next-taken, next-synced, next-accepted, accepted-append}
+use Rattle.inp_joy.proofs.Nexts.{IsLeftByStart, IsTaken, IsSynced, next-taken, next-synced, next-accepted, accepted-append}
 use Rattle.inp_joy.proofs.Pictures.{startup-pictured, startup-more, startup-over, startup-gone}
 use Rattle.inp_joy.proofs.Startups.{length-startup}
 
@@ -81,7 +81,7 @@ pub record-pictured : (d : Description) (j : Joying) (r : JoyRecord) → slice_g
 record-pictured d j r at h = λ plain. startup-more j.picture (picture_of_view d j.reading.view) (startup d j.reading.view) j.handed r at (h plain)
 
 -- a synchronisation
-sync-pictured : (d : Description) (j : Joying) (next : Next) (r : Reading) → IsSynced next r → IsTurnPictured d (stop_or_startup (with_reading j r) (joy_read_of next))
+sync-pictured : (d : Description) (j : Joying) (next : Next) (r : Reading) → IsSynced next r → IsTurnPictured d (joying_after_sync j (next, r))
 sync-pictured d j (Success taken) r h = absurd h
 sync-pictured d j (Dropped taken) r h = absurd h
 sync-pictured d j (Sync event) r h = begun-pictured d r
@@ -115,21 +115,23 @@ taken-pictured d j view taken sized over shown moved = by_flag (is_report taken.
         (shown-pictured d j over still, still)
     by_flag false is = event-gives d j (joy_record_of d j.picture taken) over all
 
-next-pictured : (d : Description) (j : Joying) (next : Next) (r : Reading) → IsSizedFor d.slots j.reading.view → startup_len d ≤ j.handed → j.picture ≡ picture_of_view d j.reading.view → is_lost next ≡ false → IsTaken j.reading.view next r → IsTurnPictured d (joying_after_next d (with_reading j r) next)
-next-pictured d j (Success taken) r sized over shown lost h = taken-pictured d (with_reading j r) j.reading.view taken sized over shown h.0
-next-pictured d j (Dropped taken) r sized over shown lost h = absurd (true≢false lost)
-next-pictured d j (Sync event) r sized over shown lost h = absurd h
-next-pictured d j Synced r sized over shown lost h = absurd h
-next-pictured d j (NothingVisible at ends) r sized over shown lost h = (shown-pictured d (with_reading j r) over (shown ∙ ap (λ (v : View). picture_of_view d v) (sym h.0)), tt)
-next-pictured d j Revoked r sized over shown lost h = (shown-pictured d (with_reading j r) over (shown ∙ ap (λ (v : View). picture_of_view d v) (sym h.0)), tt)
-next-pictured d j NotOpen r sized over shown lost h = (shown-pictured d (with_reading j r) over (shown ∙ ap (λ (v : View). picture_of_view d v) (sym h.0)), tt)
-next-pictured d j (FullHistory at) r sized over shown lost h = (shown-pictured d (with_reading j r) over (shown ∙ ap (λ (v : View). picture_of_view d v) (sym h.0)), tt)
+stopped-pictured : (d : Description) (j : Joying) (r : Reading) → startup_len d ≤ j.handed → j.picture ≡ picture_of_view d j.reading.view → r.view ≡ j.reading.view → IsPictured d (with_reading j r)
+stopped-pictured d j r over shown same = shown-pictured d (with_reading j r) over (shown ∙ ap (λ (v : View). picture_of_view d v) (sym same))
+
+next-pictured : (d : Description) (j : Joying) (next : Next) (r : Reading) → IsSizedFor d.slots j.reading.view → startup_len d ≤ j.handed → j.picture ≡ picture_of_view d j.reading.view → IsTaken j.reading.view next r → IsTurnPictured d (joying_after_next d (with_reading j r) next)
+next-pictured d j (Success taken) r sized over shown h = taken-pictured d (with_reading j r) j.reading.view taken sized over shown h.0
+next-pictured d j (Dropped taken) r sized over shown h = needed-pictured d (with_reading j r) h
+next-pictured d j (Sync event) r sized over shown h = absurd h
+next-pictured d j Synced r sized over shown h = absurd h
+next-pictured d j (NothingVisible at ends) r sized over shown h = (stopped-pictured d j r over shown h.0, tt)
+next-pictured d j Revoked r sized over shown h = (stopped-pictured d j r over shown h.0, tt)
+next-pictured d j NotOpen r sized over shown h = (stopped-pictured d j r over shown h.0, tt)
+next-pictured d j (FullHistory at) r sized over shown h = (stopped-pictured d j r over shown h.0, tt)
 
 normal-pictured : (d : Description) (j : Joying) (next : Next) (r : Reading) (later : List Call) (t : JoyTurn) → IsSizedFor d.slots j.reading.view → startup_len d ≤ j.handed → j.picture ≡ picture_of_view d j.reading.view → IsTaken j.reading.view next r → EndsWith (after_normal d j (next, r)) later t → IsTurnPictured d t
-normal-pictured d j next r later t sized over shown taken h =
-    (cond_both (is_lost next) _ _ (λ x. EndsWith x later t → IsTurnPictured d t)
-    (λ is k. sync_turn-pictured d (with_reading j r) later t (lost-in j.reading.view next r is taken) k)
-    (λ is k. turn-same d (joying_after_next d (with_reading j r) next) t (finished (joying_after_next d (with_reading j r) next) t later k).1 (next-pictured d j next r sized over shown is taken))) h
+normal-pictured d j (Dropped taken) r later t sized over shown h ends = sync_turn-pictured d (with_reading j r) later t h ends
+normal-pictured d j next r later t sized over shown h ends =
+    turn-same d (joying_after_next d (with_reading j r) next) t (finished (joying_after_next d (with_reading j r) next) t later ends).1 (next-pictured d j next r sized over shown h)
 
 event_turn-pictured : (d : Description) (j : Joying) (calls : List Call) (t : JoyTurn) → IsSizedFor d.slots j.reading.view → startup_len d ≤ j.handed → is_needed j.reading.phase ≡ false → IsPictured d j → EndsWith (event_turn d j) calls t → IsTurnPictured d t
 unfolding event_turn
@@ -170,9 +172,9 @@ start-pictured d j l r (Refused at why) left is h = subst (λ (m : Joying). IsPi
 gives-goes : (answer : JoyAnswer) (k : Joying) → gives answer ≡ goes_on k → ⊥
 gives-goes answer k e = cc
 
-stop-none : (j k : Joying) (o : Option JoyRead) → stop_or_startup j o ≡ goes_on k → o ≡ None
-stop-none j k None h = refl
-stop-none j k (Some read) h = absurd (gives-goes (stop_with read j) k h)
+stop-none : (j here k : Joying) (o : Option JoyRead) → stop_or_on j here o ≡ goes_on k → o ≡ None
+stop-none j here k None h = refl
+stop-none j here k (Some read) h = absurd (gives-goes (stop_with read j) k h)
 
 sync_turn-accepted : (d : Description) (j k : Joying) (calls : List Call) → EndsWith (sync_turn d j) calls (goes_on k) → AreAccepted calls
 unfolding sync_turn AreAccepted
@@ -180,32 +182,19 @@ sync_turn-accepted d j k calls h =
     let s : IsSplit (next_talk d Synchronising j.reading) (λ o. finish (joying_after_sync j o)) calls (goes_on k) = split-and_then (next_talk d Synchronising j.reading) (λ o. finish (joying_after_sync j o)) calls (goes_on k) h in
     let f : (s.later ≡ []) × (joying_after_sync j s.between ≡ goes_on k) = finished (joying_after_sync j s.between) (goes_on k) s.later s.later_ends in
     subst (λ (cs : List Call). AreAccepted cs) (sym s.calls_are)
-    (accepted-append s.first s.later (next-accepted d Synchronising j.reading s.first s.between (stop-none (with_reading j s.between.1) k (joy_read_of s.between.0) f.1) s.first_ends)
+    (accepted-append s.first s.later (next-accepted d Synchronising j.reading s.first s.between (stop-none (with_reading j s.between.1) (with_startup s.between.1) k (joy_read_of s.between.0) f.1) s.first_ends)
     (subst (λ (cs : List Call). AreAccepted cs) (sym f.0) tt))
 
-event-none : (d : Description) (j k : Joying) (o : Option JoyRead) (e : Option Taken) → stop_or_event d j o e ≡ goes_on k → o ≡ None
-event-none d j k None e h = refl
-event-none d j k (Some read) e h = absurd (gives-goes (stop_with read j) k h)
-
-lost-none : (next : Next) → is_lost next ≡ true → joy_read_of next ≡ None
-lost-none (Dropped taken) h = refl
-lost-none (Success taken) h = refl
-lost-none (Sync event) h = refl
-lost-none Synced h = refl
-lost-none (NothingVisible at ends) h = absurd (true≢false (sym h))
-lost-none Revoked h = absurd (true≢false (sym h))
-lost-none NotOpen h = absurd (true≢false (sym h))
-lost-none (FullHistory at) h = absurd (true≢false (sym h))
+next-none : (d : Description) (j k : Joying) (next : Next) → joying_after_next d j next ≡ goes_on k → joy_read_of next ≡ None
+next-none d j k (Success taken) h = refl
+next-none d j k next h = stop-none j j k (joy_read_of next) h
 
 normal-accepted : (d : Description) (j k : Joying) (next : Next) (r : Reading) (first later : List Call) → EndsWith (next_talk d Normal j.reading) first (next, r) → EndsWith (after_normal d j (next, r)) later (goes_on k) → AreAccepted (first ++ later)
 unfolding AreAccepted
-normal-accepted d j k next r first later n h = by_flag (is_lost next) refl h
-  where
-    by_flag : (b : Bool) → is_lost next ≡ b → EndsWith (if b then sync_turn d (with_reading j r) else finish (joying_after_next d (with_reading j r) next)) later (goes_on k) → AreAccepted (first ++ later)
-    by_flag true is m = accepted-append first later (next-accepted d Normal j.reading first (next, r) (lost-none next is) n) (sync_turn-accepted d (with_reading j r) k later m)
-    by_flag false is m =
-        let f : (later ≡ []) × (joying_after_next d (with_reading j r) next ≡ goes_on k) = finished (joying_after_next d (with_reading j r) next) (goes_on k) later m in
-        accepted-append first later (next-accepted d Normal j.reading first (next, r) (event-none d (with_reading j r) k (joy_read_of next) (event_handed_out next) f.1) n) (subst (λ (cs : List Call). AreAccepted cs) (sym f.0) tt)
+normal-accepted d j k (Dropped taken) r first later n h = accepted-append first later (next-accepted d Normal j.reading first (Dropped taken, r) refl n) (sync_turn-accepted d (with_reading j r) k later h)
+normal-accepted d j k next r first later n h =
+    let f : (later ≡ []) × (joying_after_next d (with_reading j r) next ≡ goes_on k) = finished (joying_after_next d (with_reading j r) next) (goes_on k) later h in
+    accepted-append first later (next-accepted d Normal j.reading first (next, r) (next-none d (with_reading j r) k next f.1) n) (subst (λ (cs : List Call). AreAccepted cs) (sym f.0) tt)
 
 event_turn-accepted : (d : Description) (j k : Joying) (calls : List Call) → EndsWith (event_turn d j) calls (goes_on k) → AreAccepted calls
 unfolding event_turn

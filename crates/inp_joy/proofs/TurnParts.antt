@@ -1,19 +1,21 @@
 -- The parts of a turn, one after another.
-use Rattle.std.proofs.Common.{◌≡◌, Bool, true, false, if◌then◌else◌, List, Some, None, sym, ap, subst, ◌∙◌}
+use Rattle.std.proofs.Common.{◌≡◌, List, Some, None, refl, sym, ap, subst, ◌∙◌}
 use Rattle.std.specs.Prelude.{Option, slice_get}
+use Rattle.inp_model.specs.declared.taken.Taken.{Taken}
 use Rattle.inp_model.specs.Description.{Description}
 use Rattle.inp_model.specs.Evdev.{EvdevView}
 use Rattle.inp_reader.specs.declared.call_made.CallMade.{CallMade}
 use Rattle.inp_reader.specs.declared.mode.Mode.TheVariants.{Normal, Sync as Synchronising}
 use Rattle.inp_reader.specs.declared.next.Next.{Next}
+use Rattle.inp_reader.specs.declared.next.Next.TheVariants.{Success, Dropped}
 use Rattle.inp_reader.specs.declared.started.Started.{Started}
 use Rattle.inp_reader.specs.Reader.{Reading, next_talk, start_talk}
 use Rattle.inp_reader.specs.Says.{Says}
-use Rattle.inp_reader.specs.Talk.{Talk, finish}
+use Rattle.inp_reader.specs.Talk.{finish}
 use Rattle.inp_reader.proofs.SaysInTurn.{says-nothing, says-then}
 use Rattle.inp_joy.specs.declared.joy_read.JoyRead.{JoyRead}
 use Rattle.inp_joy.specs.declared.joy_record.JoyRecord.{JoyRecord}
-use Rattle.inp_joy.specs.Joy.{Joying, JoyTurn, gives, goes_on, hand_out_record, stop_with, with_reading, with_startup, next_in_startup, joying_after_start, joy_started, joy_start, joy_read_of, is_lost, joying_after_next, stop_or_startup, joying_after_sync, sync_turn, after_normal, event_turn, startup, record_or_turn, turn_talk}
+use Rattle.inp_joy.specs.Joy.{Joying, JoyTurn, gives, goes_on, hand_out_record, stop_with, with_reading, with_startup, next_in_startup, joying_after_start, joy_started, joy_start, joy_read_of, stop_or_on, joying_after_next, joying_after_sync, sync_turn, after_normal, event_turn, startup, record_or_turn, turn_talk}
 
 -- A synchronisation
 
@@ -28,13 +30,13 @@ says-sync before after old new d j next r turn s is =
 pub says-sync_stopped : (before after : EvdevView) (old new : List CallMade) (d : Description) (j k : Joying) (next : Next) (r : Reading) (read : JoyRead) → Says before after old new (next_talk d Synchronising j.reading) (next, r) → k ≡ with_reading j r → Some read ≡ joy_read_of next → Says before after old new (sync_turn d j) (gives (stop_with read k))
 says-sync_stopped before after old new d j k next r read s kept stopped =
     says-sync before after old new d j next r (gives (stop_with read k)) s
-    (ap (λ (o : Option JoyRead). stop_or_startup (with_reading j r) o) (sym stopped) ∙ ap (λ (l : Joying). gives (stop_with read l)) (sym kept))
+    (ap (λ (o : Option JoyRead). stop_or_on (with_reading j r) (with_startup r) o) (sym stopped) ∙ ap (λ (l : Joying). gives (stop_with read l)) (sym kept))
 
 -- one that was not
 pub says-sync_whole : (before after : EvdevView) (old new : List CallMade) (d : Description) (j k : Joying) (next : Next) (r : Reading) → Says before after old new (next_talk d Synchronising j.reading) (next, r) → joy_read_of next ≡ None → k ≡ with_startup r → Says before after old new (sync_turn d j) (goes_on k)
 says-sync_whole before after old new d j k next r s went begun =
     says-sync before after old new d j next r (goes_on k) s
-    (ap (λ (o : Option JoyRead). stop_or_startup (with_reading j r) o) went ∙ ap (λ (l : Joying). goes_on l) (sym begun))
+    (ap (λ (o : Option JoyRead). stop_or_on (with_reading j r) (with_startup r) o) went ∙ ap (λ (l : Joying). goes_on l) (sym begun))
 
 -- An event
 
@@ -43,23 +45,30 @@ unfolding event_turn
 says-normal before between after old mid new d j next r turn s t =
     let o : Next × Reading = (next, r) in says-then before between after old mid new (next_talk d Normal j.reading) (after_normal d j) o turn s t
 
--- one after which events were lost
-pub says-event_lost : (before between after : EvdevView) (old mid new : List CallMade) (d : Description) (j k : Joying) (next : Next) (r : Reading) (turn : JoyTurn) → Says before between old mid (next_talk d Normal j.reading) (next, r) → is_lost next ≡ true → k ≡ with_reading j r → Says between after mid new (sync_turn d k) turn
+-- lost events
+pub says-event_lost : (before between after : EvdevView) (old mid new : List CallMade) (d : Description) (j k : Joying) (taken : Taken) (r : Reading) (turn : JoyTurn) → Says before between old mid (next_talk d Normal j.reading) (Dropped taken, r) → k ≡ with_reading j r → Says between after mid new (sync_turn d k) turn
     → Says before after old new (event_turn d j) turn
-says-event_lost before between after old mid new d j k next r turn s lost kept t =
-    says-normal before between after old mid new d j next r turn s
-    (subst (λ (l : Talk JoyTurn). Says between after mid new l turn)
-    (ap (λ (l : Joying). sync_turn d l) kept ∙ ap (λ (b : Bool). if b then sync_turn d (with_reading j r) else finish (joying_after_next d (with_reading j r) next)) (sym lost))
-    t)
+says-event_lost before between after old mid new d j k taken r turn s kept t =
+    says-normal before between after old mid new d j (Dropped taken) r turn s (subst (λ (l : Joying). Says between after mid new (sync_turn d l) turn) kept t)
 
--- another one
-pub says-event : (before after : EvdevView) (old new : List CallMade) (d : Description) (j k : Joying) (next : Next) (r : Reading) (turn : JoyTurn) → Says before after old new (next_talk d Normal j.reading) (next, r) → is_lost next ≡ false → k ≡ with_reading j r → turn ≡ joying_after_next d k next → Says before after old new (event_turn d j) turn
-says-event before after old new d j k next r turn s kept_all kept is =
+-- another answer
+abbrev pub IsNoLoss : Next → Type 0
+IsNoLoss next = (taken : Taken) → next ≡ Dropped taken → ⊥
+
+after-other : (d : Description) (j : Joying) (next : Next) (r : Reading) → IsNoLoss next → after_normal d j (next, r) ≡ finish (joying_after_next d (with_reading j r) next)
+after-other d j (Dropped taken) r other = absurd (other taken refl)
+after-other d j next r other = refl
+
+pub says-event : (before after : EvdevView) (old new : List CallMade) (d : Description) (j k : Joying) (next : Next) (r : Reading) (turn : JoyTurn) → Says before after old new (next_talk d Normal j.reading) (next, r) → IsNoLoss next → k ≡ with_reading j r → turn ≡ joying_after_next d k next → Says before after old new (event_turn d j) turn
+says-event before after old new d j k next r turn s other kept is =
     says-normal before after after old new new d j next r turn s
     (says-nothing after new (after_normal d j (next, r)) turn
-    (ap (λ (b : Bool). if b then sync_turn d (with_reading j r) else finish (joying_after_next d (with_reading j r) next)) kept_all
-    ∙ ap (λ (l : Joying). finish (joying_after_next d l next)) (sym kept)
-    ∙ ap (λ (t : JoyTurn). finish t) (sym is)))
+    (after-other d j next r other ∙ ap (λ (l : Joying). finish (joying_after_next d l next)) (sym kept) ∙ ap (λ (t : JoyTurn). finish t) (sym is)))
+
+-- that is no event
+pub stopped-other : (d : Description) (j : Joying) (next : Next) → ((taken : Taken) → next ≡ Success taken → ⊥) → joying_after_next d j next ≡ stop_or_on j j (joy_read_of next)
+stopped-other d j (Success taken) other = absurd (other taken refl)
+stopped-other d j next other = refl
 
 -- A turn
 

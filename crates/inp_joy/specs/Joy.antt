@@ -1,5 +1,5 @@
 -- What a joystick client keeps, and what `start` and `read` ask and answer (docs/RULES.md, "Joystick clients").
-use Rattle.std.specs.Prelude.{ℕ, zero, suc, ◌+◌, ℤ, pos, Bool, true, false, ◌&&◌, if◌then◌else◌, nat_eq, nat_le, List, [], ◌∷◌, ◌++◌, map, slice_get, slice_index_or, Option, Some, None}
+use Rattle.std.specs.Prelude.{ℕ, zero, suc, ◌+◌, ℤ, pos, Bool, ◌&&◌, if◌then◌else◌, nat_eq, nat_le, List, [], ◌∷◌, ◌++◌, map, slice_get, slice_index_or, Option, Some, None}
 use Rattle.std.specs.Ordering.{int_eq}
 use Rattle.inp_model.specs.declared.event.TheConstants.{EV_KEY, EV_ABS}
 use Rattle.inp_model.specs.declared.taken.Taken.{Taken}
@@ -111,15 +111,6 @@ joy_read_of NotOpen = Some Closed
 joy_read_of (FullHistory at) = Some (Full at)
 joy_read_of _ = None
 
-abbrev pub is_lost : Next → Bool
-is_lost (Dropped taken) = true
-is_lost _ = false
-
--- the event that a reader handed out
-abbrev pub event_handed_out : Next → Option Taken
-event_handed_out (Success taken) = Some taken
-event_handed_out _ = None
-
 -- a key event gives a record where the key is a button, but for an autorepeat
 abbrev pub record_of_key : Option ℕ → Taken → Option JoyRecord
 record_of_key None taken = None
@@ -152,35 +143,30 @@ joying_after_event d j taken =
     if is_report taken.event then gives (stop_with (Frame taken.place) j)
     else record_or_on j (joy_record_of d j.picture taken)
 
-abbrev pub event_or_on : Description → Joying → Option Taken → JoyTurn
-event_or_on d j None = goes_on j
-event_or_on d j (Some taken) = joying_after_event d j taken
+-- the reader's answer is given where it is one of a read too, and else the read goes on from here
+abbrev pub stop_or_on : Joying → Joying → Option JoyRead → JoyTurn
+stop_or_on j here None = goes_on here
+stop_or_on j here (Some read) = gives (stop_with read j)
 
 -- after an answer of the reader that lost no events
-abbrev pub stop_or_event : Description → Joying → Option JoyRead → Option Taken → JoyTurn
-stop_or_event d j None event = event_or_on d j event
-stop_or_event d j (Some read) event = gives (stop_with read j)
-
 abbrev pub joying_after_next : Description → Joying → Next → JoyTurn
-joying_after_next d j next = stop_or_event d j (joy_read_of next) (event_handed_out next)
+joying_after_next d j (Success taken) = joying_after_event d j taken
+joying_after_next d j next = stop_or_on j j (joy_read_of next)
 
 -- after a synchronisation: a startup begins, unless it was stopped
-abbrev pub stop_or_startup : Joying → Option JoyRead → JoyTurn
-stop_or_startup j None = goes_on (with_startup j.reading)
-stop_or_startup j (Some read) = gives (stop_with read j)
-
 abbrev pub joying_after_sync : Joying → Next × Reading → JoyTurn
-joying_after_sync j o = stop_or_startup (with_reading j o.1) (joy_read_of o.0)
+joying_after_sync j o = stop_or_on (with_reading j o.1) (with_startup o.1) (joy_read_of o.0)
 
 -- the reader synchronises
 unfoldable pub sync_turn : Description → Joying → Talk JoyTurn
 sync_turn d j = and_then (next_talk d Synchronising j.reading) (λ o. finish (joying_after_sync j o))
 
+-- after an answer of the reader in Normal mode: where events were lost it synchronises
 abbrev pub after_normal : Description → Joying → Next × Reading → Talk JoyTurn
-after_normal d j o =
-    if is_lost o.0 then sync_turn d (with_reading j o.1) else finish (joying_after_next d (with_reading j o.1) o.0)
+after_normal d j (Dropped taken, r) = sync_turn d (with_reading j r)
+after_normal d j (next, r) = finish (joying_after_next d (with_reading j r) next)
 
--- the reader is asked for its next event, and synchronises where events were lost
+-- the reader is asked for its next event
 unfoldable pub event_turn : Description → Joying → Talk JoyTurn
 event_turn d j = and_then (next_talk d Normal j.reading) (after_normal d j)
 
@@ -188,7 +174,17 @@ event_turn d j = and_then (next_talk d Normal j.reading) (after_normal d j)
 abbrev pub next_in_startup : Joying → Joying
 next_in_startup j = record j { handed = j.handed + 1 }
 
--- a turn: a record of the startup, where one is left, or a synchronisation, where one is needed, or an event
+-- what a turn does, by what there is (docs/RULES.md, "Joystick clients"):
+--
+--   a startup record is left       hands it out
+--   a synchronisation is needed    synchronises, and a startup begins
+--   else the reader's next answer:
+--   a report                       ends a frame, and tells its place
+--   a button, no autorepeat        hands out its record
+--   an axis with another value     hands out its record
+--   lost events                    synchronises, and a startup begins
+--   a stop of the reader           gives it as the read's answer
+--   another event                  goes on
 abbrev pub record_or_turn : Description → Joying → Option JoyRecord → Talk JoyTurn
 record_or_turn d j None = if is_needed j.reading.phase then sync_turn d j else event_turn d j
 record_or_turn d j (Some r) = finish (gives (hand_out_record (next_in_startup j) r))

@@ -15,7 +15,7 @@ ghost use Rattle.inp_joy.specs.Reads.{IsPictured, IsJoyRead, IsReadLess, ReadPic
 
 use crate::code_list::CodeList;
 use crate::joy_record::within_16_bits;
-use crate::stops::{event_handed_out, is_lost, joy_read_of};
+use crate::stops::joy_read_of;
 use crate::turn_end::TurnEnd;
 use crate::views::{cut_axis_of, is_down};
 use crate::{JoyRead, JoyRecord, Picture};
@@ -197,12 +197,12 @@ impl JoyState {
             ≡ joying_after_next self.old.reader.description (kept_joying self.old) next }
         ensures rest { self.new ≡ record self.old { picture = self.new.picture } }
     {
-        if let Some(read) = joy_read_of(next) {
-            return TurnEnd::Stops { read };
-        }
-        match event_handed_out(next) {
-            Some(event) => self.after_event(event),
-            None => TurnEnd::GoesOn,
+        match next {
+            Next::Success { event } => self.after_event(event),
+            _ => match joy_read_of(next) {
+                Some(read) => TurnEnd::Stops { read },
+                None => TurnEnd::GoesOn,
+            },
         }
     }
 
@@ -280,10 +280,9 @@ impl JoyState {
         ensures few { length self.new.made ≤ length self.old.made + 56 }
     {
         let next = self.next(dev, Mode::Normal);
-        if is_lost(next) {
-            self.synchronise(dev)
-        } else {
-            self.after_next(next)
+        match next {
+            Next::Dropped { .. } => self.synchronise(dev),
+            _ => self.after_next(next),
         }
     }
 

@@ -1,9 +1,8 @@
 //! What an answer of a reader is to a joystick client.
 ghost use Rattle.std.specs.Prelude.{◌≡◌};
-ghost use Rattle.inp_joy.specs.Joy.{joy_read_of, is_lost, event_handed_out};
+ghost use Rattle.inp_joy.specs.Joy.{joy_read_of};
 
 use crate::JoyRead;
-use inp_model::Taken;
 use inp_reader::Next;
 
 // The answer of a read that it is, if it is one.
@@ -15,23 +14,6 @@ pub(crate) fn joy_read_of(next: Next) -> Option<JoyRead>
         Next::NoDevice => Some(JoyRead::NoDevice),
         Next::Closed => Some(JoyRead::Closed),
         Next::Full { at } => Some(JoyRead::Full { at }),
-        _ => None,
-    }
-}
-
-// Whether events were lost.
-pub(crate) fn is_lost(next: Next) -> bool
-    ensures { result ≡ is_lost next }
-{
-    matches!(next, Next::Dropped { .. })
-}
-
-// The event that was handed out, if there was one.
-pub(crate) fn event_handed_out(next: Next) -> Option<Taken>
-    ensures { result ≡ event_handed_out next }
-{
-    match next {
-        Next::Success { event } => Some(event),
         _ => None,
     }
 }

@@ -28,7 +28,7 @@ use Rattle.inp_reader.specs.declared.phase.Phase.TheVariants.{Plain, Needed, Han
 use Rattle.inp_reader.specs.declared.next.Next.{Next}
 use Rattle.inp_reader.specs.declared.next.Next.TheVariants.{Success, Dropped, Sync, Synced, Again, NoDevice, Closed, Full}
 use Rattle.inp_reader.specs.declared.started.Started.{Started}
-use Rattle.inp_reader.specs.Reader.{Reading, only_if, axes_among, plain_axes, bit_queries, axis_queries, slot_queries, queries, ask_each, start_stop_of, after_queries, after_open, start_talk, stop_of, hand_out_event, hand_out, after_read, read_or_hand_out, read_talk, hand_synthesised, handing, as_plain, after_full_sync, after_failed_sync, go_on, go_on_after, sync_talk, talk_in, next_talk}
+use Rattle.inp_reader.specs.Reader.{Reading, only_if, axes_among, plain_axes, bit_queries, axis_queries, slot_queries, queries, ask_each, start_stop_of, after_queries, after_open, start_talk, stop_of, hand_out_event, hand_out, after_read, read_or_hand_out, read_talk, hand_synthesised, handing, as_plain, after_full_sync, after_failed_sync, talk_after_sync, sync_talk, talk_in, next_talk}
 use Rattle.inp_reader.specs.ReaderPlace.{is_needed}
 use Rattle.inp_reader.specs.Says.{Says}
 use Rattle.inp_reader.specs.Talk.{Talk, finish, EndsWith}
@@ -216,18 +216,19 @@ next-meets {S} P R I Q d mode rules s r i = in_phase mode refl s r r.phase refl 
     synthesised e t r [] is i p = rules.made_all t r i p e is
     synthesised e t r (event ∷ left) is i p = rules.makes t r event left i p e is
 
-    going : (m : Mode) → mode ≡ m → (t : S) (r : Reading) → I t r → r.phase ≡ Handing → Meets P R Q t (go_on m r)
+    going : (m : Mode) → mode ≡ m → (t : S) (r : Reading) → I t r → r.phase ≡ Handing → Meets P R Q t (talk_in d m Handing r)
     going Normal e t r i p = read t (as_plain r) r.queue refl (rules.goes_on t r i p e) refl
     going Synchronising e t r i p = synthesised e t r r.left refl i p
 
-    renewed : (m : Mode) → mode ≡ m → (t : S) (r : Reading) (asked : Result View Reply) → Renewed I Q r t asked → Meets P R Q t (go_on_after m r asked)
-    renewed m e t r (Ok view) h = going m e t (after_full_sync r view) h refl
+    renewed : (m : Mode) → mode ≡ m → (t : S) (r : Reading) (asked : Result View Reply) → Renewed I Q r t asked → Meets P R Q t (talk_after_sync m r asked)
     renewed m e t r (Err reply) h = h
+    renewed Normal e t r (Ok view) h = going Normal e t (after_full_sync r view) h refl
+    renewed Synchronising e t r (Ok view) h = going Synchronising e t (after_full_sync r view) h refl
 
     in_phase : (m : Mode) → mode ≡ m → (t : S) (r : Reading) (phase : Phase) → r.phase ≡ phase → I t r → Meets P R Q t (talk_in d m phase r)
     in_phase Normal e t r Plain p i = read t r r.queue refl i p
     in_phase Synchronising e t r Plain p i = rules.idles t r i p e
-    in_phase m e t r Needed p i = meets-then P R (Renewed I Q r) Q t (sync_talk d r) (go_on_after m r) (rules.syncs t r i p) (λ u asked h. renewed m e u r asked h)
+    in_phase m e t r Needed p i = meets-then P R (Renewed I Q r) Q t (sync_talk d r) (talk_after_sync m r) (rules.syncs t r i p) (λ u asked h. renewed m e u r asked h)
     in_phase m e t r Handing p i = going m e t r i p
 
 -- In Sync mode, where a synchronisation is needed: what that has to leave, of which the first event is handed out.
@@ -238,13 +239,13 @@ Handed Q r s (Err reply) = Q s (stop_of reply, after_failed_sync r)
 pub needed-meets : {S : Type 0} (P : S → Step → Type 0) (R : S → Step → Answer → S → Type 0) (Q : S → Next × Reading → Type 0) (d : Description) (s : S) (r : Reading) → is_needed r.phase ≡ true → Meets P R (Handed Q r) s (sync_talk d r) → Meets P R Q s (next_talk d Synchronising r)
 needed-meets {S} P R Q d s r needed h = by r.phase needed
   where
-    after : (t : S) (asked : Result View Reply) → Handed Q r t asked → Meets P R Q t (go_on_after Synchronising r asked)
+    after : (t : S) (asked : Result View Reply) → Handed Q r t asked → Meets P R Q t (talk_after_sync Synchronising r asked)
     after t (Ok view) k = k
     after t (Err reply) k = k
 
     by : (phase : Phase) → is_needed phase ≡ true → Meets P R Q s (talk_in d Synchronising phase r)
     by Plain e = absurd (true≢false (sym e))
-    by Needed e = meets-then P R (Handed Q r) Q s (sync_talk d r) (go_on_after Synchronising r) h (λ t asked k. after t asked k)
+    by Needed e = meets-then P R (Handed Q r) Q s (sync_talk d r) (talk_after_sync Synchronising r) h (λ t asked k. after t asked k)
     by Handing e = absurd (true≢false (sym e))
 
 -- the same of calls that were made
@@ -303,6 +304,24 @@ next-asks-rules d client mode P of = record {
 pub next-asks : (P : Step → Type 0) (d : Description) (mode : Mode) (r : Reading) → OfNext d r.client P → Asks P (next_talk d mode r)
 next-asks P d mode r of =
     meets-asks P (next_talk d mode r) (next-meets (λ (s : Unit {0}) (x : Step). P x) AnyAnswer (λ (s : Unit {0}) (o : Reading). r.client ≡ o.client) (λ (s : Unit {0}) (o : Next × Reading). Unit {0}) d mode (next-asks-rules d r.client mode P of) tt r refl)
+
+-- ---- the rows that the code follows
+
+-- in phase Plain a Sync call asks for nothing
+pub plain-synced : (d : Description) (mode : Mode) (r : Reading) → mode ≡ Synchronising → talk_in d mode Plain r ≡ finish (Synced, r)
+plain-synced d mode r is = ap (λ (m : Mode). talk_in d m Plain r) is
+
+-- in phase Handing it hands out the next synthesised event
+pub handing-made : (d : Description) (mode : Mode) (r : Reading) → mode ≡ Synchronising → talk_in d mode Handing r ≡ finish (handing r)
+handing-made d mode r is = ap (λ (m : Mode). talk_in d m Handing r) is
+
+-- behind a synchronisation a call goes on as in phase Handing
+pub synced-handing : (d : Description) (mode : Mode) (r s : Reading) (view : View) → s ≡ after_full_sync r view → talk_in d mode Handing s ≡ talk_after_sync mode r (Ok view)
+synced-handing d mode r s view same = ap (λ (t : Reading). talk_in d mode Handing t) same ∙ by mode
+  where
+    by : (m : Mode) → talk_in d m Handing (after_full_sync r view) ≡ talk_after_sync m r (Ok view)
+    by Normal = refl
+    by Synchronising = refl
 
 -- in phase Plain a `next` hands out the first event of the queue, and makes no call
 pub next-queued : (d : Description) (r : Reading) (t : Taken) (q : List Taken) → r.phase ≡ Plain → r.queue ≡ t ∷ q → next_talk d Normal r ≡ finish (hand_out_event r t q)

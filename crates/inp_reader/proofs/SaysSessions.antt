@@ -19,7 +19,7 @@ use Rattle.inp_reader.specs.declared.started.Started.{Started}
 use Rattle.inp_reader.specs.declared.started.Started.TheVariants.{Opened as StartedOn}
 use Rattle.inp_reader.specs.Talk.{Talk, finish, ask, and_then}
 use Rattle.inp_reader.specs.ReaderCalls.{MakesRead}
-use Rattle.inp_reader.specs.Reader.{Reading, ask_each, read_or_hand_out, read_talk, after_read, hand_out, stop_of, start_stop_of, after_open, after_queries, start_talk, go_on, go_on_after, after_full_sync, after_failed_sync}
+use Rattle.inp_reader.specs.Reader.{Reading, ask_each, read_or_hand_out, read_talk, after_read, hand_out, stop_of, start_stop_of, after_open, after_queries, start_talk, after_failed_sync, talk_after_sync}
 use Rattle.inp_reader.specs.Says.{Says, kept_call}
 use Rattle.inp_reader.proofs.SaysInTurn.{says-nothing, says-then, says-call}
 
@@ -90,19 +90,20 @@ says-queued told old new r result h kept handed =
 
 -- Synchronising
 
--- a synchronisation that was stopped
-pub says-unsynchronised : (before after : EvdevView) (old new : List CallMade) (talk : Talk (Result View Reply)) (mode : Mode) (r s : Reading) (reply : Reply) (next : Next) → Says before after old new talk (Err reply) → s ≡ after_failed_sync r → next ≡ stop_of reply → Says before after old new (and_then talk (go_on_after mode r)) (next, s)
+-- one that was stopped
+pub says-unsynchronised : (before after : EvdevView) (old new : List CallMade) (talk : Talk (Result View Reply)) (mode : Mode) (r s : Reading) (reply : Reply) (next : Next)
+    → Says before after old new talk (Err reply) → s ≡ after_failed_sync r → next ≡ stop_of reply → Says before after old new (and_then talk (talk_after_sync mode r)) (next, s)
 says-unsynchronised before after old new talk mode r s reply next h same stopped =
     let result : Next × Reading = (next, s) in
-    says-then before after after old new new talk (go_on_after mode r) (Err reply) result h
-    (says-still after new new (go_on_after mode r (Err reply)) result refl
+    says-then before after after old new new talk (talk_after_sync mode r) (Err reply) result h
+    (says-still after new new (talk_after_sync mode r (Err reply)) result refl
     (ap (λ (n : Next). finish (n, after_failed_sync r)) (sym stopped) ∙ ap (λ (t : Reading). finish (next, t)) (sym same)))
 
--- a synchronisation, and what follows it
-pub says-synchronised : (before between after : EvdevView) (old mid new : List CallMade) (talk : Talk (Result View Reply)) (mode : Mode) (r s : Reading) (view : View) (result : Next × Reading) → Says before between old mid talk (Ok view) → s ≡ after_full_sync r view → Says between after mid new (go_on mode s) result → Says before after old new (and_then talk (go_on_after mode r)) result
-says-synchronised before between after old mid new talk mode r s view result h same k =
-    says-then before between after old mid new talk (go_on_after mode r) (Ok view) result h
-    (subst (λ (t : Reading). Says between after mid new (go_on mode t) result) same k)
+-- one that was not, and what follows it
+pub says-synchronised : (before between after : EvdevView) (old mid new : List CallMade) (talk : Talk (Result View Reply)) (rest : Talk (Next × Reading)) (mode : Mode) (r : Reading) (view : View) (result : Next × Reading)
+    → Says before between old mid talk (Ok view) → rest ≡ talk_after_sync mode r (Ok view) → Says between after mid new rest result → Says before after old new (and_then talk (talk_after_sync mode r)) result
+says-synchronised before between after old mid new talk rest mode r view result h is k =
+    says-then before between after old mid new talk (talk_after_sync mode r) (Ok view) result h (subst (λ (t : Talk (Next × Reading)). Says between after mid new t result) is k)
 
 -- Starting
 

@@ -197,29 +197,29 @@ abbrev pub after_sync : Reading → Result View Reply → Reading
 after_sync r (Ok view) = after_full_sync r view
 after_sync r (Err reply) = after_failed_sync r
 
--- in phase Handing: the next synthesised event, or without them
-abbrev pub go_on : Mode → Reading → Talk (Next × Reading)
-go_on Normal r = read_talk (as_plain r)
-go_on Synchronising r = finish (handing r)
-
-abbrev pub go_on_after : Mode → Reading → Result View Reply → Talk (Next × Reading)
-go_on_after mode r (Ok view) = go_on mode (after_full_sync r view)
-go_on_after mode r (Err reply) = finish (stop_of reply, after_failed_sync r)
-
 -- removes what is visible to the client, and asks for all that the device has
 unfoldable pub sync_talk : Description → Reading → Talk (Result View Reply)
 sync_talk d r = ask_each (Discard r.client ∷ queries d r.client) r.view
 
--- in phase Plain: reads, or there is nothing to hand out
-abbrev pub plain_talk : Mode → Reading → Talk (Next × Reading)
-plain_talk Normal r = read_talk r
-plain_talk Synchronising r = finish (Synced, r)
+-- how a call goes on behind a synchronisation: as in phase Handing, unless that was refused
+abbrev pub talk_after_sync : Mode → Reading → Result View Reply → Talk (Next × Reading)
+talk_after_sync mode r (Err reply) = finish (stop_of reply, after_failed_sync r)
+talk_after_sync Normal r (Ok view) = read_talk (as_plain (after_full_sync r view))
+talk_after_sync Synchronising r (Ok view) = finish (handing (after_full_sync r view))
 
+-- what a call of `next` does, by the mode and the phase (docs/READER.md, "The reader"):
+--
+--            Normal                                   Sync
+--   Plain    hands out an event that it read          asks for nothing and answers Synced
+--   Needed   synchronises, then as in Handing         synchronises, then as in Handing
+--   Handing  drops synthesised events, and reads on   hands out a synthesised event, or answers Synced
 abbrev pub talk_in : Description → Mode → Phase → Reading → Talk (Next × Reading)
-talk_in d mode Plain r = plain_talk mode r
-talk_in d mode Needed r = and_then (sync_talk d r) (go_on_after mode r)
-talk_in d mode Handing r = go_on mode r
+talk_in d Normal Plain r = read_talk r
+talk_in d Synchronising Plain r = finish (Synced, r)
+talk_in d mode Needed r = and_then (sync_talk d r) (talk_after_sync mode r)
+talk_in d Normal Handing r = read_talk (as_plain r)
+talk_in d Synchronising Handing r = finish (handing r)
 
--- the next event in a mode, by the phase (docs/READER.md, "The reader")
+-- the next event
 abbrev pub next_talk : Description → Mode → Reading → Talk (Next × Reading)
 next_talk d mode r = talk_in d mode r.phase r

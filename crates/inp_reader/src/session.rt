@@ -1,8 +1,9 @@
 //! What a reader keeps, and what it does.
 ghost use Rattle.std.specs.Prelude.{◌≡◌, ◌≤◌, ◌<◌, ◌+◌, false, [], ◌++◌, length};
 ghost use Rattle.inp_model.specs.declared.step.Step.TheVariants.{Read};
+ghost use Rattle.inp_reader.specs.declared.phase.Phase.TheVariants.{Plain, Needed, Handing};
 ghost use Rattle.inp_reader.specs.ReaderCalls.{MakesRead, asked_result};
-ghost use Rattle.inp_reader.specs.Reader.{ask_each, queries, start_talk, after_queries, after_read, queued_run, after_run, read_talk, hand_out, handing, as_plain, after_sync, sync_talk, go_on, go_on_after, plain_talk, next_talk, with_sync_needed};
+ghost use Rattle.inp_reader.specs.Reader.{ask_each, queries, start_talk, after_queries, after_read, queued_run, after_run, read_talk, hand_out, handing, as_plain, after_sync, sync_talk, talk_in, next_talk, with_sync_needed};
 ghost use Rattle.inp_reader.specs.Says.{Says, kept_call};
 ghost use Rattle.inp_reader.specs.Session.{reading_of, IsSession};
 ghost use Rattle.inp_reader.specs.Spare.{IsSpare};
@@ -173,7 +174,7 @@ impl Session {
         requires session { IsSession caps.now (E.told dev.old) self.old }
         requires few { length self.old.asker.made < 64 }
         ensures says { Says (E.told dev.old) (E.told dev.new) self.old.asker.made self.new.asker.made
-            (go_on mode (reading_of self.old)) (result, reading_of self.new) }
+            (talk_in caps.now mode Handing (reading_of self.old)) (result, reading_of self.new) }
         ensures session { IsSession caps.now (E.told dev.new) self.new }
         ensures few { length self.new.asker.made ≤ length self.old.asker.made + 1 }
     {
@@ -230,8 +231,7 @@ impl Session {
         requires spare { IsSpare caps.now self.old.view }
         requires few { length self.old.asker.made + 55 ≤ 64 }
         ensures says { Says (E.told dev.old) (E.told dev.new) self.old.asker.made self.new.asker.made
-            (and_then (sync_talk caps.now (reading_of self.old))
-            (go_on_after mode (reading_of self.old))) (result, reading_of self.new) }
+            (talk_in caps.now mode Needed (reading_of self.old)) (result, reading_of self.new) }
         ensures session { IsSession caps.now (E.told dev.new) self.new }
         ensures few { length self.new.asker.made ≤ length self.old.asker.made + 55 }
     {
@@ -246,7 +246,7 @@ impl Session {
         requires session { IsSession caps.now (E.told dev.old) self.old }
         requires few { length self.old.asker.made < 64 }
         ensures says { Says (E.told dev.old) (E.told dev.new) self.old.asker.made self.new.asker.made
-            (plain_talk mode (reading_of self.old)) (result, reading_of self.new) }
+            (talk_in caps.now mode Plain (reading_of self.old)) (result, reading_of self.new) }
         ensures session { IsSession caps.now (E.told dev.new) self.new }
         ensures few { length self.new.asker.made ≤ length self.old.asker.made + 1 }
     {

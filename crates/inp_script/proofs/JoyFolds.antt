@@ -21,7 +21,7 @@ use Rattle.inp_joy.specs.declared.joy_read.JoyRead.{JoyRead}
 use Rattle.inp_joy.specs.declared.joy_read.JoyRead.TheVariants.{Again}
 use Rattle.inp_joy.specs.declared.joy_record.JoyRecord.{JoyRecord}
 use Rattle.inp_joy.specs.JoyRecord.{bytes_of_record}
-use Rattle.inp_joy.specs.Joy.{Joying, JoyAnswer, JoyTurn, gives, goes_on, hand_out_record, next_in_startup, joy_read_of, event_handed_out, joy_record_of, record_or_on, event_or_on, stop_or_event, joying_after_next, stop_or_startup, turn_talk, turns, with_reading, without_startup, joying_after_start, joy_started, joy_start}
+use Rattle.inp_joy.specs.Joy.{Joying, JoyAnswer, JoyTurn, gives, goes_on, hand_out_record, next_in_startup, joy_read_of, joy_record_of, record_or_on, stop_or_on, joying_after_next, joying_after_sync, turn_talk, turns, with_reading, with_startup, without_startup, joying_after_start, joy_started, joy_start}
 use Rattle.inp_joy.specs.Picture.{PictureView, blank_picture, picture_after}
 use Rattle.inp_joy.proofs.Nexts.{lost-needed}
 use Rattle.inp_joy.proofs.Records.{FitsBytes, record-back, startup-fits, FitsIf, event-fits}
@@ -29,6 +29,7 @@ use Rattle.inp_joy.proofs.TurnCases.{Synchronises, TurnCase, of_startup, of_sync
 use Rattle.inp_recon.specs.declared.view.View.{View}
 use Rattle.inp_reader.specs.declared.mode.Mode.TheVariants.{Normal, Sync as Synchronising}
 use Rattle.inp_reader.specs.declared.next.Next.{Next}
+use Rattle.inp_reader.specs.declared.next.Next.TheVariants.{Success, Dropped}
 use Rattle.inp_reader.specs.declared.phase.Phase.TheVariants.{Needed}
 use Rattle.inp_reader.specs.declared.started.Started.{Started}
 use Rattle.inp_reader.specs.Reader.{Reading, queries, start_talk, after_queries, start_stop_of, stop_of as reader_stop, hand_synthesised, after_full_sync, next_talk}
@@ -208,14 +209,14 @@ turn-same d p sight t u e h = subst (λ (x : JoyTurn). Shows d p sight x) e h
 bare : (d : Description) (p : PictureView) (sight : List Sight) (q : PictureView) → joy_fold d (shown p) sight ≡ shown q → joy_fold d (shown p) (sight ++ []) ≡ shown q
 bare d p sight q h = ap (λ (es : List Sight). joy_fold d (shown p) es) (append-nil sight) ∙ h
 
-stop_or_startup-shows : (d : Description) (sight : List Sight) (j : Joying) (stop : Option JoyRead) → joy_fold d (shown j.picture) sight ≡ shown (synced_picture j.picture stop) → Shows d j.picture sight (stop_or_startup j stop)
-stop_or_startup-shows d sight j None h = bare d j.picture sight blank_picture h
-stop_or_startup-shows d sight j (Some read) h = bare d j.picture sight j.picture h
+joying_after_sync-shows : (d : Description) (sight : List Sight) (j : Joying) (r : Reading) (stop : Option JoyRead) → joy_fold d (shown j.picture) sight ≡ shown (synced_picture j.picture stop) → Shows d j.picture sight (stop_or_on (with_reading j r) (with_startup r) stop)
+joying_after_sync-shows d sight j r None h = bare d j.picture sight blank_picture h
+joying_after_sync-shows d sight j r (Some read) h = bare d j.picture sight j.picture h
 
 synchronises-shows : (d : Description) (h : List Step) (j : Joying) (calls : List Call) (t : JoyTurn) → is_needed j.reading.phase ≡ true → ArePlaced d h calls → Synchronises d j calls t → Shows d j.picture (noted_sight calls) t
 synchronises-shows d h j calls t needed placed s =
-    turn-same d j.picture (noted_sight calls) (stop_or_startup (with_reading j s.reading) (joy_read_of s.next)) t s.comes_to
-    (stop_or_startup-shows d (noted_sight calls) (with_reading j s.reading) (joy_read_of s.next)
+    turn-same d j.picture (noted_sight calls) (joying_after_sync j (s.next, s.reading)) t s.comes_to
+    (joying_after_sync-shows d (noted_sight calls) j s.reading (joy_read_of s.next)
     (needed-shows d h j.picture j.reading calls (s.next, s.reading) needed placed s.talk_ends))
 
 -- a record that was handed out moves the picture
@@ -229,17 +230,17 @@ unfolding joy_fold
 made-shows d j None fits = refl
 made-shows d j (Some r) fits = record-shows d j.picture r fits
 
-event-shows : (d : Description) (j : Joying) (event : Option Taken) → Shows d j.picture [] (event_or_on d j event)
+stop-shows : (d : Description) (j : Joying) (stop : Option JoyRead) → Shows d j.picture [] (stop_or_on j j stop)
 unfolding joy_fold
-event-shows d j None = refl
-event-shows d j (Some taken) =
+stop-shows d j None = refl
+stop-shows d j (Some read) = refl
+
+after_next-shows : (d : Description) (j : Joying) (next : Next) → Shows d j.picture [] (joying_after_next d j next)
+unfolding joy_fold
+after_next-shows d j (Success taken) =
     cond_both (is_report taken.event) _ _ (Shows d j.picture [])
     (λ _. refl) (λ _. made-shows d j (joy_record_of d j.picture taken) (event-fits d j.picture taken))
-
-after_next-shows : (d : Description) (j : Joying) (stop : Option JoyRead) (event : Option Taken) → Shows d j.picture [] (stop_or_event d j stop event)
-unfolding joy_fold
-after_next-shows d j None event = event-shows d j event
-after_next-shows d j (Some read) event = refl
+after_next-shows d j next = stop-shows d j (joy_read_of next)
 
 -- the calls of a read tell nothing of the picture
 
@@ -288,17 +289,17 @@ turn-shows d h j calls t placed (of_startup r at none is) =
     turn-same d j.picture (noted_sight calls) (gives (hand_out_record (next_in_startup j) r)) t is
     (ap (λ (cs : List Call). joy_fold d (shown j.picture) (noted_sight cs ++ Record (bytes_of_record r) ∷ [])) none ∙ record-shows d j.picture r (startup-fits d j.reading.view j.handed r at))
 turn-shows d h j calls t placed (of_sync needed s) = synchronises-shows d h j calls t needed placed s
-turn-shows d h j calls t placed (of_loss first second next r plain whole ends lost s) =
+turn-shows d h j calls t placed (of_loss first second taken r plain whole ends s) =
     let both : ArePlaced d h (first ++ second) = subst (λ (cs : List Call). ArePlaced d h cs) whole placed in
     let out : List Sight = record_sight (out_of t) in
     ap (λ (cs : List Call). joy_fold d (shown j.picture) (noted_sight cs ++ out)) whole
     ∙ ap (λ (es : List Sight). joy_fold d (shown j.picture) (es ++ out)) (noted_sight-append first second)
     ∙ ap (λ (es : List Sight). joy_fold d (shown j.picture) es) (append_assoc (noted_sight first) (noted_sight second) out)
-    ∙ next-tells_nothing d j.picture j.reading first (next, r) (noted_sight second ++ out) plain ends
-    ∙ synchronises-shows d h (with_reading j r) second t (lost-needed d j.reading r first next plain ends lost) (placed-right d h first second both) s
-turn-shows d h j calls t placed (of_next next r plain ends kept is) =
+    ∙ next-tells_nothing d j.picture j.reading first (Dropped taken, r) (noted_sight second ++ out) plain ends
+    ∙ synchronises-shows d h (with_reading j r) second t (lost-needed d j.reading r first taken plain ends) (placed-right d h first second both) s
+turn-shows d h j calls t placed (of_next next r plain ends is) =
     next-tells_nothing d j.picture j.reading calls (next, r) (record_sight (out_of t)) plain ends
-    ∙ turn-same d j.picture [] (joying_after_next d (with_reading j r) next) t is (after_next-shows d (with_reading j r) (joy_read_of next) (event_handed_out next))
+    ∙ turn-same d j.picture [] (joying_after_next d (with_reading j r) next) t is (after_next-shows d (with_reading j r) next)
 
 -- a turn that goes on
 on-shows : (d : Description) (h : List Step) (j k : Joying) (calls : List Call) → ArePlaced d h calls → EndsWith (turn_talk d j) calls (goes_on k) → joy_fold d (shown j.picture) (noted_sight calls) ≡ shown k.picture

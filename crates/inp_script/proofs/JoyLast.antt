@@ -2,18 +2,17 @@
 use Rattle.std.proofs.Common.{◌≡◌, ℕ, List, ◌++◌, Option, Some, None, refl, sym, subst}
 use Rattle.std.proofs.lemmas.Bool.{cond_both}
 use Rattle.inp_model.specs.declared.reply.Reply.TheVariants.{Again as NothingVisible}
-use Rattle.inp_model.specs.declared.taken.Taken.{Taken}
 use Rattle.inp_model.specs.Description.{Description}
 use Rattle.inp_model.specs.Event.{is_report}
 use Rattle.inp_model.specs.Run.{Call}
 use Rattle.inp_joy.specs.declared.joy_read.JoyRead.{JoyRead}
-use Rattle.inp_joy.specs.declared.joy_read.JoyRead.TheVariants.{Again, NoDevice, Closed, Full}
+use Rattle.inp_joy.specs.declared.joy_read.JoyRead.TheVariants.{Again}
 use Rattle.inp_joy.specs.declared.joy_record.JoyRecord.{JoyRecord}
-use Rattle.inp_joy.specs.Joy.{Joying, JoyAnswer, JoyTurn, gives, goes_on, joy_read_of, event_handed_out, joy_record_of, record_or_on, event_or_on, stop_or_event, joying_after_next, stop_or_startup, turns, with_reading}
+use Rattle.inp_joy.specs.Joy.{Joying, JoyAnswer, JoyTurn, gives, goes_on, joy_read_of, joy_record_of, record_or_on, stop_or_on, joying_after_next, joying_after_sync, turns, with_reading, with_startup}
 use Rattle.inp_joy.proofs.TurnCases.{Synchronises, TurnCase, of_startup, of_sync, of_loss, of_next, turn-case, turns-all}
 use Rattle.inp_reader.specs.declared.mode.Mode.TheVariants.{Normal, Sync as Synchronising}
 use Rattle.inp_reader.specs.declared.next.Next.{Next}
-use Rattle.inp_reader.specs.declared.next.Next.TheVariants.{Success, Dropped, Sync, Again as ReaderAgain, Synced, NoDevice as Revoked, Closed as NotOpen, Full as FullHistory}
+use Rattle.inp_reader.specs.declared.next.Next.TheVariants.{Success, Again as ReaderAgain}
 use Rattle.inp_reader.specs.Reader.{next_talk}
 use Rattle.inp_reader.specs.Talk.{EndsWith}
 use Rattle.inp_script.proofs.LastAgain.{EndsIn, ends_in-behind, next-last}
@@ -39,46 +38,32 @@ turn-behind first second (gives answer) h = last-behind first second answer.read
 turn-behind first second (goes_on j) h = tt
 
 -- an answer of the reader that is one of the read
-stopped-last : (calls : List Call) (next : Next) (read : JoyRead) → ((at ends : ℕ) → next ≡ ReaderAgain at ends → EndsIn calls (NothingVisible at ends)) → joy_read_of next ≡ Some read → LastIsAgain calls read
-stopped-last calls (ReaderAgain at ends) read last h = let e : Again at ends ≡ read = cc in subst (λ (x : JoyRead). LastIsAgain calls x) e (last at ends refl)
-stopped-last calls Revoked read last h = let e : NoDevice ≡ read = cc in subst (λ (x : JoyRead). LastIsAgain calls x) e tt
-stopped-last calls NotOpen read last h = let e : Closed ≡ read = cc in subst (λ (x : JoyRead). LastIsAgain calls x) e tt
-stopped-last calls (FullHistory at) read last h = let e : Full at ≡ read = cc in subst (λ (x : JoyRead). LastIsAgain calls x) e tt
-stopped-last calls (Success taken) read last h = absurd cc
-stopped-last calls (Dropped taken) read last h = absurd cc
-stopped-last calls (Sync event) read last h = absurd cc
-stopped-last calls Synced read last h = absurd cc
-
-sync-last : (calls : List Call) (j : Joying) (next : Next) (stop : Option JoyRead) → joy_read_of next ≡ stop → ((at ends : ℕ) → next ≡ ReaderAgain at ends → EndsIn calls (NothingVisible at ends)) → TurnLastIsAgain calls (stop_or_startup j stop)
-sync-last calls j next None is last = tt
-sync-last calls j next (Some read) is last = stopped-last calls next read last is
+stop-last : (calls : List Call) (j here : Joying) (next : Next) → ((at ends : ℕ) → next ≡ ReaderAgain at ends → EndsIn calls (NothingVisible at ends)) → TurnLastIsAgain calls (stop_or_on j here (joy_read_of next))
+stop-last calls j here (ReaderAgain at ends) last = last at ends refl
+stop-last calls j here _ last = tt
 
 synchronises-last : (d : Description) (j : Joying) (calls : List Call) (t : JoyTurn) → Synchronises d j calls t → TurnLastIsAgain calls t
 synchronises-last d j calls t s =
-    turn-same calls (stop_or_startup (with_reading j s.reading) (joy_read_of s.next)) t s.comes_to
-    (sync-last calls (with_reading j s.reading) s.next (joy_read_of s.next) refl
+    turn-same calls (joying_after_sync j (s.next, s.reading)) t s.comes_to
+    (stop-last calls (with_reading j s.reading) (with_startup s.reading) s.next
     (λ at ends e. next-last d Synchronising j.reading s.reading calls at ends (subst (λ (n : Next). EndsWith (next_talk d Synchronising j.reading) calls (n, s.reading)) e s.talk_ends)))
 
 made-last : (calls : List Call) (j : Joying) (o : Option JoyRecord) → TurnLastIsAgain calls (record_or_on j o)
 made-last calls j None = tt
 made-last calls j (Some r) = tt
 
-event-last : (d : Description) (calls : List Call) (j : Joying) (event : Option Taken) → TurnLastIsAgain calls (event_or_on d j event)
-event-last d calls j None = tt
-event-last d calls j (Some taken) =
+after_next-last : (d : Description) (calls : List Call) (j : Joying) (next : Next) → ((at ends : ℕ) → next ≡ ReaderAgain at ends → EndsIn calls (NothingVisible at ends)) → TurnLastIsAgain calls (joying_after_next d j next)
+after_next-last d calls j (Success taken) last =
     cond_both (is_report taken.event) _ _ (TurnLastIsAgain calls) (λ _. tt) (λ _. made-last calls j (joy_record_of d j.picture taken))
-
-after_next-last : (d : Description) (calls : List Call) (j : Joying) (next : Next) (stop : Option JoyRead) → joy_read_of next ≡ stop → ((at ends : ℕ) → next ≡ ReaderAgain at ends → EndsIn calls (NothingVisible at ends)) → TurnLastIsAgain calls (stop_or_event d j stop (event_handed_out next))
-after_next-last d calls j next None is last = event-last d calls j (event_handed_out next)
-after_next-last d calls j next (Some read) is last = stopped-last calls next read last is
+after_next-last d calls j next last = stop-last calls j j next last
 
 turn-last : (d : Description) (j : Joying) (calls : List Call) (t : JoyTurn) → TurnCase d j calls t → TurnLastIsAgain calls t
 turn-last d j calls t (of_startup r at none is) = turn-same calls _ t is tt
 turn-last d j calls t (of_sync needed s) = synchronises-last d j calls t s
-turn-last d j calls t (of_loss first second next r plain whole h lost s) = subst (λ (cs : List Call). TurnLastIsAgain cs t) (sym whole) (turn-behind first second t (synchronises-last d (with_reading j r) second t s))
-turn-last d j calls t (of_next next r plain h kept is) =
+turn-last d j calls t (of_loss first second taken r plain whole h s) = subst (λ (cs : List Call). TurnLastIsAgain cs t) (sym whole) (turn-behind first second t (synchronises-last d (with_reading j r) second t s))
+turn-last d j calls t (of_next next r plain h is) =
     turn-same calls (joying_after_next d (with_reading j r) next) t is
-    (after_next-last d calls (with_reading j r) next (joy_read_of next) refl
+    (after_next-last d calls (with_reading j r) next
     (λ at ends e. next-last d Normal j.reading r calls at ends (subst (λ (n : Next). EndsWith (next_talk d Normal j.reading) calls (n, r)) e h)))
 
 pub turns-last : (d : Description) (n count : ℕ) (j : Joying) (calls : List Call) (answer : JoyAnswer) → EndsWith (turns d n count j) calls (Some answer) → LastIsAgain calls answer.read

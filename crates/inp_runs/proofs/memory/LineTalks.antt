@@ -26,7 +26,7 @@ use Rattle.inp_joy.specs.declared.joy_read.JoyRead.TheVariants.{Again as Nothing
 use Rattle.inp_joy.specs.declared.joy_record.JoyRecord.{JoyRecord}
 use Rattle.inp_joy.specs.JoyRecord.{bytes_of_record}
 use Rattle.inp_joy.specs.Joy as joy
-use Rattle.inp_joy.specs.Joy.{Joying, JoyAnswer, JoyTurn, gives, goes_on as reads_on, startup, with_reading, joy_started, joy_start, is_lost, joy_record_of, record_or_on, joying_after_event, stop_or_startup, joying_after_sync, sync_turn, after_normal, event_turn, record_or_turn, turn_talk, with_count, is_long, after_turn, turns}
+use Rattle.inp_joy.specs.Joy.{Joying, JoyAnswer, JoyTurn, gives, goes_on as reads_on, startup, with_reading, joy_started, joy_start, joy_record_of, record_or_on, joying_after_event, joying_after_sync, sync_turn, after_normal, event_turn, record_or_turn, turn_talk, with_count, is_long, after_turn, turns}
 use Rattle.inp_reader.specs.ReaderPlace.{is_needed}
 use Rattle.inp_reader.specs.Talk.{Talk, finish, ask, and_then}
 use Rattle.inp_script.specs.declared.sight.Sight.{Sight}
@@ -137,12 +137,12 @@ abbrev IsTurned : Description → JoyTurn → List Sight → List Sight → Type
 IsTurned d (gives answer) kept entries = IsSizedFor d.slots answer.joying.reading.view × (kept ++ again_of_read answer.read ≡ entries)
 IsTurned d (reads_on k) kept entries = IsSizedFor d.slots k.reading.view × (kept ≡ entries)
 
-turned-startup : (d : Description) (k : Joying) (next : Next) (kept entries : List Sight) → IsSizedFor d.slots k.reading.view → kept ++ again_of next ≡ entries → IsTurned d (stop_or_startup k (joy.joy_read_of next)) kept entries
-turned-startup d k (Again at ends) kept entries sized h = (sized, h)
-turned-startup d k NoDevice kept entries sized h = (sized, h)
-turned-startup d k Closed kept entries sized h = (sized, h)
-turned-startup d k (Full at) kept entries sized h = (sized, h)
-turned-startup d k _ kept entries sized h = (sized, sym (append-nil kept) ∙ h)
+turned-sync : (d : Description) (k : Joying) (next : Next) (r : Reading) (kept entries : List Sight) → IsSizedFor d.slots r.view → kept ++ again_of next ≡ entries → IsTurned d (joying_after_sync k (next, r)) kept entries
+turned-sync d k (Again at ends) r kept entries sized h = (sized, h)
+turned-sync d k NoDevice r kept entries sized h = (sized, h)
+turned-sync d k Closed r kept entries sized h = (sized, h)
+turned-sync d k (Full at) r kept entries sized h = (sized, h)
+turned-sync d k _ r kept entries sized h = (sized, sym (append-nil kept) ∙ h)
 
 turned-taken : (d : Description) (k : Joying) (taken : Taken) (kept entries : List Sight) → IsSizedFor d.slots k.reading.view → kept ++ [] ≡ entries → IsTurned d (joying_after_event d k taken) kept entries
 turned-taken d k taken kept entries sized h =
@@ -167,17 +167,17 @@ answers-sync_turn : (d : Description) (k : Joying) (u : Both) → IsSizedFor d.s
 unfolding sync_turn
 answers-sync_turn d k u sized same =
     meets-then Any (NotedBy (EntriesBy d)) (AtBoth (IsNext d)) (AtBoth (IsTurned d)) u (next_talk d Synchronising k.reading) (λ o. finish (joying_after_sync k o)) (answers-next d Synchronising k.reading u sized same)
-    (λ v o h. turned-startup d (with_reading k o.1) o.0 (filter is_call_entry v.1) v.0 h.0 h.1)
+    (λ v o h. turned-sync d k o.0 o.1 (filter is_call_entry v.1) v.0 h.0 h.1)
 
-answers-normal : (d : Description) (k : Joying) (next : Next) (u : Both) → IsSizedFor d.slots k.reading.view → filter is_call_entry u.1 ++ again_of next ≡ u.0 → Answers d (IsTurned d) u (if is_lost next then sync_turn d k else finish (joy.joying_after_next d k next))
-answers-normal d k (Dropped taken) u sized h = answers-sync_turn d k u sized (sym (append-nil (filter is_call_entry u.1)) ∙ h)
-answers-normal d k next u sized h = turned-next d k next (filter is_call_entry u.1) u.0 sized h
+answers-normal : (d : Description) (k : Joying) (next : Next) (r : Reading) (u : Both) → IsSizedFor d.slots r.view → filter is_call_entry u.1 ++ again_of next ≡ u.0 → Answers d (IsTurned d) u (after_normal d k (next, r))
+answers-normal d k (Dropped taken) r u sized h = answers-sync_turn d (with_reading k r) u sized (sym (append-nil (filter is_call_entry u.1)) ∙ h)
+answers-normal d k next r u sized h = turned-next d (with_reading k r) next (filter is_call_entry u.1) u.0 sized h
 
 answers-event_turn : (d : Description) (k : Joying) (u : Both) → IsSizedFor d.slots k.reading.view → IsSame u → Answers d (IsTurned d) u (event_turn d k)
 unfolding event_turn
 answers-event_turn d k u sized same =
     meets-then Any (NotedBy (EntriesBy d)) (AtBoth (IsNext d)) (AtBoth (IsTurned d)) u (next_talk d Normal k.reading) (after_normal d k) (answers-next d Normal k.reading u sized same)
-    (λ v o h. answers-normal d (with_reading k o.1) o.0 v h.0 h.1)
+    (λ v o h. answers-normal d k o.0 o.1 v h.0 h.1)
 
 answers-turn : (d : Description) (k : Joying) (out : Option JoyRecord) (u : Both) → IsSizedFor d.slots k.reading.view → IsSame u → Answers d (IsTurned d) u (record_or_turn d k out)
 answers-turn d k (Some r) u sized same = (sized, append-nil (filter is_call_entry u.1) ∙ same)

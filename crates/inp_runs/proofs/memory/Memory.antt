@@ -24,14 +24,14 @@ use Rattle.inp_recon.specs.declared.view.View.{View}
 use Rattle.inp_reader.specs.declared.mode.Mode.{Mode}
 use Rattle.inp_reader.specs.declared.mode.Mode.TheVariants.{Normal, Sync as Synchronising}
 use Rattle.inp_reader.specs.declared.next.Next.{Next as Answered}
+use Rattle.inp_reader.specs.declared.next.Next.TheVariants.{Dropped}
 use Rattle.inp_reader.specs.declared.reader.TheConstants.{NO_CLIENT}
 use Rattle.inp_reader.specs.declared.started.Started.{Started}
 use Rattle.inp_reader.specs.Reader.{Reading, ask_each, queries, start_talk, after_open, after_queries, next_talk}
 use Rattle.inp_joy.specs.declared.joy_read.JoyRead.{JoyRead}
 use Rattle.inp_joy.specs.declared.joy_read.JoyRead.TheVariants.{Frame, More}
 use Rattle.inp_joy.specs.declared.joy_record.JoyRecord.{JoyRecord}
-use Rattle.inp_joy.specs.Joy as joy
-use Rattle.inp_joy.specs.Joy.{Joying, JoyAnswer, JoyTurn, gives, goes_on as reads_on, startup, with_reading, joy_started, joy_start, is_lost, joying_after_sync, sync_turn, after_normal, event_turn, record_or_turn, turn_talk, with_count, is_long, after_turn, turns}
+use Rattle.inp_joy.specs.Joy.{Joying, JoyAnswer, JoyTurn, gives, goes_on as reads_on, startup, with_reading, joy_started, joy_start, joying_after_sync, sync_turn, after_normal, event_turn, record_or_turn, turn_talk, with_count, is_long, after_turn, turns}
 use Rattle.inp_reader.specs.ReaderPlace.{is_needed}
 use Rattle.inp_reader.specs.Talk.{Talk, finish, ask, and_then, LeadsTo, EndsWith}
 use Rattle.inp_reader.proofs.Meets.{Asks, asks-then}
@@ -171,11 +171,11 @@ no_open-event_turn : (d : Description) (k : Joying) → NoOpen (event_turn d k)
 unfolding event_turn
 no_open-event_turn d k =
     asks-then opens_none (next_talk d Normal k.reading) (after_normal d k) (no_open-next d Normal k.reading)
-    (λ o. by_flag (is_lost o.0) (with_reading k o.1) (joy.joying_after_next d (with_reading k o.1) o.0))
+    (λ o. by_next o.0 o.1)
   where
-    by_flag : (b : Bool) (here : Joying) (turn : JoyTurn) → NoOpen (if b then sync_turn d here else finish turn)
-    by_flag true here turn = no_open-sync_turn d here
-    by_flag false here turn = tt
+    by_next : (next : Answered) (r : Reading) → NoOpen (after_normal d k (next, r))
+    by_next (Dropped taken) r = no_open-sync_turn d (with_reading k r)
+    by_next next r = tt
 
 no_open-joy_turn : (d : Description) (k : Joying) (out : Option JoyRecord) → NoOpen (record_or_turn d k out)
 no_open-joy_turn d k (Some r) = tt

@@ -4,7 +4,6 @@ use Rattle.std.specs.Prelude.{Result, Ok, Err, slice_get}
 use Rattle.std.proofs.lemmas.Bool.{true≢false, cond_both}
 use Rattle.std.proofs.lemmas.Option.{same_Some}
 use Rattle.inp_model.specs.declared.stamped.Stamped.{Stamped}
-use Rattle.inp_model.specs.declared.taken.Taken.{Taken}
 use Rattle.inp_model.specs.declared.step.Step.{Step}
 use Rattle.inp_model.specs.declared.step.Step.TheVariants.{Inject, Open as ToOpen, Read as ToRead, Discard as ToDiscard, GetKeys, GetSwitches, GetLeds, GetAxis, SyncSlots as ToSyncSlots, End}
 use Rattle.inp_model.specs.declared.reply.Reply.{Reply}
@@ -36,7 +35,7 @@ use Rattle.inp_joy.specs.declared.joy_read.JoyRead.{JoyRead}
 use Rattle.inp_joy.specs.declared.joy_read.JoyRead.TheVariants.{Record as HandedOut, Frame, Again as NothingToRead, NoDevice as Revoked, Closed as NotOpen, Full as FullHistory, More}
 use Rattle.inp_joy.specs.declared.joy_record.JoyRecord.{JoyRecord}
 use Rattle.inp_joy.specs.Joy as joy
-use Rattle.inp_joy.specs.Joy.{Joying, JoyAnswer, JoyTurn, gives, goes_on as reads_on, startup, with_reading, joy_started, joy_start, is_lost, event_handed_out, joy_record_of, record_or_on, stop_or_event, stop_or_startup, joying_after_sync, sync_turn, after_normal, event_turn, record_or_turn, turn_talk, with_count, is_long, after_turn, turns}
+use Rattle.inp_joy.specs.Joy.{Joying, JoyAnswer, JoyTurn, gives, goes_on as reads_on, startup, with_reading, joy_started, joy_start, joy_record_of, record_or_on, stop_or_on, joying_after_sync, sync_turn, after_normal, event_turn, record_or_turn, turn_talk, with_count, is_long, after_turn, turns}
 use Rattle.inp_reader.specs.ReaderPlace.{is_needed}
 use Rattle.inp_reader.proofs.Meets.{Meets}
 use Rattle.inp_reader.proofs.NextWalk.{OfQueries, each-query, each-sync, AskRules, asked-meets, sync-meets, Queried, start-meets, Renewed, NextRules, next-meets}
@@ -388,36 +387,34 @@ abbrev OfJoyTurn : ℕ → JoyTurn → Type 0
 OfJoyTurn now (gives answer) = now ≡ answer.joying.reading.client
 OfJoyTurn now (reads_on k) = now ≡ k.reading.client
 
-turn-startup : (k : Joying) (stop : Option JoyRead) (now : ℕ) → now ≡ k.reading.client → OfJoyTurn now (stop_or_startup k stop)
-turn-startup k None now e = e
-turn-startup k (Some read) now e = e
+turn-stop : (k here : Joying) (stop : Option JoyRead) (now : ℕ) → now ≡ k.reading.client → now ≡ here.reading.client → OfJoyTurn now (stop_or_on k here stop)
+turn-stop k here None now e f = f
+turn-stop k here (Some read) now e f = e
 
 names-sync_turn : (d : Description) (k : Joying) (last : ℕ) → last ≡ k.reading.client → Names last (sync_turn d k) OfJoyTurn
 unfolding sync_turn
 names-sync_turn d k last is =
     names-then last (next_talk d Synchronising k.reading) (λ o. finish (joying_after_sync k o)) OfAnswer OfJoyTurn (names-next d Synchronising k.reading last is)
-    (λ now o e. turn-startup (with_reading k o.1) (joy.joy_read_of o.0) now e.0)
+    (λ now o e. turn-stop (with_reading k o.1) (joy.with_startup o.1) (joy.joy_read_of o.0) now e.0 e.0)
 
 turn-record : (k : Joying) (out : Option JoyRecord) (now : ℕ) → now ≡ k.reading.client → OfJoyTurn now (record_or_on k out)
 turn-record k None now e = e
 turn-record k (Some r) now e = e
 
-turn-event : (d : Description) (k : Joying) (stop : Option JoyRead) (event : Option Taken) (now : ℕ) → now ≡ k.reading.client → OfJoyTurn now (stop_or_event d k stop event)
-turn-event d k (Some read) event now e = e
-turn-event d k None None now e = e
-turn-event d k None (Some taken) now e =
+turn-next : (d : Description) (k : Joying) (next : Next) (now : ℕ) → now ≡ k.reading.client → OfJoyTurn now (joy.joying_after_next d k next)
+turn-next d k (Success taken) now e =
     cond_both (is_report taken.event) _ _ (OfJoyTurn now) (λ _. e) (λ _. turn-record k (joy_record_of d k.picture taken) now e)
+turn-next d k next now e = turn-stop k k (joy.joy_read_of next) now e e
 
-names-normal : (d : Description) (k : Joying) (next : Next) (last : ℕ) → last ≡ k.reading.client → Names last (if is_lost next then sync_turn d k else finish (joy.joying_after_next d k next)) OfJoyTurn
-names-normal d k next last is =
-    cond_both (is_lost next) _ _ (λ x. Names last x OfJoyTurn)
-    (λ _. names-sync_turn d k last is) (λ _. turn-event d k (joy.joy_read_of next) (event_handed_out next) last is)
+names-normal : (d : Description) (k : Joying) (next : Next) (r : Reading) (last : ℕ) → last ≡ r.client → Names last (after_normal d k (next, r)) OfJoyTurn
+names-normal d k (Dropped taken) r last is = names-sync_turn d (with_reading k r) last is
+names-normal d k next r last is = turn-next d (with_reading k r) next last is
 
 names-event_turn : (d : Description) (k : Joying) (last : ℕ) → last ≡ k.reading.client → Names last (event_turn d k) OfJoyTurn
 unfolding event_turn
 names-event_turn d k last is =
     names-then last (next_talk d Normal k.reading) (after_normal d k) OfAnswer OfJoyTurn (names-next d Normal k.reading last is)
-    (λ now o e. names-normal d (with_reading k o.1) o.0 now e.0)
+    (λ now o e. names-normal d k o.0 o.1 now e.0)
 
 names-joy_turn : (d : Description) (k : Joying) (out : Option JoyRecord) (last : ℕ) → last ≡ k.reading.client → Names last (record_or_turn d k out) OfJoyTurn
 names-joy_turn d k (Some r) last is = is

@@ -7,7 +7,7 @@ use Rattle.inp_joy.specs.declared.joy_state.JoyState.{JoyState}
 use Rattle.inp_joy.specs.Joy.{joying_after_next, event_turn, sync_turn}
 use Rattle.inp_joy.specs.Kept.{kept_joying, turn_of_end, IsTurnEndLess, ReaderCalls, TurnEndShows}
 use Rattle.inp_joy.proofs.ReaderCalls.{calls-then, calls-weaker}
-use Rattle.inp_joy.proofs.LessToDo.{lost-less, next-less, less-then}
+use Rattle.inp_joy.proofs.LessToDo.{next-less, less-then}
 use Rattle.inp_joy.proofs.Nexts.{lost-needed}
 use Rattle.inp_joy.proofs.Outcomes.{next-shows}
 use Rattle.inp_joy.proofs.TurnParts.{says-event_lost, says-event}
@@ -15,50 +15,49 @@ use Rattle.inp_joy.proofs.joy_state.JoyState.take_event.Goals as goal
 
 pub synchronise-requires-clause-needed : goal.synchronise-requires-clause-needed
 synchronise-requires-clause-needed g c =
-    lost-needed c.args.self.now.reader.description c.args.self.now.reader.reading c.next-next.new.self.reader.reading c.next-next.ensures.says.calls c.next-next.result c.requires.plain c.next-next.ensures.says.talk_ends (sym c.if-is_lost.ensures)
+    lost-needed c.args.self.now.reader.description c.args.self.now.reader.reading c.next-next.new.self.reader.reading c.in-Dropped.ensures.says.calls c.in-Dropped.event c.requires.plain c.in-Dropped.ensures.says.talk_ends
 
-pub returns-then-is_lost-clause-says : goal.returns-then-is_lost-clause-says
-returns-then-is_lost-clause-says g c =
+pub returns-in-Dropped-clause-says : goal.returns-in-Dropped-clause-says
+returns-in-Dropped-clause-says g c =
     let a = g.E.Evdev.told c.args.dev.now in
     let m = g.E.Evdev.told c.next-next.new.dev in
     let b = g.E.Evdev.told c.synchronise.new.dev in
     let k = kept_joying c.next-next.new.self in
     let turn = turn_of_end c.synchronise.result (kept_joying c.synchronise.new.self) in
-    says-event_lost a m b _ _ _ c.args.self.now.reader.description (kept_joying c.args.self.now) k c.next-next.result c.next-next.new.self.reader.reading turn c.next-next.ensures.says (sym c.if-is_lost.ensures) (ap (λ (s : JoyState). kept_joying s) c.next-next.ensures.rest)
-    (subst (λ (d : Description). Says m b c.next-next.new.self.made c.synchronise.new.self.made (sync_turn d k) turn) c.next-next.ensures.state.description c.synchronise.ensures.says)
+    says-event_lost a m b _ _ _ c.args.self.now.reader.description (kept_joying c.args.self.now) k c.in-Dropped.event c.next-next.new.self.reader.reading turn c.in-Dropped.ensures.says (ap (λ (s : JoyState). kept_joying s) c.in-Dropped.ensures.rest)
+    (subst (λ (d : Description). Says m b c.next-next.new.self.made c.synchronise.new.self.made (sync_turn d k) turn) c.in-Dropped.ensures.state.description c.synchronise.ensures.says)
 
-pub returns-then-is_lost-clause-calls : goal.returns-then-is_lost-clause-calls
-returns-then-is_lost-clause-calls g c =
+pub returns-in-Dropped-clause-calls : goal.returns-in-Dropped-clause-calls
+returns-in-Dropped-clause-calls g c =
     let m = g.E.Evdev.told c.next-next.new.dev in
     let b = g.E.Evdev.told c.synchronise.new.dev in
-    calls-then _ m b _ _ _ c.args.self.now.reader.description _ _ _ _ _ c.next-next.ensures.calls
-    (subst (λ (d : Description). ReaderCalls m b c.next-next.new.self.made c.synchronise.new.self.made d c.next-next.new.self.reader.reading c.synchronise.new.self.reader.reading (TurnEndShows b c.synchronise.new.self.reader c.synchronise.result)) c.next-next.ensures.state.description c.synchronise.ensures.calls)
+    calls-then _ m b _ _ _ c.args.self.now.reader.description _ _ _ _ _ c.in-Dropped.ensures.calls
+    (subst (λ (d : Description). ReaderCalls m b c.next-next.new.self.made c.synchronise.new.self.made d c.next-next.new.self.reader.reading c.synchronise.new.self.reader.reading (TurnEndShows b c.synchronise.new.self.reader c.synchronise.result)) c.in-Dropped.ensures.state.description c.synchronise.ensures.calls)
 
-pub returns-else-is_lost-clause-says : goal.returns-else-is_lost-clause-says
-returns-else-is_lost-clause-says g c =
+pub returns-in_default-clause-says : goal.returns-in_default-clause-says
+returns-in_default-clause-says g c =
     let a = g.E.Evdev.told c.args.dev.now in
     let b = g.E.Evdev.told c.next-next.new.dev in
     let d = c.args.self.now.reader.description in
     let turn = turn_of_end c.after_next.result (kept_joying c.after_next.new.self) in
     let is = subst (λ (e : Description). turn ≡ joying_after_next e (kept_joying c.next-next.new.self) c.next-next.result) c.next-next.ensures.state.description c.after_next.ensures.turn in
     subst (λ (ms : List CallMade). Says a b c.args.self.now.made ms (event_turn d (kept_joying c.args.self.now)) turn) (sym (ap (λ (s : JoyState). s.made) c.after_next.ensures.rest))
-    (says-event a b _ _ d (kept_joying c.args.self.now) (kept_joying c.next-next.new.self) c.next-next.result c.next-next.new.self.reader.reading turn c.next-next.ensures.says (sym c.if-is_lost.ensures) (ap (λ (s : JoyState). kept_joying s) c.next-next.ensures.rest) is)
+    (says-event a b _ _ d (kept_joying c.args.self.now) (kept_joying c.next-next.new.self) c.next-next.result c.next-next.new.self.reader.reading turn c.next-next.ensures.says c.in_default.not-Dropped (ap (λ (s : JoyState). kept_joying s) c.next-next.ensures.rest) is)
 
-pub returns-else-is_lost-clause-calls : goal.returns-else-is_lost-clause-calls
-returns-else-is_lost-clause-calls g c =
+pub returns-in_default-clause-calls : goal.returns-in_default-clause-calls
+returns-in_default-clause-calls g c =
     let a = g.E.Evdev.told c.args.dev.now in
     let b = g.E.Evdev.told c.next-next.new.dev in
     let mid = c.next-next.new.self in
     subst (λ (s : JoyState). ReaderCalls a b c.args.self.now.made s.made c.args.self.now.reader.description c.args.self.now.reader.reading s.reader.reading (TurnEndShows b s.reader c.after_next.result)) (sym c.after_next.ensures.rest)
     (calls-weaker a b _ _ _ _ _ _ _ (λ shown. next-shows b mid.reader mid.reader.description (kept_joying mid) (kept_joying c.after_next.new.self) c.next-next.result c.after_next.result c.after_next.ensures.turn shown) c.next-next.ensures.calls)
 
-pub returns-then-is_lost-clause-less : goal.returns-then-is_lost-clause-less
-returns-then-is_lost-clause-less g c =
-    let less = lost-less c.next-next.result _ _ (sym c.if-is_lost.ensures) (c.next-next.ensures.less refl) in
-    less-then c.synchronise.result _ _ _ c.synchronise.ensures.less (omega (arith, less))
+pub returns-in-Dropped-clause-less : goal.returns-in-Dropped-clause-less
+returns-in-Dropped-clause-less g c =
+    less-then c.synchronise.result _ _ _ c.synchronise.ensures.less (omega (arith, c.in-Dropped.ensures.less refl))
 
-pub returns-else-is_lost-clause-less : goal.returns-else-is_lost-clause-less
-returns-else-is_lost-clause-less g c =
+pub returns-in_default-clause-less : goal.returns-in_default-clause-less
+returns-in_default-clause-less g c =
     let a = g.E.Evdev.told c.args.dev.now in
     let b = g.E.Evdev.told c.next-next.new.dev in
     let mid = c.next-next.new.self in
