@@ -1,6 +1,7 @@
 pub mod Computation
 pub mod TalkCalls
 pub mod IdleTurns
+pub mod SightLists
 pub mod Batches
 pub mod Streams
 pub mod Commands

@@ -1,4 +1,6 @@
 pub mod Sight
+pub mod KeptSight
+pub mod Sights
 pub mod Owner
 pub mod Job
 pub mod Kept

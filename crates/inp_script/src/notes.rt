@@ -26,7 +26,7 @@ impl Notes {
             (self.new ≡ record self.old { sight = self.old.sight ++ map taken_sight events.now }) }
     {
         for event in events {
-            self.sight.push(Sight::Took { event: *event })?;
+            self.sight.push_took(*event)?;
         }
         Ok(())
     }
@@ -145,10 +145,7 @@ impl Notes {
     {
         let mut at = from;
         for stamped in events {
-            self.push(Sight::Call {
-                step: injecting(*stamped),
-                reply: Reply::Done { at },
-            })?;
+            self.sight.push_entered(*stamped, at)?;
             self.stop = None;
             at += 1;
         }

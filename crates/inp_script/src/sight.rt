@@ -1,6 +1,7 @@
 //! What jobs see.
 
-use inp_model::{Event, Items, Reply, Step, Taken};
+use crate::Sights;
+use inp_model::{Event, Reply, Step, Taken};
 
 /// One entry of what a job saw.
 #[derive(Clone, Copy, Debug, PartialEq, Eq)]
@@ -17,11 +18,8 @@ pub enum Sight {
     Record { bytes: [u8; 8] },
 }
 
-/// What a job saw, in order.
-pub type Sights = Items<Sight>;
-
 /// One entry of what a joystick's job saw: a call, a record that it handed out, or that nothing was visible to it.
 pub type JoySight = Sight;
 
 /// What a joystick's job saw, in order.
-pub type JoySights = Items<JoySight>;
+pub type JoySights = Sights;

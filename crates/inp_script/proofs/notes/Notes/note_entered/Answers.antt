@@ -1,11 +1,9 @@
-use Rattle.std.proofs.Common.{[], ◌∷◌, ◌++◌, get_or, refl, ap, ◌∙◌, arith, List}
+use Rattle.std.proofs.Common.{get_or, refl, ap, ◌∙◌, arith, List}
 use Rattle.std.specs.Prelude.{None}
 use Rattle.std.proofs.lemmas.List.{take_all}
-use Rattle.inp_model.specs.declared.reply.Reply.TheVariants.{Done}
 use Rattle.inp_model.specs.declared.stamped.Stamped.{Stamped}
-use Rattle.inp_model.specs.declared.step.Step.{Step}
 use Rattle.inp_script.specs.declared.notes.Notes.{Notes}
-use Rattle.inp_script.specs.declared.sight.Sight.TheVariants.{Call}
+use Rattle.inp_script.specs.declared.sight.Sight.{Sight}
 use Rattle.inp_script.specs.Notes.{notes_after, entered_calls}
 use Rattle.inp_script.proofs.Batches.{no_stamped, entered-more}
 use Rattle.inp_script.proofs.notes.Notes.note_entered.Goals as goal
@@ -24,9 +22,8 @@ loop-stamped-preserved c =
     let at = c.loop-stamped.at in
     record {
       place = omega (arith, c.loop-stamped.invariant.place);
-      noted = entered-more c.args.from i at events (get_or events i no_stamped) c.args.self.now mid (record c.push.new.self { stop = None }) c.loop-stamped-test.true refl c.loop-stamped.invariant.place c.loop-stamped.invariant.noted
-          (ap (λ (n : Notes). record n { stop = None }) c.in_ok-push.ensures
-          ∙ ap (λ (x : Step). let n : Notes = record { sight = mid.sight ++ Call x (Done at) ∷ []; stop = None } in n) c.injecting.ensures.step);
+      noted = entered-more c.args.from i at events (get_or events i no_stamped) c.args.self.now mid (record { sight = c.push_entered.new.self; stop = None }) c.loop-stamped-test.true refl c.loop-stamped.invariant.place c.loop-stamped.invariant.noted
+          (ap (λ (sight : List Sight). let n : Notes = record { sight = sight; stop = None } in n) c.in_ok-push_entered.ensures.ok);
     }
 
 pub returns : goal.returns

@@ -1,0 +1,9 @@
+use Rattle.inp_script.proofs.SightLists.{within-after}
+use Rattle.inp_script.proofs.sights.Sights.push.Goals as goal
+
+pub invariant_of-self : goal.invariant_of-self
+invariant_of-self c =
+    let old = c.self.inside in
+    let entry = c.in-Some.kept in
+    within-after c.push.result old.whole old.kept c.push.new.self entry
+    c.self.invariant (c.in-Some.ensures.within old.whole) c.push.ensures.ok c.push.ensures.err

@@ -1,0 +1,23 @@
+use Rattle.std.proofs.Common.{[], ◌∷◌, ◌++◌, ap, ◌∙◌, List}
+use Rattle.std.proofs.lemmas.Result.{IfOk-weaker, on_err_weaker}
+use Rattle.inp_script.specs.declared.sight.Sight.{Sight}
+use Rattle.inp_script.proofs.SightLists.{pushed-whole, refused-whole}
+use Rattle.inp_script.proofs.sights.Sights.push_whole.Goals as goal
+
+pub returns-clause-ok : goal.returns-clause-ok
+returns-clause-ok c =
+    let old = c.self.inside in
+    let sight = c.args.sight in
+    let index = c.len-index.result in
+    IfOk-weaker c.push-2.result _ _ (λ _ pushed.
+    pushed-whole old.whole c.push.new.self sight old.kept c.push-2.new.self index
+    c.self.invariant c.in_ok-push.ensures.ok c.len-index.ensures.length pushed
+    ∙ ap (λ (ss : List Sight). ss ++ sight ∷ []) c.self.view_is) c.push-2.ensures.ok
+
+pub returns-clause-err : goal.returns-clause-err
+returns-clause-err c =
+    let old = c.self.inside in
+    on_err_weaker c.push-2.result (λ refused.
+    refused-whole old.whole c.push.new.self c.args.sight old.kept c.push-2.new.self
+    c.self.invariant c.in_ok-push.ensures.ok refused
+    ∙ c.self.view_is) c.push-2.ensures.err

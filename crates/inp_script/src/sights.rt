@@ -1,0 +1,107 @@
+//! What a job saw, as a list.
+ghost use Rattle.std.specs.Prelude.{◌≡◌, ◌<◌, [], ◌∷◌, ◌++◌, length, slice_get, nat_eq, OnOk, OnErr, Some};
+ghost use Rattle.inp_model.specs.Injection.{inject_of};
+ghost use Rattle.inp_model.specs.declared.reply.Reply.TheVariants.{Done};
+ghost use Rattle.inp_script.specs.declared.sight.Sight.TheVariants.{Call, Took};
+
+use crate::Sight;
+use crate::kept_sight::KeptSight;
+use inp_model::{Items, NoMemory, Stamped, Taken};
+use std::alloc::Global;
+use std::marker::Model;
+
+/// What a job saw, in order. Contracts see it as the list of its entries.
+///
+/// An entry takes 32 bytes, and one of a call with much in it those of a [`Sight`] besides.
+#[derive(Drop)]
+pub struct Sights {
+    kept: Items<KeptSight>,
+    whole: Items<Sight>,
+}
+
+impl Model for Sights {
+    ghost use Rattle.std.specs.Prelude.{List};
+    ghost use Rattle.inp_script.specs.declared.sight.Sight.{Sight as ASight};
+
+    ghost Value = { List ASight };
+
+    ghost use Rattle.inp_script.specs.Sights.{sights_of, AreWithin};
+
+    ghost view = { sights_of };
+
+    ghost invariant = { AreWithin };
+}
+
+impl Sights {
+    /// The empty list. It takes no memory.
+    pub fn new(alloc: Global) -> Sights
+        ensures empty { result ≡ [] }
+    {
+        Sights {
+            kept: Items::new(alloc),
+            whole: Items::new(alloc),
+        }
+    }
+
+    /// Adds an entry at the end. It is refused for memory alone, and the list is then as before.
+    pub fn push(&mut self, sight: Sight) -> Result<(), NoMemory>
+        ensures ok { OnOk result (self.new ≡ self.old ++ sight ∷ []) }
+        ensures err { OnErr result (self.new ≡ self.old) }
+    {
+        match KeptSight::of(sight) {
+            Some(kept) => self.kept.push(kept),
+            None => self.push_whole(sight),
+        }
+    }
+
+    // Adds an entry that stands whole in the second list. Where it is refused, the list is as before.
+    fn push_whole(&mut self, sight: Sight) -> Result<(), NoMemory>
+        ensures ok { OnOk result (self.new ≡ self.old ++ sight ∷ []) }
+        ensures err { OnErr result (self.new ≡ self.old) }
+    {
+        let index = self.whole.len();
+        self.whole.push(sight)?;
+        self.kept.push(KeptSight::Whole { index })
+    }
+
+    // Adds an event that the job took. Where it is refused, the list is as before.
+    pub(crate) fn push_took(&mut self, event: Taken) -> Result<(), NoMemory>
+        ensures ok { OnOk result (self.new ≡ self.old ++ Took event ∷ []) }
+        ensures err { OnErr result (self.new ≡ self.old) }
+    {
+        self.kept.push(KeptSight::Took { event })
+    }
+
+    // Adds the call that injected an event, which was entered at this place. Where it is refused, the list is as before.
+    pub(crate) fn push_entered(&mut self, stamped: Stamped, at: u32) -> Result<(), NoMemory>
+        ensures ok { OnOk result
+            (self.new ≡ self.old ++ Call (inject_of stamped) (Done at) ∷ []) }
+        ensures err { OnErr result (self.new ≡ self.old) }
+    {
+        let Stamped { event, now } = stamped;
+        self.kept.push(KeptSight::Injected { event, now, at })
+    }
+
+    /// How many entries there are.
+    pub fn len(&self) -> usize
+        ensures length { result ≡ length self.now }
+    {
+        self.kept.len()
+    }
+
+    /// Whether there is no entry.
+    pub fn is_empty(&self) -> bool
+        ensures empty { result ≡ nat_eq (length self.now) 0 }
+    {
+        self.kept.is_empty()
+    }
+
+    /// The entry at an index below the length.
+    #[inline(always)]
+    pub fn get(&self, index: usize) -> Sight
+        requires within { index < length self.now }
+        ensures item { slice_get self.now index ≡ Some result }
+    {
+        self.kept.get(index).sight(&self.whole)
+    }
+}
