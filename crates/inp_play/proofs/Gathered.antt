@@ -15,24 +15,23 @@ use Rattle.inp_actors.specs.Record.{RecordView, IsRecord}
 use Rattle.inp_feedback.specs.UEntry.{steps_in}
 use Rattle.inp_uinput.specs.UdevView.{UdevView}
 use Rattle.inp_script.specs.declared.end.ended.Ended.{Ended}
-use Rattle.inp_script.specs.declared.run.DeviceRun.{DeviceRun}
+use Rattle.inp_script.specs.declared.run.DeviceEnds.{DeviceEnds}
 use Rattle.inp_script.specs.DoneLine.{HasActor}
 use Rattle.inp_script.specs.Ended.{ended_as, ended_of}
 use Rattle.inp_script.specs.Job.{ActorView}
 use Rattle.inp_script.specs.Runs.{is_on_device}
 use Rattle.inp_runs.specs.Play.{Stage, jobs_on, run_of, runs_of}
 use Rattle.inp_runs.proofs.order.Promised.{there-is}
-use Rattle.inp_play.specs.declared.gathered_runs.DeviceEnds.{DeviceEnds}
-use Rattle.inp_play.specs.GatheredRuns.{actor_of, first_ends, with_end, HasEndMore, run_with, ends_of, all_ends}
+use Rattle.inp_play.specs.GatheredRuns.{first_ends, with_end, HasEndMore}
 use Rattle.inp_play.specs.Player.{pasts_of, stage_with, HasDevices, HasActors}
 use Rattle.inp_play.proofs.FirstPlayer.{slice_get-numbered}
 use Rattle.inp_play.proofs.PlayerLines.{same_item, length-devices}
 
 -- before the first actor
-pub no_ends : (r : RecordView) (devices : List UdevView) → map first_ends devices ≡ all_ends r (stage_with devices [])
+pub no_ends : (r : RecordView) (devices : List UdevView) → map first_ends devices ≡ runs_of r (stage_with devices [])
 no_ends r devices = from 0 devices
   where
-    from : (n : ℕ) (ds : List UdevView) → map first_ends ds ≡ map (ends_of r (stage_with devices [])) (enumerate_from n (pasts_of ds))
+    from : (n : ℕ) (ds : List UdevView) → map first_ends ds ≡ map (run_of r (stage_with devices [])) (enumerate_from n (pasts_of ds))
     from n [] = refl
     from n (d ∷ ds) = ap (λ (all : List DeviceEnds). first_ends d ∷ all) (from (n + 1) ds)
 
@@ -45,12 +44,12 @@ actors_more : (r : RecordView) (ys : List ActorView) (a : ActorView) (device : �
 actors_more r ys a device b h =
     filter-append (is_on r device) ys (a ∷ []) ∙ ap (λ (c : Bool). jobs_on r ys device ++ (if c then a ∷ [] else [])) h
 
-ends_more : (r : RecordView) (devices : List UdevView) (ys : List ActorView) (a : ActorView) (device : ℕ) (past : List Step) → is_on r device a ≡ true → with_end (ends_of r (stage_with devices ys) (device, past)) (ended_of a) ≡ ends_of r (stage_with devices (ys ++ a ∷ [])) (device, past)
+ends_more : (r : RecordView) (devices : List UdevView) (ys : List ActorView) (a : ActorView) (device : ℕ) (past : List Step) → is_on r device a ≡ true → with_end (run_of r (stage_with devices ys) (device, past)) (ended_of a) ≡ run_of r (stage_with devices (ys ++ a ∷ [])) (device, past)
 ends_more r devices ys a device past h =
     ap (λ (ends : List Ended). record { history = reverse past; ends = ends })
     (sym (map-append ended_of (jobs_on r ys device) (a ∷ [])) ∙ ap (λ (bs : List ActorView). map ended_of bs) (sym (actors_more r ys a device true h)))
 
-ends_same : (r : RecordView) (devices : List UdevView) (ys : List ActorView) (a : ActorView) (device : ℕ) (past : List Step) → is_on r device a ≡ false → ends_of r (stage_with devices ys) (device, past) ≡ ends_of r (stage_with devices (ys ++ a ∷ [])) (device, past)
+ends_same : (r : RecordView) (devices : List UdevView) (ys : List ActorView) (a : ActorView) (device : ℕ) (past : List Step) → is_on r device a ≡ false → run_of r (stage_with devices ys) (device, past) ≡ run_of r (stage_with devices (ys ++ a ∷ [])) (device, past)
 ends_same r devices ys a device past h =
     ap (λ (bs : List ActorView). record { history = reverse past; ends = map ended_of bs }) (sym (actors_more r ys a device false h ∙ append-nil (jobs_on r ys device)))
 
@@ -65,34 +64,34 @@ other_device r a text device there other = ap (is_on_device device) there ∙ by
 own_device : (r : RecordView) (a : ActorView) (text : ActorText) (device : ℕ) → slice_get r.actors a.actor ≡ Some text → text.device ≡ device → is_on r device a ≡ true
 own_device r a text device there same = ap (is_on_device device) there ∙ eq-eqb text.device device same
 
-all_same : (r : RecordView) (devices : List UdevView) (ys : List ActorView) (a : ActorView) (text : ActorText) (n : ℕ) (pasts : List (List Step)) → slice_get r.actors a.actor ≡ Some text → text.device < n → map (ends_of r (stage_with devices ys)) (enumerate_from n pasts) ≡ map (ends_of r (stage_with devices (ys ++ a ∷ []))) (enumerate_from n pasts)
+all_same : (r : RecordView) (devices : List UdevView) (ys : List ActorView) (a : ActorView) (text : ActorText) (n : ℕ) (pasts : List (List Step)) → slice_get r.actors a.actor ≡ Some text → text.device < n → map (run_of r (stage_with devices ys)) (enumerate_from n pasts) ≡ map (run_of r (stage_with devices (ys ++ a ∷ []))) (enumerate_from n pasts)
 all_same r devices ys a text n [] there below = refl
 all_same r devices ys a text n (past ∷ pasts) there below =
     let other : text.device ≢ n = λ e. omega (arith, e, below) in
     let less : text.device < n + 1 = omega (arith, below) in
-    let rest : List DeviceEnds = map (ends_of r (stage_with devices ys)) (enumerate_from (n + 1) pasts) in
+    let rest : List DeviceEnds = map (run_of r (stage_with devices ys)) (enumerate_from (n + 1) pasts) in
     ap (λ (first : DeviceEnds). first ∷ rest) (ends_same r devices ys a n past (other_device r a text n there other))
-    ∙ ap (λ (all : List DeviceEnds). ends_of r (stage_with devices (ys ++ a ∷ [])) (n, past) ∷ all) (all_same r devices ys a text (n + 1) pasts there less)
+    ∙ ap (λ (all : List DeviceEnds). run_of r (stage_with devices (ys ++ a ∷ [])) (n, past) ∷ all) (all_same r devices ys a text (n + 1) pasts there less)
 
 all_more : (r : RecordView) (devices : List UdevView) (ys : List ActorView) (a : ActorView) (text : ActorText) (n : ℕ) (pasts : List (List Step)) (i : ℕ) (past : List Step) → slice_get r.actors a.actor ≡ Some text → text.device ≡ n + i → slice_get pasts i ≡ Some past
-    → slice_set (map (ends_of r (stage_with devices ys)) (enumerate_from n pasts)) i (with_end (ends_of r (stage_with devices ys) (text.device, past)) (ended_of a)) ≡ map (ends_of r (stage_with devices (ys ++ a ∷ []))) (enumerate_from n pasts)
+    → slice_set (map (run_of r (stage_with devices ys)) (enumerate_from n pasts)) i (with_end (run_of r (stage_with devices ys) (text.device, past)) (ended_of a)) ≡ map (run_of r (stage_with devices (ys ++ a ∷ []))) (enumerate_from n pasts)
 all_more r devices ys a text n [] i past there place found = absurd cc
 all_more r devices ys a text n (past ∷ pasts) zero past' there place found =
     let same : past ≡ past' = cc in
     let here : text.device ≡ n = omega (arith, place) in
     let below : text.device < n + 1 = omega (arith, place) in
-    let rest : List DeviceEnds = map (ends_of r (stage_with devices ys)) (enumerate_from (n + 1) pasts) in
-    ap (λ (p : List Step). with_end (ends_of r (stage_with devices ys) (text.device, p)) (ended_of a) ∷ rest) (sym same)
+    let rest : List DeviceEnds = map (run_of r (stage_with devices ys)) (enumerate_from (n + 1) pasts) in
+    ap (λ (p : List Step). with_end (run_of r (stage_with devices ys) (text.device, p)) (ended_of a) ∷ rest) (sym same)
     ∙ ap (λ (first : DeviceEnds). first ∷ rest) (ends_more r devices ys a text.device past (own_device r a text text.device there refl))
-    ∙ ap (λ (k : ℕ). ends_of r (stage_with devices (ys ++ a ∷ [])) (k, past) ∷ rest) here
-    ∙ ap (λ (all : List DeviceEnds). ends_of r (stage_with devices (ys ++ a ∷ [])) (n, past) ∷ all) (all_same r devices ys a text (n + 1) pasts there below)
+    ∙ ap (λ (k : ℕ). run_of r (stage_with devices (ys ++ a ∷ [])) (k, past) ∷ rest) here
+    ∙ ap (λ (all : List DeviceEnds). run_of r (stage_with devices (ys ++ a ∷ [])) (n, past) ∷ all) (all_same r devices ys a text (n + 1) pasts there below)
 all_more r devices ys a text n (past ∷ pasts) (suc i) past' there place found =
     let other : text.device ≢ n = λ e. omega (arith, e, place) in
     let moved : text.device ≡ n + 1 + i = omega (arith, place) in
-    let more : DeviceEnds = with_end (ends_of r (stage_with devices ys) (text.device, past')) (ended_of a) in
-    let rest : List DeviceEnds = slice_set (map (ends_of r (stage_with devices ys)) (enumerate_from (n + 1) pasts)) i more in
+    let more : DeviceEnds = with_end (run_of r (stage_with devices ys) (text.device, past')) (ended_of a) in
+    let rest : List DeviceEnds = slice_set (map (run_of r (stage_with devices ys)) (enumerate_from (n + 1) pasts)) i more in
     ap (λ (first : DeviceEnds). first ∷ rest) (ends_same r devices ys a n past (other_device r a text n there other))
-    ∙ ap (λ (all : List DeviceEnds). ends_of r (stage_with devices (ys ++ a ∷ [])) (n, past) ∷ all) (all_more r devices ys a text (n + 1) pasts i past' there moved found)
+    ∙ ap (λ (all : List DeviceEnds). run_of r (stage_with devices (ys ++ a ∷ [])) (n, past) ∷ all) (all_more r devices ys a text (n + 1) pasts i past' there moved found)
 
 -- the actor that comes next, and its device
 
@@ -110,11 +109,11 @@ is_next r devices actors n a keeps has_devices has_actors turn =
     let device : (d : UdevView) × (slice_get devices has.text.device ≡ Some d) = there-is devices has.text.device (omega (arith, keeps.devices a.actor has.text has.is_text, few)) in
     record { text = has.text; is_text = has.is_text; device = device.0; is_device = device.1 }
 
-length-all_ends : (r : RecordView) (devices : List UdevView) (ys : List ActorView) → length (all_ends r (stage_with devices ys)) ≡ length devices
-length-all_ends r devices ys =
-    length-map (enumerate_from 0 (pasts_of devices)) (ends_of r (stage_with devices ys)) ∙ length-enumerate_from 0 (pasts_of devices) ∙ length-map devices (λ (d : UdevView). steps_in d.kept)
+length-runs_of : (r : RecordView) (devices : List UdevView) (ys : List ActorView) → length (runs_of r (stage_with devices ys)) ≡ length devices
+length-runs_of r devices ys =
+    length-map (enumerate_from 0 (pasts_of devices)) (run_of r (stage_with devices ys)) ∙ length-enumerate_from 0 (pasts_of devices) ∙ length-map devices (λ (d : UdevView). steps_in d.kept)
 
-pub one_more_end : (r : RecordView) (devices : List UdevView) (ys : List ActorView) (a : ActorView) (old new : List DeviceEnds) (text : ActorText) → IsNext r devices a → slice_get r.actors a.actor ≡ Some text → old ≡ all_ends r (stage_with devices ys) → HasEndMore old new text.device (ended_of a) → new ≡ all_ends r (stage_with devices (ys ++ a ∷ []))
+pub one_more_end : (r : RecordView) (devices : List UdevView) (ys : List ActorView) (a : ActorView) (old new : List DeviceEnds) (text : ActorText) → IsNext r devices a → slice_get r.actors a.actor ≡ Some text → old ≡ runs_of r (stage_with devices ys) → HasEndMore old new text.device (ended_of a) → new ≡ runs_of r (stage_with devices (ys ++ a ∷ []))
 one_more_end r devices ys a old new text next there before more =
     let same : next.text ≡ text = same_item r.actors a.actor next.text text next.is_text there in
     let s : Stage = stage_with devices ys in
@@ -124,37 +123,19 @@ one_more_end r devices ys a old new text next there before more =
     let numbered : slice_get (enumerate_from 0 (pasts_of devices)) text.device ≡ Some (0 + text.device, past) =
     slice_get-numbered 0 (pasts_of devices) text.device ∙ ap (option_map (λ (p : List Step). (0 + text.device, p))) found in
     let zero_more : text.device ≡ 0 + text.device = omega arith in
-    let there_before : slice_get old text.device ≡ Some (ends_of r s (text.device, past)) =
+    let there_before : slice_get old text.device ≡ Some (run_of r s (text.device, past)) =
     ap (λ (gathered : List DeviceEnds). slice_get gathered text.device) before
-    ∙ slice_get-map (ends_of r s) (enumerate_from 0 (pasts_of devices)) text.device
-    ∙ ap (option_map (ends_of r s)) numbered
-    ∙ ap (λ (k : ℕ). Some (ends_of r s (k, past))) (sym zero_more) in
-    more (ends_of r s (text.device, past)) there_before
-    ∙ ap (λ (gathered : List DeviceEnds). slice_set gathered text.device (with_end (ends_of r s (text.device, past)) (ended_of a))) before
+    ∙ slice_get-map (run_of r s) (enumerate_from 0 (pasts_of devices)) text.device
+    ∙ ap (option_map (run_of r s)) numbered
+    ∙ ap (λ (k : ℕ). Some (run_of r s (k, past))) (sym zero_more) in
+    more (run_of r s (text.device, past)) there_before
+    ∙ ap (λ (gathered : List DeviceEnds). slice_set gathered text.device (with_end (run_of r s (text.device, past)) (ended_of a))) before
     ∙ all_more r devices ys a text 0 (pasts_of devices) text.device past there zero_more found
 
 pub next-actor : (r : RecordView) (devices : List UdevView) (a : ActorView) → IsNext r devices a → a.actor < length r.actors
 next-actor r devices a next = slice_get_within r.actors a.actor next.text next.is_text
 
-pub next-device : (r : RecordView) (devices : List UdevView) (ys : List ActorView) (a : ActorView) (gathered : List DeviceEnds) (text : ActorText) → IsNext r devices a → slice_get r.actors a.actor ≡ Some text → gathered ≡ all_ends r (stage_with devices ys) → text.device < length gathered
+pub next-device : (r : RecordView) (devices : List UdevView) (ys : List ActorView) (a : ActorView) (gathered : List DeviceEnds) (text : ActorText) → IsNext r devices a → slice_get r.actors a.actor ≡ Some text → gathered ≡ runs_of r (stage_with devices ys) → text.device < length gathered
 next-device r devices ys a gathered text next there before =
     let same : next.text ≡ text = same_item r.actors a.actor next.text text next.is_text there in
-    omega (arith, slice_get_within devices next.text.device next.device next.is_device, ap (λ (t : ActorText). t.device) same, ap length before, length-all_ends r devices ys)
-
--- When all is gathered
-
--- the number of an actor that ended
-pub ended-number : (role : Role) (a : ActorView) → actor_of (ended_as role a) ≡ a.actor
-ended-number Joy a = refl
-ended-number Source a = refl
-ended-number Client a = refl
-ended-number Tap a = refl
-ended-number Owner a = refl
-
--- what came of the devices
-pub runs_gathered : (r : RecordView) (s : Stage) → map run_with (all_ends r s) ≡ runs_of r s
-runs_gathered r s = by_list (enumerate_from 0 s.pasts)
-  where
-    by_list : (numbered : List (ℕ × List Step)) → map run_with (map (ends_of r s) numbered) ≡ map (run_of r s) numbered
-    by_list [] = refl
-    by_list (x ∷ xs) = ap (λ (runs : List DeviceRun). run_of r s x ∷ runs) (by_list xs)
+    omega (arith, slice_get_within devices next.text.device next.device next.is_device, ap (λ (t : ActorText). t.device) same, ap length before, length-runs_of r devices ys)

@@ -1,18 +1,11 @@
 //! What came of devices, gathered actor by actor.
 ghost use Rattle.std.specs.Prelude.{◌≡◌, ◌<◌, length, map, OnOk, IfOk};
-ghost use Rattle.inp_play.specs.GatheredRuns.{actor_of, first_ends, run_with, HasEndMore};
+ghost use Rattle.inp_play.specs.GatheredRuns.{first_ends, HasEndMore};
 
-use inp_model::{History, Items, NoMemory};
-use inp_script::{DeviceRun, Ended};
+use inp_model::{Items, NoMemory};
+use inp_script::{DeviceEnds, Ended};
 use inp_uinput::Owned;
 use std::alloc::Global;
-
-/// The steps that a device accepted, and what came of its actors so far, in order.
-#[derive(Drop)]
-pub(crate) struct DeviceEnds {
-    history: History,
-    ends: Items<Ended>,
-}
 
 // The histories of devices that no actor works on any more, as yet without what came of actors.
 pub(crate) fn histories(alloc: Global, devices: Vec<Owned>) -> Result<Vec<DeviceEnds>, NoMemory>
@@ -28,17 +21,6 @@ pub(crate) fn histories(alloc: Global, devices: Vec<Owned>) -> Result<Vec<Device
     Ok(gathered)
 }
 
-// The number of the actor that ended so.
-pub(crate) fn number_of(end: &Ended) -> u32
-    ensures { result ≡ actor_of end.now }
-{
-    match end {
-        Ended::Job { end } => end.actor(),
-        Ended::Joy { end } => end.actor(),
-        Ended::Owner { end } => end.actor(),
-    }
-}
-
 // Adds what came of an actor at the end of those of the device of this number.
 pub(crate) fn push_end(
     gathered: &mut Vec<DeviceEnds>,
@@ -50,19 +32,4 @@ pub(crate) fn push_end(
 {
     gathered[device].ends.push(end)?;
     Ok(())
-}
-
-// What came of the devices, when all that came of their actors is gathered.
-pub(crate) fn device_runs(
-    alloc: Global,
-    gathered: Vec<DeviceEnds>,
-) -> Result<Vec<DeviceRun>, NoMemory>
-    ensures { IfOk result (λ runs. runs.items ≡ map run_with gathered.items) }
-{
-    let mut runs = Vec::new(alloc);
-    for device in gathered {
-        let ends = device.ends.into_vec();
-        runs.push(DeviceRun::of(alloc, device.history, ends)?)?;
-    }
-    Ok(runs)
 }

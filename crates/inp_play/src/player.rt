@@ -5,7 +5,7 @@ ghost use Rattle.inp_runs.specs.Job.{AreDescribed};
 ghost use Rattle.inp_runs.specs.Play.{first_stage, runs_of};
 ghost use Rattle.inp_play.specs.Player.{stage_of, first_device, first_actors, HasActors, IsPlayer, DoesOn};
 
-use crate::gathered_runs::{device_runs, histories, number_of, push_end};
+use crate::gathered_runs::{histories, push_end};
 use crate::run::{NO_STAMPED, RUN_MAX, gather};
 use inp_actors::Record;
 use inp_model::{NoMemory, Stamped};
@@ -86,11 +86,10 @@ impl Player {
         } = self;
         let mut gathered = histories(alloc, devices)?;
         for actor in actors {
-            let end = actor.finish();
-            let device = rec.actors().get(number_of(&end) as usize).device;
-            push_end(&mut gathered, device as usize, end)?;
+            let device = rec.actors().get(actor.number() as usize).device;
+            push_end(&mut gathered, device as usize, actor.finish())?;
         }
-        Played::of(alloc, device_runs(alloc, gathered)?)
+        Played::of(alloc, gathered)
     }
 }
 

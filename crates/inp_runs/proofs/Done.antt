@@ -26,7 +26,7 @@ use Rattle.inp_reader.specs.Talk.{Talk, EndsWith}
 use Rattle.inp_reader.proofs.Calls.{IsPlaceOf}
 use Rattle.inp_reader.proofs.LessEffort.{place-below}
 use Rattle.inp_script.specs.declared.waiting.Waiting.{Waiting}
-use Rattle.inp_script.specs.Ended.{ended_of, jobs_among, joys_among, owners_among, device_run}
+use Rattle.inp_script.specs.Ended.{ended_of, jobs_among, joys_among, owners_among}
 use Rattle.inp_script.specs.Fold.{IsFolded}
 use Rattle.inp_script.specs.Job.{ActorView, Job, JobView, JoyJobView, OwnerView, first_job, job_end, joy_end, owner_end}
 use Rattle.inp_script.specs.Legal.{sight_of_calls}
@@ -292,7 +292,7 @@ is_owner_of idle r i d history actors k owner s h =
     subst (λ (o : OwnerView). IsOwner d history (rooms_of (lines_by o.actor r.lines)) o) e.same (record { last = a.owning; owned = owned; ended = refl })
 
 pub device-promised : (idle : Option ℕ) (r : RecordView) (i : ℕ) (device : DeviceText) (history : List Step) (actors : List ActorView) → IsRecord r → IsDescription device.caps → IsDeviceDone idle r i device.caps history actors
-    → IsRunAsPromised idle r i device (device_run history (map ended_of actors))
+    → IsRunAsPromised idle r i device (record { history = history; ends = map ended_of actors })
 device-promised idle r i device history actors is_record described s = record {
   run_of = is_run_of idle r i device history actors is_record s;
   joys_of = joy-numbers idle r i device.caps history actors s;

@@ -8,9 +8,9 @@ use Rattle.std.proofs.lemmas.Option.{same_Some, slice_get-map}
 use Rattle.inp_actors.specs.declared.actor_text.ActorText.{ActorText}
 use Rattle.inp_actors.specs.declared.device_text.DeviceText.{DeviceText}
 use Rattle.inp_actors.specs.Record.{RecordView}
-use Rattle.inp_script.specs.declared.run.DeviceRun.{DeviceRun}
+use Rattle.inp_script.specs.declared.run.DeviceEnds.{DeviceEnds}
 use Rattle.inp_script.specs.declared.run.Run.{Run}
-use Rattle.inp_script.specs.Ended.{played_of}
+use Rattle.inp_script.specs.Ended.{ended_run, joys_among, owners_among, played_of}
 use Rattle.inp_script.specs.Job.{JoyJobView, OwnerView}
 use Rattle.inp_script.specs.Runs.{is_on_device, is_joystick, is_owning, actors_of, joysticks_of, joy_actors, owners_of, owner_actors, IsRunOf}
 use Rattle.inp_runs.specs.Done.{IsRunAsPromised}
@@ -21,18 +21,18 @@ use Rattle.std.proofs.lemmas.Bool.{eqb-true}
 
 -- Parts of what came of each device, whose numbers are these of a device's number
 
-abbrev AreParts : {X : Type 0} → (ℕ → List ℕ) → (List X → List ℕ) → (DeviceRun → List X) → ℕ → List DeviceRun → Type 0
-AreParts of_device numbers part first done = (k : ℕ) (device : DeviceRun) → slice_get done k ≡ Some device → numbers (part device) ≡ of_device (first + k)
+abbrev AreParts : {X : Type 0} → (ℕ → List ℕ) → (List X → List ℕ) → (DeviceEnds → List X) → ℕ → List DeviceEnds → Type 0
+AreParts of_device numbers part first done = (k : ℕ) (device : DeviceEnds) → slice_get done k ≡ Some device → numbers (part device) ≡ of_device (first + k)
 
-parts-behind : {X : Type 0} (of_device : ℕ → List ℕ) (numbers : List X → List ℕ) (part : DeviceRun → List X) (first : ℕ) (device : DeviceRun) (done : List DeviceRun) → AreParts of_device numbers part first (device ∷ done) → AreParts of_device numbers part (first + 1) done
+parts-behind : {X : Type 0} (of_device : ℕ → List ℕ) (numbers : List X → List ℕ) (part : DeviceEnds → List X) (first : ℕ) (device : DeviceEnds) (done : List DeviceEnds) → AreParts of_device numbers part first (device ∷ done) → AreParts of_device numbers part (first + 1) done
 parts-behind of_device numbers part first device done h = λ k other is.
     let same : first + suc k ≡ (first + 1) + k = omega arith in
     h (suc k) other is ∙ ap of_device same
 
-parts-first : {X : Type 0} (of_device : ℕ → List ℕ) (numbers : List X → List ℕ) (part : DeviceRun → List X) (first : ℕ) (device : DeviceRun) (done : List DeviceRun) → AreParts of_device numbers part first (device ∷ done) → numbers (part device) ≡ of_device first
+parts-first : {X : Type 0} (of_device : ℕ → List ℕ) (numbers : List X → List ℕ) (part : DeviceEnds → List X) (first : ℕ) (device : DeviceEnds) (done : List DeviceEnds) → AreParts of_device numbers part first (device ∷ done) → numbers (part device) ≡ of_device first
 parts-first of_device numbers part first device done h = h 0 device refl ∙ ap of_device (add-zero first)
 
-parts-in_order : {X : Type 0} (of_device : ℕ → List ℕ) (number : X → ℕ) (part : DeviceRun → List X) (first : ℕ) (done : List DeviceRun) → AreParts of_device (map number) part first done → map number (flat_map part done) ≡ flat_map of_device (range_with_len first (length done))
+parts-in_order : {X : Type 0} (of_device : ℕ → List ℕ) (number : X → ℕ) (part : DeviceEnds → List X) (first : ℕ) (done : List DeviceEnds) → AreParts of_device (map number) part first done → map number (flat_map part done) ≡ flat_map of_device (range_with_len first (length done))
 parts-in_order of_device number part first [] h = refl
 parts-in_order of_device number part first (device ∷ done) h =
     map-append number (part device) (flat_map part done)
@@ -61,29 +61,29 @@ part-of part (x ∷ xs) k y h = elim (append-at (part x) (flat_map part xs) k y 
 
 -- Joysticks, device by device
 
-abbrev its_joys : DeviceRun → List JoyJobView
-its_joys device = device.joys
+abbrev its_joys : DeviceEnds → List JoyJobView
+its_joys device = joys_among device.ends
 
-abbrev its_owners : DeviceRun → List OwnerView
-its_owners device = device.owners
+abbrev its_owners : DeviceEnds → List OwnerView
+its_owners device = owners_among device.ends
 
-abbrev its_run : DeviceRun → Run
-its_run device = device.run
+abbrev its_run : DeviceEnds → Run
+its_run device = ended_run device
 
-abbrev all_joys : List DeviceRun → List JoyJobView
-all_joys done = flat_map (λ (device : DeviceRun). device.joys) done
+abbrev all_joys : List DeviceEnds → List JoyJobView
+all_joys done = flat_map its_joys done
 
 -- the joysticks of each of these devices are the record's, where the first one has this number
-abbrev AreNumbered : List ActorText → ℕ → List DeviceRun → Type 0
+abbrev AreNumbered : List ActorText → ℕ → List DeviceEnds → Type 0
 AreNumbered actors first done = AreParts (joysticks_of actors) (λ (joys : List JoyJobView). joy_actors joys) its_joys first done
 
-numbered-behind : (actors : List ActorText) (first : ℕ) (device : DeviceRun) (done : List DeviceRun) → AreNumbered actors first (device ∷ done) → AreNumbered actors (first + 1) done
+numbered-behind : (actors : List ActorText) (first : ℕ) (device : DeviceEnds) (done : List DeviceEnds) → AreNumbered actors first (device ∷ done) → AreNumbered actors (first + 1) done
 numbered-behind actors first device done h = parts-behind (joysticks_of actors) (λ (joys : List JoyJobView). joy_actors joys) its_joys first device done h
 
-numbered-first : (actors : List ActorText) (first : ℕ) (device : DeviceRun) (done : List DeviceRun) → AreNumbered actors first (device ∷ done) → joy_actors device.joys ≡ joysticks_of actors first
+numbered-first : (actors : List ActorText) (first : ℕ) (device : DeviceEnds) (done : List DeviceEnds) → AreNumbered actors first (device ∷ done) → joy_actors (its_joys device) ≡ joysticks_of actors first
 numbered-first actors first device done h = parts-first (joysticks_of actors) (λ (joys : List JoyJobView). joy_actors joys) its_joys first device done h
 
-joys-in_order : (actors : List ActorText) (first : ℕ) (done : List DeviceRun) → AreNumbered actors first done → joy_actors (all_joys done) ≡ flat_map (joysticks_of actors) (range_with_len first (length done))
+joys-in_order : (actors : List ActorText) (first : ℕ) (done : List DeviceEnds) → AreNumbered actors first done → joy_actors (all_joys done) ≡ flat_map (joysticks_of actors) (range_with_len first (length done))
 joys-in_order actors first done h = parts-in_order (joysticks_of actors) (λ (joy : JoyJobView). joy.actor) its_joys first done h
 
 -- The joysticks of one device among all
@@ -123,36 +123,36 @@ kept-elsewhere : (actors : List ActorText) (one other : ℕ) (joys : List JoyJob
 kept-elsewhere actors one other joys apart same =
     filter-none (is_joy_on actors other) joys (λ k joy is. on-one (slice_get actors joy.actor) one other apart (on-device actors one joys k joy same is))
 
-none-behind : (actors : List ActorText) (number first : ℕ) (done : List DeviceRun) → number < first → AreNumbered actors first done → filter (is_joy_on actors number) (all_joys done) ≡ []
+none-behind : (actors : List ActorText) (number first : ℕ) (done : List DeviceEnds) → number < first → AreNumbered actors first done → filter (is_joy_on actors number) (all_joys done) ≡ []
 none-behind actors number first [] less h = refl
 none-behind actors number first (device ∷ done) less h =
-    filter-append (is_joy_on actors number) device.joys (all_joys done)
-    ∙ ap (λ (joys : List JoyJobView). joys ++ filter (is_joy_on actors number) (all_joys done)) (kept-elsewhere actors first number device.joys (λ e. omega (arith, less, e)) (numbered-first actors first device done h))
+    filter-append (is_joy_on actors number) (its_joys device) (all_joys done)
+    ∙ ap (λ (joys : List JoyJobView). joys ++ filter (is_joy_on actors number) (all_joys done)) (kept-elsewhere actors first number (its_joys device) (λ e. omega (arith, less, e)) (numbered-first actors first device done h))
     ∙ none-behind actors number (first + 1) done (omega (arith, less)) (numbered-behind actors first device done h)
 
-joys-found : (actors : List ActorText) (first i : ℕ) (done : List DeviceRun) (device : DeviceRun) → AreNumbered actors first done → slice_get done i ≡ Some device → filter (is_joy_on actors (first + i)) (all_joys done) ≡ device.joys
+joys-found : (actors : List ActorText) (first i : ℕ) (done : List DeviceEnds) (device : DeviceEnds) → AreNumbered actors first done → slice_get done i ≡ Some device → filter (is_joy_on actors (first + i)) (all_joys done) ≡ its_joys device
 joys-found actors first i [] device h is = absurd cc
 joys-found actors first zero (other ∷ done) device h is =
     let same : other ≡ device = cc in
     let here : first + 0 ≡ first = add-zero first in
-    ap (λ (n : ℕ). filter (is_joy_on actors n) (other.joys ++ all_joys done)) here
-    ∙ filter-append (is_joy_on actors first) other.joys (all_joys done)
-    ∙ ap (λ (joys : List JoyJobView). joys ++ filter (is_joy_on actors first) (all_joys done)) (kept-here actors first other.joys (numbered-first actors first other done h))
-    ∙ ap (λ (joys : List JoyJobView). other.joys ++ joys) (none-behind actors first (first + 1) done (omega arith) (numbered-behind actors first other done h))
-    ∙ append-nil other.joys
+    ap (λ (n : ℕ). filter (is_joy_on actors n) (its_joys other ++ all_joys done)) here
+    ∙ filter-append (is_joy_on actors first) (its_joys other) (all_joys done)
+    ∙ ap (λ (joys : List JoyJobView). joys ++ filter (is_joy_on actors first) (all_joys done)) (kept-here actors first (its_joys other) (numbered-first actors first other done h))
+    ∙ ap (λ (joys : List JoyJobView). its_joys other ++ joys) (none-behind actors first (first + 1) done (omega arith) (numbered-behind actors first other done h))
+    ∙ append-nil (its_joys other)
     ∙ ap its_joys same
 joys-found actors first (suc i) (other ∷ done) device h is =
     let next : first + suc i ≡ (first + 1) + i = omega arith in
-    filter-append (is_joy_on actors (first + suc i)) other.joys (all_joys done)
-    ∙ ap (λ (joys : List JoyJobView). joys ++ filter (is_joy_on actors (first + suc i)) (all_joys done)) (kept-elsewhere actors first (first + suc i) other.joys (λ e. omega (arith, e)) (numbered-first actors first other done h))
+    filter-append (is_joy_on actors (first + suc i)) (its_joys other) (all_joys done)
+    ∙ ap (λ (joys : List JoyJobView). joys ++ filter (is_joy_on actors (first + suc i)) (all_joys done)) (kept-elsewhere actors first (first + suc i) (its_joys other) (λ e. omega (arith, e)) (numbered-first actors first other done h))
     ∙ ap (λ (n : ℕ). filter (is_joy_on actors n) (all_joys done)) next
     ∙ joys-found actors (first + 1) i done device (numbered-behind actors first other done h) is
 
 -- All devices
 
-abbrev AllRunsPromised : Option ℕ → RecordView → List DeviceRun → Type 0
+abbrev AllRunsPromised : Option ℕ → RecordView → List DeviceEnds → Type 0
 AllRunsPromised idle r done =
-    (i : ℕ) (device : DeviceText) (run : DeviceRun) → slice_get r.devices i ≡ Some device → slice_get done i ≡ Some run → IsRunAsPromised idle r i device run
+    (i : ℕ) (device : DeviceText) (run : DeviceEnds) → slice_get r.devices i ≡ Some device → slice_get done i ≡ Some run → IsRunAsPromised idle r i device run
 
 -- each device has its text
 text-at : {X Y : Type 0} (xs : List X) (ys : List Y) (i : ℕ) (x : X) → length xs ≡ length ys → slice_get xs i ≡ Some x → (y : Y) × (slice_get ys i ≡ Some y)
@@ -167,19 +167,19 @@ its-device number None text h on = absurd cc
 its-device number (Some other) text h on = let same : other ≡ text = cc in ap (λ (x : ActorText). x.device) (sym same) ∙ eqb-true other.device number on
 
 -- what came of an owner of the record
-is_owner_of : (idle : Option ℕ) (r : RecordView) (done : List DeviceRun) (k : ℕ) (owner : OwnerView) (text : ActorText) (device : DeviceText) (run : Run) → length done ≡ length r.devices → AllRunsPromised idle r done → slice_get (flat_map its_owners done) k ≡ Some owner
+is_owner_of : (idle : Option ℕ) (r : RecordView) (done : List DeviceEnds) (k : ℕ) (owner : OwnerView) (text : ActorText) (device : DeviceText) (run : Run) → length done ≡ length r.devices → AllRunsPromised idle r done → slice_get (flat_map its_owners done) k ≡ Some owner
     → slice_get r.actors owner.actor ≡ Some text → slice_get r.devices text.device ≡ Some device → slice_get (map its_run done) text.device ≡ Some run → IsOwner device.caps run.history (rooms_of (lines_by owner.actor r.lines)) owner
 is_owner_of idle r done k owner text device run long each is is_text is_device is_run =
     let p : IsPartOf its_owners done owner = part-of its_owners done k owner is in
     let named = text-at done r.devices p.index p.of long p.is in
     let promised : IsRunAsPromised idle r p.index named.0 p.of = each p.index named.0 p.of named.1 p.is in
-    let here : text.device ≡ p.index = its-device p.index (slice_get r.actors owner.actor) text is_text (owner-on_device r.actors p.index p.of.owners p.place owner promised.owners_are p.there) in
+    let here : text.device ≡ p.index = its-device p.index (slice_get r.actors owner.actor) text is_text (owner-on_device r.actors p.index (its_owners p.of) p.place owner promised.owners_are p.there) in
     let same_device : named.0 ≡ device = same_Some named.0 device (sym named.1 ∙ ap (λ (n : ℕ). slice_get r.devices n) (sym here) ∙ is_device) in
-    let same_run : p.of.run ≡ run = same_Some p.of.run run (sym (slice_get-map its_run done p.index ∙ ap (λ (o : Option DeviceRun). option_map its_run o) p.is) ∙ ap (λ (n : ℕ). slice_get (map its_run done) n) (sym here) ∙ is_run) in
+    let same_run : its_run p.of ≡ run = same_Some (its_run p.of) run (sym (slice_get-map its_run done p.index ∙ ap (λ (o : Option DeviceEnds). option_map its_run o) p.is) ∙ ap (λ (n : ℕ). slice_get (map its_run done) n) (sym here) ∙ is_run) in
     subst (λ (x : DeviceText). IsOwner x.caps run.history (rooms_of (lines_by owner.actor r.lines)) owner) same_device
     (subst (λ (x : Run). IsOwner named.0.caps x.history (rooms_of (lines_by owner.actor r.lines)) owner) same_run (promised.owners p.place owner p.there))
 
-pub all-promised : (idle : Option ℕ) (r : RecordView) (done : List DeviceRun) → length done ≡ length r.devices → AllRunsPromised idle r done → ArePromised idle r (played_of done)
+pub all-promised : (idle : Option ℕ) (r : RecordView) (done : List DeviceEnds) → length done ≡ length r.devices → AllRunsPromised idle r done → ArePromised idle r (played_of done)
 all-promised idle r done long each = record {
   runs_of = record {
     devices = length-map done its_run ∙ long;
@@ -193,10 +193,10 @@ all-promised idle r done long each = record {
   each = λ i text run is_text is_run.
       let image : IsImage its_run (slice_get done i) run = image-of i run is_run in
       let p : IsRunAsPromised idle r i text image.from = each i text image.from is_text image.is in
-      let found : joys_on r (all_joys done) i ≡ image.from.joys =
+      let found : joys_on r (all_joys done) i ≡ its_joys image.from =
       ap (λ (n : ℕ). filter (is_joy_on r.actors n) (all_joys done)) (sym (zero-add i)) ∙ joys-found r.actors 0 i done image.from numbered image.is in
       subst (λ (joys : List JoyJobView). IsRun r text.caps (wait_of idle r i) run joys) (sym found)
-      (subst (λ (x : Run). IsRun r text.caps (wait_of idle r i) x image.from.joys) image.same p.is_run);
+      (subst (λ (x : Run). IsRun r text.caps (wait_of idle r i) x (its_joys image.from)) image.same p.is_run);
   owners = λ k owner text device run is is_text is_device is_run. is_owner_of idle r done k owner text device run long each is is_text is_device is_run;
 }
   where

@@ -13,11 +13,11 @@ use Rattle.inp_actors.specs.declared.role.Role.{Role}
 use Rattle.inp_actors.specs.declared.role.Role.TheVariants.{Owner}
 use Rattle.inp_actors.specs.Record.{RecordView, IsRecord}
 use Rattle.inp_reader.specs.Talk.{EndsWith}
-use Rattle.inp_script.specs.declared.run.DeviceRun.{DeviceRun}
+use Rattle.inp_script.specs.declared.run.DeviceEnds.{DeviceEnds}
 use Rattle.inp_script.specs.declared.waiting.Waiting.{Waiting}
 use Rattle.inp_script.specs.Job.{ActorView, OwnerView, first_job}
 use Rattle.inp_script.specs.Runs.{actors_of, joysticks_of, joy_actors, owners_of, owner_actors, IsRunOf}
-use Rattle.inp_script.specs.Ended.{HasDeviceSlots, ended_of, device_run, played_of}
+use Rattle.inp_script.specs.Ended.{HasDeviceSlots, ended_of, ended_run, joys_among, owners_among, played_of}
 use Rattle.inp_runs.specs.Owner.{rooms_of, HasOwned, IsOwner}
 use Rattle.inp_runs.specs.Job.{lines_by, lines_talk, is_entry_at, wait_of, IsRun, ArePromised}
 
@@ -45,26 +45,27 @@ pub record IsDeviceDone (idle : Option ℕ) (r : RecordView) (i : ℕ) (d : Desc
   pub once : (place : ℕ) → place < length history → sum_by (calls_at place) actors ≡ 1
 
 -- All that is promised of what came of the device of this number.
-pub record IsRunAsPromised (idle : Option ℕ) (r : RecordView) (i : ℕ) (device : DeviceText) (done : DeviceRun) : Type 0 where
-  pub run_of : IsRunOf r.actors i device done.run
-  pub joys_of : joy_actors done.joys ≡ joysticks_of r.actors i
-  pub owners_are : owner_actors done.owners ≡ owners_of r.actors i
-  pub is_run : IsRun r device.caps (wait_of idle r i) done.run done.joys
-  pub owners : (k : ℕ) (owner : OwnerView) → slice_get done.owners k ≡ Some owner → IsOwner device.caps done.run.history (rooms_of (lines_by owner.actor r.lines)) owner
+pub record IsRunAsPromised (idle : Option ℕ) (r : RecordView) (i : ℕ) (device : DeviceText) (done : DeviceEnds) : Type 0 where
+  pub run_of : IsRunOf r.actors i device (ended_run done)
+  pub joys_of : joy_actors (joys_among done.ends) ≡ joysticks_of r.actors i
+  pub owners_are : owner_actors (owners_among done.ends) ≡ owners_of r.actors i
+  pub is_run : IsRun r device.caps (wait_of idle r i) (ended_run done) (joys_among done.ends)
+  pub owners : (k : ℕ) (owner : OwnerView) → slice_get (owners_among done.ends) k ≡ Some owner
+      → IsOwner device.caps done.history (rooms_of (lines_by owner.actor r.lines)) owner
 
 -- what comes of a device whose actors did all their lines is promised
 abbrev pub DevicesDoneArePromised : Type 0
 DevicesDoneArePromised =
     (idle : Option ℕ) (r : RecordView) (i : ℕ) (device : DeviceText) (history : List Step) (actors : List ActorView)
     → IsRecord r → IsDescription device.caps → IsDeviceDone idle r i device.caps history actors
-    → IsRunAsPromised idle r i device (device_run history (map ended_of actors))
+    → IsRunAsPromised idle r i device (record { history = history; ends = map ended_of actors })
 
 -- the devices of a record know nothing of each other: what is promised of each is promised of all
 abbrev pub AllAsPromised : Type 0
 AllAsPromised =
-    (idle : Option ℕ) (r : RecordView) (done : List DeviceRun)
+    (idle : Option ℕ) (r : RecordView) (done : List DeviceEnds)
     → length done ≡ length r.devices
-    → ((i : ℕ) (device : DeviceText) (run : DeviceRun) → slice_get r.devices i ≡ Some device → slice_get done i ≡ Some run → IsRunAsPromised idle r i device run)
+    → ((i : ℕ) (device : DeviceText) (ended : DeviceEnds) → slice_get r.devices i ≡ Some device → slice_get done i ≡ Some ended → IsRunAsPromised idle r i device ended)
     → ArePromised idle r (played_of done)
 
 -- Each line of an owner is a feedback call, so that none is without its room.

@@ -14,13 +14,13 @@ use Rattle.inp_feedback.specs.declared.fed.Fed.{Fed}
 use Rattle.inp_feedback.specs.declared.fed.Fed.TheVariants.{Took, Full}
 use Rattle.inp_feedback.specs.Feedback.{taken_by_feedback, fed}
 use Rattle.inp_feedback.specs.Kept.{kept_of}
-use Rattle.inp_script.specs.declared.run.DeviceRun.{DeviceRun}
+use Rattle.inp_script.specs.declared.run.DeviceEnds.{DeviceEnds}
 use Rattle.inp_script.specs.declared.run.Played.{Played}
 use Rattle.inp_script.specs.declared.stop.Stop.{Stop}
 use Rattle.inp_script.specs.DoneLine.{line_talk}
 use Rattle.inp_script.specs.Job.{Job, ActorView, first_job}
 use Rattle.inp_script.specs.Owner.{first_owning, after_feedback}
-use Rattle.inp_script.specs.Ended.{ended_of, device_run, played_of}
+use Rattle.inp_script.specs.Ended.{ended_of, played_of}
 use Rattle.inp_script.specs.Runs.{is_on_device}
 
 -- what stands between two lines
@@ -112,10 +112,10 @@ abbrev pub jobs_on : RecordView → List ActorView → ℕ → List ActorView
 jobs_on r actors device = filter (λ a. is_on_device device (slice_get r.actors a.actor)) actors
 
 -- what came of a device, with its number
-abbrev pub run_of : RecordView → Stage → ℕ × List Step → DeviceRun
-run_of r stage numbered = device_run (reverse numbered.1) (map ended_of (jobs_on r stage.actors numbered.0))
+abbrev pub run_of : RecordView → Stage → ℕ × List Step → DeviceEnds
+run_of r stage numbered = record { history = reverse numbered.1; ends = map ended_of (jobs_on r stage.actors numbered.0) }
 
-abbrev pub runs_of : RecordView → Stage → List DeviceRun
+abbrev pub runs_of : RecordView → Stage → List DeviceEnds
 runs_of r stage = map (run_of r stage) (enumerate_from 0 stage.pasts)
 
 -- what comes of a record, where so many rounds are enough for each of its lines

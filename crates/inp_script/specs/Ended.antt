@@ -1,7 +1,6 @@
 -- What comes of an actor when its lines are done.
 use Rattle.std.specs.Prelude.{◌≡◌, ℕ, ◌*◌, List, [], ◌∷◌, length, map, flat_map}
 use Rattle.inp_model.specs.declared.multi_touch.TheConstants.{SLOT_VALUES}
-use Rattle.inp_model.specs.declared.step.Step.{Step}
 use Rattle.inp_model.specs.Description.{Description}
 use Rattle.inp_actors.specs.declared.role.Role.{Role}
 use Rattle.inp_actors.specs.declared.role.Role.TheVariants.{Joy as JoyRole, Owner as OwnerRole}
@@ -9,8 +8,9 @@ use Rattle.inp_script.specs.declared.end.ended.Ended.{Ended}
 use Rattle.inp_script.specs.declared.end.ended.Ended.TheVariants.{Job as JobEnded, Joy as JoyEnded, Owner as OwnerEnded}
 use Rattle.inp_script.specs.declared.role.state.RoleState.{RoleState}
 use Rattle.inp_script.specs.declared.role.state.RoleState.TheVariants.{Joy, Owner}
-use Rattle.inp_script.specs.declared.run.DeviceRun.{DeviceRun}
+use Rattle.inp_script.specs.declared.run.DeviceEnds.{DeviceEnds}
 use Rattle.inp_script.specs.declared.run.Played.{Played}
+use Rattle.inp_script.specs.declared.run.Run.{Run}
 use Rattle.inp_script.specs.declared.sight.Sight.{Sight}
 use Rattle.inp_script.specs.declared.stop.Stop.{Stop}
 use Rattle.inp_script.specs.Job.{ActorView, JobView, JoyJobView, OwnerView, job_end, joy_end, owner_end, last_stop}
@@ -44,20 +44,16 @@ owners_among (JobEnded job ∷ ends) = owners_among ends
 owners_among (JoyEnded joy ∷ ends) = owners_among ends
 owners_among (OwnerEnded owner ∷ ends) = owner ∷ owners_among ends
 
--- what came of a device that has this history, by what came of its actors
-abbrev pub device_run : List Step → List Ended → DeviceRun
-device_run history ends = record {
-  run = record { history = history; jobs = jobs_among ends };
-  joys = joys_among ends;
-  owners = owners_among ends;
-}
+-- what came of a device, and of its jobs but joysticks' and owners'
+abbrev pub ended_run : DeviceEnds → Run
+ended_run device = record { history = device.history; jobs = jobs_among device.ends }
 
 -- what came of a record, by what came of its devices
-abbrev pub played_of : List DeviceRun → Played
+abbrev pub played_of : List DeviceEnds → Played
 played_of devices = record {
-  runs = map (λ (device : DeviceRun). device.run) devices;
-  joys = flat_map (λ (device : DeviceRun). device.joys) devices;
-  owners = flat_map (λ (device : DeviceRun). device.owners) devices;
+  runs = map ended_run devices;
+  joys = flat_map (λ (device : DeviceEnds). joys_among device.ends) devices;
+  owners = flat_map (λ (device : DeviceEnds). owners_among device.ends) devices;
 }
 
 -- of one that keeps this, saw this and ended so

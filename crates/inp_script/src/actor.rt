@@ -79,6 +79,13 @@ impl Actor {
         })
     }
 
+    /// Which actor of the record it is, from 0.
+    pub fn number(&self) -> u32
+        ensures number { result ≡ self.now.actor }
+    {
+        self.actor
+    }
+
     /// Does the line of this number on an evdev, or nothing where the actor has stopped. Nobody owns that device, so that a
     /// line of an owner is nothing.
     ///

@@ -68,7 +68,7 @@ pub use end::joystick::JoyEnd;
 pub use end::owner::OwnerEnd;
 pub use fed_sight::{FedList, FedSight};
 pub use gated::Gated;
-pub use run::{DeviceRun, Jobs, JoyRuns, OwnerRuns, Played, Run, Runs};
+pub use run::{DeviceEnds, Jobs, JoyRuns, OwnerRuns, Played, Run, Runs};
 pub use sight::{JoySight, JoySights, Sight};
 pub use sights::Sights;
 pub use stop::Stop;

@@ -16,7 +16,7 @@ use Rattle.inp_feedback.specs.declared.u_entry.UEntry.{UEntry}
 use Rattle.inp_feedback.specs.UEntry.{step_made}
 use Rattle.inp_script.specs.declared.waiting.Waiting.{Waiting}
 use Rattle.inp_script.specs.DoneLine.{HasActor}
-use Rattle.inp_script.specs.Ended.{HasDeviceSlots, ended_of, device_run}
+use Rattle.inp_script.specs.Ended.{HasDeviceSlots, ended_of}
 use Rattle.inp_script.specs.Job.{ActorView}
 use Rattle.inp_script.specs.Runs.{actors_of, is_on_device}
 use Rattle.inp_runs.specs.Done.{HasFollowed, IsDeviceDone, IsRunAsPromised, calls_at}
@@ -154,6 +154,6 @@ module _ {W : Type 0} (view : W → PassView Description UEntry) (actor : W → 
 
   -- and so all that is promised of the device holds
   pub done-promised : (idle : Option ℕ) (r : RecordView) (i : ℕ) (device : DeviceText) (entries : List UEntry) (ws : List W) → IsRecord r → IsDescription device.caps → AreAllDone idle r i device.caps entries ws
-      → IsRunAsPromised idle r i device (device_run (steps_among step_made entries) (map ended_of (map actor ws)))
+      → IsRunAsPromised idle r i device (record { history = steps_among step_made entries; ends = map ended_of (map actor ws) })
   done-promised idle r i device entries ws is_record described h =
       device-promised idle r i device (steps_among step_made entries) (map actor ws) is_record described (device-done idle r i device.caps entries ws is_record h)

@@ -12,7 +12,7 @@ use Rattle.inp_actors.specs.declared.device_text.DeviceText.{DeviceText}
 use Rattle.inp_actors.specs.Record.{RecordView, IsRecord}
 use Rattle.inp_script.specs.declared.waiting.Waiting.{Waiting}
 use Rattle.inp_script.specs.declared.end.ended.Ended.{Ended}
-use Rattle.inp_script.specs.Ended.{HasDeviceSlots, ended_of, device_run}
+use Rattle.inp_script.specs.Ended.{HasDeviceSlots, ended_of}
 use Rattle.inp_script.specs.Job.{ActorView}
 use Rattle.inp_script.specs.Runs.{actors_of}
 use Rattle.inp_runs.specs.Done.{IsRunAsPromised}
@@ -83,7 +83,7 @@ module _ (idle i : ℕ) (r : RecordView) (device : DeviceText) (port : PortOf Ud
         once = λ place below. ap (count_by (nat_eq place)) (sym own) ∙ owned.once place (omega arith) below;
       }
 
-  pub left-promised : IsRecord r → IsDescription device.caps → (ends : List Ended) → ends ≡ ends_of_workers workers → IsRunAsPromised (Some idle) r i device (device_run (steps_among step_made entries) ends)
+  pub left-promised : IsRecord r → IsDescription device.caps → (ends : List Ended) → ends ≡ ends_of_workers workers → IsRunAsPromised (Some idle) r i device (record { history = steps_among step_made entries; ends = ends })
   left-promised is_record described ends ended =
-      subst (λ (es : List Ended). IsRunAsPromised (Some idle) r i device (device_run (steps_among step_made entries) es)) (actor_ends workers ∙ sym ended)
+      subst (λ (es : List Ended). IsRunAsPromised (Some idle) r i device (record { history = steps_among step_made entries; ends = es })) (actor_ends workers ∙ sym ended)
       (done-promised (λ (w : Worker). view_in w.pass) (λ (w : Worker). w.actor) (Some idle) r i device entries workers is_record described all_done)

@@ -2,12 +2,12 @@
 use Rattle.std.specs.Prelude.{◌≡◌, ◌≤◌, ◌<◌, ◌^◌, ℕ, List, Some, length, slice_get}
 use Rattle.inp_actors.specs.declared.device_text.DeviceText.{DeviceText}
 use Rattle.inp_actors.specs.Record.{RecordView}
-use Rattle.inp_script.specs.declared.run.DeviceRun.{DeviceRun}
+use Rattle.inp_script.specs.declared.run.DeviceEnds.{DeviceEnds}
 use Rattle.inp_runs.specs.Done.{IsRunAsPromised}
 use Rattle.inp_threads.specs.Lines.{AreLinesDealt}
 
 -- all is promised of what came of the device of this number, where the lines of its actors waited so long
-abbrev pub IsPromisedOf : ℕ → RecordView → ℕ → DeviceRun → Type 0
+abbrev pub IsPromisedOf : ℕ → RecordView → ℕ → DeviceEnds → Type 0
 IsPromisedOf idle r i done = (device : DeviceText) → slice_get r.devices i ≡ Some device → IsRunAsPromised (Some idle) r i device done
 
 -- there is a device of this number, lines wait so long, and all of them are dealt

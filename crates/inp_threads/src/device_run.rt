@@ -8,8 +8,8 @@ use crate::lines::LineLists;
 use crate::workers::{deal, run_all};
 use inp_actors::Record;
 use inp_edge::Gate;
-use inp_model::NoMemory;
-use inp_script::DeviceRun;
+use inp_model::{Items, NoMemory};
+use inp_script::DeviceEnds;
 use inp_uinput::{UPort, Udev};
 use std::alloc::Global;
 use std::sync::Wait;
@@ -24,7 +24,7 @@ pub(crate) fn run_device<R: Threads + Wait + Sync, G: Gate>(
     number: u32,
     idle: u32,
     gate: &G,
-) -> Result<DeviceRun, NoMemory>
+) -> Result<DeviceEnds, NoMemory>
     requires bound { 1 ≤ idle }
     requires lines { AreLinesDealt rec.now lists.now }
     requires device { number < length rec.now.devices }
@@ -46,5 +46,6 @@ pub(crate) fn run_device<R: Threads + Wait + Sync, G: Gate>(
     if !is_done {
         return Err(NoMemory);
     }
-    DeviceRun::of(alloc, history, ends)
+    let ends = Items::of(ends);
+    Ok(DeviceEnds { history, ends })
 }

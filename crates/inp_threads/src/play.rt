@@ -8,7 +8,7 @@ use crate::lines::deal_lines;
 use inp_actors::Record;
 use inp_edge::Gate;
 use inp_model::NoMemory;
-use inp_script::{DeviceRun, Played};
+use inp_script::{DeviceEnds, Played};
 use std::alloc::Global;
 use std::sync::Wait;
 use std::thread;
@@ -42,7 +42,7 @@ pub fn play_on_threads<R: Threads + Wait + Sync, G: Gate>(
         rt,
         &mut outcomes,
         count,
-        &|i, outcome: &mut Option<DeviceRun>|
+        &|i, outcome: &mut Option<DeviceEnds>|
             requires { IsToBeRun idle rec.now lists i }
             ensures { IfSome outcome.exit.now (IsPromisedOf idle rec.entry.now i) }
         {
@@ -54,7 +54,7 @@ pub fn play_on_threads<R: Threads + Wait + Sync, G: Gate>(
 }
 
 // So many outcomes, of which none has come yet.
-fn no_outcomes(alloc: Global, count: usize) -> Result<Vec<Option<DeviceRun>>, NoMemory>
+fn no_outcomes(alloc: Global, count: usize) -> Result<Vec<Option<DeviceEnds>>, NoMemory>
     ensures count { IfOk result (λ outcomes. length outcomes.items ≡ count) }
 {
     let mut outcomes = Vec::new(alloc);
@@ -65,7 +65,7 @@ fn no_outcomes(alloc: Global, count: usize) -> Result<Vec<Option<DeviceRun>>, No
 }
 
 // What came of the devices, where each outcome has come.
-fn collect(alloc: Global, outcomes: Vec<Option<DeviceRun>>) -> Result<Vec<DeviceRun>, NoMemory>
+fn collect(alloc: Global, outcomes: Vec<Option<DeviceEnds>>) -> Result<Vec<DeviceEnds>, NoMemory>
     ensures devices { IfOk result (λ devices. map Some devices.items ≡ outcomes.items) }
 {
     let mut devices = Vec::new(alloc);

@@ -20,10 +20,10 @@ use Rattle.inp_actors.specs.declared.role.Role.{Role}
 use Rattle.inp_actors.specs.declared.role.Role.TheVariants.{Source, Client, Tap, Joy, Owner}
 use Rattle.inp_script.specs.declared.end.ended.Ended.{Ended}
 use Rattle.inp_script.specs.declared.end.ended.Ended.TheVariants.{Job as JobEnded, Joy as JoyEnded, Owner as OwnerEnded}
-use Rattle.inp_script.specs.declared.run.DeviceRun.{DeviceRun}
+use Rattle.inp_script.specs.declared.run.DeviceEnds.{DeviceEnds}
 use Rattle.inp_script.specs.declared.run.Played.{Played}
 use Rattle.inp_script.specs.declared.run.Run.{Run}
-use Rattle.inp_script.specs.Ended.{ended_as, ended_of, jobs_among, played_of}
+use Rattle.inp_script.specs.Ended.{ended_as, ended_of, ended_run, jobs_among, played_of}
 use Rattle.inp_script.specs.declared.stop.Stop.{Stop}
 use Rattle.inp_script.specs.Job.{ActorView, last_stop, JoyJobView}
 use Rattle.inp_script.specs.Runs.{AreJoysOf, AreOwnersOf}
@@ -175,8 +175,8 @@ no_full_job p (a ∷ actors) none = by_flag (p a) (no_full_end a (none 0 a refl)
     by_flag false first more = more
 
 -- the runs of these devices
-abbrev runs_among : List DeviceRun → List Run
-runs_among devices = map (λ (device : DeviceRun). device.run) devices
+abbrev runs_among : List DeviceEnds → List Run
+runs_among devices = map ended_run devices
 
 no_full_run : (r : RecordView) (stage : Stage) (numbered : List (ℕ × List Step)) → ((i : ℕ) (a : ActorView) → slice_get stage.actors i ≡ Some a → a.job.stop ≡ None) → has_full_run (runs_among (map (run_of r stage) numbered)) ≡ false
 no_full_run r stage [] none = refl

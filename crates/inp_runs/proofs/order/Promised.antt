@@ -22,7 +22,7 @@ use Rattle.inp_feedback.proofs.Lists.{steps_in-kept_of, kept_of-nothing}
 use Rattle.inp_recon.specs.View.{IsSizedFor}
 use Rattle.inp_recon.proofs.Sizes.{IsSizedFor-first_view}
 use Rattle.inp_reader.specs.Talk.{LeadsTo}
-use Rattle.inp_script.specs.declared.run.DeviceRun.{DeviceRun}
+use Rattle.inp_script.specs.declared.run.DeviceEnds.{DeviceEnds}
 use Rattle.inp_script.specs.declared.run.Played.{Played}
 use Rattle.inp_script.specs.Ended.{HasDeviceSlots, ended_as, played_of}
 use Rattle.inp_script.specs.Job.{ActorView}
@@ -116,12 +116,12 @@ first-owned r = record {
 -- When all lines are done
 
 -- what came of the device of this number
-record IsRunAt (r : RecordView) (stage : Stage) (i : ℕ) (run : DeviceRun) : Type 0 where
+record IsRunAt (r : RecordView) (stage : Stage) (i : ℕ) (run : DeviceEnds) : Type 0 where
   past : List Step
   is_past : slice_get stage.pasts i ≡ Some past
   same : run_of r stage (i, past) ≡ run
 
-run_at : (r : RecordView) (stage : Stage) (i : ℕ) (run : DeviceRun) → slice_get (runs_of r stage) i ≡ Some run → IsRunAt r stage i run
+run_at : (r : RecordView) (stage : Stage) (i : ℕ) (run : DeviceEnds) → slice_get (runs_of r stage) i ≡ Some run → IsRunAt r stage i run
 run_at r stage i run h =
     let numbered : slice_get (enumerate_from 0 stage.pasts) i ≡ option_map (λ (p : List Step). (0 + i, p)) (slice_get stage.pasts i) = slice_get-numbered 0 stage.pasts i in
     let image = option_map-some (run_of r stage) (slice_get (enumerate_from 0 stage.pasts) i) run (sym (slice_get-map (run_of r stage) (enumerate_from 0 stage.pasts) i) ∙ h) in
@@ -218,7 +218,7 @@ stage_promised r rounds stage is_record described s o =
     all-promised None r (runs_of r stage) (length-map (enumerate_from 0 stage.pasts) (run_of r stage) ∙ length-enumerate_from 0 stage.pasts ∙ s.devices)
     (λ i device run is_device is_run.
     let at : IsRunAt r stage i run = run_at r stage i run is_run in
-    subst (λ (x : DeviceRun). IsRunAsPromised None r i device x) at.same
+    subst (λ (x : DeviceEnds). IsRunAsPromised None r i device x) at.same
     (device-promised None r i device (reverse at.past) (jobs_on r stage.actors i) is_record (described i device is_device) (device_done r rounds stage i device at.past s o is_device at.is_past)))
 
 -- what comes of a record whose lines are done in file order is promised

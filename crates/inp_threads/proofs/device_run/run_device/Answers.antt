@@ -10,9 +10,9 @@ use Rattle.inp_feedback.specs.UEntry.{step_made}
 use Rattle.inp_port.specs.Entries.{steps_among}
 use Rattle.inp_uinput.specs.UdevView.{UdevView}
 use Rattle.inp_uinput.proofs.ServedEntries.{steps-reverse}
-use Rattle.inp_script.specs.Ended.{device_run}
+use Rattle.inp_script.specs.declared.end.ended.Ended.{Ended}
 use Rattle.inp_actors.specs.declared.device_text.DeviceText.{DeviceText}
-use Rattle.inp_script.specs.declared.run.DeviceRun.{DeviceRun}
+use Rattle.inp_script.specs.declared.run.DeviceEnds.{DeviceEnds}
 use Rattle.inp_runs.specs.Done.{IsRunAsPromised}
 use Rattle.inp_turn.specs.Pass.{view_of}
 use Rattle.inp_turn.specs.PassView.{IsEachAddedOnce}
@@ -30,8 +30,7 @@ gather-pass-requires-clause-room g c =
 
 pub returns : goal.returns
 returns g c = record {
-  promised = IfOk-weaker c.of.result _ (IsPromisedOf c.args.idle c.args.rec.now c.args.number)
-      (λ done is. λ device at.
+  promised = λ device at.
       (let item : slice_get c.args.rec.now.devices c.args.number ≡ Some c.get.result.now = ap (λ (ds : List DeviceText). slice_get ds c.args.number) (sym c.devices.ensures.devices) ∙ c.get.ensures.item in
       let caps : c.copy-caps.result ≡ device.caps = c.copy-caps.ensures.same ∙ ap (λ (text : DeviceText). text.caps) (same_Some c.get.result.now device (sym item ∙ at)) in
       let fresh : start_value c.in-Ok.port ≡ record { description = c.copy-caps.result; kept = []; agains = 0 } = c.in-Ok.ensures.first ∙ c.in_ok-new.ensures.fresh in
@@ -55,8 +54,8 @@ returns g c = record {
         seen = refl;
         owned = own;
       } in
-      subst (λ (came : DeviceRun). IsRunAsPromised (Some c.args.idle) c.args.rec.now c.args.number device came) (ap (λ (h : List Step). device_run h c.gather-pass.result.ends.items) (sym history) ∙ sym is)
+      subst (λ (came : DeviceEnds). IsRunAsPromised (Some c.args.idle) c.args.rec.now c.args.number device came)
+      (ap (λ (h : List Step). let ends : DeviceEnds = record { history = h; ends = c.gather-pass.result.ends.items } in ends) (sym history))
       (left-promised c.args.idle c.args.number c.args.rec.now device c.in-Ok.port (view_of c.deal.new.pass) joined c.run_all.new.workers.items joined.seen left
-      c.devices.ensures.record (subst IsDescription caps c.copy-caps.ensures.description) c.gather-pass.result.ends.items c.gather-pass.ensures.ends)))
-      c.of.ensures.run;
+      c.devices.ensures.record (subst IsDescription caps c.copy-caps.ensures.description) c.gather-pass.result.ends.items c.gather-pass.ensures.ends));
 }

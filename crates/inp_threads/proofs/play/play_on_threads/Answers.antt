@@ -1,6 +1,6 @@
 use Rattle.std.proofs.Common.{◌≡◌, ℕ, ◌<◌, List, length, get_or, sym, ap, subst, ◌∙◌, arith, Option, Some, IfSome}
 use Rattle.std.proofs.lemmas.Result.{IfOk-weaker}
-use Rattle.inp_script.specs.declared.run.DeviceRun.{DeviceRun}
+use Rattle.inp_script.specs.declared.run.DeviceEnds.{DeviceEnds}
 use Rattle.inp_script.specs.declared.run.Played.{Played}
 use Rattle.inp_script.specs.Ended.{played_of}
 use Rattle.inp_runs.specs.Job.{ArePromised}
@@ -23,18 +23,18 @@ for_each_mut-requires-clause-accepts g c κs within =
 
 pub returns : goal.returns
 returns g c =
-    let items : List (Option DeviceRun) = c.in_ok-outcomes.outcomes.items in
-    let slice : List (Option DeviceRun) = c.deref_mut.result.now in
-    let new : List (Option DeviceRun) = c.for_each_mut.new.s in
+    let items : List (Option DeviceEnds) = c.in_ok-outcomes.outcomes.items in
+    let slice : List (Option DeviceEnds) = c.deref_mut.result.now in
+    let new : List (Option DeviceEnds) = c.for_each_mut.new.s in
     let r = c.args.rec.now in
     let same : slice ≡ items = c.deref_mut.ensures.value in
     let long : length new ≡ length slice = c.for_each_mut.auto.s in
-    let each : (i : ℕ) (d : Option DeviceRun) → i < length new → IfSome (get_or new i d) (IsPromisedOf c.args.idle r i) = λ i d below.
+    let each : (i : ℕ) (d : Option DeviceEnds) → i < length new → IfSome (get_or new i d) (IsPromisedOf c.args.idle r i) = λ i d below.
     (let k = (c.for_each_mut.ensures i d (omega (arith, below, long))).1 in
     let done : IfSome k.after_call.now (IsPromisedOf c.args.idle r i) = k.call in
-    subst (λ (outcome : Option DeviceRun). IfSome outcome (IsPromisedOf c.args.idle r i)) k.left done) in
+    subst (λ (outcome : Option DeviceEnds). IfSome outcome (IsPromisedOf c.args.idle r i)) k.left done) in
     let all = changed c.in_ok-outcomes.outcomes.len items new (omega (arith, c.in_ok-outcomes.outcomes.ok.0)) (long ∙ ap length same) in
-    let devices : List DeviceRun = c.in_ok-devices.devices.items in
+    let devices : List DeviceEnds = c.in_ok-devices.devices.items in
     let came : ArePromised (Some c.args.idle) r (played_of devices) =
     collected c.args.idle r new devices (omega (arith, long, ap length same, c.in_ok-outcomes.ensures.count, c.len.ensures.length, ap length c.devices.ensures.devices)) each (c.in_ok-devices.ensures.devices ∙ all) in
     record {

@@ -5,13 +5,13 @@ use Rattle.std.proofs.lemmas.Iterator.Consumers.{YieldsList-end, YieldsList-turn
 use Rattle.std.proofs.lemmas.List.{map-id}
 use Rattle.inp_actors.specs.declared.actor_text.ActorText.{ActorText}
 use Rattle.inp_script.specs.declared.end.ended.Ended.{Ended}
-use Rattle.inp_script.specs.declared.run.DeviceRun.{DeviceRun}
+use Rattle.inp_script.specs.declared.run.DeviceEnds.{DeviceEnds}
 use Rattle.inp_script.specs.Ended.{ended_of, played_of}
 use Rattle.inp_script.specs.Job.{ActorView}
 use Rattle.inp_runs.specs.Play.{runs_of}
-use Rattle.inp_play.specs.GatheredRuns.{actor_of, all_ends, run_with, HasEndMore}
+use Rattle.inp_play.specs.GatheredRuns.{HasEndMore}
 use Rattle.inp_play.specs.Player.{stage_of, stage_with}
-use Rattle.inp_play.proofs.Gathered.{IsNext, is_next, next-actor, next-device, no_ends, one_more_end, ended-number, runs_gathered}
+use Rattle.inp_play.proofs.Gathered.{IsNext, is_next, next-actor, next-device, no_ends, one_more_end}
 use Rattle.inp_play.proofs.player.Player.finish.Goals as goal
 
 pub loop-actor-init : goal.loop-actor-init
@@ -22,7 +22,7 @@ get-requires c =
     let gives = c.into_iter-actor-iterator.ensures.into_iter_gives in
     let turn = YieldsList-turn (YieldsList-from_vec {s = c.into_iter-actor-iterator.result} c.args.self.actors.items gives.0 (gives.1 ∙ c.args.self.actors.ok.0)) c.loop-actor.yielded c.loop-actor.actor-iterator c.loop-actor.yielded_by c.next.result c.next.new.self c.in-Some.actor c.in-Some.is c.next.ensures.steps in
     let next : IsNext c.args.rec.now c.args.self.devices.items c.in-Some.actor = is_next c.args.rec.now c.args.self.devices.items c.args.self.actors.items (length c.loop-actor.yielded) c.in-Some.actor c.actors.ensures.record c.requires.player.devices c.requires.player.actors turn in
-    let number = c.number_of.ensures ∙ ap (λ (end : Ended). actor_of end) c.finish-end.ensures.ended ∙ ended-number c.in-Some.actor.role c.in-Some.actor in
+    let number = c.number.ensures.number in
     let few = ap length c.actors.ensures.actors in
     record { within = omega (arith, next-actor c.args.rec.now c.args.self.devices.items c.in-Some.actor next, number, few) }
 
@@ -31,9 +31,9 @@ push_end-requires c =
     let gives = c.into_iter-actor-iterator.ensures.into_iter_gives in
     let turn = YieldsList-turn (YieldsList-from_vec {s = c.into_iter-actor-iterator.result} c.args.self.actors.items gives.0 (gives.1 ∙ c.args.self.actors.ok.0)) c.loop-actor.yielded c.loop-actor.actor-iterator c.loop-actor.yielded_by c.next.result c.next.new.self c.in-Some.actor c.in-Some.is c.next.ensures.steps in
     let next : IsNext c.args.rec.now c.args.self.devices.items c.in-Some.actor = is_next c.args.rec.now c.args.self.devices.items c.args.self.actors.items (length c.loop-actor.yielded) c.in-Some.actor c.actors.ensures.record c.requires.player.devices c.requires.player.actors turn in
-    let number = c.number_of.ensures ∙ ap (λ (end : Ended). actor_of end) c.finish-end.ensures.ended ∙ ended-number c.in-Some.actor.role c.in-Some.actor in
+    let number = c.number.ensures.number in
     let there : slice_get c.args.rec.now.actors c.in-Some.actor.actor ≡ Some c.get.result.now =
-    ap (slice_get c.args.rec.now.actors) (sym number) ∙ ap (λ (actors : List ActorText). slice_get actors c.number_of.result) (sym c.actors.ensures.actors) ∙ c.get.ensures.item in
+    ap (slice_get c.args.rec.now.actors) (sym number) ∙ ap (λ (actors : List ActorText). slice_get actors c.number.result) (sym c.actors.ensures.actors) ∙ c.get.ensures.item in
     next-device c.args.rec.now c.args.self.devices.items c.loop-actor.yielded c.in-Some.actor c.loop-actor.gathered.items c.get.result.now next there c.loop-actor.invariant
 
 pub loop-actor-preserved : goal.loop-actor-preserved
@@ -41,11 +41,11 @@ loop-actor-preserved c =
     let gives = c.into_iter-actor-iterator.ensures.into_iter_gives in
     let turn = YieldsList-turn (YieldsList-from_vec {s = c.into_iter-actor-iterator.result} c.args.self.actors.items gives.0 (gives.1 ∙ c.args.self.actors.ok.0)) c.loop-actor.yielded c.loop-actor.actor-iterator c.loop-actor.yielded_by c.next.result c.next.new.self c.in-Some.actor c.in-Some.is c.next.ensures.steps in
     let next : IsNext c.args.rec.now c.args.self.devices.items c.in-Some.actor = is_next c.args.rec.now c.args.self.devices.items c.args.self.actors.items (length c.loop-actor.yielded) c.in-Some.actor c.actors.ensures.record c.requires.player.devices c.requires.player.actors turn in
-    let number = c.number_of.ensures ∙ ap (λ (end : Ended). actor_of end) c.finish-end.ensures.ended ∙ ended-number c.in-Some.actor.role c.in-Some.actor in
+    let number = c.number.ensures.number in
     let there : slice_get c.args.rec.now.actors c.in-Some.actor.actor ≡ Some c.get.result.now =
-    ap (slice_get c.args.rec.now.actors) (sym number) ∙ ap (λ (actors : List ActorText). slice_get actors c.number_of.result) (sym c.actors.ensures.actors) ∙ c.get.ensures.item in
+    ap (slice_get c.args.rec.now.actors) (sym number) ∙ ap (λ (actors : List ActorText). slice_get actors c.number.result) (sym c.actors.ensures.actors) ∙ c.get.ensures.item in
     let more : HasEndMore c.loop-actor.gathered.items c.push_end.new.gathered.items c.get.result.now.device (ended_of c.in-Some.actor) =
-    subst (λ (end : Ended). HasEndMore c.loop-actor.gathered.items c.push_end.new.gathered.items c.get.result.now.device end) c.finish-end.ensures.ended c.in_ok-push_end.ensures in
+    subst (λ (end : Ended). HasEndMore c.loop-actor.gathered.items c.push_end.new.gathered.items c.get.result.now.device end) c.finish.ensures.ended c.in_ok-push_end.ensures in
     one_more_end c.args.rec.now c.args.self.devices.items c.loop-actor.yielded c.in-Some.actor c.loop-actor.gathered.items c.push_end.new.gathered.items c.get.result.now next there c.loop-actor.invariant more
 
 pub returns : goal.returns
@@ -53,8 +53,6 @@ returns c =
     let gives = c.into_iter-actor-iterator.ensures.into_iter_gives in
     let end = YieldsList-end (YieldsList-from_vec {s = c.into_iter-actor-iterator.result} c.args.self.actors.items gives.0 (gives.1 ∙ c.args.self.actors.ok.0)) c.loop-actor.yielded c.loop-actor.actor-iterator c.loop-actor.yielded_by c.next.result c.next.new.self c.in-None.is c.next.ensures.steps in
     let all : c.loop-actor.yielded ≡ c.args.self.actors.items = sym (map-id c.loop-actor.yielded) ∙ end.0 in
-    let gathered : c.loop-actor.gathered.items ≡ all_ends c.args.rec.now (stage_of c.args.self) =
-    c.loop-actor.invariant ∙ ap (λ (actors : List ActorView). all_ends c.args.rec.now (stage_with c.args.self.devices.items actors)) all in
-    let runs : c.in_ok-device_runs.field-0.items ≡ runs_of c.args.rec.now (stage_of c.args.self) =
-    c.in_ok-device_runs.ensures ∙ ap (map run_with) gathered ∙ runs_gathered c.args.rec.now (stage_of c.args.self) in
-    record { played = subst (λ (x : List DeviceRun). IfOk c.of.result (λ played. played ≡ played_of x)) runs c.of.ensures.played }
+    let gathered : c.loop-actor.gathered.items ≡ runs_of c.args.rec.now (stage_of c.args.self) =
+    c.loop-actor.invariant ∙ ap (λ (actors : List ActorView). runs_of c.args.rec.now (stage_with c.args.self.devices.items actors)) all in
+    record { played = subst (λ (x : List DeviceEnds). IfOk c.of.result (λ played. played ≡ played_of x)) gathered c.of.ensures.played }

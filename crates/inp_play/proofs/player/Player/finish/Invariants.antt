@@ -1,7 +1,7 @@
 use Rattle.std.proofs.Common.{◌≡◌}
-use Rattle.inp_play.specs.GatheredRuns.{all_ends}
+use Rattle.inp_runs.specs.Play.{runs_of}
 use Rattle.inp_play.specs.Player.{stage_with}
 use Rattle.inp_play.proofs.player.Player.finish.Given as goal
 
 abbrev pub invariant-loop-actor : goal.invariant-loop-actor
-invariant-loop-actor l = l.gathered.items ≡ all_ends l.rec (stage_with l.fn.self.devices.items l.yielded)
+invariant-loop-actor l = l.gathered.items ≡ runs_of l.rec (stage_with l.fn.self.devices.items l.yielded)
