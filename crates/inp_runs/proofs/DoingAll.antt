@@ -1,10 +1,10 @@
 -- The lines of an actor, one after another, over any device.
-use Rattle.std.proofs.Common.{◌≡◌, ℕ, ◌+◌, ◌≤◌, Bool, true, false, nat_eq, List, [], ◌∷◌, ◌++◌, length, take, refl, sym, ap, subst, ◌∙◌, inl, inr, Option, Some, None}
+use Rattle.std.proofs.Common.{◌≡◌, ℕ, zero, suc, Bool, true, false, nat_eq, List, [], ◌∷◌, ◌++◌, length, take, drop, refl, sym, ap, subst, ◌∙◌, inl, inr, Option, Some, None}
 use Rattle.std.specs.Prelude.{is_some, min, option_map, slice_get, ◌⊎◌}
-use Rattle.std.proofs.lemmas.List.{length-map, take_all, take_more}
-use Rattle.std.proofs.lemmas.Option.{same_Some, slice_get-map, slice_get_within, get_or_from_slice_get}
+use Rattle.std.proofs.lemmas.List.{length-map}
+use Rattle.std.proofs.lemmas.Option.{same_Some, slice_get-map}
 use Rattle.inp_model.specs.Evdev.{EvdevView}
-use Rattle.inp_model.proofs.Leaves.{AreCalls-append, left-none, left-then}
+use Rattle.inp_model.proofs.Leaves.{left-none, left-then}
 use Rattle.inp_actors.specs.declared.actor_text.ActorText.{ActorText}
 use Rattle.inp_actors.specs.declared.line.Line.{Line}
 use Rattle.inp_actors.specs.declared.role.Role.{Role}
@@ -15,17 +15,17 @@ use Rattle.inp_feedback.specs.declared.fed.TheConstants.{FEEDBACK_MAX}
 use Rattle.inp_feedback.specs.Feeds.{Feeding}
 use Rattle.inp_reader.specs.Talk.{finish}
 use Rattle.inp_script.specs.declared.waiting.Waiting.{Waiting}
-use Rattle.inp_script.specs.ActorLine.{FeedCall, AreFeedCalls, Acts, ActsLine, BeginsToAct, IsActedOn}
+use Rattle.inp_script.specs.ActorLine.{Acts, ActsLine, FeedCall, AreFeedCalls, BeginsToAct, IsActedOn, OwnsLine}
 use Rattle.inp_script.specs.DoneLine.{HasActor, Holds, line_talk}
 use Rattle.inp_script.specs.Job.{ActorView, Job}
 use Rattle.inp_script.specs.Line.{end_talk}
 use Rattle.inp_script.specs.Owner.{MayHaveFed}
 use Rattle.inp_script.proofs.TalkCalls.{holds-nothing, begins-left}
-use Rattle.inp_runs.specs.DoingAll.{AreNumbersOf, AreActed, EndsLines, ActsAll, DoesAll}
-use Rattle.inp_runs.specs.Job.{lines_by, last_talk, lines_talk}
+use Rattle.inp_runs.specs.DoingAll.{ActsAll, ActsSome, AreNumbersOf, AreOwned, DoesAll, EndsLines}
+use Rattle.inp_runs.specs.Job.{lines_by, last_talk}
+use Rattle.inp_runs.proofs.CalledLines.{AreCalled, called-none, called-line, called-events, called-append, called-all}
 use Rattle.inp_runs.proofs.JobEnds.{owner-role}
 use Rattle.inp_runs.proofs.Lists.{eq_same, option_map-some, slice_get-filter}
-use Rattle.inp_runs.proofs.MoreRounds.{lines-next}
 
 pub no-owner : (role : Role) → is_owner role ≡ false → role ≡ Owner → ⊥
 no-owner role caller owner = opposite (sym caller ∙ ap is_owner owner)
@@ -74,94 +74,112 @@ module _ {S : Type 0} (told : S → EvdevView) (feeds : Feeding S) where
   acted_on-described role before after (inl h) caller = absurd (no-owner role caller h.0)
   acted_on-described role before after (inr h) caller = h.1.leaves.description
 
+  -- Lines of an owner
+
+  owned-append : (before between after : S) (lines more : List Line) (old mid new : ActorView) → AreOwned feeds before between lines old mid → AreOwned feeds between after more mid new → AreOwned feeds before after (lines ++ more) old new
+  unfolding AreOwned
+  owned-append before between after [] more old mid new h k =
+      subst (λ s. AreOwned feeds s after more old new) h.0 (subst (λ (a : ActorView). AreOwned feeds between after more a new) h.1 k)
+  owned-append before between after (line ∷ lines) more old mid new h k = (h.0, h.1, h.2, owned-append h.0 between after lines more h.1 mid new h.3 k)
+
+  owned-none : (s : S) (a : ActorView) → AreOwned feeds s s [] a a
+  unfolding AreOwned
+  owned-none s a = (refl, refl)
+
+  owned-line : (before after : S) (line : Line) (old new : ActorView) → OwnsLine feeds before after old line new → AreOwned feeds before after (line ∷ []) old new
+  unfolding AreOwned
+  owned-line before after line old new owns = (after, new, owns, (refl, refl))
+
   module _ (r : RecordView) (wait : Option Waiting) where
-    -- Lines, one after another
+    -- The first lines of an actor, one part of them after another
 
-    pub acted-none : (s : S) (a : ActorView) → AreActed told feeds s s r wait [] a a
-    unfolding AreActed
-    acted-none s a = (refl, refl)
+    -- the calls at lines of an actor of this role and description
+    abbrev AreCalledBy : ActorView → S → S → List Line → Job → Job → Type 0
+    AreCalledBy a before after lines old new = AreCalled (told before) (told after) a.role a.description r.streams wait lines old new
 
-    acted-append : (before between after : S) (lines more : List Line) (old mid new : ActorView) → AreActed told feeds before between r wait lines old mid → AreActed told feeds between after r wait more mid new → AreActed told feeds before after r wait (lines ++ more) old new
-    unfolding AreActed
-    acted-append before between after [] more old mid new h k =
-        subst (λ s. AreActed told feeds s after r wait more old new) h.0 (subst (λ (a : ActorView). AreActed told feeds between after r wait more a new) h.1 k)
-    acted-append before between after (line ∷ lines) more old mid new h k = (h.0, h.1, h.2, acted-append h.0 between after lines more h.1 mid new h.3 k)
+    -- An actor did these lines, and others may follow: an owner by feedback calls, and any other one by calls of an evdev.
+    abbrev pub AreDone : S → S → List Line → ActorView → ActorView → Type 0
+    AreDone before after lines old new =
+        ((old.role ≡ Owner) × AreOwned feeds before after lines old new)
+        ⊎ ((is_owner old.role ≡ false) × AreCalledBy old before after lines old.job new.job)
 
-    -- one line more
-    pub acted-more : (before between after : S) (own : List Line) (i number : ℕ) (line : Line) (old mid new : ActorView) → slice_get own i ≡ Some line → slice_get r.lines number ≡ Some line
-        → AreActed told feeds before between r wait (take i own) old mid → Acts told feeds between after r wait number mid new → AreActed told feeds before after r wait (take (i + 1) own) old new
-    unfolding AreActed
-    acted-more before between after own i number line old mid new is at h did =
-        let next : take (i + 1) own ≡ take i own ++ line ∷ [] =
-        take_more own i line (slice_get_within own i line is) ∙ ap (λ (l : Line). take i own ++ l ∷ []) (get_or_from_slice_get own i line line is) in
-        let same : did.line ≡ line = same_Some did.line line (sym did.is_line ∙ at) in
-        subst (λ (lines : List Line). AreActed told feeds before after r wait lines old new) (sym next)
-        (acted-append before between after (take i own) (line ∷ []) old mid new h (after, new, subst (λ (l : Line). ActsLine told feeds between after r wait mid l new) same did.acts, (refl, refl)))
+    pub done-none : (s : S) (a : ActorView) → AreDone s s [] a a
+    done-none s a = by (is_owner a.role) refl
+      where
+        by : (b : Bool) → is_owner a.role ≡ b → AreDone s s [] a a
+        by true e = inl (owner-role a.role e, owned-none s a)
+        by false e = inr (e, called-none a.role a.description r.streams wait (told s) a.job)
+
+    with_more : (before between after : S) (lines more : List Line) (old mid new : ActorView) → mid ≡ record old { job = mid.job; owning = mid.owning }
+        → AreCalledBy old before between lines old.job mid.job → AreCalledBy mid between after more mid.job new.job → AreCalledBy old before after (lines ++ more) old.job new.job
+    with_more before between after lines more old mid new still first next =
+        called-append old.role old.description r.streams wait (told before) (told between) (told after) lines more old.job mid.job new.job first
+        (subst (λ (a : ActorView). AreCalledBy a between after more mid.job new.job) still next)
+
+    -- some lines more
+    pub done-more : (before between after : S) (lines more : List Line) (old mid new : ActorView) → mid ≡ record old { job = mid.job; owning = mid.owning }
+        → AreDone before between lines old mid → ActsSome told feeds between after r wait more mid new → AreDone before after (lines ++ more) old new
+    done-more before between after lines more old mid new still (inl (owner, owned)) (inl (line, is, inl o)) =
+        inl (
+          owner,
+          subst (λ (ls : List Line). AreOwned feeds before after (lines ++ ls) old new) (sym is)
+              (owned-append before between after lines (line ∷ []) old mid new owned (owned-line between after line mid new o)),
+        )
+    done-more before between after lines more old mid new still (inl (owner, owned)) (inl (line, is, inr c)) =
+        absurd (no-owner mid.role c.caller (ap (λ (a : ActorView). a.role) still ∙ owner))
+    done-more before between after lines more old mid new still (inl (owner, owned)) (inr events) =
+        let both : Source ≡ Owner = sym events.source ∙ ap (λ (a : ActorView). a.role) still ∙ owner in
+        absurd cc
+    done-more before between after lines more old mid new still (inr (caller, called)) (inl (line, is, inl o)) =
+        absurd (no-owner old.role caller (sym (ap (λ (a : ActorView). a.role) still) ∙ o.owner))
+    done-more before between after lines more old mid new still (inr (caller, called)) (inl (line, is, inr c)) =
+        inr (
+          caller,
+          with_more before between after lines more old mid new still called
+              (subst (λ (ls : List Line). AreCalledBy mid between after ls mid.job new.job) (sym is)
+              (called-line mid.role mid.description r.streams wait (told between) (told after) c.rounds line mid.job new.job c.holds)),
+        )
+    done-more before between after lines more old mid new still (inr (caller, called)) (inr events) =
+        inr (
+          caller,
+          with_more before between after lines more old mid new still called
+              (subst (λ (ls : List Line). AreCalledBy mid between after ls mid.job new.job) (sym events.are_lines)
+              (called-events mid.role mid.description r.streams wait (told between) (told after) mid.actor events.events mid.job new.job events.source events.holds)),
+        )
 
     -- all lines, and what is asked then
-    pub acted-all : (before between after : S) (number i : ℕ) (old mid new : ActorView) → old.actor ≡ number → length (lines_by number r.lines) ≤ i → AreActed told feeds before between r wait (take i (lines_by number r.lines)) old mid
-        → mid ≡ record old { job = mid.job; owning = mid.owning } → EndsLines told feeds between after wait mid new → ActsAll told feeds before after r wait old new
-    acted-all before between after number i old mid new named all h still ends = record {
-      between = between;
-      mid = mid;
-      lines =
-          subst (λ (n : ℕ). AreActed told feeds before between r wait (lines_by n r.lines) old mid) (sym named)
-          (subst (λ (lines : List Line). AreActed told feeds before between r wait lines old mid) (take_all i (lines_by number r.lines) all) h);
-      actor = still;
-      ends = ends;
-    }
-
-    -- The calls of an actor that is no owner are those of its lines' talk.
-    acted-talk : (before between after : S) (lines : List Line) (old mid : ActorView) (new : Job) → is_owner old.role ≡ false → AreActed told feeds before between r wait lines old mid
-        → Holds (told between) (told after) (last_talk wait old.role mid.job) (Some new)
-        → (rounds : ℕ) × Holds (told before) (told after) (lines_talk old.role old.description r.streams wait rounds lines old.job) (Some new)
-    unfolding AreActed lines_talk
-    acted-talk before between after [] old mid new caller h last = (
-      0,
-      subst (λ s. Holds (told s) (told after) (last_talk wait old.role old.job) (Some new)) h.0
-          (subst (λ (a : ActorView). Holds (told between) (told after) (last_talk wait old.role a.job) (Some new)) h.1 last),
-    )
-    acted-talk before between after (line ∷ lines) old mid new caller (then, a, acts, rest) last =
-        by acts (λ actor. acted-talk then between after lines (record old { job = a.job }) mid new caller (subst (λ (x : ActorView). AreActed told feeds then between r wait lines x mid) actor rest) last)
+    pub done-all : (before between after : S) (old mid new : ActorView) → mid ≡ record old { job = mid.job; owning = mid.owning }
+        → AreDone before between (lines_by old.actor r.lines) old mid → EndsLines told feeds between after wait mid new → ActsAll told feeds before after r wait old new
+    done-all before between after old mid new still (inl (owner, owned)) (inl (same, rests, nothing)) =
+        inl (
+          owner,
+          subst (λ s. AreOwned feeds before s (lines_by old.actor r.lines) old new) (sym same)
+              (subst (λ (a : ActorView). AreOwned feeds before between (lines_by old.actor r.lines) old a) (sym rests) owned),
+        )
+    done-all before between after old mid new still (inl (owner, owned)) (inr (source, holds, actor)) =
+        let both : Source ≡ Owner = sym source ∙ ap (λ (a : ActorView). a.role) still ∙ owner in
+        absurd cc
+    done-all before between after old mid new still (inr (caller, called)) ends =
+        let all = called-all old.role old.description r.streams wait (told before) (told between) (told after) (lines_by old.actor r.lines) old.job mid.job new.job called
+        (subst (λ (a : ActorView). Holds (told between) (told after) (last_talk wait a.role mid.job) (Some new.job)) still (last ends)) in
+        inr (caller, record { rounds = all.0; holds = all.1 })
       where
-        by : ActsLine told feeds before then r wait old line a
-            → (a ≡ record old { job = a.job } → (rounds : ℕ) × Holds (told then) (told after) (lines_talk old.role old.description r.streams wait rounds lines a.job) (Some new))
-            → (rounds : ℕ) × Holds (told before) (told after) (lines_talk old.role old.description r.streams wait rounds (line ∷ lines) old.job) (Some new)
-        by (inl o) later = absurd (no-owner old.role caller o.owner)
-        by (inr c) later =
-            let next = later c.actor in (
-              c.rounds + next.0,
-              record {
-                calls = c.holds.calls ++ next.1.calls;
-                talk_ends = lines-next old.role old.description r.streams wait c.rounds next.0 line lines old.job a.job new c.holds.calls next.1.calls c.holds.talk_ends next.1.talk_ends;
-                are_calls = AreCalls-append (told before) (told then) (told after) c.holds.calls next.1.calls c.holds.are_calls next.1.are_calls;
-              },
-            )
-
-    pub all-called : (before after : S) (old new : ActorView) → is_owner old.role ≡ false → ActsAll told feeds before after r wait old new → DoesAll (told before) (told after) r wait old new.job
-    all-called before after old new caller h =
-        let all = acted-talk before h.between after (lines_by old.actor r.lines) old h.mid new.job caller h.lines
-        (subst (λ (a : ActorView). Holds (told h.between) (told after) (last_talk wait a.role h.mid.job) (Some new.job)) h.actor (last h.ends)) in
-        record { rounds = all.0; holds = all.1 }
-      where
-        last : EndsLines told feeds h.between after wait h.mid new → Holds (told h.between) (told after) (last_talk wait h.mid.role h.mid.job) (Some new.job)
+        last : EndsLines told feeds between after wait mid new → Holds (told between) (told after) (last_talk wait mid.role mid.job) (Some new.job)
         last (inl (same, rests, nothing)) =
-            subst (λ s. Holds (told h.between) (told s) (last_talk wait h.mid.role h.mid.job) (Some new.job)) (sym same)
-            (subst (λ (a : ActorView). Holds (told h.between) (told h.between) (last_talk wait h.mid.role h.mid.job) (Some a.job)) (sym rests)
-            (holds-nothing (told h.between) (last_talk wait h.mid.role h.mid.job) (Some h.mid.job) nothing))
+            subst (λ s. Holds (told between) (told s) (last_talk wait mid.role mid.job) (Some new.job)) (sym same)
+            (subst (λ (a : ActorView). Holds (told between) (told between) (last_talk wait mid.role mid.job) (Some a.job)) (sym rests)
+            (holds-nothing (told between) (last_talk wait mid.role mid.job) (Some mid.job) nothing))
         last (inr (source, holds, actor)) = holds
 
-    -- An owner does nothing when its lines are done.
-    pub all-owned : (before after : S) (old new : ActorView) → old.role ≡ Owner → ActsAll told feeds before after r wait old new → AreActed told feeds before after r wait (lines_by old.actor r.lines) old new
-    all-owned before after old new owner h = by h.ends
-      where
-        by : EndsLines told feeds h.between after wait h.mid new → AreActed told feeds before after r wait (lines_by old.actor r.lines) old new
-        by (inl (same, rests, nothing)) =
-            subst (λ s. AreActed told feeds before s r wait (lines_by old.actor r.lines) old new) (sym same)
-            (subst (λ (a : ActorView). AreActed told feeds before h.between r wait (lines_by old.actor r.lines) old a) (sym rests) h.lines)
-        by (inr (source, holds, actor)) =
-            let both : Source ≡ Owner = sym source ∙ ap (λ (a : ActorView). a.role) h.actor ∙ owner in
-            absurd cc
+    -- What is said of an actor that did all its lines, by its role
+
+    pub all-called : (before after : S) (old new : ActorView) → is_owner old.role ≡ false → ActsAll told feeds before after r wait old new → DoesAll (told before) (told after) r wait old new.job
+    all-called before after old new caller (inl (owner, owned)) = absurd (no-owner old.role caller owner)
+    all-called before after old new caller (inr (other, does)) = does
+
+    pub all-owned : (before after : S) (old new : ActorView) → old.role ≡ Owner → ActsAll told feeds before after r wait old new → AreOwned feeds before after (lines_by old.actor r.lines) old new
+    all-owned before after old new owner (inl (same, owned)) = owned
+    all-owned before after old new owner (inr (caller, does)) = absurd (no-owner old.role caller owner)
 
 -- An actor stays the record's, whatever its job is
 
@@ -196,6 +214,18 @@ pub own-count : (r : RecordView) (actor : ℕ) (numbers : List ℕ) → AreNumbe
 own-count r actor numbers are =
     let own : List Line = lines_by actor r.lines in
     sym (length-map own Some) ∙ ap length (sym are) ∙ length-map numbers (slice_get r.lines)
+
+one-item : {X : Type 0} (xs : List X) (i : ℕ) (x : X) → slice_get xs i ≡ Some x → take 1 (drop i xs) ≡ x ∷ []
+one-item [] i x h = absurd cc
+one-item (y ∷ xs) zero x h = let same : y ≡ x = cc in ap (λ z. z ∷ []) same
+one-item (y ∷ xs) (suc i) x h = one-item xs i x h
+
+-- An actor did one of them.
+pub acted-line : {S : Type 0} (told : S → EvdevView) (feeds : Feeding S) (r : RecordView) (wait : Option Waiting) (before after : S) (actor i number : ℕ) (old new : ActorView) → IsOwnLine r actor i number
+    → Acts told feeds before after r wait number old new → ActsSome told feeds before after r wait (take 1 (drop i (lines_by actor r.lines))) old new
+acted-line told feeds r wait before after actor i number old new own did =
+    let same : did.line ≡ own.line = same_Some did.line own.line (sym did.is_line ∙ own.is_line) in
+    inl (own.line, one-item (lines_by actor r.lines) i own.line own.is_own, subst (λ (line : Line). ActsLine told feeds before after r wait old line new) same did.acts)
 
 -- What is done when lines are done
 

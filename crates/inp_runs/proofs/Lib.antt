@@ -9,6 +9,8 @@ pub mod JobEnds
 pub mod Done
 pub mod Played
 pub mod MoreRounds
+pub mod EventLines
+pub mod CalledLines
 pub mod DoingAll
 pub mod losses
 pub mod order

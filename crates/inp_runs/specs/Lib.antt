@@ -4,6 +4,7 @@ pub mod Losses
 pub mod Owner
 pub mod Job
 pub mod Done
+pub mod EventLines
 pub mod DoingAll
 pub mod OwnerExamples
 pub mod LossCauses

@@ -17,9 +17,11 @@
 //! whatever order the calls were made ([`laws::devices_done_are_promised`]); and that this is so of each device by itself
 //! ([`laws::all_as_promised`]). [`do_lines`] has an actor do all its lines over whatever device it is lent, and says so
 //! (`ActsAll`, `specs/DoingAll.antt`): the lines were done in file order, and a source of a device where lines wait then
-//! said that it is done. Those of an owner are feedback calls. Those of any other actor are calls of an evdev: they are
-//! those of its lines' talk, and the job is their result (`DoesAll`). After want of memory too all that was done with the
-//! device is such calls (`IsActedOn`).
+//! said that it is done. Those of an owner are feedback calls, one after another (`AreOwned`). Those of any other actor are
+//! calls of an evdev: they are those of its lines' talk, and the job is their result (`DoesAll`). Lines of a source that
+//! follow each other and each inject an event ([`event_of`]) are done together, by one call of the device. To the history
+//! it is the calls that the lines would make one by one. After want of memory too all that was done with the device is
+//! such calls (`IsActedOn`).
 //!
 //! An owner of a device that is made by requests makes no step. What is promised of it is `IsOwner` (`specs/Owner.antt`):
 //! the feedback calls among the steps that its device kept are those of its lines, in file order, and each was answered
@@ -38,6 +40,8 @@
 #![tactic(auto)]
 
 mod actor_lines;
+mod event_lines;
 pub mod laws;
 
 pub use actor_lines::do_lines;
+pub use event_lines::{NO_STAMPED, event_of};

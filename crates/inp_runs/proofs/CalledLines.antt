@@ -1,0 +1,176 @@
+-- Lines that an actor did by calls of an evdev, some after others: the calls are those of the lines' talk.
+use Rattle.std.proofs.Common.{◌≡◌, ℕ, ◌+◌, Bool, true, false, if◌then◌else◌, List, [], ◌∷◌, ◌++◌, map, refl, sym, ap, subst, ◌∙◌, arith, append_assoc, append-nil, zero-add, inl, inr, Option, Some, None}
+use Rattle.std.specs.Prelude.{◌⊎◌, length}
+use Rattle.std.proofs.lemmas.Option.{same_Some}
+use Rattle.inp_model.specs.declared.stamped.Stamped.{Stamped}
+use Rattle.inp_model.specs.declared.step.Step.{Step}
+use Rattle.inp_model.specs.declared.reply.Reply.TheVariants.{Refused}
+use Rattle.inp_model.specs.declared.reply.Refusal.TheVariants.{LogFull}
+use Rattle.inp_model.specs.Description.{Description}
+use Rattle.inp_model.specs.Evdev.{EvdevView}
+use Rattle.inp_model.specs.Injection.{inject_of}
+use Rattle.inp_model.specs.Leaves.{AreCalls}
+use Rattle.inp_model.specs.Past.{past_at}
+use Rattle.inp_model.specs.Reply.{Answer, IsAnswer, answer_by, done_answer, is_accepted, is_full}
+use Rattle.inp_model.specs.Run.{Call, place_of}
+use Rattle.inp_model.proofs.Leaves.{AreCalls-append}
+use Rattle.inp_actors.specs.declared.line.Line.{Line}
+use Rattle.inp_actors.specs.declared.role.Role.{Role}
+use Rattle.inp_actors.specs.declared.role.Role.TheVariants.{Source}
+use Rattle.inp_reader.specs.Talk.{Talk, finish, and_then, LeadsTo, EndsWith}
+use Rattle.inp_reader.proofs.Calls.{finished}
+use Rattle.inp_script.specs.declared.stop.Stop.{Stop}
+use Rattle.inp_script.specs.declared.stop.Stop.TheVariants.{Full}
+use Rattle.inp_script.specs.declared.waiting.Waiting.{Waiting}
+use Rattle.inp_script.specs.DoneLine.{Holds, inject_talk, line_talk, unless_stopped}
+use Rattle.inp_script.specs.Job.{Job}
+use Rattle.inp_script.specs.Line.{after_call, call_talk, stream_talk}
+use Rattle.inp_script.specs.Sight.{stop_after}
+use Rattle.inp_runs.specs.EventLines.{inject_line}
+use Rattle.inp_runs.specs.Job.{lines_talk, on_job, last_talk}
+use Rattle.inp_runs.proofs.MoreRounds.{lines-next}
+
+-- How an injected event is answered: it is entered and its source goes on, or the history is full and its source stops.
+abbrev IsInjectAnswer : Answer → Type 0
+IsInjectAnswer given =
+    ((is_accepted given.reply ≡ true) × (stop_after given.reply ≡ None))
+    ⊎ ((is_accepted given.reply ≡ false) × (stop : Stop) × (stop_after given.reply ≡ Some stop))
+
+inject-answer : (d : Description) (past : List Step) (x : Stamped) (given : Answer) → IsAnswer d past (inject_of x) given → IsInjectAnswer given
+inject-answer d past x given (inr lacks) = let never = lacks.0 in absurd cc
+inject-answer d past x given (inl same) = subst IsInjectAnswer (sym same) (by (is_full d past))
+  where
+    by : (full : Bool) → IsInjectAnswer (answer_by (if full then Some (Refused (length past) LogFull) else None) (done_answer past))
+    by true = inr (refl, Full (length past), refl)
+    by false = inl (refl, refl)
+
+module _ (d : Description) (streams : List (List Stamped)) (wait : Option Waiting) where
+  module _ (number rounds : ℕ) (rest : List Line) where
+    -- what a source does at the lines of these events, and at the lines behind them
+    abbrev lines_of : List Stamped → Job → Talk (Option Job)
+    lines_of events j = lines_talk Source d streams wait rounds (map (inject_line number) events ++ rest) j
+
+    -- one line, by whether the source had stopped
+    abbrev first_of : Option Stop → Stamped → List Stamped → Job → Talk (Option Job)
+    first_of stop x events j = and_then (unless_stopped stop j (call_talk j (inject_of x))) (on_job (lines_of events))
+
+    first-line : (stop : Option Stop) (x : Stamped) (events : List Stamped) (j : Job) → j.stop ≡ stop → lines_of (x ∷ events) j ≡ first_of stop x events j
+    unfolding lines_talk line_talk
+    first-line stop x events j is = ap (λ (o : Option Stop). first_of o x events j) is
+
+    -- nothing is done at the lines of a source that stopped
+    lines-stopped : (events : List Stamped) (j : Job) (stop : Stop) → j.stop ≡ Some stop → lines_of events j ≡ lines_of [] j
+    lines-stopped [] j stop is = refl
+    lines-stopped (x ∷ events) j stop is = first-line (Some stop) x events j is ∙ lines-stopped events j stop is
+
+    lines-going : (events : List Stamped) (before after : EvdevView) (j mid new : Job) (calls more : List Call) → j.stop ≡ None → EndsWith (stream_talk events j) calls (Some mid) → AreCalls before after calls
+        → EndsWith (lines_of [] mid) more (Some new) → EndsWith (lines_of events j) (calls ++ more) (Some new)
+    unfolding LeadsTo AreCalls stream_talk
+    lines-going [] before after j mid new calls more goes leads are last =
+        let f = finished (Some j) (Some mid) calls leads in
+        subst (λ (cs : List Call). EndsWith (lines_of [] j) (cs ++ more) (Some new)) (sym f.0)
+        (subst (λ (job : Job). EndsWith (lines_of [] job) more (Some new)) (sym (same_Some j mid f.1)) last)
+    lines-going (x ∷ events) before after j mid new [] more goes leads are last = absurd cc
+    lines-going (x ∷ events) before after j mid new (call ∷ calls) more goes (step, leads) (between, is_call, are) last =
+        subst (λ (t : Talk (Option Job)). EndsWith t (call ∷ (calls ++ more)) (Some new)) (sym (first-line None x events j goes))
+        (step, by answered (λ stops e. lines-going events between after next mid new calls more stops e are last))
+      where
+        next : Job
+        next = after_call j (inject_of x) call.answer
+
+        answered : IsInjectAnswer call.answer
+        answered =
+            inject-answer between.description (past_at between.seen (place_of call.answer.reply)) x call.answer
+            (subst (λ (s : Step). IsAnswer between.description (past_at between.seen (place_of call.answer.reply)) s call.answer) step is_call.placed.exact)
+
+        by : IsInjectAnswer call.answer
+            → (next.stop ≡ None → EndsWith (stream_talk events next) calls (Some mid) → EndsWith (lines_of events next) (calls ++ more) (Some new))
+            → EndsWith (lines_of events next) (calls ++ more) (Some new)
+        by (inl (accepted, goes_on)) later =
+            later goes_on (subst (λ (b : Bool). EndsWith (if b then stream_talk events next else finish (Some next)) calls (Some mid)) accepted leads)
+        by (inr (refused, stop, stops)) later =
+            let f = finished (Some next) (Some mid) calls (subst (λ (b : Bool). EndsWith (if b then stream_talk events next else finish (Some next)) calls (Some mid)) refused leads) in
+            subst (λ (t : Talk (Option Job)). EndsWith t (calls ++ more) (Some new)) (sym (lines-stopped events next stop stops))
+            (subst (λ (cs : List Call). EndsWith (lines_of [] next) (cs ++ more) (Some new)) (sym f.0)
+            (subst (λ (job : Job). EndsWith (lines_of [] job) more (Some new)) (sym (same_Some next mid f.1)) last))
+
+    -- The calls by which a source injects events are those of the lines that each inject one of them.
+    pub injects-called : (events : List Stamped) (before after : EvdevView) (j mid new : Job) (calls more : List Call) → EndsWith (inject_talk events j) calls (Some mid) → AreCalls before after calls
+        → EndsWith (lines_of [] mid) more (Some new) → EndsWith (lines_of events j) (calls ++ more) (Some new)
+    injects-called events before after j mid new calls more leads are last = by j.stop refl leads
+      where
+        by : (o : Option Stop) → j.stop ≡ o → EndsWith (unless_stopped o j (stream_talk events j)) calls (Some mid) → EndsWith (lines_of events j) (calls ++ more) (Some new)
+        by None is e = lines-going events before after j mid new calls more is e are last
+        by (Some stop) is e =
+            let f = finished (Some j) (Some mid) calls e in
+            subst (λ (t : Talk (Option Job)). EndsWith t (calls ++ more) (Some new)) (sym (lines-stopped events j stop is))
+            (subst (λ (cs : List Call). EndsWith (lines_of [] j) (cs ++ more) (Some new)) (sym f.0)
+            (subst (λ (job : Job). EndsWith (lines_of [] job) more (Some new)) (sym (same_Some j mid f.1)) last))
+
+-- Some lines, and those behind them
+
+-- An actor of this role made these calls at these lines. Whatever lines stand behind them, its calls at all of them begin
+-- so.
+pub record AreCalled (before after : EvdevView) (role : Role) (d : Description) (streams : List (List Stamped)) (wait : Option Waiting) (lines : List Line) (old mid : Job) : Type 0 where
+  pub calls : List Call
+  pub are_calls : AreCalls before after calls
+  pub rounds : ℕ
+  pub goes_on : (n : ℕ) (rest : List Line) (more : List Call) (new : Job) → EndsWith (lines_talk role d streams wait n rest mid) more (Some new)
+      → EndsWith (lines_talk role d streams wait (rounds + n) (lines ++ rest) old) (calls ++ more) (Some new)
+
+module _ (role : Role) (d : Description) (streams : List (List Stamped)) (wait : Option Waiting) where
+  -- in no more rounds than before
+  no-rounds : (n : ℕ) (lines : List Line) (calls : List Call) (old new : Job) → EndsWith (lines_talk role d streams wait n lines old) calls (Some new) → EndsWith (lines_talk role d streams wait (0 + n) lines old) calls (Some new)
+  no-rounds n lines calls old new e = subst (λ (m : ℕ). EndsWith (lines_talk role d streams wait m lines old) calls (Some new)) (sym (zero-add n)) e
+
+  pub called-none : (s : EvdevView) (j : Job) → AreCalled s s role d streams wait [] j j
+  unfolding AreCalls
+  called-none s j = record { calls = []; are_calls = refl; rounds = 0; goes_on = λ n rest more new e. no-rounds n rest more j new e }
+
+  -- one line
+  pub called-line : (before after : EvdevView) (n : ℕ) (line : Line) (old new : Job) → Holds before after (line_talk role d streams wait n line.command old) (Some new) → AreCalled before after role d streams wait (line ∷ []) old new
+  called-line before after n line old new holds = record {
+    calls = holds.calls;
+    are_calls = holds.are_calls;
+    rounds = n;
+    goes_on = λ m rest more last e. lines-next role d streams wait n m line rest old new last holds.calls more holds.talk_ends e;
+  }
+
+  -- lines of a source that each inject an event
+  pub called-events : (before after : EvdevView) (number : ℕ) (events : List Stamped) (old new : Job) → role ≡ Source → Holds before after (inject_talk events old) (Some new) → AreCalled before after role d streams wait (map (inject_line number) events) old new
+  called-events before after number events old new source holds =
+      subst (λ (x : Role). AreCalled before after x d streams wait (map (inject_line number) events) old new) (sym source) (record {
+        calls = holds.calls;
+        are_calls = holds.are_calls;
+        rounds = 0;
+        goes_on = λ n rest more last e.
+            subst (λ (m : ℕ). EndsWith (lines_talk Source d streams wait m (map (inject_line number) events ++ rest) old) (holds.calls ++ more) (Some last)) (sym (zero-add n))
+            (injects-called d streams wait number n rest events before after old new last holds.calls more holds.talk_ends holds.are_calls e);
+      })
+
+  -- some lines, and then some more
+  pub called-append : (before between after : EvdevView) (lines more : List Line) (old mid new : Job) → AreCalled before between role d streams wait lines old mid → AreCalled between after role d streams wait more mid new → AreCalled before after role d streams wait (lines ++ more) old new
+  called-append before between after lines more old mid new h k = record {
+    calls = h.calls ++ k.calls;
+    are_calls = AreCalls-append before between after h.calls k.calls h.are_calls k.are_calls;
+    rounds = h.rounds + k.rounds;
+    goes_on = λ n rest calls last e.
+        let same : h.rounds + k.rounds + n ≡ h.rounds + (k.rounds + n) = omega arith in
+        subst (λ (m : ℕ). EndsWith (lines_talk role d streams wait m (lines ++ more ++ rest) old) (h.calls ++ k.calls ++ calls) (Some last)) (sym same)
+        (subst (λ (ls : List Line). EndsWith (lines_talk role d streams wait (h.rounds + (k.rounds + n)) ls old) (h.calls ++ k.calls ++ calls) (Some last)) (sym (append_assoc lines more rest))
+        (subst (λ (cs : List Call). EndsWith (lines_talk role d streams wait (h.rounds + (k.rounds + n)) (lines ++ (more ++ rest)) old) cs (Some last)) (sym (append_assoc h.calls k.calls calls))
+        (h.goes_on (k.rounds + n) (more ++ rest) (k.calls ++ calls) last (k.goes_on n rest calls last e))));
+  }
+
+  -- all lines, and what is asked then
+  pub called-all : (before between after : EvdevView) (lines : List Line) (old mid new : Job) → AreCalled before between role d streams wait lines old mid → Holds between after (last_talk wait role mid) (Some new)
+      → (rounds : ℕ) × Holds before after (lines_talk role d streams wait rounds lines old) (Some new)
+  unfolding lines_talk
+  called-all before between after lines old mid new h last = (
+    h.rounds + 0,
+    record {
+      calls = h.calls ++ last.calls;
+      talk_ends = subst (λ (ls : List Line). EndsWith (lines_talk role d streams wait (h.rounds + 0) ls old) (h.calls ++ last.calls) (Some new)) (append-nil lines) (h.goes_on 0 [] last.calls new last.talk_ends);
+      are_calls = AreCalls-append before between after h.calls last.calls h.are_calls last.are_calls;
+    },
+  )
