@@ -3,7 +3,9 @@
  *
  * Standard input has lines `device NUMBER LENGTH`, with so many bytes of a record's text behind it, lines `step NUMBER` with
  * the step's fields, the reply's, and the events and values that were read, and lines `feedback NUMBER` with an owner's call and
- * what came of it. It says how many were the same, or prints the first that was not and ends with status 1.
+ * what came of it. A line `record LENGTH STREAMS REPORT` has a record's text behind it, so many lines `stream LINE LENGTH` with a
+ * stream's bytes, and a line `report` with the text that is to come, of REPORT bytes. It says how many were the same, or prints the
+ * first that was not and ends with status 1.
  */
 #include "inputplay.h"
 
@@ -17,7 +19,7 @@ enum { DEVICES = 8, CELLS = 14 * 256 };
 static inputplay_handle devices[DEVICES];
 static inputplay_event events[INPUTPLAY_READ_MAX];
 static int32_t cells[CELLS];
-static unsigned long steps = 0;
+static unsigned long steps = 0, reports = 0;
 
 static int64_t number(void) {
     char word[32];
@@ -33,13 +35,19 @@ static void same(const char *what, int64_t wanted, int64_t came) {
     }
 }
 
+/* The bytes behind a line. */
+static uint8_t *bytes(size_t len) {
+    uint8_t *made = malloc(len + 1);
+    if (!made || getchar() != '\n' || fread(made, 1, len, stdin) != len)
+        exit(3);
+    return made;
+}
+
 static void make_device(void) {
     int64_t at = number();
     size_t len = (size_t)number();
     uint32_t line, cause;
-    uint8_t *text = malloc(len + 1);
-    if (!text || getchar() != '\n' || fread(text, 1, len, stdin) != len)
-        exit(3);
+    uint8_t *text = bytes(len);
     inputplay_free(&devices[at]);
     same("device", INPUTPLAY_OK, inputplay_device_new(text, len, (uint32_t)at, &devices[at], &line, &cause));
     free(text);
@@ -106,6 +114,40 @@ static void compare_feedback(void) {
     steps++;
 }
 
+static void load_stream(inputplay_handle *record) {
+    char word[16];
+    if (scanf("%15s", word) != 1 || strcmp(word, "stream"))
+        exit(3);
+    uint32_t line = (uint32_t)number();
+    size_t len = (size_t)number();
+    uint8_t *content = bytes(len);
+    same("stream", INPUTPLAY_OK, inputplay_record_load(record, line, content, len));
+    free(content);
+}
+
+static void compare_report(void) {
+    inputplay_handle record = INPUTPLAY_NOTHING;
+    char word[16];
+    size_t len = (size_t)number(), streams = (size_t)number(), wanted_len = (size_t)number(), left;
+    uint32_t line, cause;
+    uint8_t *text = bytes(len);
+    same("record", INPUTPLAY_OK, inputplay_record_new(text, len, &record, &line, &cause));
+    while (streams-- > 0)
+        load_stream(&record);
+    if (scanf("%15s", word) != 1 || strcmp(word, "report"))
+        exit(3);
+    uint8_t *wanted = bytes(wanted_len), *came = malloc(wanted_len + 1);
+    same("status", INPUTPLAY_OK, inputplay_record_play(&record, 0, &len));
+    same("length", (int64_t)wanted_len, (int64_t)len);
+    same("status", INPUTPLAY_OK, inputplay_record_text(&record, 0, came, wanted_len, &left));
+    same("report", 0, memcmp(wanted, came, wanted_len));
+    inputplay_free(&record);
+    free(text);
+    free(wanted);
+    free(came);
+    reports++;
+}
+
 static void compare_step(void) {
     int64_t at = number();
     inputplay_step_t step = read_step();
@@ -143,11 +185,13 @@ int main(void) {
             make_device();
         else if (!strcmp(word, "feedback"))
             compare_feedback();
+        else if (!strcmp(word, "record"))
+            compare_report();
         else
             compare_step();
     }
     for (int i = 0; i < DEVICES; i++)
         inputplay_free(&devices[i]);
-    printf("%lu steps and calls are told the same\n", steps);
+    printf("%lu steps and calls are told the same, and %lu reports\n", steps, reports);
     return 0;
 }

@@ -436,6 +436,19 @@ uint32_t inputplay_record_load(inputplay_handle *handle, uint32_t line, const ui
 uint32_t inputplay_record_file(inputplay_handle *handle, uint32_t line, uint8_t *out, size_t out_len, size_t *len);
 
 /**
+ * Plays the record on this thread, and keeps its report as the record's text: the text that `inputplay` prints of it. The
+ * record stays as it is, and may be played again. A `stream` or `stream16` line whose bytes inputplay_record_load() was not
+ * given has no events. That is no refusal here, where the program ends with status 3. That a history was full, which is
+ * status 6 of the program, is told by the report alone.
+ *
+ * @param history 0, or another number for the steps of each device too (`--history`)
+ * @param len how many bytes the report has
+ *
+ * @return INPUTPLAY_OK, INPUTPLAY_BAD_HANDLE or INPUTPLAY_NO_MEMORY
+ */
+uint32_t inputplay_record_play(inputplay_handle *handle, uint32_t history, size_t *len);
+
+/**
  * Makes the record's text in the newest version (`--migrate`), and keeps it as the record's text. The record stays as it is.
  *
  * @param len how many bytes the text has

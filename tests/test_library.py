@@ -13,7 +13,7 @@ import sys
 import unittest
 from importlib.util import find_spec
 
-from playing import EXAMPLES, TOP, FolderCase
+from playing import EXAMPLES, RECORDS, TOP, FolderCase
 
 sys.path.insert(0, str(TOP / "tests" / "library"))
 
@@ -52,6 +52,13 @@ class Library(FolderCase):
         done = run([*words, source, BUILT / "libinputplay.a", "-o", program])
         self.assertEqual((0, ""), (done.returncode, done.stderr))
         return program
+
+    def stored(self, folder):
+        """Each stored report of a folder's records, with the words by which the program prints it."""
+        for record in sorted(folder.glob("*.rec")):
+            for suffix, words in ((".report", []), (".history", ["--history"])):
+                if record.with_suffix(suffix).exists():
+                    yield record.with_suffix(suffix), [*words, record.name]
 
     def says(self, wanted, command, **more):
         """A command ends with status 0 and writes this."""
@@ -106,6 +113,13 @@ class C(Library):
     def test_a_naive_reader_keeps_a_key_down_and_a_right_one_does_not(self):
         self.says(STUCK_KEY, [self.built(EXAMPLES / "c" / "stuck_key.c", "gcc", "-std=c99")])
 
+    def test_a_record_has_the_report_that_the_program_prints(self):
+        program = self.built(EXAMPLES / "c" / "play_record.c", "gcc", "-std=c99")
+        for folder in (EXAMPLES, RECORDS):
+            for report, words in self.stored(folder):
+                with self.subTest(report=report.name):
+                    self.says(report.read_text(), [program, *words], cwd=folder)
+
     def test_each_allocation_is_refused_in_turn(self):
         wraps = [f"-Wl,--wrap={name}" for name in ("malloc", "realloc", "free")]
         done = run([self.built(HERE / "refused.c", "gcc", "-std=c99", *wraps)])
@@ -140,7 +154,7 @@ class Rust(Library):
         variables = {**os.environ, "INPUTPLAY_LIB_DIR": str(BUILT), "CARGO_TARGET_DIR": str(self.folder / "target")}
         done = run(["cargo", "test", "--offline", "-q"], cwd=self.folder / "rust", env=variables)
         self.assertEqual(0, done.returncode, done.stdout + done.stderr)
-        self.assertIn("9 passed; 0 failed", done.stdout)
+        self.assertIn("10 passed; 0 failed", done.stdout)
 
 
 class Python(Library):
@@ -152,6 +166,14 @@ class Python(Library):
     def test_the_package(self):
         done = run([sys.executable, "-B", PYTHON / "tests" / "check_package.py"], env=self.variables())
         self.assertEqual(0, done.returncode, done.stderr[-2000:])
+
+
+    def test_a_record_has_the_report_that_the_program_prints(self):
+        plays = "import sys, inputplay; print(inputplay.Record.from_file(sys.argv[-1]).play(len(sys.argv) > 2), end='')"
+        for report, words in self.stored(EXAMPLES):
+            with self.subTest(report=report.name):
+                command = [sys.executable, "-B", "-c", plays, *words]
+                self.says(report.read_text(), command, cwd=EXAMPLES, env=self.variables())
 
 
 class Pip(Library):

@@ -331,12 +331,40 @@ static void migrating(void) {
     inputplay_free(&h);
 }
 
+/* A report replaces the text that was made before, and a stream that was given no bytes has no events. */
+static void playing(void) {
+    inputplay_handle h = INPUTPLAY_NOTHING;
+    uint32_t line, cause;
+    uint8_t out[128];
+    size_t len = 77, left;
+    static const char *const EMPTY = "device pad steps 0\nsource s calls 0 stop finished\n";
+    static const char *const ONE = "device pad steps 1\nstep 0 inject 1 EV_KEY KEY_A 1\nsource s calls 1 stop finished\n";
+    static const uint8_t key[24] = {0, 0, 0, 0, 0, 0, 0, 0, 1, 0, 0, 0, 0, 0, 0, 0, 1, 0, 30, 0, 1, 0, 0, 0};
+    SAME(INPUTPLAY_OK, inputplay_record_new(bytes_of(STREAM), strlen(STREAM), &h, &line, &cause));
+    SAME(INPUTPLAY_OK, inputplay_record_migrate(&h, &len));
+    SAME(INPUTPLAY_OK, inputplay_record_play(&h, 0, &len));
+    SAME(strlen(EMPTY), len);
+    SAME(INPUTPLAY_OK, inputplay_record_text(&h, 0, out, sizeof out, &left));
+    SAME(len, left);
+    SAME(0, memcmp(out, EMPTY, len));
+    SAME(INPUTPLAY_OK, inputplay_record_load(&h, 0, key, 24));
+    for (uint32_t history = 1; history != 0; history <<= 31) {
+        SAME(INPUTPLAY_OK, inputplay_record_play(&h, history, &len));
+        SAME(strlen(ONE), len);
+        SAME(INPUTPLAY_OK, inputplay_record_text(&h, 0, out, sizeof out, &left));
+        SAME(0, memcmp(out, ONE, len));
+    }
+    SAME(2, h.kind);
+    inputplay_free(&h);
+}
+
 /* A handle that keeps no record. */
 static void no_record(inputplay_handle *h) {
     uint8_t out[1];
     size_t len = 77;
     SAME(INPUTPLAY_BAD_HANDLE, inputplay_record_load(h, 0, bytes_of(""), 0));
     SAME(INPUTPLAY_BAD_HANDLE, inputplay_record_file(h, 0, out, 1, &len));
+    SAME(INPUTPLAY_BAD_HANDLE, inputplay_record_play(h, 1, &len));
     SAME(INPUTPLAY_BAD_HANDLE, inputplay_record_migrate(h, &len));
     SAME(INPUTPLAY_BAD_HANDLE, inputplay_record_text(h, 0, out, 1, &len));
     SAME(77, len);
@@ -376,6 +404,7 @@ int main(void) {
     injecting();
     loading();
     migrating();
+    playing();
     naming();
     return failures != 0;
 }

@@ -37,7 +37,7 @@ static const char *const TEXT = "inputrecord 2\ndevice pad\ncap EV_KEY KEY_A\nax
                                 "client c\njoy j\ndo c open\ndo j open\ndo s stream keys\ndo c follow\ndo j read 5\n";
 static const uint8_t KEY[48] = {1, 0, 0, 0, 0, 0, 0, 0, 0, 0, 0, 0, 0, 0, 0, 0, 1, 0, 30, 0, 1, 0, 0, 0, 1};
 
-enum { DEVICE, START, RECORD, LOAD, MIGRATE, CALLS };
+enum { DEVICE, START, RECORD, LOAD, MIGRATE, PLAY, CALLS };
 
 static uint32_t call(int which, inputplay_handle *h) {
     uint32_t a, b, status;
@@ -52,6 +52,8 @@ static uint32_t call(int which, inputplay_handle *h) {
         return inputplay_record_new((const uint8_t *)TEXT, strlen(TEXT), h, &a, &b);
     case MIGRATE:
         return inputplay_record_migrate(h, &len);
+    case PLAY:
+        return inputplay_record_play(h, 1, &len);
     default:
         return inputplay_record_load(h, 2, KEY, 48);
     }
@@ -61,8 +63,20 @@ static uint32_t call(int which, inputplay_handle *h) {
 static void prepare(int which, inputplay_handle *h) {
     if (which == START)
         call(DEVICE, h);
-    if (which == LOAD || which == MIGRATE)
+    if (which == LOAD || which == MIGRATE || which == PLAY)
         call(RECORD, h);
+    if (which == PLAY) {
+        call(LOAD, h);
+        call(MIGRATE, h);
+    }
+}
+
+/* How many bytes the text has that a handle keeps, if it keeps a record. */
+static size_t text_len(inputplay_handle *h) {
+    uint8_t none;
+    size_t left = 0;
+    inputplay_record_text(h, 0, &none, 0, &left);
+    return left;
 }
 
 int main(void) {
@@ -74,6 +88,7 @@ int main(void) {
             uint32_t kind = h.kind;
             void *at = h.at;
             long before = blocks;
+            size_t len = text_len(&h);
             until_refused = n;
             uint32_t status = call(which, &h);
             int was_refused = until_refused < 0;
@@ -82,7 +97,7 @@ int main(void) {
             int same_blocks = which == START ? blocks >= before : blocks == before;
             /* A list that is refused the room for many asks for that of one, so a call may be made all the same. */
             int failed = was_refused && status != INPUTPLAY_OK;
-            if (failed && (status != INPUTPLAY_NO_MEMORY || h.kind != kind || !same_blocks)) {
+            if (failed && (status != INPUTPLAY_NO_MEMORY || h.kind != kind || !same_blocks || text_len(&h) != len)) {
                 printf("call %d, allocation %ld: status %u, kind %u, %ld blocks and %ld before\n", which, n, status, h.kind, blocks, before);
                 return 1;
             }

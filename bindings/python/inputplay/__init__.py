@@ -9,8 +9,9 @@
 
 A `Device` answers as evdev does: `open` gives a `Client`, which reads what a program would read. Its `Reader` keeps a
 state and synchronises after a loss, as libevdev does, and its `Joystick` hands out numbered buttons and axes, as the
-kernel's joydev does. A `Record` names the files of its streams, and is written in the newest version. The rules are in the project's
-docs/RULES.md and docs/READER.md, and that the library keeps them is proved; this package is tested, and not proved.
+kernel's joydev does. A `Record` names the files of its streams, is played, which gives its report, and is written in the
+newest version. The rules are in the project's docs/RULES.md and docs/READER.md, and that the library keeps them is proved;
+this package is tested, and not proved.
 """
 
 from ._device import Answer, Axis, Client, Device, JoyAnswer, JoyRecord, Joystick, Phase, Reader, Replies, Reply, Steps

@@ -102,6 +102,7 @@ ARGUMENTS = {
     "inputplay_record_new": [BYTES, c_size_t, HANDLE, U32, U32],
     "inputplay_record_load": [HANDLE, c_uint32, BYTES, c_size_t],
     "inputplay_record_file": [HANDLE, c_uint32, BYTES, c_size_t, POINTER(c_size_t)],
+    "inputplay_record_play": [HANDLE, c_uint32, POINTER(c_size_t)],
     "inputplay_record_migrate": [HANDLE, POINTER(c_size_t)],
     "inputplay_record_text": [HANDLE, c_size_t, BYTES, c_size_t, POINTER(c_size_t)],
     "inputplay_code_of": [BYTES, c_size_t, POINTER(c_uint16), POINTER(c_uint16)],

@@ -65,6 +65,15 @@ class Record(Kept):
         """The device of this number, from 0, with an empty history."""
         return Device(self.text, number)
 
+    def play(self, history: bool = False) -> str:
+        """The report of the record, which is played on this thread; with the steps of each device where they are wanted.
+
+        The record stays, and may be played again. A stream line that was given no bytes has no events.
+        """
+        size = c_size_t()
+        check(library.inputplay_record_play(byref(self._handle), bool(history), byref(size)))
+        return self._made_text(size.value)
+
     def migrate(self) -> str:
         """The record's text in the newest version. The record stays."""
         size = c_size_t()

@@ -183,6 +183,20 @@ class Records(unittest.TestCase):
         with record.device() as pad:
             self.assertEqual(0, pad.inject("KEY_A", 1))
 
+    def test_a_record_is_played(self):
+        with Record(STREAM) as record:
+            self.assertEqual("device pad steps 0\nsource s calls 0 stop finished\n", record.play())
+            record.load(0, bytes.fromhex("0100000020a1070001001e0001000000"))
+            self.assertEqual("device pad steps 1\nsource s calls 1 stop finished\n", record.play())
+            step = "step 0 inject 1500000 EV_KEY KEY_A 1\n"
+            with_steps = f"device pad steps 1\n{step}source s calls 1 stop finished\n"
+            self.assertEqual(with_steps, record.play(history=True))
+            self.assertTrue(record.migrate().startswith("inputrecord 2\n"))
+            self.assertEqual(with_steps, record.play(True))
+        with self.assertRaises(inputplay.CallRefused) as refused:
+            record.play()
+        self.assertEqual(Status.BAD_HANDLE, refused.exception.status)
+
     def test_a_record_is_migrated(self):
         with Record(PAD) as record:
             text = record.migrate()

@@ -1,6 +1,6 @@
 //! Makes the steps that `bench/conformance` noted, and compares all that comes of each, as `bench/conformance.c` does.
 
-use inputplay::{Axis, Device, Event, Reply, Step};
+use inputplay::{Axis, Device, Event, Record, Reply, Step};
 use std::io::{self, BufRead, Read};
 use std::process::exit;
 
@@ -67,19 +67,54 @@ fn same<T: PartialEq + std::fmt::Debug>(steps: u64, wanted: T, came: T) {
     }
 }
 
+/// The bytes behind a line.
+fn bytes(input: &mut impl Read, len: usize) -> io::Result<Vec<u8>> {
+    let mut made = vec![0; len];
+    input.read_exact(&mut made)?;
+    Ok(made)
+}
+
+/// Plays a record whose line had these numbers, with its streams, and compares its report.
+fn compare_report(input: &mut impl BufRead, mut numbers: Numbers, reports: u64) -> io::Result<()> {
+    let (len, streams, report_len): (usize, usize, usize) = (numbers.next(), numbers.next(), numbers.next());
+    // A comment may hold any bytes, and says nothing.
+    let text = bytes(input, len)?;
+    let mut record = Record::new(&String::from_utf8_lossy(&text)).map_err(io::Error::other)?;
+    for _ in 0..streams {
+        let mut line = String::new();
+        input.read_line(&mut line)?;
+        let mut words = line.split_ascii_whitespace();
+        words.next();
+        let mut numbers = Numbers(words);
+        let (line, len) = (numbers.next(), numbers.next());
+        record.load(line, &bytes(input, len)?).map_err(io::Error::other)?;
+    }
+    input.read_line(&mut String::new())?;
+    let wanted = bytes(input, report_len)?;
+    let mut came = vec![0; record.play(false).map_err(io::Error::other)?];
+    record.text(0, &mut came);
+    same(reports, String::from_utf8(wanted), String::from_utf8(came));
+    Ok(())
+}
+
 fn main() -> io::Result<()> {
     let mut input = io::stdin().lock();
     let mut devices: Vec<Option<Device>> = (0..8).map(|_| None).collect();
     let (mut events, mut cells) = (vec![Event::default(); 4096], vec![0; 14 * 256]);
-    let (mut steps, mut line) = (0, String::new());
+    let (mut steps, mut reports, mut line) = (0, 0, String::new());
     while input.read_line(&mut line)? > 0 {
         let mut words = line.split_ascii_whitespace();
         let first = words.next().map(str::to_owned);
         let mut numbers = Numbers(words);
+        if first.as_deref() == Some("record") {
+            compare_report(&mut input, numbers, reports)?;
+            reports += 1;
+            line.clear();
+            continue;
+        }
         let at: usize = numbers.next();
         if first.as_deref() == Some("device") {
-            let mut text = vec![0; numbers.next()];
-            input.read_exact(&mut text)?;
+            let text = bytes(&mut input, numbers.next())?;
             // A comment may hold any bytes, and says nothing.
             let text = String::from_utf8_lossy(&text);
             devices[at] = Some(Device::new(&text, at as u32).map_err(io::Error::other)?);
@@ -108,6 +143,6 @@ fn main() -> io::Result<()> {
         }
         line.clear();
     }
-    println!("{steps} steps and calls are told the same");
+    println!("{steps} steps and calls are told the same, and {reports} reports");
     Ok(())
 }

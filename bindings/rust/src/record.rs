@@ -38,6 +38,16 @@ impl Record {
         (status == 0).then_some(len)
     }
 
+    /// Plays the record on this thread, makes its report its text, with the steps of each device where `history` is wanted,
+    /// and gives how many bytes it has. The record stays, and may be played again. A stream line that was given no bytes has
+    /// no events.
+    pub fn play(&mut self, history: bool) -> Result<usize, Error> {
+        let mut len = 0;
+        // SAFETY: both are places of their own.
+        check(unsafe { sys::inputplay_record_play(&mut self.handle, history.into(), &mut len) })?;
+        Ok(len)
+    }
+
     /// Makes the record's text in the newest version its text, and gives how many bytes it has.
     pub fn migrate(&mut self) -> Result<usize, Error> {
         let mut len = 0;

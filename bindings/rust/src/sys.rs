@@ -104,6 +104,7 @@ extern "C" {
     pub fn inputplay_record_new(text: *const u8, len: usize, handle: *mut Handle, line: *mut u32, cause: *mut u32) -> u32;
     pub fn inputplay_record_load(handle: *mut Handle, line: u32, bytes: *const u8, len: usize) -> u32;
     pub fn inputplay_record_file(handle: *mut Handle, line: u32, out: *mut u8, out_len: usize, len: *mut usize) -> u32;
+    pub fn inputplay_record_play(handle: *mut Handle, history: u32, len: *mut usize) -> u32;
     pub fn inputplay_record_migrate(handle: *mut Handle, len: *mut usize) -> u32;
     pub fn inputplay_record_text(handle: *mut Handle, from: usize, out: *mut u8, out_len: usize, left: *mut usize) -> u32;
     pub fn inputplay_free(handle: *mut Handle);

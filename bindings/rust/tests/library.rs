@@ -79,6 +79,21 @@ fn a_history_is_what_the_device_accepted() {
 }
 
 #[test]
+fn a_record_is_played() {
+    let text = format!("{}do s event 5 EV_KEY KEY_A 1\n", PAD);
+    let mut record = Record::new(&text).unwrap();
+    for (history, wanted) in [
+        (false, "device pad steps 1\nsource s calls 1 stop finished\n"),
+        (true, "device pad steps 1\nstep 0 inject 5 EV_KEY KEY_A 1\nsource s calls 1 stop finished\n"),
+    ] {
+        let len = record.play(history).unwrap();
+        let mut report = vec![0; len];
+        assert_eq!(record.text(0, &mut report), Some(len));
+        assert_eq!(String::from_utf8(report).unwrap(), wanted);
+    }
+}
+
+#[test]
 fn a_record_is_migrated() {
     let mut record = Record::new(PAD).unwrap();
     let len = record.migrate().unwrap();

@@ -20,4 +20,5 @@ pub mod LoadedStreams
 pub mod Streams
 pub mod Texts
 pub mod Migration
+pub mod RecordReport
 pub mod Names

@@ -41,6 +41,7 @@ mod names;
 mod parts;
 mod reader;
 mod reader_told;
+mod record_report;
 mod record_text;
 mod status;
 mod step_told;

@@ -6,5 +6,6 @@ pub mod Views
 pub mod Report
 pub mod JoyReport
 pub mod OwnerReport
+pub mod Whole
 pub mod Summary
 pub mod Examples

@@ -7,7 +7,8 @@
 //!
 //! Its contract: [`report`], [`joy_report`], [`owner_report`] and [`summary`] give exactly the bytes that
 //! `specs/Report.antt`, `specs/JoyReport.antt`, `specs/OwnerReport.antt` and `specs/Summary.antt` define of the record and of
-//! what came of it, with and without histories, row by row of the tables in docs/FORMATS.md, or want of memory. The caller
+//! what came of it, with and without histories, row by row of the tables in docs/FORMATS.md, or want of memory.
+//! [`whole_report`] gives the first three one behind another (`specs/Whole.antt`). The caller
 //! must pass the runs, the joysticks and the owners of this record (`AreRunsOf`, `AreJoysOf` and `AreOwnersOf` of
 //! `inp_script`): a run for each device and a job for each of its actors but joysticks and owners, in order, with a view of
 //! the device, a job for each joystick, and what each owner was told. [`examples`] shows the whole text of a key press, with
@@ -24,6 +25,7 @@ mod jobs;
 mod joysticks;
 mod owners;
 mod picture;
+mod played;
 mod sights;
 mod stamp;
 mod step_text;
@@ -35,4 +37,5 @@ mod words;
 pub use brief::summary;
 pub use joysticks::joy_report;
 pub use owners::owner_report;
+pub use played::whole_report;
 pub use whole::report;

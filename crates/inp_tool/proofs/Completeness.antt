@@ -17,6 +17,7 @@ use Rattle.inp_record.specs.Meaning.{meaning}
 use Rattle.inp_script.specs.declared.run.Played.{Played}
 use Rattle.inp_script.specs.declared.run.Run.{Run}
 use Rattle.inp_script.specs.Job.{JoyJobView, OwnerView}
+use Rattle.inp_report.specs.Whole.{whole_report}
 use Rattle.inp_tool.specs.Upgrade.{upgraded}
 use Rattle.inp_tool.specs.declared.end.End.{End}
 use Rattle.inp_tool.specs.declared.outcome.Outcome.{Outcome}
@@ -25,7 +26,7 @@ use Rattle.inp_tool.specs.Edge.{Reads, Writes}
 use Rattle.inp_tool.specs.Streams.{StreamFile, file_of, stream_files, events_in, HoldEvents}
 use Rattle.inp_tool.specs.Outcome.{played_status}
 use Rattle.inp_tool.specs.RecordFile.{IsRead, IsUnread, IsTooLong, AreRead, IsParsed, IsAtStream, IsNext, HasBadText, HasBadStream, HasRecord}
-use Rattle.inp_tool.specs.Promise.{AskFor, NameFile, CameOf, whole_report, HasCause, IsWrittenWhole, IsWritten, Promise}
+use Rattle.inp_tool.specs.Promise.{AskFor, NameFile, CameOf, HasCause, IsWrittenWhole, IsWritten, Promise}
 use Rattle.inp_tool.specs.Complete.{IsFaultless, IsThere, AreThere, IsReadable, played_by, IsTold, made_summary, IsToldWhole, IsRewritten, IsComplete}
 use Rattle.inp_tool.proofs.MadeBounds.{asked-not_full}
 use Rattle.inp_tool.proofs.MadeAlone.{made-no_joys, made-no_owners}

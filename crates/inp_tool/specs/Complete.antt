@@ -14,11 +14,12 @@ use Rattle.inp_record.specs.Meaning.{meaning}
 use Rattle.inp_script.specs.declared.run.Played.{Played}
 use Rattle.inp_tool.specs.Upgrade.{upgraded}
 use Rattle.inp_report.specs.Summary.{summary}
+use Rattle.inp_report.specs.Whole.{whole_report}
 use Rattle.inp_tool.specs.declared.end.End.{End}
 use Rattle.inp_tool.specs.Edge.{Reads, Writes}
 use Rattle.inp_tool.specs.Streams.{StreamFile, stream_files, HoldEvents}
 use Rattle.inp_tool.specs.Outcome.{played_status}
-use Rattle.inp_tool.specs.Promise.{AskFor, CameOf, whole_report}
+use Rattle.inp_tool.specs.Promise.{AskFor, CameOf}
 
 -- a count that can rise and did not
 abbrev pub IsFaultless : ℕ → ℕ → Type 0

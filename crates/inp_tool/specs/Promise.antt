@@ -1,5 +1,5 @@
 -- What the program's one call promises (docs/PROMISES.md).
-use Rattle.std.specs.Prelude.{ℕ, ◌≡◌, ◌<◌, ◌≢◌, ◌⊎◌, Bool, List, [], ◌++◌, string_bytes, Option, Some, None, Ok}
+use Rattle.std.specs.Prelude.{ℕ, ◌≡◌, ◌<◌, ◌≢◌, ◌⊎◌, Bool, List, [], string_bytes, Option, Some, None, Ok}
 use Rattle.inp_edge.specs.Count.{RoseUnlessSaturated}
 use Rattle.inp_edge.specs.File.{IsMissing}
 use Rattle.inp_edge.specs.Sink.{Appends, IsCutOff}
@@ -17,10 +17,8 @@ use Rattle.inp_script.specs.declared.run.Played.{Played}
 use Rattle.inp_runs.specs.Play.{IsPlay}
 use Rattle.inp_runs.specs.Job.{ArePromised}
 use Rattle.inp_tool.specs.Upgrade.{upgraded}
-use Rattle.inp_report.specs.JoyReport.{joy_report}
-use Rattle.inp_report.specs.OwnerReport.{owner_report}
-use Rattle.inp_report.specs.Report.{report}
 use Rattle.inp_report.specs.Summary.{summary}
+use Rattle.inp_report.specs.Whole.{whole_report}
 use Rattle.inp_tool.specs.declared.end.End.{End}
 use Rattle.inp_tool.specs.declared.no_record.NoRecord.{NoRecord}
 use Rattle.inp_tool.specs.declared.outcome.Outcome.{Outcome}
@@ -75,12 +73,6 @@ IsOutOfMemory r = (r.after ≡ r.before) ⊎ RanOut r
 pub record CameOf (idle : Option ℕ) (recorded : RecordView) (played : Played) : Type 0 where
   pub promised : ArePromised idle recorded played
   pub in_order : idle ≡ None → IsPlay recorded played
-
--- the report of a record's devices, with the history or without, behind it that of its joysticks, and behind that the one
--- of its owners
-abbrev pub whole_report : RecordView → Bool → Played → List ℕ
-whole_report recorded history played =
-    report recorded played.runs history ++ (joy_report recorded played.joys ++ owner_report recorded played.owners)
 
 -- the record in FILE was read with its streams and played, and the text is its report
 pub record IsPlayed (words : Arguments) (r : Reads) (played : Played) (text : List ℕ) : Type 0 where

@@ -2,16 +2,16 @@
 ghost use Rattle.std.specs.Prelude.{◌≡◌, ◌≤◌, [], IfOk, IfSome, None};
 ghost use Rattle.inp_make.specs.Generated.{generated};
 ghost use Rattle.inp_report.specs.Summary.{summary};
+ghost use Rattle.inp_report.specs.Whole.{whole_report};
 ghost use Rattle.inp_tool.specs.Outcome.{has_full, has_full_run, has_full_job, has_full_joy, has_full_owner, is_stopped_full};
-ghost use Rattle.inp_script.specs.Runs.{AreRunsOf, AreJoysOf, AreOwnersOf};
-ghost use Rattle.inp_tool.specs.Promise.{CameOf, whole_report};
+ghost use Rattle.inp_tool.specs.Promise.{CameOf};
 
 use inp_edge::Gate;
 use inp_make::make;
 use inp_model::NoMemory;
 use inp_play::play;
 use inp_record::Record;
-use inp_report::{joy_report, owner_report, report, summary};
+use inp_report::{summary, whole_report};
 use inp_script::{Jobs, JoyRuns, OwnerRuns, Played, Runs, Stop};
 use inp_threads::play_on_threads;
 use std::alloc::Global;
@@ -35,27 +35,6 @@ pub(crate) fn play_and_report<R: Threads + Wait + Sync, G: Gate>(
     let played = play_as_asked(rt, alloc, recorded, idle, gate)?;
     let text = whole_report(alloc, recorded, &played, history)?;
     Ok((played, text))
-}
-
-/// The report of the record's devices, behind it that of its joysticks, and behind that the one of its owners.
-fn whole_report(
-    alloc: Global,
-    recorded: &Record,
-    played: &Played,
-    history: bool,
-) -> Result<Vec<u8>, NoMemory>
-    requires runs { AreRunsOf recorded.now played.now.runs }
-    requires joys { AreJoysOf recorded.now played.now.joys }
-    requires owners { AreOwnersOf recorded.now played.now.owners }
-    ensures text { IfOk result
-        (λ text. text.items ≡ whole_report recorded.now history played.now) }
-{
-    let mut text = report(alloc, recorded, &played.runs, history)?;
-    let joysticks = joy_report(alloc, recorded, &played.joys)?;
-    text.extend_from_slice(&joysticks)?;
-    let owners = owner_report(alloc, recorded, &played.owners)?;
-    text.extend_from_slice(&owners)?;
-    Ok(text)
 }
 
 /// What comes of a record: on threads where a bound is given, and else on one thread.
