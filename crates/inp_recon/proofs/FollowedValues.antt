@@ -37,7 +37,7 @@ AreWhole eats client fs = Each (λ g. is_whole_for eats client g ≡ true) fs
 abbrev pub AreWholeTo : Eats → ℕ → Frame → List Frame → Type 0
 AreWholeTo eats client f fs = Each (λ g. length g.cut.until ≤ length f.cut.until → is_whole_for eats client g ≡ true) fs
 
--- none of these steps describes an axis
+-- nothing was kept from the client by these frames, and none of these steps describes an axis
 abbrev pub IsClear : Eats → ℕ → List Frame → List Step → Type 0
 IsClear eats client fs steps = AreWhole eats client fs × AreUndescribed steps
 
