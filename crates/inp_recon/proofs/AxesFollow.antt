@@ -1,6 +1,6 @@
 -- The axes of a view follow the device. A query of an axis removes nothing from the queue: what is queued of it leads
 -- to its present value.
-use Rattle.std.proofs.Common.{◌≡◌, ◌<◌, ◌≤◌, ℕ, ℤ, pos, Bool, true, false, ◌&&◌, not, if◌then◌else◌, cond, nat_eq, List, [], ◌∷◌, ◌++◌, length, map, get_or, refl, sym, ap, subst, ◌∙◌, Some, arith}
+use Rattle.std.proofs.Common.{◌≡◌, ◌<◌, ℕ, ℤ, pos, Bool, true, false, ◌&&◌, not, if◌then◌else◌, cond, nat_eq, List, [], ◌∷◌, ◌++◌, map, get_or, refl, sym, ap, subst, ◌∙◌, Some, arith}
 use Rattle.std.proofs.lemmas.Bool.{eqb-true, not-true, cond_both}
 use Rattle.inp_model.specs.declared.event.TheConstants.{EV_ABS}
 use Rattle.inp_model.specs.declared.multi_touch.TheConstants.{ABS_MT_SLOT}
@@ -13,10 +13,9 @@ use Rattle.inp_model.specs.Event.{is_multi_touch}
 use Rattle.inp_model.specs.Step.{Codes, Slots, client_of, is_same, query_of, is_description}
 use Rattle.inp_model.specs.State.{axis_info, axis_value}
 use Rattle.inp_model.specs.Passed.{announced}
-use Rattle.inp_model.specs.Past.{is_open, description_places}
+use Rattle.inp_model.specs.Past.{is_open}
 use Rattle.inp_model.specs.Cut.{raw_after, pending, cuts}
 use Rattle.inp_model.specs.Raw.{raw, raw_of_step}
-use Rattle.inp_model.specs.Frame.{frame_of, frames}
 use Rattle.inp_model.specs.Left.{Eats}
 use Rattle.inp_model.specs.Queue.{is_empty, Entry, event_of, queue_with, taken_by_with}
 use Rattle.inp_model.specs.Reply.{accepted_with, present_value, axis_answer}
@@ -24,7 +23,7 @@ use Rattle.inp_recon.specs.declared.view.View.{View}
 use Rattle.inp_recon.specs.View.{IsSizedFor, with_value_at, view_after_event, view_after_events, view_after_answer}
 use Rattle.inp_recon.specs.ClientView.{client_view_with}
 use Rattle.inp_recon.specs.Synchronised.{OneAxis, asks_for, is_start, has_axis, taken_since_start_with, has_no_loss, has_asked}
-use Rattle.inp_recon.specs.Undisturbed.{is_whole_for}
+use Rattle.inp_recon.specs.Undisturbed.{is_whole_for, frames_since_start, steps_since_frame_before_start}
 use Rattle.inp_recon.proofs.Each.{Each, Each-left, Each-right, and-left, and-right, all-left, all-right}
 use Rattle.inp_recon.proofs.Over.{over, over-append, IsIdle}
 use Rattle.inp_recon.proofs.LastWrite.{again, suffix-same, pending-again}
@@ -32,8 +31,8 @@ use Rattle.inp_recon.proofs.CallsLeft.{left_in_queue, left_by}
 use Rattle.inp_recon.proofs.FrameEntries.{Receives}
 use Rattle.inp_recon.proofs.FrameSteps.{frames_by, offered_to, passed_by, passes_all, all_grown}
 use Rattle.inp_recon.proofs.Shape.{start-empties}
-use Rattle.inp_recon.proofs.DescriptionSteps.{frames_end, described_from, items-are_events, start-undescribed, places-described, places-same, AreBelow, described_from-within, described-same, described-start, is_settled, raw-settled}
-use Rattle.inp_recon.proofs.Steps.{start_place, raw-step, queue-step, frames-step, start-same, start-before, receives-before}
+use Rattle.inp_recon.proofs.DescriptionSteps.{AreUndescribed, items-are_events, steps-step, steps-start, is_settled, raw-settled}
+use Rattle.inp_recon.proofs.Steps.{raw-step, queue-step, since-step, receives-before}
 use Rattle.inp_recon.proofs.FlagClasses.{kind_asked}
 use Rattle.inp_recon.proofs.AxisPasses.{sets_axis, value_of, axis_after, unkind-idle, multi_touch-idle, axis-unviewed, axis-passes}
 use Rattle.inp_recon.proofs.FollowedValues.{Spares, AreWhole, IsClear, call-keeps, Stands, stands}
@@ -55,10 +54,6 @@ start_raw d past client x h = let bad : false ≡ true = h in absurd cc
 no_frames : (eats : Eats) (d : Description) (client : ℕ) (past : List Step) (s : Step) (r : List RawItem) (q : List Entry) → offered_to eats d client q (frames_by d past s r []) ≡ q
 unfolding cuts
 no_frames eats d client past s r q = refl
-
-whole_here : (eats : Eats) (client : ℕ) (past : List Step) (s : Step) (start : ℕ) → start < length past → (cs : List Cut) → AreWhole eats start client (map (frame_of past s) cs) → Each (λ f. is_whole_for eats client f ≡ true) (map (frame_of past s) cs)
-whole_here eats client past s start later [] w = tt
-whole_here eats client past s start later (c ∷ cs) w = (w.0 later, whole_here eats client past s start later cs w.1)
 
 module _ (eats : Eats) (d : Description) (client code : ℕ) (has : has_axis d code ≡ true) (within : code < 64) where
   axis-spares : Spares client (OneAxis code) (axis_after code)
@@ -196,14 +191,8 @@ module _ (eats : Eats) (d : Description) (client code : ℕ) (has : has_axis d c
       (λ r e cut settled. ap (λ (cs : List Cut). if is_empty cs then is_settled d r else true) (sym cut.none) ∙ settled)
       (λ r axis i settled. absurd (let bad : false ≡ true = settled in cc))
 
-  -- what is said of descriptions after a step is said of them before a start
-  early_at_start : (past : List Step) (x : Step) → is_start past client x ≡ true → AreBelow (described_from d (x ∷ past) client) (description_places (x ∷ past)) → AreBelow (frames_end d past) (description_places past)
-  early_at_start past x start h =
-      subst (λ (from : ℕ). AreBelow from (description_places past)) (described-start d past client x start)
-      (subst (AreBelow (described_from d (x ∷ past) client)) (places-same past x (start-undescribed past client x start)) h)
-
   -- at a start nothing is queued, and no frame comes
-  start_leads : (past : List Step) (x : Step) → is_start past client x ≡ true → AreBelow (described_from d (x ∷ past) client) (description_places (x ∷ past)) → has_no_loss (queue_with eats d (x ∷ past) client) ≡ true → LeadsBack (raw d (x ∷ past)) (queue_with eats d (x ∷ past) client)
+  start_leads : (past : List Step) (x : Step) → is_start past client x ≡ true → AreUndescribed (steps_since_frame_before_start d (x ∷ past) client) → has_no_loss (queue_with eats d (x ∷ past) client) ≡ true → LeadsBack (raw d (x ∷ past)) (queue_with eats d (x ∷ past) client)
   start_leads past x start early kept =
       let xs : List RawItem = raw_of_step d past x in
       let none : xs ≡ [] = start_raw d past client x start in
@@ -213,9 +202,9 @@ module _ (eats : Eats) (d : Description) (client code : ℕ) (has : has_axis d c
       let same_raw : raw d (x ∷ past) ≡ raw d past = raw-step d past x ∙ ap (raw_after (raw d past)) none in
       let empty : queue_with eats d (x ∷ past) client ≡ [] = same_queue ∙ start-empties eats d past client x start (ap has_no_loss (sym same_queue) ∙ kept) in
       subst (LeadsBack (raw d (x ∷ past))) (sym empty)
-      (pending_leads (raw d (x ∷ past)) (ap (is_settled d) same_raw ∙ raw-settled d past (early_at_start past x start early)))
+      (pending_leads (raw d (x ∷ past)) (ap (is_settled d) same_raw ∙ raw-settled d past (subst AreUndescribed (steps-start d past client x start) early).1))
 
-  pub axis-leads : (past : List Step) → Receives past client → has_no_loss (taken_since_start_with eats d past client) ≡ true → IsClear eats (start_place past client) (described_from d past client) client (frames d past) (description_places past) → has_no_loss (queue_with eats d past client) ≡ true → LeadsBack (raw d past) (queue_with eats d past client)
+  pub axis-leads : (past : List Step) → Receives past client → has_no_loss (taken_since_start_with eats d past client) ≡ true → IsClear eats client (frames_since_start d past client) (steps_since_frame_before_start d past client) → has_no_loss (queue_with eats d past client) ≡ true → LeadsBack (raw d past) (queue_with eats d past client)
   unfolding taken_since_start_with is_open
   axis-leads [] receives none clear kept = let bad : false ≡ true = receives.is_there in absurd cc
   axis-leads (x ∷ past) receives none clear kept = by (is_start past client x) refl (axis-leads past)
@@ -233,33 +222,18 @@ module _ (eats : Eats) (d : Description) (client code : ℕ) (has : has_axis d c
       left = left_in_queue eats d past client x
 
       IH : Type 0
-      IH = Receives past client → has_no_loss (taken_since_start_with eats d past client) ≡ true → IsClear eats (start_place past client) (described_from d past client) client (frames d past) (description_places past) → has_no_loss (queue_with eats d past client) ≡ true → LeadsBack r (queue_with eats d past client)
-
-      -- the step does not describe an axis, since that would be a description since the client's start
-      quiet : is_start past client x ≡ false → (b : Bool) → is_description x ≡ b → b ≡ false
-      quiet start true e =
-          let all : AreBelow (described_from d past client) (length past ∷ description_places past) =
-          subst (λ (from : ℕ). AreBelow from (length past ∷ description_places past)) (described-same d past client x start)
-          (subst (AreBelow (described_from d (x ∷ past) client)) (places-described past x e) clear.1) in
-          let late : length past < described_from d past client = all.0 in
-          let within : described_from d past client ≤ length past = described_from-within d past client in
-          absurd (omega (arith, late, within))
-      quiet start false e = refl
+      IH = Receives past client → has_no_loss (taken_since_start_with eats d past client) ≡ true → IsClear eats client (frames_since_start d past client) (steps_since_frame_before_start d past client) → has_no_loss (queue_with eats d past client) ≡ true → LeadsBack r (queue_with eats d past client)
 
       other : is_start past client x ≡ false → IH → LeadsBack (raw d (x ∷ past)) (queue_with eats d (x ∷ past) client)
       other start ih =
           let before : Receives past client = receives-before past client x start receives in
-          let undescribed : is_description x ≡ false = quiet start (is_description x) refl in
+          let steps : AreUndescribed (x ∷ steps_since_frame_before_start d past client) = subst AreUndescribed (steps-step d past client x start) clear.1 in
+          let undescribed : is_description x ≡ false = not-true _ steps.0 in
           let took : has_no_loss (taken_since_start_with eats d past client ++ taken_by_with eats d past client x) ≡ true =
           ap (λ (c : Bool). has_no_loss (if c then [] else taken_since_start_with eats d past client ++ taken_by_with eats d past client x)) (sym start) ∙ none in
-          let all : AreWhole eats (start_place past client) client (frames d past ++ fs) =
-          subst (λ (n : ℕ). AreWhole eats n client (frames d past ++ fs)) (start-same past client x start)
-          (subst (AreWhole eats (start_place (x ∷ past) client) client) (frames-step d past x) clear.0) in
-          let early : AreBelow (described_from d past client) (description_places past) =
-          subst (λ (from : ℕ). AreBelow from (description_places past)) (described-same d past client x start)
-          (subst (AreBelow (described_from d (x ∷ past) client)) (places-same past x undescribed) clear.1) in
-          let mine : Each (λ f. is_whole_for eats client f ≡ true) fs = whole_here eats client past x (start_place past client) (start-before past client before) (cuts d r xs) (Each-right _ (frames d past) fs all) in
-          let there = ih before (all-left _ (taken_since_start_with eats d past client) (taken_by_with eats d past client x) took) (Each-left _ (frames d past) fs all, early) in
+          let all : AreWhole eats client (frames_since_start d past client ++ fs) = subst (AreWhole eats client) (since-step d past client x start) clear.0 in
+          let mine : AreWhole eats client fs = Each-right _ (frames_since_start d past client) fs all in
+          let there = ih before (all-left _ (taken_since_start_with eats d past client) (taken_by_with eats d past client x) took) (Each-left _ (frames_since_start d past client) fs all, steps.1) in
           subst (λ (l : List RawItem). LeadsBack l (queue_with eats d (x ∷ past) client)) (sym (raw-step d past x))
           (subst (LeadsBack (raw_after r xs)) (sym (queue-step eats d past client x))
           (frames_lead past x left undescribed before mine (ap has_no_loss (sym (queue-step eats d past client x)) ∙ kept)
@@ -276,7 +250,7 @@ module _ (eats : Eats) (d : Description) (client code : ℕ) (has : has_axis d c
   -- ---- an axis that was asked for
 
   fresh : (past : List Step) (x : Step) → is_start past client x ≡ false → asks_for (OneAxis code) client x ≡ true → Receives past client → has_no_loss (taken_since_start_with eats d past client) ≡ true
-      → IsClear eats (start_place past client) (described_from d past client) client (frames d past) (description_places past) → has_no_loss (left_in_queue eats d past client x) ≡ true
+      → IsClear eats client (frames_since_start d past client) (steps_since_frame_before_start d past client) → has_no_loss (left_in_queue eats d past client x) ≡ true
       → LeadsBack (raw d past) (left_in_queue eats d past client x)
   fresh past x start asks receives none clear kept =
       subst (LeadsBack (raw d past)) (sym (query_leaves past x asks)) (axis-leads past receives none clear (ap has_no_loss (sym (query_leaves past x asks)) ∙ kept))

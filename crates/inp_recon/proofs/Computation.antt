@@ -1,6 +1,4 @@
 -- The words that a worked example unfolds, in one place: `unfolding computing` opens all of them.
-use Rattle.inp_model.specs.Past.{description_places}
-use Rattle.inp_model.specs.Frame.{frames}
 use Rattle.inp_model.specs.Queue.{took_with}
 use Rattle.inp_model.proofs.Computation.{computing as of_model}
 use Rattle.inp_recon.specs.Cells.{first_cells}
@@ -10,5 +8,5 @@ use Rattle.inp_recon.specs.Synchronised.{sync_place, has_asked, taken_since_star
 use Rattle.inp_recon.specs.Undisturbed.{frames_since_start, steps_since_frame, steps_since_frame_before_start, is_undisturbed_with}
 
 unfoldable pub computing : Type 0
-unfolding of_model description_places frames took_with first_cells first_view view_after_event view_after_events bits_in view_after_answer client_view_with read_entries_with sync_place has_asked taken_since_start_with is_synchronised_with frames_since_start steps_since_frame steps_since_frame_before_start is_undisturbed_with
+unfolding of_model took_with first_cells first_view view_after_event view_after_events bits_in view_after_answer client_view_with read_entries_with sync_place has_asked taken_since_start_with is_synchronised_with frames_since_start steps_since_frame steps_since_frame_before_start is_undisturbed_with
 computing = Unit {0}

@@ -1,24 +1,24 @@
--- Steps that describe an axis: they end no frame and leave the queue; where they stand, and since when there was none.
-use Rattle.std.proofs.Common.{◌≡◌, ◌<◌, ◌≤◌, ℕ, suc, Bool, true, false, if◌then◌else◌, List, [], ◌∷◌, ◌++◌, length, map, refl, sym, ap, subst, ◌∙◌, inl, inr, arith}
-use Rattle.std.proofs.lemmas.Bool.{cases_lt, cond_both}
+-- Steps that describe an axis: they end no frame and leave the queue; and what is so since when there was none.
+use Rattle.std.proofs.Common.{◌≡◌, ℕ, Bool, true, false, not, if◌then◌else◌, List, [], ◌∷◌, ◌++◌, map, refl, sym, ap, ◌∙◌}
+use Rattle.std.proofs.lemmas.Bool.{cond_both, not-true}
 use Rattle.std.proofs.lemmas.List.{append-nil}
 use Rattle.inp_model.specs.declared.event.Event.{Event}
 use Rattle.inp_model.specs.declared.step.Step.{Step}
 use Rattle.inp_model.specs.declared.step.Step.TheVariants.{Open, Discard, SetAxis}
-use Rattle.inp_model.specs.RawItem.{RawItem, Occurred, Described, Cut}
+use Rattle.inp_model.specs.RawItem.{RawItem, Occurred, Described, Cut, Frame}
 use Rattle.inp_model.specs.Description.{Description}
 use Rattle.inp_model.specs.Step.{is_description}
-use Rattle.inp_model.specs.Past.{description_places}
 use Rattle.inp_model.specs.Cut.{raw_after, cut_for, cuts}
 use Rattle.inp_model.specs.Raw.{raw, raw_and_timer, raw_of_step, events_after}
-use Rattle.inp_model.specs.Frame.{frame_of, frames_of_step, frames}
+use Rattle.inp_model.specs.Frame.{frame_of, frames_of_step}
 use Rattle.inp_model.specs.Left.{Eats}
 use Rattle.inp_model.specs.Queue.{is_empty, queue_with}
 use Rattle.inp_recon.specs.Synchronised.{is_start}
-use Rattle.inp_recon.proofs.Each.{Each, Each-weaker}
+use Rattle.inp_recon.specs.Undisturbed.{frames_since_start, steps_since_frame, steps_since_frame_before_start}
+use Rattle.inp_recon.proofs.Each.{Each}
 use Rattle.inp_recon.proofs.CallsLeft.{left_in_queue}
 use Rattle.inp_recon.proofs.FrameSteps.{IsEventItem}
-use Rattle.inp_recon.proofs.Steps.{raw-step}
+use Rattle.inp_recon.proofs.Steps.{raw-step, since-step}
 
 -- ---- what such a step stands for
 
@@ -32,15 +32,14 @@ unfolding raw_of_step
 items-are_events d past (SetAxis client code axis) h = let bad : true ≡ false = h in absurd cc
 items-are_events d past x h = occurred (events_after d past x (raw_and_timer d past))
 
-pub frames-described : (d : Description) (past : List Step) (x : Step) → is_description x ≡ true → frames d (x ∷ past) ≡ frames d past
-unfolding frames raw_of_step cuts
-frames-described d past (SetAxis client code axis) h = append-nil (frames d past)
-frames-described d past x h = let bad : false ≡ true = h in absurd cc
-
-none_described : (d : Description) (past : List Step) (x : Step) → is_description x ≡ true → is_empty (frames_of_step d past x) ≡ true
+described-frames : (d : Description) (past : List Step) (x : Step) → is_description x ≡ true → frames_of_step d past x ≡ []
 unfolding raw_of_step cuts
-none_described d past (SetAxis client code axis) h = refl
-none_described d past x h = let bad : false ≡ true = h in absurd cc
+described-frames d past (SetAxis client code axis) h = refl
+described-frames d past x h = let bad : false ≡ true = h in absurd cc
+
+pub since-described : (d : Description) (past : List Step) (client : ℕ) (x : Step) → is_start past client x ≡ false → is_description x ≡ true → frames_since_start d (x ∷ past) client ≡ frames_since_start d past client
+since-described d past client x start h =
+    since-step d past client x start ∙ ap (λ (fs : List Frame). frames_since_start d past client ++ fs) (described-frames d past x h) ∙ append-nil (frames_since_start d past client)
 
 pub queue-described : (eats : Eats) (d : Description) (past : List Step) (client : ℕ) (x : Step) → is_description x ≡ true → queue_with eats d (x ∷ past) client ≡ left_in_queue eats d past client x
 unfolding queue_with raw_of_step cuts
@@ -53,82 +52,18 @@ start-undescribed past client Open h = refl
 start-undescribed past client (Discard reader) h = refl
 start-undescribed past client x h = let bad : false ≡ true = h in absurd cc
 
--- ---- their places
+-- ---- steps of which none describes an axis
 
--- how long the past was behind the last step that ended a frame, 0 where none did
-unfoldable pub frames_end : Description → List Step → ℕ
-frames_end d [] = 0
-frames_end d (x ∷ past) =
-    let before = frames_end d past in
-    if is_empty (frames_of_step d past x) then before else suc (length past)
+abbrev pub AreUndescribed : List Step → Type 0
+AreUndescribed xs = Each (λ x. not (is_description x) ≡ true) xs
 
--- the same at the client's start
-unfoldable pub described_from : Description → List Step → ℕ → ℕ
-described_from d [] client = 0
-described_from d (x ∷ past) client =
-    let before = described_from d past client in
-    if is_start past client x then frames_end d past else before
+pub steps-step : (d : Description) (past : List Step) (client : ℕ) (x : Step) → is_start past client x ≡ false → steps_since_frame_before_start d (x ∷ past) client ≡ x ∷ steps_since_frame_before_start d past client
+unfolding steps_since_frame_before_start
+steps-step d past client x h = ap (λ (b : Bool). x ∷ (if b then steps_since_frame d past else steps_since_frame_before_start d past client)) h
 
-pub places-described : (past : List Step) (x : Step) → is_description x ≡ true → description_places (x ∷ past) ≡ length past ∷ description_places past
-unfolding description_places
-places-described past x h = ap (λ (b : Bool). if b then length past ∷ description_places past else description_places past) h
-
-pub places-same : (past : List Step) (x : Step) → is_description x ≡ false → description_places (x ∷ past) ≡ description_places past
-unfolding description_places
-places-same past x h = ap (λ (b : Bool). if b then length past ∷ description_places past else description_places past) h
-
-abbrev pub AreBelow : ℕ → List ℕ → Type 0
-AreBelow n ps = Each (λ p. p < n) ps
-
-pub places-below : (past : List Step) → AreBelow (length past) (description_places past)
-unfolding description_places
-places-below [] = tt
-places-below (x ∷ past) = by (is_description x) (places-below past)
-  where
-    n : ℕ
-    n = length past
-
-    by : (b : Bool) → AreBelow n (description_places past) → AreBelow (suc n) (if b then length past ∷ description_places past else description_places past)
-    by true h = (omega arith, Each-weaker (λ p. p < n) (λ p. p < suc n) (λ p k. omega (arith, k)) (description_places past) h)
-    by false h = Each-weaker (λ p. p < n) (λ p. p < suc n) (λ p k. omega (arith, k)) (description_places past) h
-
--- those below a place, none of which is between the two, are below the first
-pub places-early : (from n : ℕ) (ps : List ℕ) → Each (λ p. from ≤ p → n ≤ p) ps → AreBelow n ps → AreBelow from ps
-places-early from n [] h k = tt
-places-early from n (p ∷ ps) h k = (below, places-early from n ps h.1 k.1)
-  where
-    below : p < from
-    below = elim (cases_lt p from) [
-      | inl is ↦ is
-      | inr late ↦ (let later : n ≤ p = h.0 late in let before : p < n = k.0 in absurd (omega (arith, later, before)))
-    ]
-
-either_within : (b : Bool) (m n k : ℕ) → m ≤ k → n ≤ k → (if b then m else n) ≤ k
-either_within true m n k h j = h
-either_within false m n k h j = j
-
-pub frames_end-within : (d : Description) (past : List Step) → frames_end d past ≤ length past
-unfolding frames_end
-frames_end-within d [] = omega arith
-frames_end-within d (x ∷ past) =
-    let before : frames_end d past ≤ length past = frames_end-within d past in
-    either_within (is_empty (frames_of_step d past x)) (frames_end d past) (suc (length past)) (suc (length past)) (omega (arith, before)) (omega arith)
-
-pub described_from-within : (d : Description) (past : List Step) (client : ℕ) → described_from d past client ≤ length past
-unfolding described_from
-described_from-within d [] client = omega arith
-described_from-within d (x ∷ past) client =
-    let before : described_from d past client ≤ length past = described_from-within d past client in
-    let end : frames_end d past ≤ length past = frames_end-within d past in
-    either_within (is_start past client x) (frames_end d past) (described_from d past client) (suc (length past)) (omega (arith, end)) (omega (arith, before))
-
-pub described-same : (d : Description) (past : List Step) (client : ℕ) (x : Step) → is_start past client x ≡ false → described_from d (x ∷ past) client ≡ described_from d past client
-unfolding described_from
-described-same d past client x h = ap (λ (b : Bool). if b then frames_end d past else described_from d past client) h
-
-pub described-start : (d : Description) (past : List Step) (client : ℕ) (x : Step) → is_start past client x ≡ true → described_from d (x ∷ past) client ≡ frames_end d past
-unfolding described_from
-described-start d past client x h = ap (λ (b : Bool). if b then frames_end d past else described_from d past client) h
+pub steps-start : (d : Description) (past : List Step) (client : ℕ) (x : Step) → is_start past client x ≡ true → steps_since_frame_before_start d (x ∷ past) client ≡ x ∷ steps_since_frame d past
+unfolding steps_since_frame_before_start
+steps-start d past client x h = ap (λ (b : Bool). x ∷ (if b then steps_since_frame d past else steps_since_frame_before_start d past client)) h
 
 -- ---- no description since the last frame
 
@@ -163,27 +98,21 @@ empty-map : {X Y : Type 0} (f : X → Y) (xs : List X) → is_empty (map f xs) �
 empty-map f [] = refl
 empty-map f (x ∷ xs) = refl
 
--- where all descriptions were made before the last step that ended a frame
-pub raw-settled : (d : Description) (past : List Step) → AreBelow (frames_end d past) (description_places past) → is_settled d (raw d past) ≡ true
-unfolding is_settled raw raw_and_timer frames_end description_places
+-- where no step since the last frame described an axis
+pub raw-settled : (d : Description) (past : List Step) → AreUndescribed (steps_since_frame d past) → is_settled d (raw d past) ≡ true
+unfolding is_settled raw raw_and_timer steps_since_frame
 raw-settled d [] h = refl
-raw-settled d (x ∷ past) h = by (is_description x) refl (is_empty (frames_of_step d past x)) refl (raw-settled d past)
+raw-settled d (x ∷ past) h = by (is_empty (frames_of_step d past x)) refl h (raw-settled d past)
   where
-    places : List ℕ
-    places = description_places past
+    xs : List RawItem
+    xs = raw_of_step d past x
 
-    Below : Bool → Bool → Type 0
-    Below describes none = AreBelow (if none then frames_end d past else suc (length past)) (if describes then length past ∷ places else places)
+    undescribed : is_empty (frames_of_step d past x) ≡ false → (b : Bool) → is_description x ≡ b → b ≡ false
+    undescribed some true e = let bad : true ≡ false = ap is_empty (sym (described-frames d past x e)) ∙ some in absurd cc
+    undescribed some false e = refl
 
-    by : (describes : Bool) → is_description x ≡ describes → (none : Bool) → is_empty (frames_of_step d past x) ≡ none → (AreBelow (frames_end d past) places → is_settled d (raw d past) ≡ true) → is_settled d (raw d (x ∷ past)) ≡ true
-    by true e none k ih =
-        let end : frames_end d past ≤ length past = frames_end-within d past in
-        let below : Below true true = subst (λ (b : Bool). Below true b) (none_described d past x e) (subst (λ (b : Bool). Below b (is_empty (frames_of_step d past x))) e h) in
-        let early : length past < frames_end d past = below.0 in
-        absurd (omega (arith, end, early))
-    by false e true k ih =
-        let below : Below false true = subst (λ (b : Bool). Below false b) k (subst (λ (b : Bool). Below b (is_empty (frames_of_step d past x))) e h) in
-        ap (is_settled d) (raw-step d past x) ∙ settled_events d (raw_of_step d past x) (raw d past) (items-are_events d past x e) (ih below)
-    by false e false k ih =
+    by : (none : Bool) → is_empty (frames_of_step d past x) ≡ none → AreUndescribed (if none then x ∷ steps_since_frame d past else []) → (AreUndescribed (steps_since_frame d past) → is_settled d (raw d past) ≡ true) → is_settled d (raw d (x ∷ past)) ≡ true
+    by true e k ih = ap (is_settled d) (raw-step d past x) ∙ settled_events d xs (raw d past) (items-are_events d past x (not-true _ k.0)) (ih k.1)
+    by false e k ih =
         ap (is_settled d) (raw-step d past x)
-        ∙ settled_cut d (raw_of_step d past x) (raw d past) (items-are_events d past x e) (sym (empty-map (frame_of past x) (cuts d (raw d past) (raw_of_step d past x))) ∙ k)
+        ∙ settled_cut d xs (raw d past) (items-are_events d past x (undescribed e (is_description x) refl)) (sym (empty-map (frame_of past x) (cuts d (raw d past) xs)) ∙ e)

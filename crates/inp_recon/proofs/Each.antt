@@ -1,8 +1,7 @@
 -- What holds of each item of a list, by recursion on the list, and tests of lists.
-use Rattle.std.proofs.Common.{◌≡◌, ℕ, suc, zero, Bool, true, false, ◌&&◌, List, [], ◌∷◌, ◌++◌, map, take, drop, refl, subst, Some, None}
-use Rattle.std.specs.Prelude.{slice_get}
+use Rattle.std.proofs.Common.{◌≡◌, ℕ, suc, zero, Bool, true, false, ◌&&◌, List, [], ◌∷◌, ◌++◌, map, take, drop, refl, if◌then◌else◌}
 use Rattle.std.proofs.lemmas.Bool.{and_from}
-use Rattle.std.specs.List.{list_all}
+use Rattle.std.specs.List.{list_all, filter}
 
 abbrev pub Each : {X : Type 0} → (X → Type 0) → List X → Type 0
 Each P [] = Unit {0}
@@ -38,11 +37,6 @@ Each-drop P zero xs h = h
 Each-drop P (suc n) [] h = tt
 Each-drop P (suc n) (x ∷ xs) h = Each-drop P n xs h.1
 
-pub Each-at : {X : Type 0} (P : X → Type 0) (xs : List X) (i : ℕ) (x : X) → Each P xs → slice_get xs i ≡ Some x → P x
-Each-at P [] i x h is = absurd (let bad : None ≡ Some x = is in cc)
-Each-at P (y ∷ xs) zero x h is = let same : y ≡ x = (let s : Some y ≡ Some x = is in cc) in subst P same h.0
-Each-at P (y ∷ xs) (suc i) x h is = Each-at P xs i x h.1 is
-
 -- ---- tests
 
 pub and-left : (a b : Bool) → (a && b) ≡ true → a ≡ true
@@ -69,3 +63,15 @@ pub all-take_drop : {X : Type 0} (p : X → Bool) (n : ℕ) (xs : List X) → li
 all-take_drop p zero xs h k = k
 all-take_drop p (suc n) [] h k = refl
 all-take_drop p (suc n) (x ∷ xs) h k = and_from (p x) _ (and-left (p x) _ h) (all-take_drop p n xs (and-right (p x) _ h) k)
+
+-- what a test finds of those that another one keeps
+pub Each-filter : {X : Type 0} (keeps p : X → Bool) (xs : List X) → list_all p (filter keeps xs) ≡ true → Each (λ x. keeps x ≡ true → p x ≡ true) xs
+Each-filter keeps p [] h = tt
+Each-filter {X} keeps p (x ∷ xs) h = by (keeps x) h (λ k. Each-filter keeps p xs k)
+  where
+    P : X → Type 0
+    P y = keeps y ≡ true → p y ≡ true
+
+    by : (b : Bool) → list_all p (if b then x ∷ filter keeps xs else filter keeps xs) ≡ true → (list_all p (filter keeps xs) ≡ true → Each P xs) → (b ≡ true → p x ≡ true) × Each P xs
+    by true k ih = ((λ _. and-left (p x) _ k), ih (and-right (p x) _ k))
+    by false k ih = ((λ e. absurd (let bad : false ≡ true = e in cc)), ih k)

@@ -1,5 +1,5 @@
 -- What a client reads is faithful: at each report that is followed, each value is the device's.
-use Rattle.std.proofs.Common.{◌≡◌, ◌<◌, ◌≤◌, ℕ, zero, suc, ◌+◌, ◌/◌, ◌%◌, ℤ, pos, Bool, true, false, ◌&&◌, ◌||◌, not, if◌then◌else◌, nat_eq, nat_lt, nat_le, min, List, [], ◌∷◌, ◌++◌, length, map, take, get_or, refl, sym, ap, subst, ◌∙◌, append_assoc, arith, Option, Some, None, inl, inr}
+use Rattle.std.proofs.Common.{◌≡◌, ◌<◌, ◌≤◌, ℕ, zero, suc, ◌+◌, ◌/◌, ◌%◌, ℤ, pos, Bool, true, false, ◌&&◌, ◌||◌, not, if◌then◌else◌, nat_eq, nat_lt, nat_le, min, List, [], ◌∷◌, length, map, take, get_or, refl, sym, ap, subst, ◌∙◌, arith, Option, Some, None, inl, inr}
 use Rattle.std.specs.Prelude.{slice_get}
 use Rattle.std.specs.List.{list_all, range_with_len}
 use Rattle.std.proofs.lemmas.Bool.{eq-eqb, ne_eqb, lt-ltb, le-leb, cases_lt, cases_order, and_from, not-true, and_right, not-false}
@@ -15,9 +15,9 @@ use Rattle.inp_model.specs.Description.{Description, IsDescription, AreCodes, ha
 use Rattle.inp_model.specs.Event.{is_report}
 use Rattle.inp_model.specs.State.{key_down, turned_on, axis_value, cell}
 use Rattle.inp_model.specs.Passed.{announced}
-use Rattle.inp_model.specs.Past.{is_open, is_revoked, description_places}
+use Rattle.inp_model.specs.Past.{is_open, is_revoked}
 use Rattle.inp_model.specs.Raw.{raw}
-use Rattle.inp_model.specs.Frame.{place, frames}
+use Rattle.inp_model.specs.Frame.{place}
 use Rattle.inp_model.specs.Left.{Eats}
 use Rattle.inp_model.specs.Queue.{Entry, event_of, visible, queue_with, taken_by_with}
 use Rattle.inp_model.specs.Reply.{refused_with, rows}
@@ -27,12 +27,9 @@ use Rattle.inp_recon.specs.Cells.{cell_index}
 use Rattle.inp_recon.specs.ClientView.{client_view_with}
 use Rattle.inp_recon.specs.Synchronised.{Part, AllKeys, AllSwitches, AllLeds, OneAxis, AllSlots, sync_place, has_asked, has_asked_where, has_axis, taken_since_start_with, has_no_loss, is_synchronised_with}
 use Rattle.inp_recon.specs.Undisturbed.{is_whole_for, frames_since_start, steps_since_frame_before_start, is_undisturbed_with}
-use Rattle.inp_recon.proofs.DescriptionSteps.{described_from, AreBelow}
-use Rattle.inp_recon.proofs.SinceStart.{Each-filter, frames-since, before-start, described-later}
-use Rattle.inp_recon.proofs.Steps.{start_place, IsFrameIn, IsPassedIn, queue-passed, start-before_sync}
 use Rattle.inp_recon.specs.Faithful.{IsDeviceState, AreReadsFaithful}
 use Rattle.inp_recon.proofs.ReadEntries.{IsOfRead, of-read}
-use Rattle.inp_recon.proofs.Each.{Each, Each-weaker, Each-take, Each-at, and-left, and-right, Each-from_all, all-left, all-right}
+use Rattle.inp_recon.proofs.Each.{Each, Each-weaker, Each-filter, and-left, and-right, Each-from_all, all-left, all-right}
 use Rattle.inp_recon.proofs.Over.{over, over-idle, IsIdle}
 use Rattle.inp_recon.proofs.QueuedValues.{Promised}
 use Rattle.inp_recon.proofs.FrameEntries.{Receives}
@@ -94,24 +91,14 @@ pub record IsFollowedTo (eats : Eats) (d : Description) (past : List Step) (clie
   pub behind : sync_place past client < place f
   pub undisturbed : is_undisturbed_with eats d past client f ≡ true
 
-pub behind-followed : (eats : Eats) (d : Description) (past : List Step) (client : ℕ) (taken : List Entry) (f : Frame) → IsFrameIn past f → IsFollowedTo eats d past client taken f
-    → IsBehind eats (start_place past client) (sync_place past client) (described_from d past client) client (frames d past) (description_places past) f
+pub behind-followed : (eats : Eats) (d : Description) (past : List Step) (client : ℕ) (taken : List Entry) (f : Frame) → IsFollowedTo eats d past client taken f → IsBehind eats d (sync_place past client) client (frames_since_start d past client) f
 unfolding is_undisturbed_with
-behind-followed eats d past client taken f frame h =
-    let starts : start_place past client < place f = omega (arith, h.behind, start-before_sync past client) in
-    let split : past ≡ (frame.0 ++ f.step ∷ []) ++ f.before = frame.1 ∙ sym (append_assoc frame.0 (f.step ∷ []) f.before) in
-    let fs : List Frame = frames_since_start d past client in
-    let kept : Each (λ g. nat_le (length g.cut.until) (length f.cut.until) ≡ true → is_whole_for eats client g ≡ true) fs =
-    Each-filter (λ g. nat_le (length g.cut.until) (length f.cut.until)) (is_whole_for eats client) fs (and-left _ _ h.undisturbed) in
-    let whole : Each (λ g. length g.cut.until ≤ length f.cut.until → is_whole_for eats client g ≡ true) fs =
-    Each-weaker _ _ (λ g k ended. k (le-leb (length g.cut.until) (length f.cut.until) ended)) fs kept in
-    let below : AreBelow (described_from d f.before client) (description_places f.before) =
-    before-start d f.before client (Each-from_all _ (steps_since_frame_before_start d f.before client) (and-right _ _ h.undisturbed)) in (
-      h.behind,
-      frames-since d past client (λ g. length g.cut.until ≤ length f.cut.until → is_whole_for eats client g ≡ true) whole,
-      subst (λ (p : List Step). Each (λ q. described_from d p client ≤ q → place f ≤ q) (description_places p)) (sym split)
-          (described-later d (frame.0 ++ f.step ∷ []) f.before client (subst (λ (p : List Step). start_place p client < length f.before) split starts) below),
-    )
+behind-followed eats d past client taken f h = (
+  h.behind,
+  Each-weaker _ _ (λ g kept ended. kept (le-leb (length g.cut.until) (length f.cut.until) ended)) (frames_since_start d past client)
+      (Each-filter (λ g. nat_le (length g.cut.until) (length f.cut.until)) (is_whole_for eats client) (frames_since_start d past client) (and-left _ _ h.undisturbed)),
+  Each-from_all _ (steps_since_frame_before_start d f.before client) (and-right _ _ h.undisturbed),
+)
 
 -- what a synchronised client asked for, and that it took no loss
 pub record HasAskedForAll (eats : Eats) (d : Description) (past : List Step) (client : ℕ) (taken : List Entry) : Type 0 where
@@ -156,29 +143,20 @@ record IsReportAt (entries : List Entry) (j : ℕ) (f : Frame) : Type 0 where
 
 -- a report of a frame, in what a read takes
 read-says : {V : Type 0} (eats : Eats) (d : Description) (past : List Step) (client count : ℕ) (t : V → Event → V) (st : List RawItem → V) (v : V)
-    → FollowsReports eats d client t st (start_place past client) (sync_place past client) (described_from d past client) (frames d past) (description_places past) (raw d past) v (queue_with eats d past client)
+    → FollowsReports eats d client t st (sync_place past client) (frames_since_start d past client) (steps_since_frame_before_start d past client) (raw d past) v (queue_with eats d past client)
     → (j : ℕ) (f : Frame) → IsReportAt (taken_by_with eats d past client (Read client count)) j f
     → IsFollowedTo eats d past client (take (suc j) (taken_by_with eats d past client (Read client count))) f
     → over t v (map event_of (take (suc j) (taken_by_with eats d past client (Read client count)))) ≡ st f.cut.until
 read-says {V} eats d past client count t st v h j f report followed =
     Promised-item P t v taken j report.entry report.at report.report none
     (subst (Promised P t v) (sym (taken-read eats d past client count)) (Promised-take P t v (min count (visible event_of (queue_with eats d past client))) (queue_with eats d past client) h.reports))
-    f report.frame (behind-followed eats d past client (take (suc j) taken) f frame followed)
+    f report.frame (behind-followed eats d past client (take (suc j) taken) f followed)
   where
     taken : List Entry
     taken = taken_by_with eats d past client (Read client count)
 
     P : Entry → V → Type 0
-    P = Says st (IsBehind eats (start_place past client) (sync_place past client) (described_from d past client) client (frames d past) (description_places past))
-
-    frame : IsFrameIn past f
-    frame = Each-at (IsPassedIn past) taken j report.entry passed report.at f report.frame
-      where
-        q : List Entry
-        q = queue_with eats d past client
-
-        passed : Each (IsPassedIn past) taken
-        passed = subst (Each (IsPassedIn past)) (sym (taken-read eats d past client count)) (Each-take (IsPassedIn past) (min count (visible event_of q)) q (queue-passed eats d past client))
+    P = Says st (IsBehind eats d (sync_place past client) client (frames_since_start d past client))
 
     none : has_no_loss (take (suc j) taken) ≡ true
     none = (all-asked eats d past client (take (suc j) taken) followed.synchronised).now

@@ -1,6 +1,6 @@
 -- One value of a view follows the device: by one induction over the past, for any value that events and answers change.
 use Rattle.std.proofs.Common.{◌≡◌, ◌⊎◌, ◌<◌, ◌≤◌, ℕ, suc, zero, Bool, true, false, ◌&&◌, ◌||◌, not, if◌then◌else◌, cond, List, [], ◌∷◌, ◌++◌, length, map, take, drop, refl, sym, ap, subst, ◌∙◌, Some, None, inl, inr, arith, append_assoc}
-use Rattle.std.proofs.lemmas.Bool.{eqb-true, and_parts}
+use Rattle.std.proofs.lemmas.Bool.{eqb-true, and_parts, not-true}
 use Rattle.inp_model.specs.declared.event.TheConstants.{EV_SND}
 use Rattle.inp_model.specs.declared.event.Event.{Event}
 use Rattle.inp_model.specs.declared.step.Step.{Step}
@@ -8,15 +8,14 @@ use Rattle.inp_model.specs.declared.step.Step.TheVariants.{GetKeys, GetSwitches,
 use Rattle.inp_model.specs.RawItem.{RawItem, Occurred, Cut, Frame}
 use Rattle.inp_model.specs.Description.{Description}
 use Rattle.inp_model.specs.Step.{Query, Codes, client_of, is_same, query_of, is_part_of, is_description}
-use Rattle.inp_model.specs.Past.{description_places}
 use Rattle.inp_model.specs.Passed.{passed}
 use Rattle.inp_model.specs.Cut.{raw_after, pending, cut_for, cuts}
 use Rattle.inp_model.specs.Raw.{raw, raw_of_step}
-use Rattle.inp_model.specs.Frame.{place, frame_of, frames}
+use Rattle.inp_model.specs.Frame.{place, frame_of}
 use Rattle.inp_model.specs.Left.{Eats}
 use Rattle.inp_model.specs.Queue.{Entry, event_of, taken_by_with, queue_with}
 use Rattle.inp_recon.specs.Synchronised.{Part, AllKeys, AllSwitches, AllLeds, OneAxis, AllSlots, asks_for, is_query_of, is_start, sync_place, has_asked, taken_since_start_with, has_no_loss}
-use Rattle.inp_recon.specs.Undisturbed.{is_viewed, is_whole_for}
+use Rattle.inp_recon.specs.Undisturbed.{is_viewed, is_whole_for, frames_since_start, steps_since_frame_before_start}
 use Rattle.inp_recon.proofs.Each.{Each, Each-append, Each-left, Each-right, Each-weaker, all-left, all-right, all-take_drop}
 use Rattle.inp_recon.proofs.Over.{over, IsIdle}
 use Rattle.inp_recon.proofs.QueuedValues.{ReportsIdle, flush-same, flush-no_loss, Promised, Promised-weaker, Promised-from_each, Promised-drop, Promised-flush}
@@ -25,35 +24,35 @@ use Rattle.inp_recon.proofs.Cuts.{NoCut, OneCut, cut_cases}
 use Rattle.inp_recon.proofs.CallsLeft.{LeftBy, ByRead, ByLoss, ByFlush, ByNone, left_by, left_in_queue}
 use Rattle.inp_recon.proofs.FrameEntries.{Receives}
 use Rattle.inp_recon.proofs.FrameSteps.{IsEventItem, frames_by, offered_to, passed_by, passes_all, Says, Wants, all_grown, all_promised}
-use Rattle.inp_recon.proofs.DescriptionSteps.{described_from, items-are_events, frames-described, queue-described, places-described, places-same, AreBelow, places-below, places-early, described_from-within, described-same}
-use Rattle.inp_recon.proofs.Steps.{start_place, raw-step, queue-step, frames-step, start-same, sync-same, sync-query, start-before, receives-before, left-each, IsPlacedBelow, queue-placed, IsEndedWithin, frames-within}
+use Rattle.inp_recon.proofs.DescriptionSteps.{AreUndescribed, items-are_events, since-described, queue-described, steps-step}
+use Rattle.inp_recon.proofs.Steps.{raw-step, queue-step, since-step, sync-same, sync-query, receives-before, left-each, IsPlacedBelow, queue-placed, IsEndedWithin, since-within}
 
--- ---- frames and descriptions since the client's start
+-- ---- frames and steps since the client's start
 
--- those placed behind the start are whole
-abbrev pub AreWhole : Eats → ℕ → ℕ → List Frame → Type 0
-AreWhole eats start client fs = Each (λ g. start < place g → is_whole_for eats client g ≡ true) fs
+-- each is whole
+abbrev pub AreWhole : Eats → ℕ → List Frame → Type 0
+AreWhole eats client fs = Each (λ g. is_whole_for eats client g ≡ true) fs
 
--- those of them that ended no later than f are
-abbrev pub AreWholeTo : Eats → ℕ → ℕ → Frame → List Frame → Type 0
-AreWholeTo eats start client f fs = Each (λ g. start < place g → length g.cut.until ≤ length f.cut.until → is_whole_for eats client g ≡ true) fs
+-- those that ended no later than f are
+abbrev pub AreWholeTo : Eats → ℕ → Frame → List Frame → Type 0
+AreWholeTo eats client f fs = Each (λ g. length g.cut.until ≤ length f.cut.until → is_whole_for eats client g ≡ true) fs
 
--- nothing was kept from the client, and no axis was described anew; `ps` are the places of descriptions
-abbrev pub IsClear : Eats → ℕ → ℕ → ℕ → List Frame → List ℕ → Type 0
-IsClear eats start from client fs ps = AreWhole eats start client fs × AreBelow from ps
+-- nothing was kept from the client by these frames, and none of these steps describes an axis
+abbrev pub IsClear : Eats → ℕ → List Frame → List Step → Type 0
+IsClear eats client fs steps = AreWhole eats client fs × AreUndescribed steps
 
 -- the frame came behind the last query, and up to it nothing was kept from the client, and no axis was described anew
-abbrev pub IsBehind : Eats → ℕ → ℕ → ℕ → ℕ → List Frame → List ℕ → Frame → Type 0
-IsBehind eats start sync from client fs ps f = (sync < place f) × AreWholeTo eats start client f fs × Each (λ p. from ≤ p → place f ≤ p) ps
+abbrev pub IsBehind : Eats → Description → ℕ → ℕ → List Frame → Frame → Type 0
+IsBehind eats d sync client fs f = (sync < place f) × AreWholeTo eats client f fs × AreUndescribed (steps_since_frame_before_start d f.before client)
 
 -- each frame that a step ends is judged by the frames up to it
-frames-wanted : (eats : Eats) (d : Description) (client start sync from : ℕ) (past : List Step) (s : Step) (all : List Frame) (ps : List ℕ) → start < length past → AreBelow (length past) ps → (xs r : List RawItem) (before : List Frame) (C : Type 0)
-    → all ≡ before ++ frames_by d past s r xs → Each (IsEndedWithin (length r)) before → (IsClear eats start from client before ps → C)
-    → Wants eats client (IsBehind eats start sync from client all ps) C (frames_by d past s r xs)
+frames-wanted : (eats : Eats) (d : Description) (client sync : ℕ) (past : List Step) (s : Step) (all : List Frame) → (xs r : List RawItem) (before : List Frame) (C : Type 0)
+    → all ≡ before ++ frames_by d past s r xs → Each (IsEndedWithin (length r)) before → (IsClear eats client before (steps_since_frame_before_start d past client) → C)
+    → Wants eats client (IsBehind eats d sync client all) C (frames_by d past s r xs)
 unfolding cuts
-frames-wanted eats d client start sync from past s all ps later below [] r before C is ended clear = tt
-frames-wanted eats d client start sync from past s all ps later below (x ∷ xs) r before C is ended clear =
-    by (cut_cases d r x) (λ bs K. frames-wanted eats d client start sync from past s all ps later below xs (x ∷ r) bs K) is
+frames-wanted eats d client sync past s all [] r before C is ended clear = tt
+frames-wanted eats d client sync past s all (x ∷ xs) r before C is ended clear =
+    by (cut_cases d r x) (λ bs K. frames-wanted eats d client sync past s all xs (x ∷ r) bs K) is
   where
     F : Cut → Frame
     F = frame_of past s
@@ -62,7 +61,10 @@ frames-wanted eats d client start sync from past s all ps later below (x ∷ xs)
     rest = cuts d (x ∷ r) xs
 
     D : Frame → Type 0
-    D = IsBehind eats start sync from client all ps
+    D = IsBehind eats d sync client all
+
+    steps : List Step
+    steps = steps_since_frame_before_start d past client
 
     longer : Each (IsEndedWithin (suc (length r))) before
     longer = Each-weaker (IsEndedWithin (length r)) (IsEndedWithin (suc (length r))) (λ f k. omega (arith, k)) before ended
@@ -72,37 +74,35 @@ frames-wanted eats d client start sync from past s all ps later below (x ∷ xs)
 
     IH : Type 1
     IH =
-        (bs : List Frame) (K : Type 0) → all ≡ bs ++ map F rest → Each (IsEndedWithin (suc (length r))) bs → (IsClear eats start from client bs ps → K)
+        (bs : List Frame) (K : Type 0) → all ≡ bs ++ map F rest → Each (IsEndedWithin (suc (length r))) bs → (IsClear eats client bs steps → K)
         → Wants eats client D K (map F rest)
 
     by : NoCut d r x ⊎ OneCut d r x → IH → Goal (cut_for d r x)
     by (inl h) ih = subst Goal (sym h.none) (λ is. ih before C is longer clear)
     by (inr h) ih = subst Goal (sym h.one) (λ is.
         let f : Frame = F (record { events = h.body ++ h.report ∷ []; until = x ∷ r }) in
-        let whole_to : (D f) → AreWholeTo eats start client f (before ++ f ∷ map F rest) = λ here. subst (AreWholeTo eats start client f) is here.1 in
         let wants : D f → C × (is_whole_for eats client f ≡ true) = λ here.
-        let w = whole_to here in
-        let front : AreWhole eats start client before = fronts f before longer (Each-left _ before (f ∷ map F rest) w) in
-        (clear (front, places-early from (length past) ps here.2 below), (Each-right _ before (f ∷ map F rest) w).0 later (omega arith)) in (
+        let w : AreWholeTo eats client f (before ++ f ∷ map F rest) = subst (AreWholeTo eats client f) is here.1 in
+        (clear (fronts f before longer (Each-left _ before (f ∷ map F rest) w), here.2), (Each-right _ before (f ∷ map F rest) w).0 (omega arith)) in (
           wants,
           ih (before ++ f ∷ []) (C × (is_whole_for eats client f ≡ true))
               (is ∙ sym (append_assoc before (f ∷ []) (map F rest)))
               (Each-append (IsEndedWithin (suc (length r))) before (f ∷ []) longer (omega arith, tt))
-              (λ w. (clear (Each-left _ before (f ∷ []) w.0, w.1), (Each-right _ before (f ∷ []) w.0).0 later)),
+              (λ w. (clear (Each-left _ before (f ∷ []) w.0, w.1), (Each-right _ before (f ∷ []) w.0).0)),
         ))
       where
-        fronts : (f : Frame) (bs : List Frame) → Each (IsEndedWithin (length f.cut.until)) bs → AreWholeTo eats start client f bs → AreWhole eats start client bs
+        fronts : (f : Frame) (bs : List Frame) → Each (IsEndedWithin (length f.cut.until)) bs → AreWholeTo eats client f bs → AreWhole eats client bs
         fronts f [] h k = tt
-        fronts f (g ∷ bs) h k = ((λ l. k.0 l h.0), fronts f bs h.1 k.1)
+        fronts f (g ∷ bs) h k = (k.0 h.0, fronts f bs h.1 k.1)
 
 -- ---- what stands between two steps
 
 -- Folded by the queue and the batch a value is the state now, where all frames since the start are whole, no axis was
 -- described anew, and nothing was lost. Folded by the queue up to a report it is the state at the end of its frame, where
 -- the frame is behind the last query, and up to it nothing was kept from the client, and no axis was described anew.
-pub record FollowsReports {V : Type 0} (eats : Eats) (d : Description) (client : ℕ) (t : V → Event → V) (st : List RawItem → V) (start sync from : ℕ) (fs : List Frame) (ps : List ℕ) (r : List RawItem) (v : V) (q : List Entry) : Type 0 where
-  pub now : IsClear eats start from client fs ps → has_no_loss q ≡ true → over t (over t v (map event_of q)) (pending d r) ≡ st r
-  pub reports : Promised (Says st (IsBehind eats start sync from client fs ps)) t v q
+pub record FollowsReports {V : Type 0} (eats : Eats) (d : Description) (client : ℕ) (t : V → Event → V) (st : List RawItem → V) (sync : ℕ) (fs : List Frame) (steps : List Step) (r : List RawItem) (v : V) (q : List Entry) : Type 0 where
+  pub now : IsClear eats client fs steps → has_no_loss q ≡ true → over t (over t v (map event_of q)) (pending d r) ≡ st r
+  pub reports : Promised (Says st (IsBehind eats d sync client fs)) t v q
 
 over-take_drop : {V : Type 0} (t : V → Event → V) (v : V) (n : ℕ) (q : List Entry) → over t (over t v (map event_of (take n q))) (map event_of (drop n q)) ≡ over t v (map event_of q)
 over-take_drop t v zero q = refl
@@ -132,40 +132,34 @@ module _ (eats : Eats) (d : Description) (client : ℕ) {V : Type 0} (t : V → 
   idle_reports e h = unviewed e (report-unviewed e h)
 
   -- the frames of a step that stands for raw events
-  pub frames-stand : (past : List Step) (s : Step) (start sync from : ℕ) (ps : List ℕ) → Receives past client → start < length past → AreBelow (length past) ps → (xs r : List RawItem) → Each IsEventItem xs → (fs : List Frame) (v : V) (q : List Entry)
+  pub frames-stand : (past : List Step) (s : Step) (sync : ℕ) → Receives past client → (xs r : List RawItem) → Each IsEventItem xs → (fs : List Frame) (v : V) (q : List Entry)
       → Each (IsEndedWithin (length r)) fs
-      → FollowsReports eats d client t st start sync from fs ps r v q
-      → FollowsReports eats d client t st start sync from (fs ++ frames_by d past s r xs) ps (raw_after r xs) v (offered_to eats d client q (frames_by d past s r xs))
-  frames-stand past s start sync from ps receives later below xs r events fs v q ended h = record {
+      → FollowsReports eats d client t st sync fs (steps_since_frame_before_start d past client) r v q
+      → FollowsReports eats d client t st sync (fs ++ frames_by d past s r xs) (s ∷ steps_since_frame_before_start d past client) (raw_after r xs) v (offered_to eats d client q (frames_by d past s r xs))
+  frames-stand past s sync receives xs r events fs v q ended h = record {
     now = λ clear none.
-        let mine : Each (λ f. is_whole_for eats client f ≡ true) (frames_by d past s r xs) = here (cuts d r xs) (Each-right _ fs (frames_by d past s r xs) clear.0) in
+        let mine : AreWhole eats client (frames_by d past s r xs) = Each-right _ fs (frames_by d past s r xs) clear.0 in
         let g = all_grown eats d client t unviewed past s receives xs r q mine none in
         g.same v
-        ∙ ap (λ w. over t w (passed_by d r xs)) (h.now (Each-left _ fs (frames_by d past s r xs) clear.0, clear.1) g.kept)
+        ∙ ap (λ w. over t w (passed_by d r xs)) (h.now (Each-left _ fs (frames_by d past s r xs) clear.0, clear.1.1) g.kept)
         ∙ passes_all d t st passes xs r events;
     reports =
-        all_promised eats d client t unviewed st passes D past s receives xs r events q v (IsClear eats start from client fs ps)
-        (frames-wanted eats d client start sync from past s (fs ++ frames_by d past s r xs) ps later below xs r fs (IsClear eats start from client fs ps) refl ended (λ w. w))
+        all_promised eats d client t unviewed st passes D past s receives xs r events q v (IsClear eats client fs (steps_since_frame_before_start d past client))
+        (frames-wanted eats d client sync past s (fs ++ frames_by d past s r xs) xs r fs (IsClear eats client fs (steps_since_frame_before_start d past client)) refl ended (λ w. w))
         h.now
-        (Promised-weaker (Says st (IsBehind eats start sync from client fs ps)) (Says st D) t v q
+        (Promised-weaker (Says st (IsBehind eats d sync client fs)) (Says st D) t v q
         (λ x w says f is here. says f is (here.0, Each-left _ fs (frames_by d past s r xs) here.1, here.2)) h.reports);
   }
     where
       D : Frame → Type 0
-      D = IsBehind eats start sync from client (fs ++ frames_by d past s r xs) ps
-
-      here : (cs : List Cut) → AreWhole eats start client (map (frame_of past s) cs) → Each (λ f. is_whole_for eats client f ≡ true) (map (frame_of past s) cs)
-      here [] w = tt
-      here (c ∷ cs) w = (w.0 later, here cs w.1)
+      D = IsBehind eats d sync client (fs ++ frames_by d past s r xs)
 
   -- A step that describes an axis, since which nothing is said of the state now.
-  stands-described : (start sync from n : ℕ) (fs : List Frame) (ps : List ℕ) (r later : List RawItem) (v : V) (q : List Entry) → from ≤ n
-      → FollowsReports eats d client t st start sync from fs ps r v q → FollowsReports eats d client t st start sync from fs (n ∷ ps) later v q
-  stands-described start sync from n fs ps r later v q within h = record {
-    now = λ clear none. absurd (let early : n < from = clear.1.0 in omega (arith, within, early));
-    reports =
-        Promised-weaker (Says st (IsBehind eats start sync from client fs ps)) (Says st (IsBehind eats start sync from client fs (n ∷ ps))) t v q
-        (λ x w says f is here. says f is (here.0, here.1, here.2.1)) h.reports;
+  stands-described : (sync : ℕ) (fs : List Frame) (steps : List Step) (x : Step) (r later : List RawItem) (v : V) (q : List Entry) → is_description x ≡ true
+      → FollowsReports eats d client t st sync fs steps r v q → FollowsReports eats d client t st sync fs (x ∷ steps) later v q
+  stands-described sync fs steps x r later v q describes h = record {
+    now = λ clear none. absurd (let bad : true ≡ false = sym describes ∙ not-true _ clear.1.0 in cc);
+    reports = h.reports;
   }
 
   -- A step that asks for another part, or for none: what it takes and leaves make of a value what the queue made.
@@ -219,28 +213,28 @@ module _ (eats : Eats) (d : Description) (client : ℕ) {V : Type 0} (t : V → 
 
   -- ---- one step
 
+  -- the frames and the steps since the client's start
+  abbrev Since : List Step → List Frame
+  Since past = frames_since_start d past client
+
+  abbrev Steps : List Step → List Step
+  Steps past = steps_since_frame_before_start d past client
+
   -- the parts of a past, for what stands after it
   abbrev pub Stands : (List Step → V) → List Step → Type 0
-  Stands b past =
-      FollowsReports eats d client t st (start_place past client) (sync_place past client) (described_from d past client) (frames d past) (description_places past) (raw d past) (b past) (queue_with eats d past client)
+  Stands b past = FollowsReports eats d client t st (sync_place past client) (Since past) (Steps past) (raw d past) (b past) (queue_with eats d past client)
 
-  carried : (start start2 sync sync2 from from2 : ℕ) (fs fs2 : List Frame) (ps ps2 : List ℕ) (r r2 : List RawItem) (v v2 : V) (q q2 : List Entry)
-      → start ≡ start2 → sync ≡ sync2 → from ≡ from2 → fs ≡ fs2 → ps ≡ ps2 → r ≡ r2 → v ≡ v2 → q ≡ q2
-      → FollowsReports eats d client t st start sync from fs ps r v q → FollowsReports eats d client t st start2 sync2 from2 fs2 ps2 r2 v2 q2
-  carried start start2 sync sync2 from from2 fs fs2 ps ps2 r r2 v v2 q q2 e1 e2 e3 e4 e5 e6 e7 e8 h =
-      subst (λ x. FollowsReports eats d client t st start2 sync2 from2 fs2 ps2 r2 v2 x) e8
-      (subst (λ x. FollowsReports eats d client t st start2 sync2 from2 fs2 ps2 r2 x q) e7
-      (subst (λ x. FollowsReports eats d client t st start2 sync2 from2 fs2 ps2 x v q) e6
-      (subst (λ x. FollowsReports eats d client t st start2 sync2 from2 fs2 x r v q) e5
-      (subst (λ x. FollowsReports eats d client t st start2 sync2 from2 x ps r v q) e4
-      (subst (λ x. FollowsReports eats d client t st start2 sync2 x fs ps r v q) e3
-      (subst (λ x. FollowsReports eats d client t st start2 x from fs ps r v q) e2
-      (subst (λ x. FollowsReports eats d client t st x sync from fs ps r v q) e1 h)))))))
+  carried : (sync : ℕ) (fs fs2 : List Frame) (steps steps2 : List Step) (r r2 : List RawItem) (v : V) (q q2 : List Entry) → fs ≡ fs2 → steps ≡ steps2 → r ≡ r2 → q ≡ q2
+      → FollowsReports eats d client t st sync fs steps r v q → FollowsReports eats d client t st sync fs2 steps2 r2 v q2
+  carried sync fs fs2 steps steps2 r r2 v q q2 e1 e2 e3 e4 h =
+      subst (λ x. FollowsReports eats d client t st sync fs2 steps2 r2 v x) e4
+      (subst (λ x. FollowsReports eats d client t st sync fs2 steps2 x v q) e3
+      (subst (λ x. FollowsReports eats d client t st sync fs2 x r v q) e2
+      (subst (λ x. FollowsReports eats d client t st sync x steps r v q) e1 h)))
 
   -- behind the client's own call, before the frames
   Midway : (List Step → V) → List Step → Step → Type 0
-  Midway b past x =
-      FollowsReports eats d client t st (start_place past client) (sync_place (x ∷ past) client) (described_from d past client) (frames d past) (description_places past) (raw d past) (b (x ∷ past)) (left_in_queue eats d past client x)
+  Midway b past x = FollowsReports eats d client t st (sync_place (x ∷ past) client) (Since past) (Steps past) (raw d past) (b (x ∷ past)) (left_in_queue eats d past client x)
 
   frames_follow : (b : List Step → V) (past : List Step) (x : Step) → is_start past client x ≡ false → Receives past client → Midway b past x → Stands b (x ∷ past)
   unfolding Midway
@@ -249,33 +243,30 @@ module _ (eats : Eats) (d : Description) (client : ℕ) {V : Type 0} (t : V → 
       left : List Entry
       left = left_in_queue eats d past client x
 
-      from : ℕ
-      from = described_from d past client
+      sync : ℕ
+      sync = sync_place (x ∷ past) client
+
+      frames_now : List Frame
+      frames_now = frames_by d past x (raw d past) (raw_of_step d past x)
 
       by : (describes : Bool) → is_description x ≡ describes → Stands b (x ∷ past)
       by true e =
-          carried (start_place past client) (start_place (x ∷ past) client) (sync_place (x ∷ past) client) (sync_place (x ∷ past) client) from (described_from d (x ∷ past) client)
-          (frames d past) (frames d (x ∷ past)) (length past ∷ description_places past) (description_places (x ∷ past))
-          (raw d (x ∷ past)) (raw d (x ∷ past)) (b (x ∷ past)) (b (x ∷ past)) left (queue_with eats d (x ∷ past) client)
-          (sym (start-same past client x start)) refl (sym (described-same d past client x start)) (sym (frames-described d past x e)) (sym (places-described past x e)) refl refl (sym (queue-described eats d past client x e))
-          (stands-described (start_place past client) (sync_place (x ∷ past) client) from (length past) (frames d past) (description_places past) (raw d past) (raw d (x ∷ past)) (b (x ∷ past)) left
-          (described_from-within d past client) h)
+          carried sync (Since past) (Since (x ∷ past)) (x ∷ Steps past) (Steps (x ∷ past)) (raw d (x ∷ past)) (raw d (x ∷ past)) (b (x ∷ past)) left (queue_with eats d (x ∷ past) client)
+          (sym (since-described d past client x start e)) (sym (steps-step d past client x start)) refl (sym (queue-described eats d past client x e))
+          (stands-described sync (Since past) (Steps past) x (raw d past) (raw d (x ∷ past)) (b (x ∷ past)) left e h)
       by false e =
-          carried (start_place past client) (start_place (x ∷ past) client) (sync_place (x ∷ past) client) (sync_place (x ∷ past) client) from (described_from d (x ∷ past) client)
-          (frames d past ++ frames_by d past x (raw d past) (raw_of_step d past x)) (frames d (x ∷ past)) (description_places past) (description_places (x ∷ past))
-          (raw_after (raw d past) (raw_of_step d past x)) (raw d (x ∷ past)) (b (x ∷ past)) (b (x ∷ past))
-          (offered_to eats d client left (frames_by d past x (raw d past) (raw_of_step d past x))) (queue_with eats d (x ∷ past) client)
-          (sym (start-same past client x start)) refl (sym (described-same d past client x start)) (sym (frames-step d past x)) (sym (places-same past x e)) (sym (raw-step d past x)) refl (sym (queue-step eats d past client x))
-          (frames-stand past x (start_place past client) (sync_place (x ∷ past) client) from (description_places past) receives (start-before past client receives) (places-below past)
-          (raw_of_step d past x) (raw d past) (items-are_events d past x e) (frames d past) (b (x ∷ past)) left (frames-within d past) h)
+          carried sync (Since past ++ frames_now) (Since (x ∷ past)) (x ∷ Steps past) (Steps (x ∷ past)) (raw_after (raw d past) (raw_of_step d past x)) (raw d (x ∷ past)) (b (x ∷ past))
+          (offered_to eats d client left frames_now) (queue_with eats d (x ∷ past) client)
+          (sym (since-step d past client x start)) (sym (steps-step d past client x start)) (sym (raw-step d past x)) (sym (queue-step eats d past client x))
+          (frames-stand past x sync receives (raw_of_step d past x) (raw d past) (items-are_events d past x e) (Since past) (b (x ∷ past)) left (since-within d past client) h)
 
   -- at a query no report of the queue is behind it
-  none_behind : (past : List Step) (x : Step) (v : V) → is_query_of client x ≡ true → (start from : ℕ) (fs : List Frame) (ps : List ℕ)
-      → Promised (Says st (IsBehind eats start (sync_place (x ∷ past) client) from client fs ps)) t v (left_in_queue eats d past client x)
-  none_behind past x v query start from fs ps =
+  none_behind : (past : List Step) (x : Step) (v : V) → is_query_of client x ≡ true → (fs : List Frame)
+      → Promised (Says st (IsBehind eats d (sync_place (x ∷ past) client) client fs)) t v (left_in_queue eats d past client x)
+  none_behind past x v query fs =
       let n : ℕ = length past in
-      Promised-from_each (Says st (IsBehind eats start (sync_place (x ∷ past) client) from client fs ps)) t v (left_in_queue eats d past client x)
-      (Each-weaker (IsPlacedBelow n) (λ e. (w : V) → Says st (IsBehind eats start (sync_place (x ∷ past) client) from client fs ps) e w)
+      Promised-from_each (Says st (IsBehind eats d (sync_place (x ∷ past) client) client fs)) t v (left_in_queue eats d past client x)
+      (Each-weaker (IsPlacedBelow n) (λ e. (w : V) → Says st (IsBehind eats d (sync_place (x ∷ past) client) client fs) e w)
       (λ e placed w f is here. (let below : place f < n = placed f is in
       let above : n < place f = subst (λ (m : ℕ). m < place f) (sync-query past client x query) here.0 in
       absurd (omega (arith, below, above))))
@@ -285,7 +276,7 @@ module _ (eats : Eats) (d : Description) (client : ℕ) {V : Type 0} (t : V → 
   module _ (part : Part) (spares : Spares client part t) (told : List RawItem → V) (b : List Step → V)
       (follows : (past : List Step) (x : Step) → b (x ∷ past) ≡ cond (asks_for part client x) (told (raw d past)) (over t (b past) (map event_of (taken_by_with eats d past client x))))
       (fresh : (past : List Step) (x : Step) → is_start past client x ≡ false → asks_for part client x ≡ true → Receives past client → has_no_loss (taken_since_start_with eats d past client) ≡ true
-      → IsClear eats (start_place past client) (described_from d past client) client (frames d past) (description_places past) → has_no_loss (left_in_queue eats d past client x) ≡ true
+      → IsClear eats client (Since past) (Steps past) → has_no_loss (left_in_queue eats d past client x) ≡ true
       → over t (over t (told (raw d past)) (map event_of (left_in_queue eats d past client x))) (pending d (raw d past)) ≡ st (raw d past)) where
     -- the client asked for this part
     asked_midway : (past : List Step) (x : Step) → is_start past client x ≡ false → asks_for part client x ≡ true → Receives past client → has_no_loss (taken_since_start_with eats d past client) ≡ true → Midway b past x
@@ -294,7 +285,7 @@ module _ (eats : Eats) (d : Description) (client : ℕ) {V : Type 0} (t : V → 
         let is : b (x ∷ past) ≡ told (raw d past) = follows past x ∙ ap (λ (c : Bool). cond c (told (raw d past)) (over t (b past) (map event_of (taken_by_with eats d past client x)))) asks in
         record {
           now = λ clear kept. ap (λ w. over t (over t w (map event_of (left_in_queue eats d past client x))) (pending d (raw d past))) is ∙ fresh past x start asks receives none clear kept;
-          reports = none_behind past x (b (x ∷ past)) (asks-query part client x asks) (start_place past client) (described_from d past client) (frames d past) (description_places past);
+          reports = none_behind past x (b (x ∷ past)) (asks-query part client x asks) (Since past);
         }
 
     -- it made another step, or another made one
@@ -313,13 +304,13 @@ module _ (eats : Eats) (d : Description) (client : ℕ) {V : Type 0} (t : V → 
         }
       where
         D : ℕ → Frame → Type 0
-        D sync = IsBehind eats (start_place past client) sync (described_from d past client) client (frames d past) (description_places past)
+        D sync = IsBehind eats d sync client (Since past)
 
         is_over : b (x ∷ past) ≡ over t (b past) (map event_of (taken_by_with eats d past client x))
         is_over = follows past x ∙ ap (λ (c : Bool). cond c (told (raw d past)) (over t (b past) (map event_of (taken_by_with eats d past client x)))) asks
 
         by : (query : Bool) → is_query_of client x ≡ query → Promised (Says st (D (sync_place (x ∷ past) client))) t (b (x ∷ past)) (left_in_queue eats d past client x)
-        by true query = none_behind past x (b (x ∷ past)) query (start_place past client) (described_from d past client) (frames d past) (description_places past)
+        by true query = none_behind past x (b (x ∷ past)) query (Since past)
         by false query =
             subst (λ (sync : ℕ). Promised (Says st (D sync)) t (b (x ∷ past)) (left_in_queue eats d past client x)) (sym (sync-same past client x start query))
             (subst (λ w. Promised (Says st (D (sync_place past client))) t w (left_in_queue eats d past client x)) (sym is_over)

@@ -22,7 +22,6 @@ pub mod QueueEvents
 pub mod QueuedValues
 pub mod ReadEntries
 pub mod Shape
-pub mod SinceStart
 pub mod Sizes
 pub mod SlotBatch
 pub mod SlotCells

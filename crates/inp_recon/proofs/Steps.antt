@@ -1,5 +1,5 @@
 -- What a step adds to a past: raw events, frames and entries, and where their places lie.
-use Rattle.std.proofs.Common.{◌≡◌, ◌⊎◌, ◌<◌, ◌≤◌, ℕ, suc, Bool, true, false, ◌||◌, if◌then◌else◌, nat_eq, List, [], ◌∷◌, ◌++◌, length, map, drop, refl, sym, ap, subst, ◌∙◌, Some, None, inl, inr, arith, length-append}
+use Rattle.std.proofs.Common.{◌≡◌, ◌⊎◌, ◌<◌, ◌≤◌, ℕ, suc, Bool, true, false, ◌||◌, if◌then◌else◌, nat_eq, List, [], ◌∷◌, ◌++◌, length, map, drop, refl, sym, ap, subst, ◌∙◌, Some, None, inl, inr, arith}
 use Rattle.inp_model.specs.declared.event.Event.{Event}
 use Rattle.inp_model.specs.declared.step.Step.{Step}
 use Rattle.inp_model.specs.declared.step.Step.TheVariants.{Open, Discard}
@@ -9,7 +9,7 @@ use Rattle.inp_model.specs.Step.{is_close_of, is_revoke_of, is_part_of}
 use Rattle.inp_model.specs.Past.{opens, is_opening, is_open, is_revoked}
 use Rattle.inp_model.specs.Cut.{raw_after, cut_for, cuts}
 use Rattle.inp_model.specs.Raw.{raw, raw_and_timer, raw_of_step}
-use Rattle.inp_model.specs.Frame.{place, frame_of, frames_of_step, frames}
+use Rattle.inp_model.specs.Frame.{place, frame_of, frames_of_step}
 use Rattle.inp_model.specs.Left.{Eats}
 use Rattle.inp_model.specs.Queue.{Entry, event_of, visible, entry, entries_of_with, entries_with, queue_with, is_offered}
 use Rattle.inp_recon.specs.Synchronised.{is_dropped, is_start, is_query_of, sync_place}
@@ -19,7 +19,8 @@ use Rattle.inp_recon.proofs.Cuts.{NoCut, OneCut, cut_cases}
 use Rattle.inp_recon.proofs.CallsLeft.{LeftBy, ByRead, ByLoss, ByFlush, ByNone, left_by, left_in_queue}
 use Rattle.inp_recon.proofs.FrameEntries.{Receives}
 use Rattle.inp_recon.proofs.FrameSteps.{frames_by, offered_to}
-use Rattle.std.proofs.lemmas.Bool.{or_parts, or_right}
+use Rattle.std.proofs.lemmas.Bool.{or_parts, or_right, cond_both}
+use Rattle.inp_recon.specs.Undisturbed.{frames_since_start}
 
 pub raw-step : (d : Description) (past : List Step) (x : Step) → raw d (x ∷ past) ≡ raw_after (raw d past) (raw_of_step d past x)
 unfolding raw raw_and_timer raw_of_step
@@ -29,22 +30,7 @@ pub queue-step : (eats : Eats) (d : Description) (past : List Step) (client : �
 unfolding queue_with
 queue-step eats d past client x = refl
 
-pub frames-step : (d : Description) (past : List Step) (x : Step) → frames d (x ∷ past) ≡ frames d past ++ frames_by d past x (raw d past) (raw_of_step d past x)
-unfolding frames
-frames-step d past x = refl
-
 -- ---- a client's last start and last query
-
--- the place of the client's last start
-unfoldable pub start_place : List Step → ℕ → ℕ
-start_place [] client = 0
-start_place (x ∷ past) client =
-    let before = start_place past client in
-    if is_start past client x then length past else before
-
-pub start-same : (past : List Step) (client : ℕ) (x : Step) → is_start past client x ≡ false → start_place (x ∷ past) client ≡ start_place past client
-unfolding start_place
-start-same past client x h = ap (λ (b : Bool). if b then length past else start_place past client) h
 
 pub sync-same : (past : List Step) (client : ℕ) (x : Step) → is_start past client x ≡ false → is_query_of client x ≡ false → sync_place (x ∷ past) client ≡ sync_place past client
 unfolding sync_place
@@ -56,41 +42,10 @@ pub sync-query : (past : List Step) (client : ℕ) (x : Step) → is_query_of cl
 unfolding sync_place
 sync-query past client x h = ap (λ (b : Bool). if b then length past else sync_place past client) (or_right (is_start past client x) _ h)
 
-either_le : (b : Bool) (m n k : ℕ) → m ≤ k → n ≤ k → (if b then m else n) ≤ k
-either_le true m n k h j = h
-either_le false m n k h j = j
-
-start-within : (past : List Step) (client : ℕ) → start_place past client ≤ length past
-unfolding start_place
-start-within [] client = omega arith
-start-within (x ∷ past) client =
-    let before : start_place past client ≤ length past = start-within past client in
-    either_le (is_start past client x) (length past) (start_place past client) (suc (length past)) (omega arith) (omega arith)
-
-start-below : (past : List Step) (client : ℕ) (x : Step) → start_place (x ∷ past) client < suc (length past)
-unfolding start_place
-start-below past client x =
-    let before : start_place past client ≤ length past = start-within past client in
-    let k : (if is_start past client x then length past else start_place past client) ≤ length past =
-    either_le (is_start past client x) (length past) (start_place past client) (length past) (omega arith) before in
-    omega (arith, k)
-
--- the start of an open client is an entry of the past
-pub start-before : (past : List Step) (client : ℕ) → Receives past client → start_place past client < length past
-unfolding is_open
-start-before [] client h = absurd (let e : false ≡ true = h.is_there in cc)
-start-before (x ∷ past) client h = start-below past client x
-
--- the last query is no earlier than the start
-pub start-before_sync : (past : List Step) (client : ℕ) → start_place past client ≤ sync_place past client
-unfolding start_place sync_place
-start-before_sync [] client = omega arith
-start-before_sync (x ∷ past) client = by (is_start past client x) (is_query_of client x) (start-before_sync past client)
-  where
-    by : (starts asks : Bool) → start_place past client ≤ sync_place past client → (if starts then length past else start_place past client) ≤ (if starts || asks then length past else sync_place past client)
-    by true asks h = omega arith
-    by false true h = start-within past client
-    by false false h = h
+-- the frames since the last start
+pub since-step : (d : Description) (past : List Step) (client : ℕ) (x : Step) → is_start past client x ≡ false → frames_since_start d (x ∷ past) client ≡ frames_since_start d past client ++ frames_by d past x (raw d past) (raw_of_step d past x)
+unfolding frames_since_start
+since-step d past client x h = ap (λ (b : Bool). if b then [] else frames_since_start d past client ++ frames_of_step d past x) h
 
 -- ---- a client that receives frames, before the step
 
@@ -146,14 +101,7 @@ left-each G loss eats d past client x h = by (is_start past client x) refl
     by true e = at_start (start_left eats d past client x e)
     by false e = at_call _ (left_by eats d past client x e)
 
--- ---- each queued entry is of a frame of the past
-
--- a step of the past ended the frame
-abbrev pub IsFrameIn : List Step → Frame → Type 0
-IsFrameIn past f = (later : List Step) × (past ≡ later ++ f.step ∷ f.before)
-
-abbrev pub IsPassedIn : List Step → Entry → Type 0
-IsPassedIn past x = (f : Frame) → x.frame ≡ Some f → IsFrameIn past f
+-- ---- each queued entry was entered before the past's end
 
 abbrev pub IsPlacedBelow : ℕ → Entry → Type 0
 IsPlacedBelow n x = (f : Frame) → x.frame ≡ Some f → place f < n
@@ -175,35 +123,28 @@ entries-each G eats d client past s h (c ∷ cs) =
     Each-append G (entries_of_with eats d client (frame_of past s c)) (entries_with eats d client (map (frame_of past s) cs))
     (entries_of-each G eats d client (frame_of past s c) (h c)) (entries-each G eats d client past s h cs)
 
-pub queue-passed : (eats : Eats) (d : Description) (past : List Step) (client : ℕ) → Each (IsPassedIn past) (queue_with eats d past client)
-unfolding queue_with
-queue-passed eats d [] client = tt
-queue-passed eats d (x ∷ past) client = more (queue-passed eats d past client)
-  where
-    In : Entry → Type 0
-    In = IsPassedIn (x ∷ past)
-
-    none : (e : Entry) → e.frame ≡ None → In e
-    none e h = λ f k. absurd (let bad : None ≡ Some f = sym h ∙ k in cc)
-
-    here : (c : Cut) (e : Event) → In (entry d client (frame_of past x c) e)
-    here c e = λ f k. let is : frame_of past x c ≡ f = cc in subst (IsFrameIn (x ∷ past)) is ([], refl)
-
-    more : Each (IsPassedIn past) (queue_with eats d past client) → Each In (queue_with eats d (x ∷ past) client)
-    more h =
-        let old : Each In (queue_with eats d past client) =
-        Each-weaker (IsPassedIn past) In (λ e k f i. (let m : IsFrameIn past f = k f i in (x ∷ m.0, ap (λ (p : List Step). x ∷ p) m.1))) (queue_with eats d past client) h in
-        subst (Each In) (sym (queue-step eats d past client x))
-        (put_all-each In (λ e k. k) (ring d) (left_in_queue eats d past client x) _
-        (left-each In (λ e loss k. none e k) eats d past client x old)
-        (entries-each In eats d client past x here (cuts d (raw d past) (raw_of_step d past x))))
-
-frame-below : (past : List Step) (f : Frame) → IsFrameIn past f → place f < length past
-frame-below past f h = omega (arith, ap length h.1, length-append h.0 (f.step ∷ f.before))
-
 pub queue-placed : (eats : Eats) (d : Description) (past : List Step) (client : ℕ) → Each (IsPlacedBelow (length past)) (queue_with eats d past client)
-queue-placed eats d past client =
-    Each-weaker (IsPassedIn past) (IsPlacedBelow (length past)) (λ e k f i. frame-below past f (k f i)) (queue_with eats d past client) (queue-passed eats d past client)
+unfolding queue_with
+queue-placed eats d [] client = tt
+queue-placed eats d (x ∷ past) client = more (queue-placed eats d past client)
+  where
+    n : ℕ
+    n = suc (length past)
+
+    none : (e : Entry) → e.frame ≡ None → IsPlacedBelow n e
+    none e h = λ f k. let bad : None ≡ Some f = sym h ∙ k in cc
+
+    here : (c : Cut) (e : Event) → IsPlacedBelow n (entry d client (frame_of past x c) e)
+    here c e = λ f k. let is : frame_of past x c ≡ f = cc in subst (λ (g : Frame). place g < n) is (omega arith)
+
+    more : Each (IsPlacedBelow (length past)) (queue_with eats d past client) → Each (IsPlacedBelow n) (queue_with eats d (x ∷ past) client)
+    more h =
+        let old : Each (IsPlacedBelow n) (queue_with eats d past client) =
+        Each-weaker (IsPlacedBelow (length past)) (IsPlacedBelow n) (λ e k f i. (let m : place f < length past = k f i in omega (arith, m))) (queue_with eats d past client) h in
+        subst (Each (IsPlacedBelow n)) (sym (queue-step eats d past client x))
+        (put_all-each (IsPlacedBelow n) (λ e k. k) (ring d) (left_in_queue eats d past client x) _
+        (left-each (IsPlacedBelow n) (λ e loss k. none e k) eats d past client x old)
+        (entries-each (IsPlacedBelow n) eats d client past x here (cuts d (raw d past) (raw_of_step d past x))))
 
 -- ---- frames in order
 
@@ -229,10 +170,10 @@ frames_by-within d past s (x ∷ xs) r = by (cut_cases d r x) (frames_by-within 
     by (inl h) ih = subst (λ (cs : List Cut). Each (IsEndedWithin n) (map (frame_of past s) (cs ++ rest))) (sym h.none) ih
     by (inr h) ih = subst (λ (cs : List Cut). Each (IsEndedWithin n) (map (frame_of past s) (cs ++ rest))) (sym h.one) (raw_after-longer (x ∷ r) xs, ih)
 
-pub frames-within : (d : Description) (past : List Step) → Each (IsEndedWithin (length (raw d past))) (frames d past)
-unfolding frames
-frames-within d [] = tt
-frames-within d (x ∷ past) = more (frames-within d past)
+pub since-within : (d : Description) (past : List Step) (client : ℕ) → Each (IsEndedWithin (length (raw d past))) (frames_since_start d past client)
+unfolding frames_since_start
+since-within d [] client = tt
+since-within d (x ∷ past) client = cond_both (is_start past client x) _ _ (Each (IsEndedWithin (length (raw d (x ∷ past))))) (λ _. tt) (λ _. more (since-within d past client))
   where
     r : List RawItem
     r = raw d past
@@ -240,10 +181,10 @@ frames-within d (x ∷ past) = more (frames-within d past)
     xs : List RawItem
     xs = raw_of_step d past x
 
-    more : Each (IsEndedWithin (length r)) (frames d past) → Each (IsEndedWithin (length (raw d (x ∷ past)))) (frames d past ++ frames_of_step d past x)
+    more : Each (IsEndedWithin (length r)) (frames_since_start d past client) → Each (IsEndedWithin (length (raw d (x ∷ past)))) (frames_since_start d past client ++ frames_of_step d past x)
     more h =
         let longer : length r ≤ length (raw_after r xs) = raw_after-longer r xs in
-        subst (λ (l : List RawItem). Each (IsEndedWithin (length l)) (frames d past ++ frames_of_step d past x)) (sym (raw-step d past x))
-        (Each-append (IsEndedWithin (length (raw_after r xs))) (frames d past) (frames_of_step d past x)
-        (Each-weaker (IsEndedWithin (length r)) (IsEndedWithin (length (raw_after r xs))) (λ f k. omega (arith, k, longer)) (frames d past) h)
+        subst (λ (l : List RawItem). Each (IsEndedWithin (length l)) (frames_since_start d past client ++ frames_of_step d past x)) (sym (raw-step d past x))
+        (Each-append (IsEndedWithin (length (raw_after r xs))) (frames_since_start d past client) (frames_of_step d past x)
+        (Each-weaker (IsEndedWithin (length r)) (IsEndedWithin (length (raw_after r xs))) (λ f k. omega (arith, k, longer)) (frames_since_start d past client) h)
         (frames_by-within d past x xs r))

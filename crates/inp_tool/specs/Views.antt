@@ -76,10 +76,10 @@ entries_of at client = entries_of_read (past_till at) [] (taken_by keyboard (pas
 -- whether the promise speaks of this entry and its frame: the client is synchronised, the frame was passed behind its last
 -- query, and nothing was kept from it
 abbrev pub speaks : ℕ → ReadEntry → Frame → Bool
-speaks client taken f =
-    is_synchronised keyboard taken.before client taken.taken
-    && nat_lt (sync_place taken.before client) (place f)
-    && is_undisturbed keyboard taken.before client f
+speaks client item f =
+    is_synchronised keyboard item.before client item.taken
+    && nat_lt (sync_place item.before client) (place f)
+    && is_undisturbed keyboard item.before client f
 
 -- which of the keys A and B are down
 abbrev pub down : (ℕ → Bool) → List ℕ
@@ -89,11 +89,11 @@ down is_down = filter is_down (KEY_A ∷ KEY_B ∷ [])
 -- view, and on the device at the end of the report's frame?
 abbrev pub Shows : ℕ → ℕ → ℕ → Bool → List ℕ → List ℕ → Type 0
 Shows at client j speaking in_view on_device =
-    (taken : ReadEntry) × (f : Frame)
-    × (slice_get (entries_of at client) j ≡ Some taken)
-    × IsReportOf taken.entry f
-    × (speaks client taken f ≡ speaking)
-    × (down (has_key (view_at keyboard client taken)) ≡ in_view)
+    (item : ReadEntry) × (f : Frame)
+    × (slice_get (entries_of at client) j ≡ Some item)
+    × IsReportOf item.entry f
+    × (speaks client item f ≡ speaking)
+    × (down (has_key (view_at keyboard client item)) ≡ in_view)
     × (down (key_down keyboard f.cut.until) ≡ on_device)
 
 -- what the read at this place took of losses: the places of the steps by which they came
