@@ -1,3 +1,4 @@
+pub mod SightCounts
 pub mod Actors
 pub mod AxisCounts
 pub mod Computation

@@ -6,12 +6,12 @@ ghost use Rattle.inp_recon.specs.Cells.{cell_of};
 ghost use Rattle.inp_report.specs.Summary.{told_slot, make_line, calls_line, counts_text, position_text, counts_line, brief_line, job_brief, run_brief, summary};
 ghost use Rattle.inp_script.specs.Runs.{AreRunsOf, IsRunOf};
 
-use crate::sights::{again_count, counted_calls, made_count, took_count};
+use crate::sights::{SightCounts, counted_calls, sight_counts};
 use crate::whole::push_device;
 use inp_actors::{ActorText, Actors, DeviceText, Name, Record, Role};
 use inp_model::{ABS_MT_POSITION_X, ABS_MT_POSITION_Y, NoMemory};
 use inp_recon::Cells;
-use inp_script::{JobEnd, Run, Runs, Sight};
+use inp_script::{JobEnd, Run, Runs, Sights};
 use inp_texts::{Page, RoleText};
 use std::alloc::Global;
 
@@ -116,7 +116,7 @@ fn push_brief(text: &mut Page, actor: &ActorText, job: &JobEnd) -> Result<(), No
         ≡ text.old ++ brief_line actor.now.role actor.now.name job.now) }
 {
     match actor.role {
-        Role::Source => push_calls(text, &actor.name, counted_calls(job.sight().as_slice())),
+        Role::Source => push_calls(text, &actor.name, counted_calls(job.sight())),
         Role::Client => push_counts(text, Role::Client, &actor.name, job),
         Role::Tap => push_counts(text, Role::Tap, &actor.name, job),
         Role::Joy | Role::Owner => Ok(()),
@@ -140,7 +140,7 @@ fn push_counts(text: &mut Page, role: Role, name: &Name, job: &JobEnd) -> Result
     let role = RoleText(role);
     let name = name.as_str();
     write!(text, "{role} {name} ")?;
-    push_sight_counts(text, job.sight().as_slice())?;
+    push_sight_counts(text, job.sight())?;
     text.push_str(" ")?;
     push_position(text, &job.view().cells)?;
     text.push_str("\n")?;
@@ -148,13 +148,11 @@ fn push_counts(text: &mut Page, role: Role, name: &Name, job: &JobEnd) -> Result
 }
 
 #[tactic(auto, unfolding(crate::specs::Summary::counts_text))]
-fn push_sight_counts(text: &mut Page, sights: &[Sight]) -> Result<(), NoMemory>
+fn push_sight_counts(text: &mut Page, sights: &Sights) -> Result<(), NoMemory>
     ensures pushed { OnOk result
         (text.new ≡ text.old ++ counts_text sights.now) }
 {
-    let took = took_count(sights);
-    let made = made_count(sights);
-    let again = again_count(sights);
+    let SightCounts { took, made, again } = sight_counts(sights);
     write!(text, "took {took} made {made} again {again}")?;
     Ok(())
 }

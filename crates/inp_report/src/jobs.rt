@@ -34,7 +34,7 @@ fn push_part(text: &mut Page, actor: &ActorText, caps: &Caps, job: &JobEnd) -> R
 {
     match actor.role {
         Role::Source => {
-            let calls = counted_calls(job.sight().as_slice());
+            let calls = counted_calls(job.sight());
             push_source(text, &actor.name, calls, *job.stop())
         }
         Role::Client => push_reading(text, Role::Client, &actor.name, caps, job),
@@ -56,7 +56,7 @@ fn push_reading(
         ≡ text.old ++ reading_text role name.now caps.now job.now) }
 {
     push_actor(text, role, name)?;
-    push_sights(text, job.sight().as_slice())?;
+    push_sights(text, job.sight())?;
     push_view(text, caps, job.view())?;
     push_stop_line(text, *job.stop())
 }

@@ -59,7 +59,7 @@ fn push_joystick(text: &mut Page, name: &Name, caps: &Caps, joy: &JoyEnd) -> Res
         ≡ text.old ++ joystick_text name.now caps.now joy.now) }
 {
     push_actor(text, Role::Joy, name)?;
-    push_sights(text, joy.sight().as_slice())?;
+    push_sights(text, joy.sight())?;
     push_picture(text, caps, joy.picture())?;
     push_stop_line(text, *joy.stop())
 }

@@ -12,15 +12,15 @@ use crate::took_words::TookWords;
 use crate::words::{push_axis, push_event, push_numbered, push_refusal, push_spaced};
 use inp_joy::JoyRecord;
 use inp_model::{EV_KEY, EV_LED, EV_SND, EV_SW, EV_SYN, NoMemory, Reply, Step};
-use inp_script::Sight;
+use inp_script::{Sight, Sights};
 use inp_texts::Page;
 
-pub(crate) fn push_sights(text: &mut Page, sights: &[Sight]) -> Result<(), NoMemory>
+pub(crate) fn push_sights(text: &mut Page, sights: &Sights) -> Result<(), NoMemory>
     ensures pushed { OnOk result (text.new ≡ text.old ++ flat_map sight_line sights.now) }
 {
     let mut took = TookWords::new(text.allocator())?;
-    for sight in sights {
-        push_sight(text, &mut took, sight)?;
+    for index in 0..sights.len() {
+        push_sight(text, &mut took, &sights.get(index))?;
     }
     Ok(())
 }
@@ -132,10 +132,16 @@ fn query_kind(step: Step) -> u16
 }
 
 // How many calls of a source count: the accepted ones, but for the End that follows its lines.
-pub(crate) fn counted_calls(sights: &[Sight]) -> usize
+pub(crate) fn counted_calls(sights: &Sights) -> usize
     ensures count { result ≡ count_by is_counted_call sights.now }
 {
-    sights.iter().filter(|sight| is_counted_call(sight)).count()
+    let mut count = 0;
+    for index in 0..sights.len() {
+        if is_counted_call(&sights.get(index)) {
+            count += 1;
+        }
+    }
+    count
 }
 
 fn is_counted_call(sight: &Sight) -> bool
@@ -154,30 +160,33 @@ fn is_end(step: Step) -> bool
     matches!(step, Step::End)
 }
 
-// How many entries are of each of the other kinds.
-pub(crate) fn took_count(sights: &[Sight]) -> usize
-    ensures count { result ≡ count_by is_took sights.now }
-{
-    sights
-        .iter()
-        .filter(|sight| matches!(sight, Sight::Took { .. }))
-        .count()
+/// How many events a job took, how many its reader made, and how often nothing was visible to it.
+#[derive(Clone, Copy)]
+pub(crate) struct SightCounts {
+    pub(crate) took: usize,
+    pub(crate) made: usize,
+    pub(crate) again: usize,
 }
 
-pub(crate) fn made_count(sights: &[Sight]) -> usize
-    ensures count { result ≡ count_by is_made sights.now }
+// Counts the entries of the other kinds.
+pub(crate) fn sight_counts(sights: &Sights) -> SightCounts
+    ensures took { result.took ≡ count_by is_took sights.now }
+    ensures made { result.made ≡ count_by is_made sights.now }
+    ensures again { result.again ≡ count_by is_again_sight sights.now }
 {
-    sights
-        .iter()
-        .filter(|sight| matches!(sight, Sight::Made { .. }))
-        .count()
-}
-
-pub(crate) fn again_count(sights: &[Sight]) -> usize
-    ensures count { result ≡ count_by is_again_sight sights.now }
-{
-    sights
-        .iter()
-        .filter(|sight| matches!(sight, Sight::Again { .. }))
-        .count()
+    let mut counts = SightCounts {
+        took: 0,
+        made: 0,
+        again: 0,
+    };
+    for index in 0..sights.len() {
+        match sights.get(index) {
+            Sight::Took { .. } => counts.took += 1,
+            Sight::Made { .. } => counts.made += 1,
+            Sight::Again { .. } => counts.again += 1,
+            Sight::Call { .. } => {}
+            Sight::Record { .. } => {}
+        }
+    }
+    counts
 }

@@ -85,8 +85,8 @@ fn a_client_waits_for_so_many_reads(rt: HostRuntime) -> Result<(), Fail> {
     let job = end_of_client(rt.alloc())?.expect(&rt, "a client is no joystick and no owner");
     // The open and the query of keys come first.
     assert_eq!(rt; *job.stop(), Stop::Idle { turns: 5, at: 2 });
-    let sight = job.sight().as_slice();
+    let sight = job.sight();
     assert_eq!(rt; sight.len(), 3);
-    assert_eq!(rt; sight.last(), Some(&Sight::Again { at: 2, ends: 0 }));
+    assert_eq!(rt; sight.get(2), Sight::Again { at: 2, ends: 0 });
     Ok(())
 }

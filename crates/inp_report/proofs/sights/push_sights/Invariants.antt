@@ -4,5 +4,5 @@ use Rattle.inp_report.specs.Sights.{sight_line}
 use Rattle.inp_report.proofs.sights.push_sights.Given as goal
 
 -- the lines of the entries so far
-abbrev pub invariant-loop-sight : goal.invariant-loop-sight
-invariant-loop-sight l = l.text ≡ l.initial.text ++ flat_map sight_line (take l.sight-index l.sights)
+abbrev pub invariant-loop-index : goal.invariant-loop-index
+invariant-loop-index l = l.text ≡ l.initial.text ++ flat_map sight_line (take l.index l.sights)

@@ -1,0 +1,73 @@
+-- What is written and counted of a sight, one entry on.
+use Rattle.std.proofs.Common.{◌≡◌, ℕ, ◌+◌, Bool, true, false, cond, List, [], ◌∷◌, ◌++◌, take, Some, refl, ap, ◌∙◌, sym}
+use Rattle.std.specs.Prelude.{slice_get}
+use Rattle.std.specs.List.{count_by, flat_map}
+use Rattle.std.proofs.lemmas.List.{take_more, flat_map_more}
+use Rattle.std.proofs.lemmas.List.Sums.{count_by_more_yes, count_by_more_no}
+use Rattle.std.proofs.lemmas.Option.{slice_get_within, get_or_from_slice_get}
+use Rattle.inp_script.specs.declared.sight.Sight.{Sight}
+use Rattle.inp_report.specs.declared.sights.SightCounts.{SightCounts}
+use Rattle.inp_report.specs.Sights.{is_took, is_made, is_again_sight}
+
+-- the items up to one
+taken-more : {X : Type 0} (xs : List X) (i : ℕ) (x : X) → slice_get xs i ≡ Some x → take (i + 1) xs ≡ take i xs ++ x ∷ []
+taken-more {X} xs i x at =
+    take_more xs i x (slice_get_within xs i x at)
+    ∙ ap (λ (y : X). take i xs ++ y ∷ []) (get_or_from_slice_get xs i x x at)
+
+-- one that counts, and one that does not
+pub counted-yes : {X : Type 0} (p : X → Bool) (xs : List X) (i : ℕ) (x : X) (count : ℕ)
+    → p x ≡ true → slice_get xs i ≡ Some x → count ≡ count_by p (take i xs) → count + 1 ≡ count_by p (take (i + 1) xs)
+counted-yes p xs i x count counts at before =
+    let same = get_or_from_slice_get xs i x x at in
+    ap (λ (n : ℕ). n + 1) before ∙ sym (count_by_more_yes p xs i x (slice_get_within xs i x at) (ap p same ∙ counts))
+
+pub counted-no : {X : Type 0} (p : X → Bool) (xs : List X) (i : ℕ) (x : X) (count : ℕ)
+    → p x ≡ false → slice_get xs i ≡ Some x → count ≡ count_by p (take i xs) → count ≡ count_by p (take (i + 1) xs)
+counted-no p xs i x count fails at before =
+    let same = get_or_from_slice_get xs i x x at in
+    before ∙ sym (count_by_more_no p xs i x (slice_get_within xs i x at) (ap p same ∙ fails))
+
+counted-more : {X : Type 0} (p : X → Bool) (xs : List X) (i : ℕ) (x : X) (count : ℕ) → slice_get xs i ≡ Some x
+    → count ≡ count_by p (take i xs) → cond (p x) (count + 1) count ≡ count_by p (take (i + 1) xs)
+counted-more p xs i x count at before = by (p x) refl
+  where
+    by : (b : Bool) → p x ≡ b → cond (p x) (count + 1) count ≡ count_by p (take (i + 1) xs)
+    by true counts = ap (λ (b : Bool). cond b (count + 1) count) counts ∙ counted-yes p xs i x count counts at before
+    by false fails = ap (λ (b : Bool). cond b (count + 1) count) fails ∙ counted-no p xs i x count fails at before
+
+-- the counts of each kind, with one entry more
+abbrev pub counts_with : SightCounts → Sight → SightCounts
+counts_with n s = record {
+  took = cond (is_took s) (n.took + 1) n.took;
+  made = cond (is_made s) (n.made + 1) n.made;
+  again = cond (is_again_sight s) (n.again + 1) n.again;
+}
+
+abbrev AreCounted : List Sight → ℕ → SightCounts → Type 0
+AreCounted sights i n = record {
+  took : n.took ≡ count_by is_took (take i sights);
+  made : n.made ≡ count_by is_made (take i sights);
+  again : n.again ≡ count_by is_again_sight (take i sights);
+}
+
+pub kinds-more : (sights : List Sight) (i : ℕ) (read sight : Sight) (old new : SightCounts)
+    → slice_get sights i ≡ Some read → read ≡ sight → new ≡ counts_with old sight → AreCounted sights i old
+    → AreCounted sights (i + 1) new
+kinds-more sights i read sight old new at is more before =
+    let there : slice_get sights i ≡ Some sight = at ∙ ap (λ (s : Sight). Some s) is in
+    record {
+      took = ap (λ (n : SightCounts). n.took) more
+          ∙ counted-more is_took sights i sight old.took there before.took;
+      made = ap (λ (n : SightCounts). n.made) more
+          ∙ counted-more is_made sights i sight old.made there before.made;
+      again = ap (λ (n : SightCounts). n.again) more
+          ∙ counted-more is_again_sight sights i sight old.again there before.again;
+    }
+
+-- What is written
+
+pub written-more : {X : Type 0} (f : X → List ℕ) (before : List ℕ) (xs : List X) (i : ℕ) (x : X) → slice_get xs i ≡ Some x
+    → (before ++ flat_map f (take i xs)) ++ f x ≡ before ++ flat_map f (take (i + 1) xs)
+written-more {X} f before xs i x at =
+    flat_map_more f before (take i xs) x ∙ ap (λ (ys : List X). before ++ flat_map f ys) (sym (taken-more xs i x at))

@@ -1,0 +1,19 @@
+use Rattle.std.proofs.Common.{sym, ◌∙◌}
+use Rattle.inp_report.specs.Sights.{is_counted_call}
+use Rattle.inp_report.proofs.SightCounts.{counted-yes, counted-no}
+use Rattle.inp_report.proofs.sights.counted_calls.Goals.{then-is_counted_call, else-is_counted_call}
+use Rattle.inp_report.proofs.sights.counted_calls.Goals as goal
+
+pub loop-index-preserved : goal.loop-index-preserved
+loop-index-preserved c =
+    let sights = c.args.sights.now in
+    let index = c.loop-index.index in
+    let before = c.loop-index.invariant in
+    elim c.if-is_counted_call.branch [
+      | then-is_counted_call w ↦
+          w.count-is ∙ counted-yes is_counted_call sights index c.get.result c.loop-index.count
+          (sym c.is_counted_call.ensures.counted ∙ w.if-is_counted_call.true) c.get.ensures.item before
+      | else-is_counted_call w ↦
+          w.count-is ∙ counted-no is_counted_call sights index c.get.result c.loop-index.count
+          (sym c.is_counted_call.ensures.counted ∙ w.if-is_counted_call.false) c.get.ensures.item before
+    ]
