@@ -1,5 +1,5 @@
 -- Lines that follow each other and inject events of one source leave what the talk of all these events leaves.
-use Rattle.std.proofs.Common.{◌≡◌, ◌≤◌, ℕ, zero, suc, ◌+◌, Bool, true, false, if◌then◌else◌, List, [], ◌∷◌, length, map, take, drop, Option, Some, None, refl, sym, ap, subst, ◌∙◌, arith}
+use Rattle.std.proofs.Common.{◌≡◌, ◌≤◌, ℕ, ◌+◌, Bool, true, false, if◌then◌else◌, List, [], ◌∷◌, length, map, take, drop, Option, Some, None, refl, sym, ap, ◌∙◌, arith}
 use Rattle.std.specs.Prelude.{slice_get, slice_set, option_map, option_and_then}
 use Rattle.std.proofs.lemmas.List.{set-set}
 use Rattle.std.proofs.lemmas.Option.{slice_get-map}
@@ -22,24 +22,11 @@ use Rattle.inp_script.specs.Job.{Job, ActorView}
 use Rattle.inp_script.specs.Line.{after_call, call_talk, stream_talk}
 use Rattle.inp_runs.specs.Play.{Stage, after_talk, after_line, after_line_of, after_lines}
 use Rattle.inp_runs.proofs.order.LineDone.{set_same}
-use Rattle.inp_runs.proofs.EventLines.{event-in_time, event-source}
+use Rattle.inp_runs.proofs.EventLines.{dropped, event-in_time, event-source, taken}
 use Rattle.inp_runs.proofs.Lists.{slice_get-set_same}
 use Rattle.inp_runs.specs.EventLines.{inject_line}
 
 -- Which lines they are
-
-taken : {A : Type 0} (n i : ℕ) (xs : List A) (x : A) → slice_get (take n xs) i ≡ Some x → slice_get xs i ≡ Some x
-taken zero i xs x h = absurd (cc h)
-taken (suc n) i [] x h = absurd (cc h)
-taken (suc n) zero (y ∷ xs) x h = h
-taken (suc n) (suc i) (y ∷ xs) x h = taken n i xs x h
-
-dropped : {A : Type 0} (n i : ℕ) (xs : List A) (x : A) → slice_get (drop n xs) i ≡ Some x → slice_get xs (n + i) ≡ Some x
-dropped {A} zero i xs x h = let same : i ≡ 0 + i = omega arith in subst (λ (k : ℕ). slice_get xs k ≡ Some x) same h
-dropped (suc n) i [] x h = absurd (cc h)
-dropped {A} (suc n) i (y ∷ xs) x h =
-    let same : suc (n + i) ≡ suc n + i = omega arith in
-    subst (λ (k : ℕ). slice_get (y ∷ xs) k ≡ Some x) same (dropped n i xs x h)
 
 -- Lines from this number on inject these events of an actor.
 abbrev pub AreInjects : RecordView → ℕ → ℕ → ℕ → List Stamped → Type 0
