@@ -43,7 +43,7 @@ use Rattle.inp_runs.specs.Play.{Stage, feedback_calls_after, after_talk, unless_
 use Rattle.inp_play.specs.Player.{stage_with, pasts_of, feedback_calls_of, HasDevices, HasActors}
 use Rattle.inp_runs.proofs.order.Alone.{device-alone}
 use Rattle.inp_runs.proofs.order.LineDone.{set_same}
-use Rattle.inp_play.specs.Run.{inject_line}
+use Rattle.inp_runs.specs.EventLines.{inject_line}
 use Rattle.inp_play.proofs.RunLines.{injects-lines}
 use Rattle.inp_runs.proofs.memory.Memory.{GivesUp, gives_up-line, gives_up-stream}
 

@@ -1,11 +1,9 @@
 -- Lines that follow each other and inject events of one source leave what the talk of all these events leaves.
-use Rattle.std.proofs.Common.{◌≡◌, ◌≤◌, ℕ, zero, suc, ◌+◌, Bool, true, false, if◌then◌else◌, List, [], ◌∷◌, length, map, take, drop, Option, Some, None, refl, sym, ap, subst, ◌∙◌, arith}
-use Rattle.std.specs.Prelude.{slice_get, slice_set, option_map, option_and_then, nat_le}
-use Rattle.std.proofs.lemmas.Bool.Decides.{nat_tests}
+use Rattle.std.proofs.Common.{◌≡◌, ◌≤◌, ℕ, ◌+◌, Bool, true, false, if◌then◌else◌, List, [], ◌∷◌, length, map, take, drop, Option, Some, None, refl, sym, ap, ◌∙◌, arith}
+use Rattle.std.specs.Prelude.{slice_get, slice_set, option_map, option_and_then}
 use Rattle.std.proofs.lemmas.List.{set-set}
 use Rattle.std.proofs.lemmas.Option.{slice_get-map}
 use Rattle.inp_model.specs.declared.stamped.Stamped.{Stamped}
-use Rattle.inp_model.specs.declared.stamped.TheConstants.{MOMENT_MAX}
 use Rattle.inp_model.specs.declared.step.Step.{Step}
 use Rattle.inp_model.specs.declared.reply.Reply.TheVariants.{Refused}
 use Rattle.inp_model.specs.declared.reply.Refusal.TheVariants.{LogFull}
@@ -15,7 +13,6 @@ use Rattle.inp_actors.specs.declared.actor_text.ActorText.{ActorText}
 use Rattle.inp_actors.specs.declared.line.Line.{Line}
 use Rattle.inp_actors.specs.declared.role.Role.{Role}
 use Rattle.inp_actors.specs.declared.role.Role.TheVariants.{Source}
-use Rattle.inp_actors.specs.Command.{is_source}
 use Rattle.inp_actors.specs.Record.{RecordView, IsRecord}
 use Rattle.inp_reader.specs.Talk.{Talk, finish, talk_with}
 use Rattle.inp_script.specs.declared.stop.Stop.{Stop}
@@ -25,23 +22,11 @@ use Rattle.inp_script.specs.Job.{Job, ActorView}
 use Rattle.inp_script.specs.Line.{after_call, call_talk, stream_talk}
 use Rattle.inp_runs.specs.Play.{Stage, after_talk, after_line, after_line_of, after_lines}
 use Rattle.inp_runs.proofs.order.LineDone.{set_same}
+use Rattle.inp_runs.proofs.EventLines.{dropped, event-in_time, event-source, taken}
 use Rattle.inp_runs.proofs.Lists.{slice_get-set_same}
-use Rattle.inp_play.specs.Run.{inject_line}
+use Rattle.inp_runs.specs.EventLines.{inject_line}
 
 -- Which lines they are
-
-taken : {A : Type 0} (n i : ℕ) (xs : List A) (x : A) → slice_get (take n xs) i ≡ Some x → slice_get xs i ≡ Some x
-taken zero i xs x h = absurd (cc h)
-taken (suc n) i [] x h = absurd (cc h)
-taken (suc n) zero (y ∷ xs) x h = h
-taken (suc n) (suc i) (y ∷ xs) x h = taken n i xs x h
-
-dropped : {A : Type 0} (n i : ℕ) (xs : List A) (x : A) → slice_get (drop n xs) i ≡ Some x → slice_get xs (n + i) ≡ Some x
-dropped {A} zero i xs x h = let same : i ≡ 0 + i = omega arith in subst (λ (k : ℕ). slice_get xs k ≡ Some x) same h
-dropped (suc n) i [] x h = absurd (cc h)
-dropped {A} (suc n) i (y ∷ xs) x h =
-    let same : suc (n + i) ≡ suc n + i = omega arith in
-    subst (λ (k : ℕ). slice_get (y ∷ xs) k ≡ Some x) same (dropped n i xs x h)
 
 -- Lines from this number on inject these events of an actor.
 abbrev pub AreInjects : RecordView → ℕ → ℕ → ℕ → List Stamped → Type 0
@@ -55,18 +40,13 @@ inject-at r number count actor i events s are h =
 
 pub injects-in_time : (r : RecordView) (number count actor : ℕ) (text : ActorText) (events : List Stamped) → IsRecord r → slice_get r.actors actor ≡ Some text → AreInjects r number count actor events → AreInTime events
 injects-in_time r number count actor text events keeps is_text are i s h =
-    let range : nat_le s.now MOMENT_MAX ≡ true = keeps.ranges (number + i) (inject_line actor s) text (inject-at r number count actor i events s are h) is_text in
-    grind (arith, nat_tests, range)
-
-is-source : (role : Role) → is_source role ≡ true → role ≡ Source
-is-source Source h = refl
-is-source _ h = absurd cc
+    event-in_time r (number + i) actor text s keeps is_text (inject-at r number count actor i events s are h)
 
 -- the actor is a source
 pub injects-source : (r : RecordView) (number count actor : ℕ) (text : ActorText) (events : List Stamped) → IsRecord r → slice_get r.actors actor ≡ Some text → AreInjects r number count actor events → 1 ≤ length events → text.role ≡ Source
 injects-source r number count actor text [] keeps is_text are some = absurd (omega (arith, some))
 injects-source r number count actor text (s ∷ events) keeps is_text are some =
-    is-source text.role (keeps.commands (number + 0) (inject_line actor s) text (inject-at r number count actor 0 (s ∷ events) s are refl) is_text)
+    event-source r (number + 0) actor text s keeps is_text (inject-at r number count actor 0 (s ∷ events) s are refl)
 
 -- What they leave
 

@@ -1,3 +1,2 @@
 pub mod Player
 pub mod GatheredRuns
-pub mod Run

@@ -6,9 +6,10 @@ ghost use Rattle.inp_runs.specs.Play.{first_stage, runs_of};
 ghost use Rattle.inp_play.specs.Player.{stage_of, first_device, first_actors, HasActors, IsPlayer, DoesOn};
 
 use crate::gathered_runs::{histories, push_end};
-use crate::run::{NO_STAMPED, RUN_MAX, gather};
+use crate::run::{RUN_MAX, gather};
 use inp_actors::Record;
 use inp_model::{NoMemory, Stamped};
+use inp_runs::NO_STAMPED;
 use inp_script::{Actor, Played};
 use inp_uinput::Owned;
 use std::alloc::Global;

@@ -1,17 +1,14 @@
 -- An owner does its lines by feedback calls under the turn.
-use Rattle.std.proofs.Common.{◌≡◌, ℕ, ◌-◌, Bool, true, false, if◌then◌else◌, List, [], ◌∷◌, ◌++◌, length, take, reverse, refl, sym, ap, subst, ◌∙◌, arith, inl, inr, Option, Some, None, append_assoc, length-append}
+use Rattle.std.proofs.Common.{◌≡◌, ℕ, ◌-◌, Bool, true, false, if◌then◌else◌, List, [], ◌∷◌, ◌++◌, length, take, reverse, refl, sym, ap, subst, ◌∙◌, arith, inr, Option, Some, None, append_assoc, length-append}
 use Rattle.std.specs.Prelude.{min}
 use Rattle.std.specs.List.{cons_option}
 use Rattle.std.proofs.lemmas.List.{append-nil, length-reverse, reverse-append}
 use Rattle.std.proofs.Math.Seq.{take-append_seam}
 use Rattle.inp_model.specs.declared.event.Event.{Event}
 use Rattle.inp_model.specs.Description.{Description}
-use Rattle.inp_model.specs.Evdev.{EvdevView}
 use Rattle.inp_model.specs.Reply.{written}
 use Rattle.inp_turn.specs.declared.pass_view.PassView.{PassView}
 use Rattle.inp_actors.specs.declared.line.Line.{Line}
-use Rattle.inp_actors.specs.declared.role.Role.TheVariants.{Owner}
-use Rattle.inp_actors.specs.Record.{RecordView}
 use Rattle.inp_feedback.specs.declared.u_entry.UEntry.{UEntry}
 use Rattle.inp_feedback.specs.declared.u_entry.UEntry.TheVariants.{Feedback}
 use Rattle.inp_feedback.specs.declared.fed.Fed.{Fed}
@@ -23,13 +20,11 @@ use Rattle.inp_feedback.specs.Feedback.{feedback_queue, is_full_of_feedback, tak
 use Rattle.inp_feedback.proofs.Few.{room-enough, room-enough-taken}
 use Rattle.inp_uinput.specs.FeedbackTurn.{entries_after_call, call_places, IsFeedbackTurn}
 use Rattle.inp_script.specs.declared.stop.Stop.{Stop}
-use Rattle.inp_script.specs.declared.waiting.Waiting.{Waiting}
-use Rattle.inp_script.specs.ActorLine.{FeedCall, AreFeedCalls, ActsLine, OwnsLine}
+use Rattle.inp_script.specs.ActorLine.{FeedCall, AreFeedCalls}
 use Rattle.inp_script.specs.Job.{ActorView}
 use Rattle.inp_script.specs.Owner.{Owning, after_feedback, FeedsUnless}
-use Rattle.inp_runs.specs.DoingAll.{AreActed}
+use Rattle.inp_runs.specs.DoingAll.{AreOwned}
 use Rattle.inp_runs.specs.Owner.{rooms_of}
-use Rattle.inp_runs.proofs.DoingAll.{no-owner}
 use Rattle.inp_runs.proofs.owners.OwnerLaws.{fed-free, fed-full, kept-free, told-call-so, told-stopped-so}
 use Rattle.inp_threads.specs.Owner.{IsFedTurn, HasCallsAt, HasFedLines}
 use Rattle.inp_threads.proofs.CallsAt.{calls-go_on, calls-longer}
@@ -121,19 +116,12 @@ module _ {S : Type 0} (feeds : Feeding S) where
   calls-keep f keeps before after (call ∷ calls) (between, first, rest) =
       calls-keep f keeps between after calls rest ∙ keeps before between call.room call.answer call.events first
 
-module _ {S : Type 0} (told : S → EvdevView) (feeds : Feeding S) (r : RecordView) (wait : Option Waiting) where
-  -- A line of an owner is a feedback call.
-  its-line : (before after : S) (line : Line) (old new : ActorView) → old.role ≡ Owner → ActsLine told feeds before after r wait old line new → OwnsLine feeds before after old line new
-  its-line before after line old new owner (inl o) = o
-  its-line before after line old new owner (inr c) = absurd (no-owner old.role c.caller owner)
-
   -- Its job stays.
-  pub owner-stays : (lines : List Line) (before after : S) (old new : ActorView) → old.role ≡ Owner → AreActed told feeds before after r wait lines old new → new ≡ record old { owning = new.owning }
-  unfolding AreActed
-  owner-stays [] before after old new owner h = h.1 ∙ ap (λ (o : Owning). record old { owning = o }) (sym (ap (λ (a : ActorView). a.owning) h.1))
-  owner-stays (line ∷ lines) before after old new owner (between, mid, acts, rest) =
-      let o : OwnsLine feeds before between old line mid = its-line before between line old mid owner acts in
-      owner-stays lines between after mid new (ap (λ (a : ActorView). a.role) o.actor ∙ owner) rest ∙ ap (λ (a : ActorView). record a { owning = new.owning }) o.actor
+  pub owner-stays : (lines : List Line) (before after : S) (old new : ActorView) → AreOwned feeds before after lines old new → new ≡ record old { owning = new.owning }
+  unfolding AreOwned
+  owner-stays [] before after old new h = h.1 ∙ ap (λ (o : Owning). record old { owning = o }) (sym (ap (λ (a : ActorView). a.owning) h.1))
+  owner-stays (line ∷ lines) before after old new (between, mid, owns, rest) =
+      owner-stays lines between after mid new rest ∙ ap (λ (a : ActorView). record a { owning = new.owning }) owns.actor
 
   module _ (d : S → Description) (view : S → PassView Description UEntry)
       (turns : (before after : S) (room : ℕ) (answer : Fed) (events : List Event) → feeds before after room answer events → (d after ≡ d before) × IsFedTurn (d before) (view before) room answer events (view after)) where
@@ -148,17 +136,16 @@ module _ {S : Type 0} (told : S → EvdevView) (feeds : Feeding S) (r : RecordVi
           (subst (λ (o : Owning). HasFedLines (d before) (rooms ++ room ∷ []) (view before) o) (sym h.1) (stopped-line (d before) (view before) rooms room old stop stops fed)),
     )
 
-    pub all-lines : (lines : List Line) (rooms : List ℕ) (before after : S) (old new : ActorView) → old.role ≡ Owner → HasFedLines (d before) rooms (view before) old.owning → AreActed told feeds before after r wait lines old new
+    pub all-lines : (lines : List Line) (rooms : List ℕ) (before after : S) (old new : ActorView) → HasFedLines (d before) rooms (view before) old.owning → AreOwned feeds before after lines old new
         → HasFedLines (d before) (rooms ++ rooms_of lines) (view after) new.owning
-    unfolding AreActed
-    all-lines [] rooms before after old new owner fed h =
+    unfolding AreOwned
+    all-lines [] rooms before after old new fed h =
         subst (λ (rs : List ℕ). HasFedLines (d before) rs (view after) new.owning) (sym (append-nil rooms))
         (subst (λ (s : S). HasFedLines (d before) rooms (view s) new.owning) (sym h.0) (subst (λ (a : ActorView). HasFedLines (d before) rooms (view before) a.owning) (sym h.1) fed))
-    all-lines (line ∷ lines) rooms before after old new owner fed (between, mid, acts, rest) =
-        let o : OwnsLine feeds before between old line mid = its-line before between line old mid owner acts in
+    all-lines (line ∷ lines) rooms before after old new fed (between, mid, o, rest) =
         let more : List ℕ = rooms ++ o.room ∷ [] in
         let one = line-more before between rooms o.room old.owning mid.owning old.owning.stop refl o.fed fed in
-        let all = all-lines lines more between after mid new (ap (λ (a : ActorView). a.role) o.actor ∙ owner) (subst (λ (x : Description). HasFedLines x more (view between) mid.owning) (sym one.0) one.1) rest in
+        let all = all-lines lines more between after mid new (subst (λ (x : Description). HasFedLines x more (view between) mid.owning) (sym one.0) one.1) rest in
         subst (λ (rs : List ℕ). HasFedLines (d before) rs (view after) new.owning)
         (append_assoc rooms (o.room ∷ []) (rooms_of lines) ∙ ap (λ (room : Option ℕ). rooms ++ cons_option room (rooms_of lines)) (sym o.is_room))
         (subst (λ (x : Description). HasFedLines x (more ++ rooms_of lines) (view after) new.owning) one.0 all)

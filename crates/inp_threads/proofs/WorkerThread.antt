@@ -172,11 +172,11 @@ module _ {S : Type 0} {K : Ghosts UdevView Description UEntry} (port : S → Por
       owned owner =
           let lines : List Line = lines_by old.actor r.lines in
           let acts = all-owned told feeds r wait before after old new owner all in
-          let stays : new ≡ record old { owning = new.owning } = owner-stays told feeds r wait lines before after old new owner acts in
+          let stays : new ≡ record old { owning = new.owning } = owner-stays feeds lines before after old new acts in
           let fed : HasFedLines d (rooms_of lines) v new.owning =
-          all-lines told feeds r wait (λ (s : S). description_of (port s)) (λ (s : S). view_of (pass s))
+          all-lines feeds (λ (s : S). description_of (port s)) (λ (s : S). view_of (pass s))
           (λ b a room answer events h. (let t = by b a room answer events h in (ap description_of t.0, t.1)))
-          lines [] before after old new owner
+          lines [] before after old new
           (record { done = []; before = old.owning; calls = no-calls d (view_of (pass before)) old.owning fresh.seen fresh.own start.owning; ends = inl (refl, refl) }) acts in
           record {
             fed = subst (λ (n : ℕ). HasFedLines d (rooms_of (lines_by n r.lines)) v new.owning) (sym (ap (λ (a : ActorView). a.actor) still)) fed;

@@ -1,5 +1,5 @@
 use Rattle.std.proofs.Common.{◌≡◌, length, map, take}
-use Rattle.inp_play.specs.Run.{inject_line}
+use Rattle.inp_runs.specs.EventLines.{inject_line}
 use Rattle.inp_play.proofs.run.gather.Given as goal
 
 abbrev pub invariant-loop-at : goal.invariant-loop-at

@@ -13,7 +13,7 @@ use Rattle.inp_uinput.specs.UdevView.{UdevView, owned_view}
 use Rattle.inp_runs.specs.Play.{after_lines}
 use Rattle.inp_play.specs.declared.player.Player.{Player}
 use Rattle.inp_play.specs.Player.{stage_of, stage_with, HasDevices, HasActors}
-use Rattle.inp_play.specs.Run.{inject_line}
+use Rattle.inp_runs.specs.EventLines.{inject_line}
 use Rattle.inp_play.proofs.PlayerLines.{IsFound, found-same_role, inject_does, devices_stay, actors_stay}
 use Rattle.inp_play.proofs.PlayerSteps.{IsDone, found_by}
 use Rattle.inp_play.proofs.RunLines.{AreInjects, injects-in_time, injects-source}
