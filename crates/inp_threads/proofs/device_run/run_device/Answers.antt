@@ -55,7 +55,9 @@ returns g c = record {
         owned = own;
       } in
       subst (λ (came : DeviceEnds). IsRunAsPromised (Some c.args.idle) c.args.rec.now c.args.number device came)
-      (ap (λ (h : List Step). let ends : DeviceEnds = record { history = h; ends = c.gather-pass.result.ends.items } in ends) (sym history))
+      (ap (λ (h : List Step). let came : DeviceEnds = record { history = h; ends = c.gather-pass.result.ends.items } in came) (sym history)
+      ∙ ap (λ (es : List Ended). let came : DeviceEnds = record { history = c.into_history-history.result; ends = es } in came)
+      (sym c.of-ends.ensures.items))
       (left-promised c.args.idle c.args.number c.args.rec.now device c.in-Ok.port (view_of c.deal.new.pass) joined c.run_all.new.workers.items joined.seen left
       c.devices.ensures.record (subst IsDescription caps c.copy-caps.ensures.description) c.gather-pass.result.ends.items c.gather-pass.ensures.ends));
 }
