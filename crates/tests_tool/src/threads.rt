@@ -123,15 +123,15 @@ fn all_came<R: Abort>(rt: &R, gate: &Meeting) {
     }
 }
 
-/// Of two keyboards, each with a client (0, 2) before its source (1, 3). A client reads in vain (its call 2), and is held at
-/// its next read until the source comes to its end, which is held until that read has been made.
+/// Of two keyboards, each with a client (0, 2) before its source (1, 3), whose two lines are one call. A client reads in vain
+/// (its call 2), and is held at its next read until the source comes to its end, which is held until that read has been made.
 const FOLLOWS: &[Hold] = &[
     (1, 0, 0, 4),
-    (0, 3, 1, 3),
-    (1, 2, 0, 5),
+    (0, 3, 1, 2),
+    (1, 1, 0, 5),
     (3, 0, 2, 4),
-    (2, 3, 3, 3),
-    (3, 2, 2, 5),
+    (2, 3, 3, 2),
+    (3, 1, 2, 5),
 ];
 
 // It fails where two jobs share a thread, where one device is played after another, where each job tells the number 0 or
