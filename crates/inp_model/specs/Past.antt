@@ -1,13 +1,13 @@
 -- What a history says of clients, their clocks and masks, the grab, the inhibition, the sources and descriptions of axes. Here a history is
 -- written newest first, and is called a past.
-use Rattle.std.specs.Prelude.{ℕ, suc, Bool, true, false, ◌&&◌, ◌||◌, not, if◌then◌else◌, nat_eq, nat_le, List, [], ◌∷◌, length, take, reverse, filter, Option, Some, None, is_some, unwrap_or}
+use Rattle.std.specs.Prelude.{ℕ, suc, Bool, true, false, ◌&&◌, ◌||◌, not, if◌then◌else◌, nat_eq, nat_le, List, [], ◌∷◌, take, reverse, filter, Option, Some, None, is_some, unwrap_or}
 use Rattle.std.specs.List.{range_with_len}
 use Rattle.inp_model.specs.declared.event.TheConstants.{EV_SYN, EV_KEY, EV_SW, EV_LED, EV_SND, EV_REP}
 use Rattle.inp_model.specs.declared.event.Event.{Event}
 use Rattle.inp_model.specs.declared.clock.Clock.{Clock}
 use Rattle.inp_model.specs.declared.clock.Clock.TheVariants.{Realtime}
 use Rattle.inp_model.specs.declared.step.Step.{Step}
-use Rattle.inp_model.specs.Step.{client_of, is_open_step, is_close_of, is_revoke_of, grabber_of, ends_grab_of, clock_for, mask_bit_for, inhibition_of, is_description, is_end_step, is_same}
+use Rattle.inp_model.specs.Step.{client_of, is_open_step, is_close_of, is_revoke_of, grabber_of, ends_grab_of, clock_for, mask_bit_for, inhibition_of, is_end_step, is_same}
 
 -- the past before the place at, of a history that is written oldest first (docs/RULES.md, "Places and moments")
 abbrev pub past_at : List Step → ℕ → List Step
@@ -95,10 +95,3 @@ is_inhibited (x ∷ past) = let before = is_inhibited past in unwrap_or (inhibit
 unfoldable pub ends : List Step → ℕ
 ends [] = 0
 ends (x ∷ past) = if is_end_step x then suc (ends past) else ends past
-
--- the places at which axes were described anew, the last one first (docs/RULES.md, "Axes described anew")
-unfoldable pub description_places : List Step → List ℕ
-description_places [] = []
-description_places (x ∷ past) =
-    let before = description_places past in
-    if is_description x then length past ∷ before else before
