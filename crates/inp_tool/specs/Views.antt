@@ -70,8 +70,8 @@ abbrev pub past_till : ℕ → List Step
 past_till at = reverse (take at steps)
 
 -- what the read at this place took
-abbrev pub entries_of : ℕ → ℕ → List ReadEntry
-entries_of at client = entries_of_read (past_till at) [] (taken_by keyboard (past_till at) client (Read client 64))
+abbrev pub entries_taken : ℕ → ℕ → List ReadEntry
+entries_taken at client = entries_of_read (past_till at) [] (taken_by keyboard (past_till at) client (Read client 64))
 
 -- whether the promise speaks of this entry and its frame: the client is synchronised, the frame was passed behind its last
 -- query, and nothing was kept from it
@@ -90,7 +90,7 @@ down is_down = filter is_down (KEY_A ∷ KEY_B ∷ [])
 abbrev pub Shows : ℕ → ℕ → ℕ → Bool → List ℕ → List ℕ → Type 0
 Shows at client j speaking in_view on_device =
     (item : ReadEntry) × (f : Frame)
-    × (slice_get (entries_of at client) j ≡ Some item)
+    × (slice_get (entries_taken at client) j ≡ Some item)
     × IsReportOf item.entry f
     × (speaks client item f ≡ speaking)
     × (down (has_key (view_at keyboard client item)) ≡ in_view)
