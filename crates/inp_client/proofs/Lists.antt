@@ -1,9 +1,9 @@
 -- Lists: a map, a filter, a search and a removal by what holds of each element.
-use Rattle.std.proofs.Common.{◌≡◌, ◌≢◌, ◌+◌, ◌-◌, ◌<◌, ◌≤◌, ℕ, zero, suc, Bool, true, false, not, ◌&&◌, ◌||◌, if◌then◌else◌, nat_eq, nat_le, nat_lt, List, [], ◌∷◌, length, get_or, map, All, AllPairs, Some, refl, sym, ap, subst, ◌∙◌, inl, inr, zero-add, arith}
+use Rattle.std.proofs.Common.{◌≡◌, ◌≢◌, ◌+◌, ◌-◌, ◌<◌, ◌≤◌, ℕ, zero, suc, Bool, true, false, not, ◌&&◌, ◌||◌, if◌then◌else◌, nat_eq, nat_le, nat_lt, List, [], ◌∷◌, length, get_or, set, map, All, AllPairs, Some, refl, sym, ap, subst, ◌∙◌, inl, inr, zero-add, arith}
 use Rattle.std.specs.List.{filter, find, list_any, range_with_len, remove, insert, AllWithin}
 use Rattle.std.proofs.lemmas.Bool.{cases_lt, cases_order, eq-eqb, ne_eqb, lt-ltb, le-ltb, le-leb, lt-leb}
 use Rattle.std.proofs.lemmas.List.FromFn.{get_or-map-range_with_len}
-use Rattle.std.proofs.lemmas.List.Edits.{length-insert, get_or-insert_below, get_or-insert_at, get_or-insert_above}
+use Rattle.std.proofs.lemmas.List.Edits.{length-remove, get_or-remove_below, get_or-remove_above, length-insert, get_or-insert_below, get_or-insert_at, get_or-insert_above}
 use Rattle.std.proofs.lemmas.List.Elements.{All-head, All-tail, All-from_get_or}
 
 -- Each element of a list is made of the element at its place in another.
@@ -18,6 +18,44 @@ map_same f g [] each = refl
 map_same f g (x ∷ xs) each =
     ap (λ z. z ∷ map f xs) (All-head (λ x. f x ≡ g x) x xs each)
     ∙ ap (λ zs. g x ∷ zs) (map_same f g xs (All-tail (λ x. f x ≡ g x) x xs each))
+
+-- What holds of the first so many places, holds of one place more.
+pub flag_other : (j i : ℕ) → j ≢ i → nat_lt j i ≡ nat_lt j (i + 1)
+flag_other j i differs = elim (cases_lt j i) [
+  | inl below ↦ lt-ltb j i below ∙ sym (lt-ltb j (i + 1) (omega arith))
+  | inr above ↦ le-ltb j i above ∙ sym (le-ltb j (i + 1) (omega (arith, differs)))
+]
+
+-- Another map agrees with the first at each place but one, which is changed, taken out or put in.
+pub map_but_one : {X Y : Type 0} (g g' : X → Y) (xs : List X) (i : ℕ) (d : X) → i < length xs
+    → ((j : ℕ) → j < length xs → j ≢ i → g' (get_or xs j d) ≡ g (get_or xs j d))
+    → (map g' xs ≡ set (map g xs) i (g' (get_or xs i d))) × (map g' (remove xs i) ≡ remove (map g xs) i)
+map_but_one g g' [] i d within others = absurd (omega arith)
+map_but_one g g' (x ∷ xs) zero d within others =
+    let rest = map_same g' g xs (All-from_get_or (λ x. g' x ≡ g x) xs d (λ j in_j. others (suc j) (omega arith) (λ e. omega (arith, e)))) in
+    (ap (λ ys. g' x ∷ ys) rest, rest)
+map_but_one g g' (x ∷ xs) (suc i) d within others =
+    let first = others 0 (omega arith) (λ e. omega (arith, e)) in
+    let rest = map_but_one g g' xs i d (omega arith) (λ j in_j differs. others (suc j) (omega arith) (λ e. differs (omega (arith, e)))) in
+    (rw (first, rest.0) refl, rw (first, rest.1) refl)
+
+-- What holds of each element but one, holds of all where that one is taken out.
+pub All-but_one : {X : Type 0} (P : X → Type 0) (xs : List X) (i : ℕ) (d : X) → i < length xs
+    → ((j : ℕ) → j < length xs → j ≢ i → P (get_or xs j d)) → All P (remove xs i)
+All-but_one P xs i d in_i others = All-from_get_or P (remove xs i) d (λ j in_j.
+    let shorter = length-remove xs i in_i in
+    elim (cases_lt j i) [
+      | inl below ↦ rw (get_or-remove_below xs i d j below in_i) (others j (omega arith) (λ e. omega (arith, e)))
+      | inr above ↦ rw (get_or-remove_above xs i d j above in_i) (others (j + 1) (omega arith) (λ e. omega (arith, e)))
+    ])
+
+pub map_put_in : {X Y : Type 0} (g g' : X → Y) (xs : List X) (i : ℕ) (x : X) → i ≤ length xs → All (λ y. g' y ≡ g y) xs
+    → map g' (insert xs i x) ≡ insert (map g xs) i (g' x)
+map_put_in g g' xs zero x within same = ap (λ ys. g' x ∷ ys) (map_same g' g xs same)
+map_put_in g g' [] (suc i) x within same = absurd (omega arith)
+map_put_in g g' (y ∷ xs) (suc i) x within same =
+    let rest = map_put_in g g' xs i x (omega arith) (All-tail (λ y. g' y ≡ g y) y xs same) in
+    rw (All-head (λ y. g' y ≡ g y) y xs same, rest) refl
 
 -- the first element that passes stands at i
 pub find_at : {X : Type 0} (p : X → Bool) (xs : List X) (i : ℕ) (d : X) → i < length xs → p (get_or xs i d) ≡ true → ((j : ℕ) → j < i → p (get_or xs j d) ≡ false) → find p xs ≡ Some (get_or xs i d)

@@ -1,13 +1,13 @@
 -- Clients in their locations: what a write, a removal and an insert leave.
-use Rattle.std.proofs.Common.{◌≡◌, ◌≢◌, ◌<◌, ◌≤◌, ◌+◌, ℕ, Bool, true, false, cond, ◌||◌, nat_eq, if◌then◌else◌, ◌-◌, List, [], ◌∷◌, length, get_or, set, map, All, Option, Some, None, is_some, unwrap_or, refl, sym, ap, ◌∙◌, inl, inr, arith}
+use Rattle.std.proofs.Common.{◌≡◌, ◌≢◌, ◌<◌, ◌≤◌, ◌+◌, ℕ, Bool, true, false, cond, ◌||◌, nat_eq, List, [], ◌∷◌, length, get_or, set, map, All, Option, Some, None, is_some, unwrap_or, refl, sym, ap, ◌∙◌, subst, inl, inr, arith}
 use Rattle.std.specs.List.{list_any, remove, insert}
 use Rattle.std.specs.Option.{option_map}
-use Rattle.std.proofs.lemmas.Bool.{cases_eq, cases_lt, cases_order, eq-eqb, ne_eqb, cond-true, cond-false, false≢true}
+use Rattle.std.proofs.lemmas.Bool.{cases_eq, cases_order, eq-eqb, false≢true}
 use Rattle.std.specs.List.{AllWithin}
-use Rattle.std.proofs.lemmas.List.{get_or-map, length-map, length-set, get_or-set_same, get_or-set_other, same_lists}
+use Rattle.std.proofs.lemmas.List.{get_or-map, length-map, get_or-set_same, get_or-set_other}
 use Rattle.std.proofs.lemmas.List.Elements.{All-head, All-tail, All-from_get_or}
 use Rattle.std.proofs.lemmas.List.Quantifiers.{all_pairs_remove}
-use Rattle.std.proofs.lemmas.List.Edits.{length-insert, length-remove, get_or-remove_below, get_or-remove_above, get_or-insert_below, get_or-insert_at, get_or-insert_above}
+use Rattle.std.proofs.lemmas.List.Edits.{length-insert, length-remove}
 use Rattle.std.proofs.lemmas.List.Folds.{list_any_at}
 use Rattle.std.proofs.lemmas.List.Sums.{sum_by-set}
 use Rattle.std.proofs.lemmas.Option.{same_Some, none-some}
@@ -17,7 +17,7 @@ use Rattle.inp_client.specs.declared.location.Location.{Location}
 use Rattle.inp_client.specs.Client.{new_client}
 use Rattle.inp_client.specs.Member.{Member}
 use Rattle.inp_client.specs.Clients.{has_number, has_client}
-use Rattle.inp_client.proofs.Lists.{All-insert, all_pairs_insert}
+use Rattle.inp_client.proofs.Lists.{All-but_one, All-insert, all_pairs_insert, map_but_one, map_put_in}
 use Rattle.inp_client.specs.Locations.{client_at, number_at, clients_in, has_location, AreAscending, AreLocated, IsPlaceFor}
 
 -- the clients before the index have lower numbers, and no other one has
@@ -71,26 +71,13 @@ module _ {locations : List Location} {slab : Slab Member} (located : AreLocated 
     write : Updates slab (with_value slab key new) key (Some new)
     write = Updates-with_value slab key new (rw found refl)
 
-    -- what each location's key has then
-    slot_of_location : (j : ℕ) → j < length locations → get (with_value slab key new) (get_or locations j d).key ≡ (if nat_eq j i then Some new else get slab (get_or locations j d).key)
-    slot_of_location j in_j =
-        elim (cases_eq j i) [
-          | inl same ↦
-              let here : (get_or locations j d).key ≡ key = ap (λ (n : ℕ). (get_or locations n d).key) same ∙ at in
-              ap (get (with_value slab key new)) here ∙ write.changed
-              ∙ sym (cond-true (nat_eq j i) (Some new) (get slab (get_or locations j d).key) (eq-eqb j i same))
-          | inr differs ↦
-              write.others _ (λ e. keys_apart i j d in_i in_j differs (e ∙ sym at))
-              ∙ sym (cond-false (nat_eq j i) (Some new) (get slab (get_or locations j d).key) (ne_eqb j i differs))
-        ]
+    long : i < length (clients_in locations slab)
+    long = omega (arith, length-map locations (λ s. client_at slab s.key))
 
-    pub client_of_slot : (j : ℕ) → j < length locations → client_at (with_value slab key new) (get_or locations j d).key ≡ (if nat_eq j i then new else client_at slab (get_or locations j d).key)
-    client_of_slot j in_j =
-        ap (λ (o : Option Member). unwrap_or o (new_client 0 0)) (slot_of_location j in_j) ∙ either (nat_eq j i)
-      where
-        either : (b : Bool) → unwrap_or (if b then Some new else get slab (get_or locations j d).key) (new_client 0 0) ≡ (if b then new else client_at slab (get_or locations j d).key)
-        either true = refl
-        either false = refl
+    -- the other locations' keys have what they had
+    slot_kept : (j : ℕ) → j < length locations → j ≢ i
+        → get (with_value slab key new) (get_or locations j d).key ≡ get slab (get_or locations j d).key
+    slot_kept j in_j differs = write.others _ (λ e. keys_apart i j d in_i in_j differs (e ∙ sym at))
 
     -- the locations are as good for the slab after the write
     pub located_after_write : new.number ≡ old.number → AreLocated locations (with_value slab key new)
@@ -100,42 +87,34 @@ module _ {locations : List Location} {slab : Slab Member} (located : AreLocated 
       counted = counted_after;
     }
       where
-        here : Some new.number ≡ Some (get_or locations i d).number
-        here = ap Some same ∙ sym (ap (option_map (λ c. c.number)) found) ∙ ap (number_at slab) (sym at) ∙ located.keyed i d in_i
-
         counted_after : slab_len (with_value slab key new) ≡ length locations
         counted_after =
             let present : is_some (get slab key) ≡ true = rw found refl in
             omega (arith, sum_by-set (λ (o : Option Member). cond (is_some o) 1 0) slab.slots key (Some new) None (ContainsKey-within slab key present), ap {B = ℕ} (λ (b : Bool). cond b 1 0) present, located.counted)
 
         numbered : (j : ℕ) → j < length locations → number_at (with_value slab key new) (get_or locations j d).key ≡ Some (get_or locations j d).number
-        numbered j in_j =
-            ap (option_map (λ c. c.number)) (slot_of_location j in_j)
-            ∙ elim (cases_eq j i) [
-              | inl e ↦ ap (λ (b : Bool). option_map (λ c. c.number) (if b then Some new else get slab (get_or locations j d).key)) (eq-eqb j i e) ∙ here ∙ ap (λ (n : ℕ). Some (get_or locations n d).number) (sym e)
-              | inr n ↦ ap (λ (b : Bool). option_map (λ c. c.number) (if b then Some new else get slab (get_or locations j d).key)) (ne_eqb j i n) ∙ located.keyed j d in_j
-            ]
+        numbered j in_j = elim (cases_eq j i) [
+          | inl e ↦
+              let P : ℕ → Type 0 = λ n. number_at (with_value slab key new) (get_or locations n d).key ≡ Some (get_or locations n d).number in
+              subst P (sym e) (ap (number_at (with_value slab key new)) at ∙ ap (option_map (λ c. c.number)) write.changed
+              ∙ ap Some same ∙ sym (ap (option_map (λ c. c.number)) found) ∙ ap (number_at slab) (sym at) ∙ located.keyed i d in_i)
+          | inr n ↦ ap (option_map (λ c. c.number)) (slot_kept j in_j n) ∙ located.keyed j d in_j
+        ]
 
     -- the client there is another one, and the others stay
     pub members_after_write : clients_in locations (with_value slab key new) ≡ set (clients_in locations slab) i new
     members_after_write =
-        same_lists (clients_in locations (with_value slab key new)) (set (clients_in locations slab) i new)
-        (omega (arith, length-map locations (λ s. client_at (with_value slab key new) s.key), length-set (clients_in locations slab) i new, length-map locations (λ s. client_at slab s.key)))
-        (λ j e within. each j e (omega (arith, within, length-map locations (λ s. client_at (with_value slab key new) s.key))))
-      where
-        each : (j : ℕ) (e : Member) → j < length locations → get_or (clients_in locations (with_value slab key new)) j e ≡ get_or (set (clients_in locations slab) i new) j e
-        each j e in_j =
-            get_or-map (λ s. client_at (with_value slab key new) s.key) locations j d e in_j
-            ∙ client_of_slot j in_j
-            ∙ elim (cases_eq j i) [
-              | inl same ↦
-                  let long : i < length (clients_in locations slab) = omega (arith, length-map locations (λ s. client_at slab s.key)) in
-                  cond-true (nat_eq j i) new (client_at slab (get_or locations j d).key) (eq-eqb j i same)
-                  ∙ sym (ap (λ (n : ℕ). get_or (set (clients_in locations slab) i new) n e) same ∙ get_or-set_same (clients_in locations slab) i new e long)
-              | inr differs ↦
-                  cond-false (nat_eq j i) new (client_at slab (get_or locations j d).key) (ne_eqb j i differs)
-                  ∙ sym (get_or-set_other (clients_in locations slab) i j new e differs ∙ get_or-map (λ s. client_at slab s.key) locations j d e in_j)
-            ]
+        (map_but_one (λ s. client_at slab s.key) (λ s. client_at (with_value slab key new) s.key) locations i d in_i
+        (λ j in_j differs. ap (λ (o : Option Member). unwrap_or o (new_client 0 0)) (slot_kept j in_j differs))).0
+        ∙ ap (set (clients_in locations slab) i) (ap (client_at (with_value slab key new)) at ∙ ap (λ (o : Option Member). unwrap_or o (new_client 0 0)) write.changed)
+
+    -- so it reads
+    pub member_written : (e : Member) → get_or (clients_in locations (with_value slab key new)) i e ≡ new
+    member_written e = ap (λ (ms : List Member). get_or ms i e) members_after_write ∙ get_or-set_same (clients_in locations slab) i new e long
+
+    pub member_kept : (j : ℕ) (e : Member) → j ≢ i
+        → get_or (clients_in locations (with_value slab key new)) j e ≡ get_or (clients_in locations slab) j e
+    member_kept j e d = ap (λ (ms : List Member). get_or ms j e) members_after_write ∙ get_or-set_other (clients_in locations slab) i j new e d
 
   -- the number of a location is that of an open client
   pub has_client-clients_in : (number : ℕ) → has_client number (clients_in locations slab) ≡ has_location number locations
@@ -150,6 +129,11 @@ module _ {locations : List Location} {slab : Slab Member} (located : AreLocated 
   -- the client in a location
   pub member_in_location : (i : ℕ) (d : Location) (e : Member) → i < length locations → get_or (clients_in locations slab) i e ≡ client_at slab (get_or locations i d).key
   member_in_location i d e in_i = get_or-map (λ s. client_at slab s.key) locations i d e in_i
+
+  -- that which is found under its key
+  pub member_found : (i : ℕ) (d : Location) (e : Member) (key : ℕ) (c : Member) → i < length locations
+      → (get_or locations i d).key ≡ key → get slab key ≡ Some c → get_or (clients_in locations slab) i e ≡ c
+  member_found i d e key c in_i at found = member_in_location i d e in_i ∙ ap (client_at slab) at ∙ client_at_found key c found
 
   -- its number is that of the location
   pub member_number : (i : ℕ) (d : Location) (e : Member) → i < length locations → (get_or (clients_in locations slab) i e).number ≡ (get_or locations i d).number
@@ -172,47 +156,17 @@ module _ {locations : List Location} {slab : Slab Member} (located : AreLocated 
     pub located_after_removal : slab_len after + 1 ≡ slab_len slab → AreLocated (remove locations i) after
     located_after_removal fewer = record {
       ascending = all_pairs_remove (λ s t. s.number < t.number) locations i in_i located.ascending;
-      keyed = All-from_get_or (λ s. number_at after s.key ≡ Some s.number) (remove locations i) d (λ j in_j. numbered j in_j);
+      keyed = All-but_one (λ s. number_at after s.key ≡ Some s.number) locations i d in_i kept;
       counted = omega (arith, fewer, located.counted, length-remove locations i in_i);
     }
       where
         kept : (j : ℕ) → j < length locations → j ≢ i → number_at after (get_or locations j d).key ≡ Some (get_or locations j d).number
         kept j in_j differs = ap (option_map (λ c. c.number)) (others_stay j in_j differs) ∙ located.keyed j d in_j
 
-        numbered : (j : ℕ) → j < length (remove locations i) → number_at after (get_or (remove locations i) j d).key ≡ Some (get_or (remove locations i) j d).number
-        numbered j in_j =
-            let shorter = length-remove locations i in_i in
-            elim (cases_lt j i) [
-              | inl below ↦ rw (get_or-remove_below locations i d j below in_i) (kept j (omega arith) (λ e. omega (arith, e)))
-              | inr above ↦ rw (get_or-remove_above locations i d j above in_i) (kept (j + 1) (omega arith) (λ e. omega (arith, e)))
-            ]
-
     pub members_after_removal : clients_in (remove locations i) after ≡ remove (clients_in locations slab) i
     members_after_removal =
-        same_lists (clients_in (remove locations i) after) (remove (clients_in locations slab) i)
-        (omega (arith, length-map (remove locations i) (λ s. client_at after s.key), length-remove locations i in_i, length-remove (clients_in locations slab) i long, members_long))
-        (λ j e within. each j e (omega (arith, within, length-map (remove locations i) (λ s. client_at after s.key))))
-      where
-        long : i < length (clients_in locations slab)
-        long = omega (arith, members_long)
-
-        stays : (j : ℕ) → j < length locations → j ≢ i → client_at after (get_or locations j d).key ≡ client_at slab (get_or locations j d).key
-        stays j in_j differs = ap (λ (o : Option Member). unwrap_or o (new_client 0 0)) (others_stay j in_j differs)
-
-        each : (j : ℕ) (e : Member) → j < length (remove locations i) → get_or (clients_in (remove locations i) after) j e ≡ get_or (remove (clients_in locations slab) i) j e
-        each j e in_j =
-            let shorter = length-remove locations i in_i in
-            get_or-map (λ s. client_at after s.key) (remove locations i) j d e in_j
-            ∙ elim (cases_lt j i) [
-              | inl below ↦
-                  ap (λ (s : Location). client_at after s.key) (get_or-remove_below locations i d j below in_i)
-                  ∙ stays j (omega arith) (λ e. omega (arith, e))
-                  ∙ sym (get_or-remove_below (clients_in locations slab) i e j below long ∙ member_in_location j d e (omega arith))
-              | inr above ↦
-                  ap (λ (s : Location). client_at after s.key) (get_or-remove_above locations i d j above in_i)
-                  ∙ stays (j + 1) (omega arith) (λ e. omega (arith, e))
-                  ∙ sym (get_or-remove_above (clients_in locations slab) i e j above long ∙ member_in_location (j + 1) d e (omega arith))
-            ]
+        (map_but_one (λ s. client_at slab s.key) (λ s. client_at after s.key) locations i d in_i
+        (λ j in_j differs. ap (λ (o : Option Member). unwrap_or o (new_client 0 0)) (others_stay j in_j differs))).1
 
   -- A client with a number that no other has comes under a key that was vacant, and its location in its place.
   module _ (key : ℕ) (new : Member) (after : Slab Member) (i : ℕ) (vacant : get slab key ≡ None) (inserted : Updates slab after key (Some new)) (place : IsPlaceFor locations new.number i) where
@@ -227,10 +181,6 @@ module _ {locations : List Location} {slab : Slab Member} (located : AreLocated 
     -- the same clients lie in the locations
     clients_stay : (j : ℕ) (d : Location) → j < length locations → client_at after (get_or locations j d).key ≡ client_at slab (get_or locations j d).key
     clients_stay j d in_j = ap (λ (o : Option Member). unwrap_or o (new_client 0 0)) (all_stay j d in_j)
-
-    -- and have the numbers of the locations
-    numbers_stay : (j : ℕ) (d : Location) → j < length locations → (client_at after (get_or locations j d).key).number ≡ (get_or locations j d).number
-    numbers_stay j d in_j = ap (λ (c : Member). c.number) (clients_stay j d in_j) ∙ number_in_location j d in_j
 
     new_there : client_at after key ≡ new
     new_there = ap (λ (o : Option Member). unwrap_or o (new_client 0 0)) inserted.changed
@@ -253,37 +203,8 @@ module _ {locations : List Location} {slab : Slab Member} (located : AreLocated 
 
     pub members_after_insert : clients_in (insert locations i (record { number = new.number; key = key })) after ≡ insert (clients_in locations slab) i new
     members_after_insert =
-        let d : Location = record { number = 0; key = 0 } in
-        same_lists (clients_in (insert locations i new_location) after) (insert (clients_in locations slab) i new)
-        (omega (arith, length-map (insert locations i new_location) (λ s. client_at after s.key), length-insert locations i new_location place.within, length-insert (clients_in locations slab) i new long, members_long))
-        (λ j e within. each j e (omega (arith, within, length-map (insert locations i new_location) (λ s. client_at after s.key))))
-      where
-        long : i ≤ length (clients_in locations slab)
-        long = omega (arith, members_long, place.within)
-
-        each : (j : ℕ) (e : Member) → j < length (insert locations i new_location) → get_or (clients_in (insert locations i new_location) after) j e ≡ get_or (insert (clients_in locations slab) i new) j e
-        each j e in_j =
-            let d : Location = record { number = 0; key = 0 } in
-            let longer = length-insert locations i new_location place.within in
-            get_or-map (λ s. client_at after s.key) (insert locations i new_location) j d e in_j
-            ∙ elim (cases_order j i) [
-              | inl same ↦
-                  ap (λ (n : ℕ). client_at after (get_or (insert locations i new_location) n d).key) same
-                  ∙ ap (λ (s : Location). client_at after s.key) (get_or-insert_at locations i new_location d place.within)
-                  ∙ new_there
-                  ∙ sym (ap (λ (n : ℕ). get_or (insert (clients_in locations slab) i new) n e) same ∙ get_or-insert_at (clients_in locations slab) i new e long)
-              | inr (inl below) ↦
-                  ap (λ (s : Location). client_at after s.key) (get_or-insert_below locations i new_location d j below place.within)
-                  ∙ clients_stay j d (omega (arith, place.within))
-                  ∙ sym (get_or-insert_below (clients_in locations slab) i new e j below long ∙ member_in_location j d e (omega (arith, place.within)))
-              | inr (inr above) ↦
-                  let m : ℕ = j - 1 in
-                  let at : m + 1 ≡ j = omega arith in
-                  ap (λ (n : ℕ). client_at after (get_or (insert locations i new_location) n d).key) (sym at)
-                  ∙ ap (λ (s : Location). client_at after s.key) (get_or-insert_above locations i new_location d m (omega arith) place.within)
-                  ∙ clients_stay m d (omega arith)
-                  ∙ sym (ap (λ (n : ℕ). get_or (insert (clients_in locations slab) i new) n e) (sym at) ∙ get_or-insert_above (clients_in locations slab) i new e m (omega arith) long ∙ member_in_location m d e (omega arith))
-            ]
+        map_put_in (λ s. client_at slab s.key) (λ s. client_at after s.key) locations i new_location place.within (λ j d in_j. clients_stay j d in_j)
+        ∙ ap (insert (clients_in locations slab) i) new_there
 
     -- it has its place among the clients
     pub place_of_member : IsPlaceOf (clients_in locations slab) new.number i

@@ -1,20 +1,34 @@
 -- How the numbers of rings come from those that they had, where frames are offered.
-use Rattle.std.proofs.Common.{◌≡◌, ◌≤◌, ◌<◌, ◌⊎◌, ℕ, suc, ◌+◌, Bool, true, false, ◌||◌, if◌then◌else◌, nat_lt, List, [], ◌∷◌, ◌++◌, length, get_or, Option, refl, sym, ap, ◌∙◌, subst, inl, inr, arith}
+use Rattle.std.proofs.Common.{◌≡◌, ◌≤◌, ◌<◌, ◌⊎◌, ℕ, suc, ◌+◌, Bool, true, false, ◌&&◌, ◌||◌, if◌then◌else◌, nat_lt, List, [], ◌∷◌, ◌++◌, length, get_or, Option, refl, sym, ap, ◌∙◌, subst, inl, inr, arith}
 use Rattle.std.specs.Prelude.{flat_map, count_by}
-use Rattle.std.proofs.lemmas.Bool.{cases_lt, lt-ltb, le-ltb}
+use Rattle.std.proofs.lemmas.Bool.{cond_both, cases_lt, lt-ltb, le-ltb}
 use Rattle.std.proofs.lemmas.List.{append-nil, append_assoc, length-append, length_push}
 use Rattle.std.proofs.lemmas.List.Sums.{sum_by-cons}
 use Rattle.inp_model.specs.declared.event.Event.{Event}
+use Rattle.inp_model.specs.Event.{is_report}
+use Rattle.inp_model.specs.Queue.{is_empty, ends_in_report}
 use Rattle.inp_ring.specs.declared.cell.Cell.{Cell}
-use Rattle.inp_ring.specs.Store.{StoreView}
+use Rattle.inp_ring.specs.Store.{StoreView, event_of_cell, dropped_cell}
 use Rattle.inp_ring.specs.Ring.{RingView, times, EntersAlone, IsLost}
 use Rattle.inp_ring.proofs.Times.{times-append}
 use Rattle.inp_client.specs.Masks.{MaskView, admits_of, full_masks}
-use Rattle.inp_client.specs.Client.{ClientView, new_client}
+use Rattle.inp_client.specs.Client.{ClientView, new_client, with_events, is_offered_to}
+use Rattle.inp_client.specs.Member.{after_event}
 use Rattle.inp_client.specs.Clients.{ClientsView, distinct}
 use Rattle.inp_client.specs.Numbers.{held_numbers, stored_of, loses, admitted_numbers, IsPutBehind, IsStoredOnce}
 use Rattle.inp_client.proofs.CellCounts.{distinct_few, distinct_there}
 use Rattle.inp_client.proofs.MaskBits.{admits_of-full_masks}
+
+-- A client that was offered an event: it is as it was, has it behind its queue, or has lost its queue.
+pub after_event-cases : (P : ClientView Cell → Type 0) (cell : Cell) (holder : Option ℕ) (c : ClientView Cell) → P c
+    → P (with_events (c.ring.events ++ cell ∷ []) c)
+    → (nat_lt (suc (length c.ring.events)) c.ring.places ≡ false → P (with_events (dropped_cell cell ∷ cell ∷ []) c))
+    → P (after_event cell holder c)
+after_event-cases P cell holder c stays behind lost =
+    cond_both (is_offered_to holder c && admits_of c.masks cell.event) _ _ P
+    (λ _. cond_both (is_report cell.event && (is_empty c.ring.events || ends_in_report event_of_cell c.ring.events)) _ _ (λ q. P (with_events q c)) (λ _. stays)
+    (λ _. cond_both (nat_lt (suc (length c.ring.events)) c.ring.places) _ _ (λ q. P (with_events q c)) (λ _. behind) lost))
+    (λ _. stays)
 
 -- nothing was put
 pub put_none : (given old : List ℕ) → IsPutBehind given false old old
@@ -81,54 +95,62 @@ admitted_few masks [] given n = omega arith
 admitted_few masks (e ∷ frame) [] n = omega arith
 admitted_few masks (e ∷ frame) (m ∷ given) n = few_with (admits_of masks e) n m (admitted_numbers masks frame given) given (admitted_few masks frame given n)
 
+-- How the numbers of one ring grow
+
+-- All that a ring has is from a frame, or was there before. Where its queue was lost, SYN_DROPPED stands for what was there.
+pub record IsGrown (given : List ℕ) (is_lost : Bool) (old new : List ℕ) : Type 0 where
+  pub front : List ℕ
+  pub kept_or_lost : (front ≡ old) ⊎ ((is_lost ≡ true) × (length front ≡ 1))
+  pub among : (n : ℕ) → 1 ≤ times n new → 1 ≤ times n front + times n given
+
+-- so it is after a frame, by any test that tells each loss
+pub grown_put : (masks : MaskView) (frame : List Event) {given old new : List ℕ} {lost : Bool} (tells : Bool) → (lost ≡ true → tells ≡ true)
+    → IsPutBehind (admitted_numbers masks frame given) lost old new → IsGrown given tells old new
+grown_put masks frame {given} {old} {new} {lost} tells told put = record {
+  front = put.front;
+  kept_or_lost = by lost refl;
+  among = λ n there. omega (arith, there, ap (times n) put.numbers, times-append n put.front put.behind, put.theirs n, admitted_few masks frame given n);
+}
+  where
+    by : (b : Bool) → lost ≡ b → (put.front ≡ old) ⊎ ((tells ≡ true) × (length put.front ≡ 1))
+    by true is = inr (told is, put.lost is)
+    by false is = inl (put.kept is)
+
 -- How many different numbers there are then
 
 abbrev all_of : List (List ℕ) → List ℕ
 all_of rings = flat_map (λ q. q) rings
 
--- the numbers of SYN_DROPPED that came, one for each client that lost its queue
+-- the numbers of SYN_DROPPED that came
 record AreLosses (count : ℕ) (given old new : List ℕ) : Type 0 where
   losses : List ℕ
-  long : length losses ≡ count
+  few : length losses ≤ count
   among : (n : ℕ) → 1 ≤ times n new → 1 ≤ times n old + times n given + times n losses
 
-module _ (frame : List Event) (now place : ℕ) (holder : Option ℕ) (given : List ℕ) where
-  abbrev lost : ClientView Cell → Bool
-  lost c = loses frame now place holder c
-
-  one_more : (c : ClientView Cell) (cs : List (ClientView Cell)) (o n old new : List ℕ) → IsPutBehind (admitted_numbers c.masks frame given) (lost c) o n → AreLosses (count_by lost cs) given old new → AreLosses (count_by lost (c ∷ cs)) given (o ++ old) (n ++ new)
-  one_more c cs o n old new put rest = by_case (lost c) refl
-    where
-      by_case : (b : Bool) → lost c ≡ b → AreLosses (count_by lost (c ∷ cs)) given (o ++ old) (n ++ new)
-      by_case true is = record {
-        losses = put.front ++ rest.losses;
-        long = omega (arith, length-append put.front rest.losses, put.lost is, rest.long, sum_by-cons (λ (x : ClientView Cell). if lost x then 1 else 0) c cs, ap {B = ℕ} (λ (b : Bool). if b then 1 else 0) is);
-        among = λ k there.
-            let long : times k (n ++ new) ≡ times k put.front + times k put.behind + times k new =
-            omega (arith, ap (times k) put.numbers, times-append k put.front put.behind, times-append k n new) in
-            let theirs : times k put.behind ≤ times k given = omega (arith, put.theirs k, admitted_few c.masks frame given k) in
-            elim (cases_lt 0 (times k new)) [
-              | inl had ↦ omega (arith, rest.among k (omega (arith, had)), times-append k o old, times-append k put.front rest.losses)
-              | inr none ↦ omega (arith, there, long, theirs, none, times-append k put.front rest.losses)
-            ];
-      }
-      by_case false is = record {
-        losses = rest.losses;
-        long = omega (arith, rest.long, sum_by-cons (λ (x : ClientView Cell). if lost x then 1 else 0) c cs, ap {B = ℕ} (λ (b : Bool). if b then 1 else 0) is);
-        among = λ k there.
-            let long : times k (n ++ new) ≡ times k o + times k put.behind + times k new =
-            omega (arith, ap (times k) put.numbers, times-append k put.front put.behind, ap (times k) (put.kept is), times-append k n new) in
-            let theirs : times k put.behind ≤ times k given = omega (arith, put.theirs k, admitted_few c.masks frame given k) in
-            elim (cases_lt 0 (times k new)) [
-              | inl had ↦ omega (arith, rest.among k (omega (arith, had)), times-append k o old)
-              | inr none ↦ omega (arith, there, long, theirs, none, times-append k o old)
-            ];
-      }
+module _ (lost : ClientView Cell → Bool) (given : List ℕ) where
+  one_more : (c : ClientView Cell) (cs : List (ClientView Cell)) (o n old new : List ℕ) → IsGrown given (lost c) o n → AreLosses (count_by lost cs) given old new → AreLosses (count_by lost (c ∷ cs)) given (o ++ old) (n ++ new)
+  one_more c cs o n old new grown rest = elim grown.kept_or_lost [
+    | inl kept ↦ record {
+      losses = rest.losses;
+      few = omega (arith, rest.few, sum_by-cons (λ (x : ClientView Cell). if lost x then 1 else 0) c cs);
+      among = λ k there. elim (cases_lt 0 (times k new)) [
+        | inl had ↦ omega (arith, rest.among k (omega (arith, had)), times-append k o old)
+        | inr none ↦ omega (arith, grown.among k (omega (arith, there, none, times-append k n new)), ap (times k) kept, times-append k o old)
+      ];
+    }
+    | inr was ↦ record {
+      losses = grown.front ++ rest.losses;
+      few = omega (arith, length-append grown.front rest.losses, was.1, rest.few, sum_by-cons (λ (x : ClientView Cell). if lost x then 1 else 0) c cs, ap {B = ℕ} (λ (b : Bool). if b then 1 else 0) was.0);
+      among = λ k there. elim (cases_lt 0 (times k new)) [
+        | inl had ↦ omega (arith, rest.among k (omega (arith, had)), times-append k o old, times-append k grown.front rest.losses)
+        | inr none ↦ omega (arith, grown.among k (omega (arith, there, none, times-append k n new)), times-append k grown.front rest.losses)
+      ];
+    }
+  ]
 
   losses_of : (cs : List (ClientView Cell)) (os ns : List (List ℕ)) → length os ≡ length cs → length ns ≡ length cs
-      → ((i : ℕ) → i < length cs → IsPutBehind (admitted_numbers (get_or cs i (new_client 0 0)).masks frame given) (lost (get_or cs i (new_client 0 0))) (get_or os i []) (get_or ns i []))
-      → AreLosses (count_by lost cs) given (all_of os) (all_of ns)
-  losses_of [] [] [] a b each = record { losses = []; long = refl; among = λ n there. absurd (omega (arith, there)) }
+      → ((i : ℕ) → i < length cs → IsGrown given (lost (get_or cs i (new_client 0 0))) (get_or os i []) (get_or ns i [])) → AreLosses (count_by lost cs) given (all_of os) (all_of ns)
+  losses_of [] [] [] a b each = record { losses = []; few = omega arith; among = λ n there. absurd (omega (arith, there)) }
   losses_of [] [] (n ∷ ns) a b each = absurd (omega (arith, b))
   losses_of [] (o ∷ os) ns a b each = absurd (omega (arith, a))
   losses_of (c ∷ cs) [] ns a b each = absurd (omega (arith, a))
@@ -136,26 +158,38 @@ module _ (frame : List Event) (now place : ℕ) (holder : Option ℕ) (given : L
   losses_of (c ∷ cs) (o ∷ os) (n ∷ ns) a b each =
       one_more c cs o n (all_of os) (all_of ns) (each 0 (omega arith)) (losses_of cs os ns (omega (arith, a)) (omega (arith, b)) (λ i in_i. each (suc i) (omega (arith, in_i))))
 
+  -- no more different numbers than came, and one of each client that lost its queue
+  pub stored_among : (old new : ClientsView) (cs : List (ClientView Cell)) → length old.rings ≡ length cs → length new.rings ≡ length cs
+      → ((i : ℕ) → i < length cs → IsGrown given (lost (get_or cs i (new_client 0 0))) (get_or old.rings i []) (get_or new.rings i []))
+      → stored_of new ≤ stored_of old + length given + count_by lost cs
+  stored_among old new cs a b each =
+      omega (
+        arith,
+        distinct_few (held_numbers new) (distinct (held_numbers old) ++ (given ++ found.losses)) in_all,
+        length-append (distinct (held_numbers old)) (given ++ found.losses),
+        length-append given found.losses,
+        found.few,
+      )
+    where
+      found : AreLosses (count_by lost cs) given (held_numbers old) (held_numbers new)
+      found = losses_of cs old.rings new.rings a b each
+
+      in_all : (n : ℕ) → 1 ≤ times n (held_numbers new) → 1 ≤ times n (distinct (held_numbers old) ++ (given ++ found.losses))
+      in_all n there =
+          let parts : times n (distinct (held_numbers old) ++ (given ++ found.losses)) ≡ times n (distinct (held_numbers old)) + (times n given + times n found.losses) =
+          omega (arith, times-append n (distinct (held_numbers old)) (given ++ found.losses), times-append n given found.losses) in
+          elim (cases_lt 0 (times n (held_numbers old))) [
+            | inl had ↦ omega (arith, parts, distinct_there n (held_numbers old) (omega (arith, had)))
+            | inr had_not ↦ omega (arith, parts, had_not, found.among n there)
+          ]
+
 -- The different numbers grow by one at most for each event of the frame, and for each client that lost its queue.
 pub stored_few : {frame : List Event} {now place : ℕ} {holder : Option ℕ} (old new : ClientsView) → IsStoredOnce frame now place holder old new
     → stored_of new ≤ stored_of old + length frame + count_by (loses frame now place holder) old.list
 stored_few {frame} {now} {place} {holder} old new is =
-    let losses = losses_of frame now place holder is.given old.list old.rings new.rings is.rings.0 is.rings.1 is.each in
+    let lost : ClientView Cell → Bool = λ c. loses frame now place holder c in
     omega (
       arith,
-      distinct_few (held_numbers new) (distinct (held_numbers old) ++ (is.given ++ losses.losses)) (λ n there. in_all n there),
-      length-append (distinct (held_numbers old)) (is.given ++ losses.losses),
-      length-append is.given losses.losses,
       is.long,
-      losses.long,
+      stored_among lost is.given old new old.list is.rings.0 is.rings.1 (λ i in_i. grown_put (get_or old.list i (new_client 0 0)).masks frame (lost (get_or old.list i (new_client 0 0))) (λ h. h) (is.each i in_i)),
     )
-  where
-    in_all : (n : ℕ) → 1 ≤ times n (held_numbers new) → 1 ≤ times n (distinct (held_numbers old) ++ (is.given ++ (losses_of frame now place holder is.given old.list old.rings new.rings is.rings.0 is.rings.1 is.each).losses))
-    in_all n there =
-        let losses = losses_of frame now place holder is.given old.list old.rings new.rings is.rings.0 is.rings.1 is.each in
-        let parts : times n (distinct (held_numbers old) ++ (is.given ++ losses.losses)) ≡ times n (distinct (held_numbers old)) + (times n is.given + times n losses.losses) =
-        omega (arith, times-append n (distinct (held_numbers old)) (is.given ++ losses.losses), times-append n is.given losses.losses) in
-        elim (cases_lt 0 (times n (held_numbers old))) [
-          | inl had ↦ omega (arith, parts, distinct_there n (held_numbers old) (omega (arith, had)))
-          | inr had_not ↦ omega (arith, parts, had_not, losses.among n there)
-        ]

@@ -1,28 +1,28 @@
 -- The number of a cell comes into one ring after the other.
-use Rattle.std.proofs.Common.{◌≡◌, ◌≢◌, ◌≤◌, ◌<◌, ℕ, suc, ◌+◌, Bool, true, false, ◌&&◌, ◌||◌, if◌then◌else◌, nat_eq, nat_lt, List, [], ◌∷◌, ◌++◌, length, map, get_or, set, Option, Some, None, IsSome, refl, sym, ap, ◌∙◌, subst, inl, inr, arith}
+use Rattle.std.proofs.Common.{◌≡◌, ◌≢◌, ◌≤◌, ◌<◌, ℕ, ◌+◌, Bool, true, false, if◌then◌else◌, nat_eq, nat_lt, List, [], ◌∷◌, ◌++◌, length, map, get_or, set, Option, Some, refl, sym, ap, ◌∙◌, subst, inl, inr, arith}
 use mir.Val.{bool_byte}
-use Rattle.std.proofs.lemmas.Bool.{cases_eq, cases_lt, eq-eqb, ne_eqb, cond-true, cond-false, lt-ltb, le-ltb}
-use Rattle.std.proofs.lemmas.List.{length-map, get_or-set_same, get_or-set_other, get_or-map, same_lists}
+use Rattle.std.proofs.lemmas.Bool.{cases_eq, eq-eqb, ne_eqb, cond-true, cond-false, lt-ltb, le-ltb}
+use Rattle.std.proofs.lemmas.List.{length-map, get_or-map}
 use Rattle.std.proofs.lemmas.List.Sums.{sum_by-set, get_or-le-sum_by}
 use Rattle.std.proofs.lemmas.List.Elements.{All-push, All-cons, All-nil}
 use Rattle.slab.specs.Slab.{Slab, get, with_value}
 use Rattle.inp_model.specs.declared.stamped.TheConstants.{MOMENT_MAX}
-use Rattle.inp_model.specs.Event.{is_report}
-use Rattle.inp_model.specs.Queue.{is_empty, ends_in_report, put}
 use Rattle.inp_ring.specs.declared.cell.Cell.{Cell}
 use Rattle.inp_ring.specs.declared.cell.Held.{Held}
-use Rattle.inp_ring.specs.Store.{StoreView, held_under, cell_in, held_cell, holders, holders_of, held_by, event_of_cell, dropped_cell, HasCell, IsIdle, IsIdleSlot}
+use Rattle.inp_ring.specs.Store.{StoreView, held_under, cell_in, held_cell, holders_of, held_by, dropped_cell, HasCell, IsIdle}
 use Rattle.inp_ring.specs.Ring.{times, cell_at, some_cell, AreFit, AreHeld, IsRing, IsMoved, IsPutAtEnd}
 use Rattle.inp_ring.proofs.Times.{once, times_push, once_same, once_other}
 use Rattle.inp_client.specs.declared.location.Location.{Location}
-use Rattle.inp_client.specs.Masks.{MaskView, admits_of}
-use Rattle.inp_client.specs.Client.{ClientView, new_client, with_events, is_offered_to}
+use Rattle.inp_client.specs.Masks.{MaskView}
+use Rattle.inp_client.specs.Client.{ClientView, new_client}
 use Rattle.inp_client.specs.Member.{Member, ring_of, client_in, cells_in, times_in, wanted, after_event, AreStored}
 use Rattle.inp_client.specs.Locations.{client_at, clients_in, AreLocated}
 use Rattle.inp_client.specs.Numbers.{loses_event, admitted_number, IsPutBehind}
 use Rattle.inp_client.specs.Offered.{AreShared, IsEnteredTo, IsEventOffered, owing, member_at, seen_at, ring_at}
-use Rattle.inp_client.proofs.Locations.{client_at_found, located_after_write, members_after_write, members_long, member_in_location}
-use Rattle.inp_client.proofs.OtherClients.{member_held, member_timed, member_ring, spare_some, others_stay, stored_after_write}
+use Rattle.inp_client.proofs.Lists.{flag_other, map_over}
+use Rattle.inp_client.proofs.Locations.{located_after_write, members_after_write, member_written, member_kept, members_long, member_in_location, member_found}
+use Rattle.inp_client.proofs.Numbers.{after_event-cases}
+use Rattle.inp_client.proofs.OtherClients.{held_known, member_held, member_timed, member_ring, spare_some, others_stay, stored_after_write}
 
 -- what is owed, said in another way
 pub stored_owed : {s : StoreView} {ms : List Member} {f : ℕ → ℕ} (g : ℕ → ℕ) → AreStored s ms f → ((n : ℕ) → f n ≡ g n) → AreStored s ms g
@@ -51,20 +51,10 @@ owing_more number a b n = elim (cases_eq n number) [
 
 -- an event that is offered keeps a queue fit
 pub timed_after_event : (cell : Cell) (holder : Option ℕ) (c : ClientView Cell) → cell.now ≤ MOMENT_MAX → AreFit c.ring.events → AreFit (after_event cell holder c).ring.events
-timed_after_event cell holder c now fit = either (is_offered_to holder c && admits_of c.masks cell.event)
-  where
-    Timed : Cell → Type 0
-    Timed x = x.now ≤ MOMENT_MAX
-
-    putting : (a b : Bool) → AreFit (if a then c.ring.events else if b then c.ring.events ++ cell ∷ [] else dropped_cell cell ∷ cell ∷ [])
-    putting true b = fit
-    putting false true = All-push (λ (x : Cell). x.now ≤ MOMENT_MAX) c.ring.events cell fit now
-    putting false false =
-        All-cons (λ (x : Cell). x.now ≤ MOMENT_MAX) (dropped_cell cell) (cell ∷ []) now (All-cons (λ (x : Cell). x.now ≤ MOMENT_MAX) cell [] now (All-nil (λ (x : Cell). x.now ≤ MOMENT_MAX)))
-
-    either : (b : Bool) → AreFit (if b then with_events (put event_of_cell dropped_cell c.ring.places c.ring.events cell) c else c).ring.events
-    either true = putting (is_report (event_of_cell cell) && (is_empty c.ring.events || ends_in_report event_of_cell c.ring.events)) (nat_lt (suc (length c.ring.events)) c.ring.places)
-    either false = fit
+timed_after_event cell holder c now fit =
+    let Fits : Cell → Type 0 = λ x. x.now ≤ MOMENT_MAX in
+    after_event-cases (λ x. AreFit x.ring.events) cell holder c fit (All-push Fits c.ring.events cell fit now)
+    (λ _. All-cons Fits (dropped_cell cell) (cell ∷ []) now (All-cons Fits cell [] now (All-nil Fits)))
 
 module _ {cell : Cell} {holder : Option ℕ} {number : ℕ} {locations : List Location} {before slab : Slab Member} {first store : StoreView} {i taken : ℕ} (to : IsEnteredTo i cell holder number locations before slab first store taken) (in_i : i < length locations) where
   long_i : i < length (clients_in locations slab)
@@ -72,14 +62,7 @@ module _ {cell : Cell} {holder : Option ℕ} {number : ℕ} {locations : List Lo
 
   -- each cell but the one that is offered is in some ring
   known : (n : ℕ) → HasCell store n → n ≢ number → 1 ≤ times_in n (clients_in locations slab)
-  known n there differs = elim (cases_lt 0 (holders store n)) [
-    | inl some ↦ omega (arith, some, to.stored.held n)
-    | inr none ↦ absurd (differs (to.idle n (idle (held_under store n) there (omega (arith, none)))))
-  ]
-    where
-      idle : (o : Option Held) → IsSome o → holders_of o ≡ 0 → IsIdleSlot o
-      idle None there e = cc
-      idle (Some h) there e = e
+  known n there differs = held_known to.stored (new_client 0 0) n there (λ h. differs (to.idle n h))
 
   pub enter_spare : 0 < store.spare
   enter_spare = spare_some to.stored (new_client 0 0) number (omega (arith, long_i)) known
@@ -87,7 +70,7 @@ module _ {cell : Cell} {holder : Option ℕ} {number : ℕ} {locations : List Lo
   -- the client that comes next
   module _ (key : ℕ) (old : Member) (at : (get_or locations i (record { number = 0; key = 0 })).key ≡ key) (found : get slab key ≡ Some old) where
     pub old_is : member_at locations slab i ≡ old
-    old_is = member_in_location to.located i (record { number = 0; key = 0 }) (new_client 0 0) in_i ∙ ap (client_at slab) at ∙ client_at_found to.located key old found
+    old_is = member_found to.located i (record { number = 0; key = 0 }) (new_client 0 0) key old in_i at found
 
     pub enter_absent : times number old.ring.events ≡ 0
     enter_absent = ap (λ (m : Member). times number m.ring.events) (sym old_is) ∙ to.absent i (omega arith) in_i
@@ -157,10 +140,10 @@ module _ {cell : Cell} {holder : Option ℕ} {number : ℕ} {locations : List Lo
 
       -- what each client is then
       member_here : member_at locations next_slab i ≡ new
-      member_here = ap (λ (ms : List Member). get_or ms i (new_client 0 0)) members_next ∙ get_or-set_same (clients_in locations slab) i new (new_client 0 0) long_i
+      member_here = member_written to.located i (record { number = 0; key = 0 }) key old new in_i at found (new_client 0 0)
 
       member_other : (j : ℕ) → j ≢ i → member_at locations next_slab j ≡ member_at locations slab j
-      member_other j d = ap (λ (ms : List Member). get_or ms j (new_client 0 0)) members_next ∙ get_or-set_other (clients_in locations slab) i j new (new_client 0 0) d
+      member_other j d = member_kept to.located i (record { number = 0; key = 0 }) key old new in_i at found j (new_client 0 0) d
 
       abbrev before_client : ℕ → ClientView Cell
       before_client j = client_in first (member_at locations before j)
@@ -180,14 +163,8 @@ module _ {cell : Cell} {holder : Option ℕ} {number : ℕ} {locations : List Lo
             ap (client_in after) (member_other j d)
             ∙ others_stay to.stored (new_client 0 0) i long_i after entered.before moved owed_stay j (omega (arith, in_j, members_long to.located)) d
             ∙ to.changed j in_j
-            ∙ ap (λ (b : Bool). if b then after_event cell holder (before_client j) else before_client j) (later j d)
+            ∙ ap (λ (b : Bool). if b then after_event cell holder (before_client j) else before_client j) (flag_other j i d)
       ]
-        where
-          later : (j : ℕ) → j ≢ i → nat_lt j i ≡ nat_lt j (i + 1)
-          later j differs = elim (cases_lt j i) [
-            | inl below ↦ lt-ltb j i below ∙ sym (lt-ltb j (i + 1) (omega arith))
-            | inr above ↦ le-ltb j i above ∙ sym (le-ltb j (i + 1) (omega (arith, differs)))
-          ]
 
       was_ring : ring_at locations before i ≡ old.ring.events
       was_ring = sym (to.rest i (omega arith) in_i) ∙ ap (λ (m : Member). m.ring.events) old_is
@@ -261,22 +238,15 @@ entered_none cell holder number locations slab store located stored idle same = 
 pub entered_all : {cell : Cell} {holder : Option ℕ} {number : ℕ} {locations : List Location} {before slab : Slab Member} {first store : StoreView} {count taken : ℕ} → IsEnteredTo count cell holder number locations before slab first store taken → length locations ≤ count
     → cells_in store (clients_in locations slab) ≡ map (after_event cell holder) (cells_in first (clients_in locations before))
 entered_all {cell} {holder} {number} {locations} {before} {slab} {first} {store} {count} {taken} to past =
-    same_lists (cells_in store (clients_in locations slab)) (map (after_event cell holder) (cells_in first (clients_in locations before)))
-    (omega (arith, long_now, length-map (cells_in first (clients_in locations before)) (after_event cell holder), long_before))
-    (λ j e within. each j e (omega (arith, within, long_now)))
-  where
-    long_now : length (cells_in store (clients_in locations slab)) ≡ length locations
-    long_now = length-map (clients_in locations slab) (client_in store) ∙ length-map locations (λ s. client_at slab s.key)
-
-    long_before : length (cells_in first (clients_in locations before)) ≡ length locations
-    long_before = length-map (clients_in locations before) (client_in first) ∙ length-map locations (λ s. client_at before s.key)
-
-    each : (j : ℕ) (e : ClientView Cell) → j < length locations → get_or (cells_in store (clients_in locations slab)) j e ≡ get_or (map (after_event cell holder) (cells_in first (clients_in locations before))) j e
-    each j e in_j =
-        get_or-map (client_in store) (clients_in locations slab) j (new_client 0 0) e (omega (arith, in_j, length-map locations (λ s. client_at slab s.key)))
-        ∙ to.changed j in_j ∙ cond-true (nat_lt j count) _ _ (lt-ltb j count (omega arith))
-        ∙ sym (get_or-map (after_event cell holder) (cells_in first (clients_in locations before)) j (client_in first (new_client 0 0)) e (omega (arith, in_j, long_before))
-        ∙ ap (after_event cell holder) (get_or-map (client_in first) (clients_in locations before) j (new_client 0 0) (client_in first (new_client 0 0)) (omega (arith, in_j, length-map locations (λ s. client_at before s.key)))))
+    let now : Location → Member = λ at. client_at slab at.key in
+    let was : Location → Member = λ at. client_at before at.key in
+    let offer : Member → ClientView Cell = λ m. after_event cell holder (client_in first m) in
+    sym (map_over (λ at. client_in store (now at)) now (client_in store) locations (λ j d in_j. refl))
+    ∙ map_over (λ at. client_in store (now at)) was offer locations (λ j d in_j.
+    ap (client_in store) (sym (member_in_location to.located j d (new_client 0 0) in_j))
+    ∙ to.changed j in_j ∙ cond-true (nat_lt j count) _ _ (lt-ltb j count (omega arith))
+    ∙ ap offer (get_or-map was locations j d (new_client 0 0) in_j))
+    ∙ map_over offer (client_in first) (after_event cell holder) (clients_in locations before) (λ j d in_j. refl)
 
 -- a client among those with the cells of a store
 pub seen_is : (s : StoreView) (locations : List Location) (slab : Slab Member) (j : ℕ) → j < length locations

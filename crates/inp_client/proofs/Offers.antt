@@ -1,15 +1,14 @@
 -- A frame is offered event by event.
 use Rattle.std.proofs.Common.{◌≡◌, ◌≤◌, ◌<◌, ℕ, ◌+◌, Bool, true, false, ◌&&◌, if◌then◌else◌, List, [], ◌∷◌, ◌++◌, length, map, drop, get_or, Option, Some, None, refl, sym, ap, ◌∙◌, subst, inl, inr, arith}
 use Rattle.std.specs.Prelude.{filter}
-use Rattle.std.proofs.lemmas.Bool.{cases_eq, cond-true, cond-false}
-use Rattle.std.proofs.lemmas.List.{drop_more, drop_all, append-nil, append_assoc, length_push, length-map, get_or-map}
+use Rattle.std.proofs.lemmas.Bool.{cases_eq, cond-true, cond-false, cond_both}
+use Rattle.std.proofs.lemmas.List.{drop_more, drop_all, append-nil, append_assoc, length_push, length-map, get_or-map, map-id}
 use Rattle.slab.specs.Slab.{Slab}
 use Rattle.inp_model.specs.declared.event.Event.{Event}
 use Rattle.inp_model.specs.Queue.{put, put_all}
 use Rattle.inp_ring.specs.declared.cell.Cell.{Cell}
 use Rattle.inp_ring.specs.declared.cell.Held.{Held}
 use Rattle.inp_ring.specs.Store.{StoreView, held_under, cell_in, held_cell, holders, holders_of, cell_count, held_by, held_more, event_of_cell, dropped_cell, IsIdle, IsIdleSlot, IsPut}
-use Rattle.inp_ring.proofs.Moves.{idle_none}
 use Rattle.inp_client.specs.declared.frame.Frame.{Frame}
 use Rattle.inp_client.specs.declared.location.Location.{Location}
 use Rattle.inp_client.specs.Masks.{MaskView, admits_of}
@@ -18,11 +17,11 @@ use Rattle.inp_client.specs.Member.{Member, client_in, cells_in, times_in, wante
 use Rattle.inp_client.specs.Locations.{client_at, clients_in}
 use Rattle.inp_client.specs.Numbers.{loses_event, loses, admitted_numbers, IsPutBehind}
 use Rattle.inp_client.specs.Offered.{AreShared, IsEnteredTo, IsEventOffered, IsOffered, after_frame, seen_at, ring_at}
-use Rattle.inp_client.proofs.Lists.{map_over}
+use Rattle.inp_client.proofs.Lists.{map_over, map_same}
 use Rattle.inp_client.proofs.OtherClients.{stored_stays, cells_stay, spare_some}
 use Rattle.inp_client.proofs.OneClient.{kept_known}
 use Rattle.inp_client.proofs.Locations.{members_long}
-use Rattle.inp_client.proofs.Numbers.{put_none, put_then}
+use Rattle.inp_client.proofs.Numbers.{after_event-cases, put_none, put_then}
 use Rattle.inp_client.proofs.OfferedCells.{owing_same, owing_other, seen_is}
 
 -- A new cell is in no ring.
@@ -65,69 +64,59 @@ module _ {count : ℕ} {cell : Cell} {holder : Option ℕ} {number : ℕ} {locat
   taken_times : times_in number clients ≡ taken
   taken_times = omega (arith, to.stored.held number, ap holders_of to.same, owing_same number taken)
 
-  -- Nobody took it: it goes.
-  module _ (after : StoreView) (put : IsPut store after number None) (nobody : taken ≡ 0) where
-    free_stay : (n : ℕ) → 1 ≤ times_in n clients → cell_in after n ≡ cell_in store n
-    free_stay n there = elim (cases_eq n number) [
-      | inl e ↦ absurd (omega (arith, there, nobody, taken_times, ap (λ (k : ℕ). times_in k clients) e))
+  -- It has so many holders as took it, and is the cell that it was where some did.
+  module _ (after : StoreView) (slot : Option Held) (put : IsPut store after number slot) (counts : holders_of slot ≡ taken)
+      (same : 0 < taken → held_cell slot ≡ Some cell) (busy : IsIdleSlot slot → ⊥) where
+    settled_stay : (n : ℕ) → 1 ≤ times_in n clients → cell_in after n ≡ cell_in store n
+    settled_stay n there = elim (cases_eq n number) [
+      | inl e ↦
+          let some : 0 < taken = omega (arith, there, taken_times, ap (λ (k : ℕ). times_in k clients) e) in
+          let P : ℕ → Type 0 = λ k. cell_in after k ≡ cell_in store k in
+          subst P (sym e) (ap held_cell put.changed ∙ same some ∙ sym (ap held_cell to.same))
       | inr d ↦ ap held_cell (put.others n d)
     ]
 
-    pub shared_free : cell_count store + store.spare ≤ cell_count after + after.spare → AreShared locations slab after
-    shared_free room = record {
+    shared_settled : cell_count store + store.spare ≤ cell_count after + after.spare → AreShared locations slab after
+    shared_settled room = record {
       located = to.located;
-      stored = stored_stays to.stored after free_stay (λ n. 0) held room;
+      stored = stored_stays to.stored after settled_stay (λ n. 0) held room;
       none_idle = λ n idle. elim (cases_eq n number) [
-        | inl e ↦ gone (held_under after number) put.changed (subst (λ (k : ℕ). IsIdle after k) e idle)
+        | inl e ↦ busy (subst IsIdleSlot put.changed (subst (λ (k : ℕ). IsIdle after k) e idle))
         | inr d ↦ d (to.idle n (subst IsIdleSlot (put.others n d) idle))
       ];
     }
       where
-        gone : (o : Option Held) → o ≡ None → IsIdleSlot o → ⊥
-        gone None e i = i
-        gone (Some h) e i = cc
-
         held : (n : ℕ) → holders after n + 0 ≡ times_in n clients
         held n = elim (cases_eq n number) [
-          | inl e ↦ subst (λ (k : ℕ). holders after k + 0 ≡ times_in k clients) (sym e) (omega (arith, ap holders_of put.changed, nobody, taken_times))
+          | inl e ↦
+              let P : ℕ → Type 0 = λ k. holders after k + 0 ≡ times_in k clients in
+              subst P (sym e) (omega (arith, ap holders_of put.changed, counts, taken_times))
           | inr d ↦ omega (arith, ap holders_of (put.others n d), to.stored.held n, owing_other number taken n d)
         ]
 
+    cells_settled : cells_in after clients ≡ cells_in store clients
+    cells_settled = cells_stay to.stored after settled_stay
+
+  -- Nobody took it: it goes.
+  module _ (after : StoreView) (put : IsPut store after number None) (nobody : taken ≡ 0) where
+    pub shared_free : cell_count store + store.spare ≤ cell_count after + after.spare → AreShared locations slab after
+    shared_free room = shared_settled after None put (sym nobody) (λ some. absurd (omega (arith, some, nobody))) (λ idle. idle) room
+
     pub cells_free : cells_in after clients ≡ cells_in store clients
-    cells_free = cells_stay to.stored after free_stay
+    cells_free = cells_settled after None put (sym nobody) (λ some. absurd (omega (arith, some, nobody))) (λ idle. idle)
 
   -- Some took it: it has so many holders.
   module _ (after : StoreView) (put : IsPut store after number (held_more taken (held_under store number))) (some : 0 < taken) where
-    now_there : held_under after number ≡ held_by taken cell
-    now_there = put.changed ∙ ap (held_more taken) to.same ∙ plus
-      where
-        plus : held_more taken (held_by 0 cell) ≡ held_by taken cell
-        plus = let e : 0 + taken ≡ taken = omega arith in ap (λ k. held_by k cell) e
-
-    hold_stay : (n : ℕ) → 1 ≤ times_in n clients → cell_in after n ≡ cell_in store n
-    hold_stay n there = elim (cases_eq n number) [
-      | inl e ↦ subst (λ (k : ℕ). cell_in after k ≡ cell_in store k) (sym e) (ap held_cell now_there ∙ sym (ap held_cell to.same))
-      | inr d ↦ ap held_cell (put.others n d)
-    ]
+    put_held : IsPut store after number (held_by taken cell)
+    put_held =
+        let plus : 0 + taken ≡ taken = omega arith in
+        record { changed = put.changed ∙ ap (held_more taken) to.same ∙ ap (λ k. held_by k cell) plus; others = put.others }
 
     pub shared_hold : cell_count store + store.spare ≤ cell_count after + after.spare → AreShared locations slab after
-    shared_hold room = record {
-      located = to.located;
-      stored = stored_stays to.stored after hold_stay (λ n. 0) held room;
-      none_idle = λ n idle. elim (cases_eq n number) [
-        | inl e ↦ omega (arith, some, idle_none after n idle, ap (λ (k : ℕ). holders after k) e, ap holders_of now_there)
-        | inr d ↦ d (to.idle n (subst IsIdleSlot (put.others n d) idle))
-      ];
-    }
-      where
-        held : (n : ℕ) → holders after n + 0 ≡ times_in n clients
-        held n = elim (cases_eq n number) [
-          | inl e ↦ subst (λ (k : ℕ). holders after k + 0 ≡ times_in k clients) (sym e) (omega (arith, ap holders_of now_there, taken_times))
-          | inr d ↦ omega (arith, ap holders_of (put.others n d), to.stored.held n, owing_other number taken n d)
-        ]
+    shared_hold room = shared_settled after (held_by taken cell) put_held refl (λ _. refl) (λ none. omega (arith, some, none)) room
 
     pub cells_hold : cells_in after clients ≡ cells_in store clients
-    cells_hold = cells_stay to.stored after hold_stay
+    cells_hold = cells_settled after (held_by taken cell) put_held refl (λ _. refl) (λ none. omega (arith, some, none))
 
 -- A frame is its first event, and then the others.
 pub after_offer-cons : (e : Event) (frame : List Event) (now place : ℕ) (holder : Option ℕ) (c : ClientView Cell) → after_offer (e ∷ frame) now place holder c ≡ after_offer frame now place holder (after_event (cell_of_event now place e) holder c)
@@ -141,11 +130,7 @@ after_offer-cons e frame now place holder c = step (is_offered_to holder c) (adm
     step false b h = sym (cond-false (is_offered_to holder c) _ _ h)
 
 after_offer-nil : (now place : ℕ) (holder : Option ℕ) (c : ClientView Cell) → after_offer [] now place holder c ≡ c
-after_offer-nil now place holder c = either (is_offered_to holder c)
-  where
-    either : (b : Bool) → (if b then with_events c.ring.events c else c) ≡ c
-    either true = refl
-    either false = refl
+after_offer-nil now place holder c = cond_both (is_offered_to holder c) _ _ (λ x. x ≡ c) (λ _. refl) (λ _. refl)
 
 -- a client that was offered an event of a frame, or some of its events
 abbrev after_one : Frame → Event → ClientView Cell → ClientView Cell
@@ -160,11 +145,7 @@ IsNumbered f events given c old new =
     IsPutBehind (admitted_numbers c.masks events given) (loses events f.moment f.place f.holder c) old new
 
 masks_stay : (cell : Cell) (holder : Option ℕ) (c : ClientView Cell) → (after_event cell holder c).masks ≡ c.masks
-masks_stay cell holder c = either (is_offered_to holder c && admits_of c.masks cell.event)
-  where
-    either : (b : Bool) → (if b then with_events (put event_of_cell dropped_cell c.ring.places c.ring.events cell) c else c).masks ≡ c.masks
-    either true = refl
-    either false = refl
+masks_stay cell holder c = after_event-cases (λ x. x.masks ≡ c.masks) cell holder c refl refl (λ _. refl)
 
 -- so many events of a frame were offered
 pub record IsOfferedTo (f : Frame) (locations : List Location) (before slab : Slab Member) (first store : StoreView) (i : ℕ) : Type 0 where
@@ -240,7 +221,8 @@ module _ {f : Frame} {locations : List Location} {before slab : Slab Member} {fi
   all_offered past = record {
     shared = to.shared;
     clients =
-        same_each (cells_in store (clients_in locations slab))
+        sym (map-id (cells_in store (clients_in locations slab)))
+        ∙ map_same (λ c. c) (after_some f []) (cells_in store (clients_in locations slab)) (λ j d in_j. sym (after_offer-nil f.moment f.place f.holder _))
         ∙ ap (λ (es : List Event). map (after_some f es) (cells_in store (clients_in locations slab))) (sym (drop_all i f.events.now past))
         ∙ to.rest;
     given = to.given;
@@ -253,8 +235,3 @@ module _ {f : Frame} {locations : List Location} {before slab : Slab Member} {fi
     wanted = to.wanted;
     capacity = to.capacity;
   }
-    where
-      same_each : (cs : List (ClientView Cell)) → cs ≡ map (after_some f []) cs
-      same_each [] = refl
-      same_each (c ∷ cs) =
-          ap (λ x. x ∷ cs) (sym (after_offer-nil f.moment f.place f.holder c)) ∙ ap (λ xs. after_some f [] c ∷ xs) (same_each cs)

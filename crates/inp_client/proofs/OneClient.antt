@@ -1,9 +1,8 @@
 -- What a call on one client leaves of all that is kept.
-use Rattle.std.proofs.Common.{◌≡◌, ◌≢◌, ◌≤◌, ◌<◌, ℕ, ◌+◌, Bool, true, false, ◌||◌, ◌⊎◌, nat_eq, List, [], ◌∷◌, length, map, get_or, set, Contains, Option, Some, None, IsSome, refl, sym, ap, ◌∙◌, subst, inl, inr, arith}
+use Rattle.std.proofs.Common.{◌≡◌, ◌≢◌, ◌≤◌, ◌<◌, ℕ, ◌+◌, Bool, true, false, ◌||◌, ◌⊎◌, nat_eq, List, [], ◌∷◌, length, map, get_or, set, Contains, Some, refl, sym, ap, ◌∙◌, subst, inl, inr, arith}
 use Rattle.std.specs.Prelude.{flat_map}
 use Rattle.std.specs.Option.{option_map_or, option_map}
 use Rattle.std.proofs.Math.Seq.{map-set_same}
-use Rattle.std.proofs.lemmas.Bool.{cases_lt}
 use Rattle.std.proofs.lemmas.List.Sums.{sum_by-set}
 use Rattle.std.proofs.lemmas.List.Elements.{All-drop, All-cons, All-nil}
 use Rattle.slab.specs.Slab.{get, with_value}
@@ -16,8 +15,7 @@ use Rattle.inp_model.specs.Step.{Query, is_part_of}
 use Rattle.inp_model.specs.Queue.{is_same_clock, clock_changed}
 use Rattle.inp_model.proofs.Removal.{flush-all}
 use Rattle.inp_ring.specs.declared.cell.Cell.{Cell}
-use Rattle.inp_ring.specs.declared.cell.Held.{Held}
-use Rattle.inp_ring.specs.Store.{StoreView, held_under, holders, holders_of, event_of_cell, cell_taken, HasCell, IsIdle, IsIdleSlot}
+use Rattle.inp_ring.specs.Store.{StoreView, event_of_cell, cell_taken, HasCell, IsIdle}
 use Rattle.inp_ring.specs.Ring.{times, cell_at, AreFit, AreHeld, IsRing}
 use Rattle.inp_ring.proofs.Moves.{moved_none}
 use Rattle.inp_client.specs.declared.clients.Clients.TheInside.{Inside}
@@ -29,7 +27,7 @@ use Rattle.inp_client.specs.Numbers.{stored_of, HoldNoneNew}
 use Rattle.inp_client.specs.Locations.{client_at, clients_in}
 use Rattle.inp_client.specs.Kept.{kept_view, AreKept}
 use Rattle.inp_client.proofs.Locations.{client_at_found, located_after_write, members_after_write, members_long, member_in_location, member_number, members_apart}
-use Rattle.inp_client.proofs.OtherClients.{member_held, member_timed, member_ring, spare_some, others_stay, stored_after_write, cells_after_write, client_named-cells_in}
+use Rattle.inp_client.proofs.OtherClients.{held_known, member_held, member_timed, member_ring, spare_some, others_stay, stored_after_write, cells_after_write, client_named-cells_in}
 use Rattle.inp_client.proofs.OnClock.{client_named-on}
 use Rattle.inp_client.proofs.RingsLeft.{rings_of, held_numbers-rings, fewer_set, stored_set}
 
@@ -46,14 +44,7 @@ call_closed k number now e h = sym (has_client-cells_in k.store (clients_in k.lo
 
 -- where no cell is idle, each is in some ring
 pub kept_known : (s : StoreView) (ms : List Member) → AreStored s ms (λ n. 0) → ((n : ℕ) → IsIdle s n → ⊥) → (n : ℕ) → HasCell s n → 1 ≤ times_in n ms
-kept_known s ms st none n there = elim (cases_lt 0 (holders s n)) [
-  | inl some ↦ omega (arith, some, st.held n)
-  | inr nobody ↦ absurd (none n (idle (held_under s n) there (omega (arith, nobody))))
-]
-  where
-    idle : (o : Option Held) → IsSome o → holders_of o ≡ 0 → IsIdleSlot o
-    idle None there e = cc
-    idle (Some h) there e = e
+kept_known s ms st none n there = held_known st (new_client 0 0) n there (none n)
 
 -- A queue stays fit.
 

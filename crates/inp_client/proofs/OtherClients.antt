@@ -1,22 +1,23 @@
 -- What a call on one client leaves of the store and of the others.
-use Rattle.std.proofs.Common.{◌≡◌, ◌≢◌, ◌≤◌, ◌<◌, ℕ, zero, suc, ◌+◌, ◌-◌, if◌then◌else◌, nat_eq, List, [], ◌∷◌, length, map, get_or, set, Some, refl, sym, ap, ◌∙◌, subst, inl, inr, arith}
+use Rattle.std.proofs.Common.{◌≡◌, ◌≢◌, ◌≤◌, ◌<◌, ℕ, zero, suc, ◌+◌, ◌-◌, if◌then◌else◌, nat_eq, List, [], ◌∷◌, length, map, get_or, set, Option, Some, None, IsSome, refl, sym, ap, ◌∙◌, subst, inl, inr, arith}
 use Rattle.std.specs.Prelude.{sum_by, All}
 use Rattle.std.specs.List.{remove, insert, AllWithin}
 use Rattle.std.proofs.lemmas.Bool.{cases_eq, cases_lt, eq-eqb, ne_eqb, cond-true, cond-false}
-use Rattle.std.proofs.lemmas.List.{length-set, length-map, get_or-map, get_or-set_same, get_or-set_other, same_lists}
+use Rattle.std.proofs.lemmas.List.{length-set, length-map, get_or-map, get_or-set_same, get_or-set_other, map-set}
 use Rattle.std.proofs.lemmas.List.Sums.{sum_by-set, sum_by-remove, sum_by-insert, get_or-le-sum_by}
 use Rattle.std.proofs.lemmas.List.Edits.{length-remove, get_or-remove_below, get_or-remove_above}
 use Rattle.std.proofs.lemmas.List.Elements.{All-get_or, All-set, All-from_get_or, All-head, All-tail, All-cons, All-nil}
 use Rattle.inp_model.specs.declared.stamped.TheConstants.{MOMENT_MAX}
 use Rattle.inp_ring.specs.declared.cell.Cell.{Cell}
-use Rattle.inp_ring.specs.Store.{StoreView, cell_in, holders, cell_count, HasCell}
+use Rattle.inp_ring.specs.declared.cell.Held.{Held}
+use Rattle.inp_ring.specs.Store.{StoreView, held_under, cell_in, holders, holders_of, cell_count, HasCell, IsIdle, IsIdleSlot}
 use Rattle.inp_ring.specs.Ring.{times, cell_at, AreFit, AreHeld, IsRing, IsMoved}
 use Rattle.inp_ring.proofs.Times.{times_first}
 use Rattle.inp_ring.proofs.Rings.{queue_stays}
 use Rattle.inp_client.specs.Client.{ClientView}
 use Rattle.inp_client.specs.Clients.{has_number, map_client, without_client, with_client, client_named}
 use Rattle.inp_client.specs.Member.{Member, ring_of, client_in, cells_in, times_in, wanted, numbers_in, AreStored}
-use Rattle.inp_client.proofs.Lists.{map_same, find_at, one_removed, All-insert}
+use Rattle.inp_client.proofs.Lists.{All-but_one, map_but_one, map_over, map_same, find_at, one_removed, All-insert}
 use Rattle.inp_client.proofs.ClientLists.{map-insert}
 use Rattle.inp_client.proofs.CellCounts.{cells_few, times-numbers_in, numbers_fit}
 
@@ -59,6 +60,17 @@ module _ {s : StoreView} {ms : List Member} {owed : ℕ → ℕ} (st : AreStored
   pub member_timed : (i : ℕ) → i < length ms → AreFit (map (cell_at s) (get_or ms i d).ring.events)
   member_timed i in_i = All-get_or (λ m. AreFit (map (cell_at s) m.ring.events)) ms i d in_i st.timed
 
+  -- a cell that is not idle is in some ring
+  pub held_known : (n : ℕ) → HasCell s n → (IsIdle s n → ⊥) → 1 ≤ times_in n ms
+  held_known n there busy = elim (cases_lt 0 (holders s n)) [
+    | inl some ↦ omega (arith, some, st.held n)
+    | inr nobody ↦ absurd (busy (idle (held_under s n) there (omega (arith, nobody))))
+  ]
+    where
+      idle : (o : Option Held) → IsSome o → holders_of o ≡ 0 → IsIdleSlot o
+      idle None there e = cc
+      idle (Some h) there e = e
+
   -- There is room for one cell more, where there is a client and at most one cell that no ring has.
   pub spare_some : (x : ℕ) → 0 < length ms → ((n : ℕ) → HasCell s n → n ≢ x → 1 ≤ times_in n ms) → 0 < s.spare
   spare_some x some known =
@@ -84,28 +96,19 @@ module _ {s : StoreView} {ms : List Member} {owed : ℕ → ℕ} (st : AreStored
     pub others_stay : (j : ℕ) → j < length ms → j ≢ i → client_in after (get_or ms j d) ≡ client_in s (get_or ms j d)
     others_stay j in_j differs = client_same s after (get_or ms j d) (others_see j in_j differs)
 
+    stays_fit : (j : ℕ) → j < length ms → j ≢ i → AreFit (map (cell_at after) (get_or ms j d).ring.events)
+    stays_fit j in_j differs =
+        let Q : List Cell → Type 0 = λ q. AreFit q in
+        subst Q (sym (queue_stays s after (get_or ms j d).ring.events (others_see j in_j differs))) (member_timed j in_j)
+
     -- the same where it is taken out, and leaves no number
     pub stored_after_removal : ((n : ℕ) → times n before ≡ 0) → AreStored after (remove ms i) owed
     stored_after_removal none = record {
       held = λ n. omega (arith, none n, moved.held n, st.held n, sum_by-remove (λ (m : Member). times n m.ring.events) ms i d in_i);
       rings = All-remove (λ m. IsRing (ring_of m)) ms i st.rings;
-      timed = All-from_get_or (λ m. AreFit (map (cell_at after) m.ring.events)) (remove ms i) d (λ j in_j. fit j in_j);
+      timed = All-but_one (λ m. AreFit (map (cell_at after) m.ring.events)) ms i d in_i stays_fit;
       room = omega (arith, st.room, moved.room, sum_by-remove (λ (m : Member). m.ring.places + 1) ms i d in_i);
     }
-      where
-        stays : (j : ℕ) → j < length ms → j ≢ i → AreFit (map (cell_at after) (get_or ms j d).ring.events)
-        stays j in_j differs =
-            let Q : List Cell → Type 0 = λ q. AreFit q in
-            subst Q (sym (queue_stays s after (get_or ms j d).ring.events (others_see j in_j differs))) (member_timed j in_j)
-
-        fit : (j : ℕ) → j < length (remove ms i) → AreFit (map (cell_at after) (get_or (remove ms i) j d).ring.events)
-        fit j in_j =
-            let shorter = length-remove ms i in_i in
-            let P : Member → Type 0 = λ m. AreFit (map (cell_at after) m.ring.events) in
-            elim (cases_lt j i) [
-              | inl below ↦ subst P (sym (get_or-remove_below ms i d j below in_i)) (stays j (omega arith) (λ e. omega (arith, e)))
-              | inr above ↦ subst P (sym (get_or-remove_above ms i d j above in_i)) (stays (j + 1) (omega arith) (λ e. omega (arith, e)))
-            ]
 
     pub stored_after_write : (new : Member) (more : ℕ → ℕ) → ((n : ℕ) → times n new.ring.events ≡ times n before + more n) → new.ring.places ≡ (get_or ms i d).ring.places → IsRing (ring_of new) → AreFit (map (cell_at after) new.ring.events)
         → AreStored after (set ms i new) (λ n. owed n + more n)
@@ -121,15 +124,8 @@ module _ {s : StoreView} {ms : List Member} {owed : ℕ → ℕ} (st : AreStored
 
         fit : (j : ℕ) → j < length ms → AreFit (map (cell_at after) (get_or (set ms i new) j d).ring.events)
         fit j in_j = elim (cases_eq j i) [
-          | inl e ↦
-              let here : new ≡ get_or (set ms i new) j d = sym (ap (λ (k : ℕ). get_or (set ms i new) k d) e ∙ get_or-set_same ms i new d in_i) in
-              let P : Member → Type 0 = λ m. AreFit (map (cell_at after) m.ring.events) in
-              subst P here timed
-          | inr differs ↦
-              let same : get_or ms j d ≡ get_or (set ms i new) j d = sym (get_or-set_other ms i j new d differs) in
-              let P : Member → Type 0 = λ m. AreFit (map (cell_at after) m.ring.events) in
-              let Q : List Cell → Type 0 = λ q. AreFit q in
-              subst P same (subst Q (sym (queue_stays s after (get_or ms j d).ring.events (others_see j in_j differs))) (member_timed j in_j))
+          | inl e ↦ subst Fit (sym (ap (λ (k : ℕ). get_or (set ms i new) k d) e ∙ get_or-set_same ms i new d in_i)) timed
+          | inr differs ↦ subst Fit (sym (get_or-set_other ms i j new d differs)) (stays_fit j in_j differs)
         ]
 
 abbrev changed_one : ℕ → (ClientView Cell → ClientView Cell) → ClientView Cell → ClientView Cell
@@ -141,26 +137,13 @@ pub cells_after_write : (s after : StoreView) (ms : List Member) (i : ℕ) (d ne
     → ((j : ℕ) → j < length ms → j ≢ i → (get_or ms j d).number ≢ (get_or ms i d).number)
     → cells_in after (set ms i new) ≡ map_client (get_or ms i d).number change (cells_in s ms)
 cells_after_write s after ms i d new change in_i numbered changed others apart =
-    same_lists (cells_in after (set ms i new)) (map_client (get_or ms i d).number change (cells_in s ms))
-    (omega (arith, length-map (set ms i new) (client_in after), length-set ms i new, length-map ms (client_in s), length-map (cells_in s ms) (changed_one (get_or ms i d).number change)))
-    (λ j e within. each j e (omega (arith, within, length-map (set ms i new) (client_in after), length-set ms i new)))
-  where
-    each : (j : ℕ) (e : ClientView Cell) → j < length ms → get_or (cells_in after (set ms i new)) j e ≡ get_or (map (changed_one (get_or ms i d).number change) (cells_in s ms)) j e
-    each j e in_j =
-        get_or-map (client_in after) (set ms i new) j d e (omega (arith, in_j, length-set ms i new))
-        ∙ elim (cases_eq j i) [
-          | inl same ↦
-              ap (λ (k : ℕ). client_in after (get_or (set ms i new) k d)) same
-              ∙ ap (client_in after) (get_or-set_same ms i new d in_i)
-              ∙ changed
-              ∙ ap (λ (k : ℕ). change (client_in s (get_or ms k d))) (sym same)
-              ∙ sym (cond-true (nat_eq (get_or ms j d).number (get_or ms i d).number) _ _ (eq-eqb _ _ (ap (λ (k : ℕ). (get_or ms k d).number) same)))
-          | inr differs ↦
-              ap (client_in after) (get_or-set_other ms i j new d differs)
-              ∙ others j in_j differs
-              ∙ sym (cond-false (nat_eq (get_or ms j d).number (get_or ms i d).number) _ _ (ne_eqb _ _ (apart j in_j differs)))
-        ]
-        ∙ sym (get_or-map (changed_one (get_or ms i d).number change) (cells_in s ms) j (client_in s d) e (omega (arith, in_j, length-map ms (client_in s))) ∙ ap (changed_one (get_or ms i d).number change) (get_or-map (client_in s) ms j d (client_in s d) in_j))
+    let number : ℕ = (get_or ms i d).number in
+    let F : Member → ClientView Cell = λ m. changed_one number change (client_in s m) in
+    map-set (client_in after) ms i new
+    ∙ ap (set (cells_in after ms) i) (changed ∙ sym (cond-true (nat_eq number number) _ _ (eq-eqb _ _ refl)))
+    ∙ sym (map_but_one (client_in after) F ms i d in_i
+    (λ j in_j differs. cond-false (nat_eq (get_or ms j d).number number) _ _ (ne_eqb _ _ (apart j in_j differs)) ∙ sym (others j in_j differs))).0
+    ∙ map_over F (client_in s) (changed_one number change) ms (λ j d in_j. refl)
 
 -- The clients after one was taken out.
 pub cells_after_removal : (s after : StoreView) (ms : List Member) (i : ℕ) (d : Member) → i < length ms

@@ -1,10 +1,10 @@
 -- A frame is put in one run into the rings of all clients that it is offered to.
-use Rattle.std.proofs.Common.{◌≡◌, ◌≢◌, ◌≤◌, ◌<◌, ℕ, zero, suc, ◌+◌, Bool, true, false, ◌&&◌, ◌||◌, not, if◌then◌else◌, nat_lt, List, [], ◌∷◌, ◌++◌, length, map, take, get_or, set, Option, Some, None, refl, sym, ap, ◌∙◌, subst, inl, inr, arith}
-use Rattle.std.specs.Prelude.{filter, All}
-use Rattle.std.proofs.lemmas.Bool.{cases_eq, cases_lt, cond-true, cond-false, lt-ltb, le-ltb}
-use Rattle.std.proofs.lemmas.List.{take_more, length-map, length_push, length-append, get_or-map, get_or-set_same, get_or-set_other, same_lists, append_assoc, append-nil, map_push, map-append}
-use Rattle.std.proofs.lemmas.List.Sums.{sum_by-cons, get_or-le-sum_by, count_by_more_no, count_by_more_yes}
-use Rattle.std.proofs.lemmas.List.Elements.{All-from_get_or, All-get_or, All-append, All-push, All-nil, All-cons}
+use Rattle.std.proofs.Common.{◌≡◌, ◌≢◌, ◌≤◌, ◌<◌, ℕ, suc, ◌+◌, Bool, true, false, ◌&&◌, ◌||◌, not, if◌then◌else◌, nat_lt, List, [], ◌∷◌, ◌++◌, length, map, take, get_or, Option, Some, None, refl, sym, ap, ◌∙◌, subst, inl, inr, arith}
+use Rattle.std.specs.Prelude.{filter, sum_by, All}
+use Rattle.std.proofs.lemmas.Bool.{false≢true, cond_both, cases_eq, cases_lt, cond-true, cond-false, lt-ltb, le-ltb}
+use Rattle.std.proofs.lemmas.List.{take_more, length-map, length_push, length-append, get_or-map, append_assoc, append-nil, map_push, map-append}
+use Rattle.std.proofs.lemmas.List.Sums.{sum_by-cons, sum_by-le, get_or-le-sum_by, count_by_more_no, count_by_more_yes}
+use Rattle.std.proofs.lemmas.List.Elements.{All-map, All-from_get_or, All-get_or, All-append, All-push, All-nil, All-cons}
 use Rattle.slab.specs.Slab.{Slab, get, with_value}
 use Rattle.inp_model.specs.declared.stamped.TheConstants.{MOMENT_MAX}
 use Rattle.inp_model.specs.declared.event.Event.{Event}
@@ -26,8 +26,9 @@ use Rattle.inp_client.specs.Numbers.{loses, admitted_numbers, IsPutBehind}
 use Rattle.inp_client.specs.Locations.{client_at, clients_in, AreLocated}
 use Rattle.inp_client.specs.Offered.{AreShared, FitsInOneRun, AreAdded, IsOffered, TakesFrame, cells_of, takers_in, with_run, are_reports_apart, member_at, seen_at, ring_at}
 use Rattle.inp_client.proofs.MaskBits.{admits_of-full_masks}
-use Rattle.inp_client.proofs.Numbers.{put_behind, put_same, admitted_all}
-use Rattle.inp_client.proofs.Locations.{client_at_found, located_after_write, members_after_write, members_long, member_in_location}
+use Rattle.inp_client.proofs.Lists.{flag_other, map_over}
+use Rattle.inp_client.proofs.Numbers.{after_event-cases, put_behind, put_same, admitted_all}
+use Rattle.inp_client.proofs.Locations.{located_after_write, member_written, member_kept, members_long, member_in_location, member_found}
 
 -- A frame whose reports are apart
 
@@ -96,18 +97,11 @@ taken_whole frame now place holder c is_to full apart room =
 
 long_after : (cell : Cell) (holder : Option ℕ) (c : ClientView Cell) → suc (length c.ring.events) < c.ring.places
     → (length c.ring.events ≤ length (after_event cell holder c).ring.events) × (length (after_event cell holder c).ring.events ≤ suc (length c.ring.events)) × ((after_event cell holder c).ring.places ≡ c.ring.places)
-long_after cell holder c room = either (is_offered_to holder c && admits_of c.masks cell.event)
-  where
-    putting : (a b : Bool) → b ≡ true → (length c.ring.events ≤ length (if a then c.ring.events else if b then c.ring.events ++ cell ∷ [] else dropped_cell cell ∷ cell ∷ [])) × (length (if a then c.ring.events else if b then c.ring.events ++ cell ∷ [] else dropped_cell cell ∷ cell ∷ []) ≤ suc (length c.ring.events))
-    putting true b h = (omega arith, omega arith)
-    putting false true h = (omega (arith, length_push c.ring.events cell), omega (arith, length_push c.ring.events cell))
-    putting false false h = cc
-
-    either : (b : Bool) → (length c.ring.events ≤ length (if b then with_events (put event_of_cell dropped_cell c.ring.places c.ring.events cell) c else c).ring.events) × (length (if b then with_events (put event_of_cell dropped_cell c.ring.places c.ring.events cell) c else c).ring.events ≤ suc (length c.ring.events)) × ((if b then with_events (put event_of_cell dropped_cell c.ring.places c.ring.events cell) c else c).ring.places ≡ c.ring.places)
-    either true =
-        let long = putting (is_report (event_of_cell cell) && (is_empty c.ring.events || ends_in_report event_of_cell c.ring.events)) (nat_lt (suc (length c.ring.events)) c.ring.places) (lt-ltb (suc (length c.ring.events)) c.ring.places room) in
-        (long.0, long.1, refl)
-    either false = (omega arith, omega arith, refl)
+long_after cell holder c room =
+    after_event-cases (λ x. (length c.ring.events ≤ length x.ring.events) × (length x.ring.events ≤ suc (length c.ring.events)) × (x.ring.places ≡ c.ring.places)) cell holder c
+    (omega arith, omega arith, refl)
+    (omega (arith, length_push c.ring.events cell), omega (arith, length_push c.ring.events cell), refl)
+    (λ h. absurd (false≢true (sym h ∙ lt-ltb (suc (length c.ring.events)) c.ring.places room)))
 
 fits_whole : (frame : List Event) (now place : ℕ) (holder : Option ℕ) (c : ClientView Cell) → length c.ring.events + length frame < c.ring.places → loses frame now place holder c ≡ false
 fits_whole [] now place holder c room = refl
@@ -192,63 +186,32 @@ module _ {holder : Option ℕ} {numbers : List ℕ} {locations : List Location} 
     pub old_is : member_at locations before i ≡ old
     old_is =
         sym (to.changed i in_i ∙ cond-false (nat_lt i i) _ _ (le-ltb i i (omega arith)))
-        ∙ member_in_location to.located i (record { number = 0; key = 0 }) (new_client 0 0) in_i ∙ ap (client_at slab) at ∙ client_at_found to.located key old found
+        ∙ member_found to.located i (record { number = 0; key = 0 }) (new_client 0 0) key old in_i at found
 
     module _ (new : Member) (is : new ≡ with_run holder numbers old) (numbered : new.number ≡ old.number) where
       abbrev next_slab : Slab Member
       next_slab = with_value slab key new
-
-      members_next : clients_in locations next_slab ≡ set (clients_in locations slab) i new
-      members_next = members_after_write to.located i (record { number = 0; key = 0 }) key old new in_i at found
-
-      here : member_at locations next_slab i ≡ new
-      here = ap (λ (ms : List Member). get_or ms i (new_client 0 0)) members_next ∙ get_or-set_same (clients_in locations slab) i new (new_client 0 0) (omega (arith, in_i, members_long to.located))
-
-      other : (j : ℕ) → j ≢ i → member_at locations next_slab j ≡ member_at locations slab j
-      other j d = ap (λ (ms : List Member). get_or ms j (new_client 0 0)) members_next ∙ get_or-set_other (clients_in locations slab) i j new (new_client 0 0) d
 
       pub appended_more : IsAppendedTo (i + 1) holder numbers locations before next_slab
       appended_more = record {
         located = located_after_write to.located i (record { number = 0; key = 0 }) key old new in_i at found numbered;
         changed = λ j in_j. elim (cases_eq j i) [
           | inl e ↦
-              ap (λ (k : ℕ). member_at locations next_slab k) e ∙ here ∙ is ∙ ap (with_run holder numbers) (sym old_is ∙ ap (member_at locations before) (sym e))
+              ap (λ (k : ℕ). member_at locations next_slab k) e ∙ member_written to.located i (record { number = 0; key = 0 }) key old new in_i at found (new_client 0 0) ∙ is ∙ ap (with_run holder numbers) (sym old_is ∙ ap (member_at locations before) (sym e))
               ∙ sym (cond-true (nat_lt j (i + 1)) _ _ (lt-ltb j (i + 1) (omega (arith, e))))
-          | inr d ↦ other j d ∙ to.changed j in_j ∙ ap (λ (b : Bool). if b then with_run holder numbers (member_at locations before j) else member_at locations before j) (later j d)
+          | inr d ↦ member_kept to.located i (record { number = 0; key = 0 }) key old new in_i at found j (new_client 0 0) d ∙ to.changed j in_j ∙ ap (λ (b : Bool). if b then with_run holder numbers (member_at locations before j) else member_at locations before j) (flag_other j i d)
         ];
         capacity = to.capacity;
       }
-        where
-          later : (j : ℕ) → j ≢ i → nat_lt j i ≡ nat_lt j (i + 1)
-          later j differs = elim (cases_lt j i) [
-            | inl below ↦ lt-ltb j i below ∙ sym (lt-ltb j (i + 1) (omega arith))
-            | inr above ↦ le-ltb j i above ∙ sym (le-ltb j (i + 1) (omega (arith, differs)))
-          ]
 
 pub appended_all : {holder : Option ℕ} {numbers : List ℕ} {locations : List Location} {before slab : Slab Member} {count : ℕ} → IsAppendedTo count holder numbers locations before slab → length locations ≤ count
     → clients_in locations slab ≡ map (with_run holder numbers) (clients_in locations before)
 appended_all {holder} {numbers} {locations} {before} {slab} {count} to past =
-    same_lists (clients_in locations slab) (map (with_run holder numbers) (clients_in locations before))
-    (omega (arith, long_now, length-map (clients_in locations before) (with_run holder numbers), long_before))
-    (λ j e within. each j e (omega (arith, within, long_now)))
-  where
-    long_now : length (clients_in locations slab) ≡ length locations
-    long_now = length-map locations (λ s. client_at slab s.key)
-
-    long_before : length (clients_in locations before) ≡ length locations
-    long_before = length-map locations (λ s. client_at before s.key)
-
-    same_default : (ms : List Member) (j : ℕ) (d e : Member) → j < length ms → get_or ms j d ≡ get_or ms j e
-    same_default [] j d e h = absurd (omega (arith, h))
-    same_default (m ∷ ms) zero d e h = refl
-    same_default (m ∷ ms) (suc j) d e h = same_default ms j d e (omega (arith, h))
-
-    each : (j : ℕ) (e : Member) → j < length locations → get_or (clients_in locations slab) j e ≡ get_or (map (with_run holder numbers) (clients_in locations before)) j e
-    each j e in_j =
-        same_default (clients_in locations slab) j e (new_client 0 0) (omega (arith, in_j, long_now))
-        ∙ to.changed j in_j
-        ∙ cond-true (nat_lt j count) _ _ (lt-ltb j count (omega arith))
-        ∙ sym (get_or-map (with_run holder numbers) (clients_in locations before) j (new_client 0 0) e (omega (arith, in_j, long_before)))
+    let was : Location → Member = λ at. client_at before at.key in
+    map_over (λ at. client_at slab at.key) was (with_run holder numbers) locations (λ j d in_j.
+    sym (member_in_location to.located j d (new_client 0 0) in_j)
+    ∙ to.changed j in_j ∙ cond-true (nat_lt j count) _ _ (lt-ltb j count (omega arith))
+    ∙ ap (with_run holder numbers) (get_or-map was locations j d (new_client 0 0) in_j))
 
 -- Who takes it
 
@@ -260,7 +223,7 @@ module _ {locations : List Location} {slab : Slab Member} (located : AreLocated 
   in_among = omega (arith, in_i, members_long located)
 
   next_is : get_or among i (new_client 0 0) ≡ client
-  next_is = member_in_location located i (record { number = 0; key = 0 }) (new_client 0 0) in_i ∙ ap (client_at slab) at ∙ client_at_found located key client found
+  next_is = member_found located i (record { number = 0; key = 0 }) (new_client 0 0) key client in_i at found
 
   pub takers_same : (takers : ℕ) → takers ≡ takers_in holder (take i among) → is_offered_to holder client ≡ false → takers ≡ takers_in holder (take (i + 1) among)
   takers_same takers is not_to = is ∙ sym (count_by_more_no (is_offered_to holder) among i (new_client 0 0) in_among (ap (is_offered_to holder) next_is ∙ not_to))
@@ -276,66 +239,39 @@ module _ {locations : List Location} {slab : Slab Member} (located : AreLocated 
 -- What all of it leaves
 
 module _ (holder : Option ℕ) (numbers : List ℕ) where
-  -- a ring that is put a number once has it once more
-  gains : (n : ℕ) (m : Member) (t : ℕ) → times n numbers ≡ t → times n (with_run holder numbers m).ring.events ≡ times n m.ring.events + (if is_offered_to holder m then t else 0)
-  gains n m t is = either (is_offered_to holder m)
-    where
-      either : (b : Bool) → times n (if b then with_events (m.ring.events ++ numbers) m else m).ring.events ≡ times n m.ring.events + (if b then t else 0)
-      either true = omega (arith, times-append n m.ring.events numbers, is)
-      either false = omega arith
+  -- a sum over the clients, each of whose terms grows by another, or by nothing
+  sum_run : (f g : Member → ℕ) → ((m : Member) → f (with_run holder numbers m) ≡ f m + g m) → (ms : List Member)
+      → sum_by f (map (with_run holder numbers) ms) ≡ sum_by f ms + sum_by g ms
+  sum_run f g each [] = refl
+  sum_run f g each (m ∷ ms) =
+      let after : List Member = map (with_run holder numbers) ms in
+      omega (arith, sum_by-cons f (with_run holder numbers m) after, sum_by-cons f m ms, sum_by-cons g m ms, each m, sum_run f g each ms)
 
-  zero_or : (b : Bool) (t : ℕ) → t ≡ 0 → (if b then t else 0) ≡ 0
-  zero_or true t is = is
-  zero_or false t is = refl
+  sum_same : (f : Member → ℕ) → ((m : Member) → f (with_run holder numbers m) ≡ f m) → (ms : List Member)
+      → sum_by f (map (with_run holder numbers) ms) ≡ sum_by f ms
+  sum_same f each ms =
+      omega (arith, sum_run f (λ m. 0) (λ m. omega (arith, each m)) ms, sum_by-le (λ (m : Member). 0) 0 ms (λ j d in_j. omega arith))
 
   times_out : (n : ℕ) (ms : List Member) → times n numbers ≡ 0 → times_in n (map (with_run holder numbers) ms) ≡ times_in n ms
-  times_out n [] out = refl
-  times_out n (m ∷ ms) out =
-      omega (
-        arith,
-        sum_by-cons (λ (x : Member). times n x.ring.events) (with_run holder numbers m) (map (with_run holder numbers) ms),
-        sum_by-cons (λ (x : Member). times n x.ring.events) m ms,
-        gains n m 0 out,
-        zero_or (is_offered_to holder m) 0 refl,
-        times_out n ms out,
-      )
+  times_out n ms out =
+      sum_same (λ x. times n x.ring.events)
+      (λ m. cond_both (is_offered_to holder m) _ _ (λ (x : Member). times n x.ring.events ≡ times n m.ring.events) (λ _. omega (arith, times-append n m.ring.events numbers, out)) (λ _. refl)) ms
 
   times_one : (n : ℕ) (ms : List Member) → times n numbers ≡ 1 → times_in n (map (with_run holder numbers) ms) ≡ times_in n ms + takers_in holder ms
-  times_one n [] one = refl
-  times_one n (m ∷ ms) one =
-      omega (
-        arith,
-        sum_by-cons (λ (x : Member). times n x.ring.events) (with_run holder numbers m) (map (with_run holder numbers) ms),
-        sum_by-cons (λ (x : Member). times n x.ring.events) m ms,
-        sum_by-cons (λ (x : Member). if is_offered_to holder x then 1 else 0) m ms,
-        gains n m 1 one,
-        times_one n ms one,
-      )
+  times_one n ms one = sum_run (λ x. times n x.ring.events) (λ x. if is_offered_to holder x then 1 else 0) (λ m. either m (is_offered_to holder m)) ms
+    where
+      either : (m : Member) (b : Bool) → times n (if b then with_events (m.ring.events ++ numbers) m else m).ring.events ≡ times n m.ring.events + (if b then 1 else 0)
+      either m true = omega (arith, times-append n m.ring.events numbers, one)
+      either m false = omega arith
 
   same_places : (m : Member) → (with_run holder numbers m).ring.places ≡ m.ring.places
-  same_places m = either (is_offered_to holder m)
-    where
-      either : (b : Bool) → (if b then with_events (m.ring.events ++ numbers) m else m).ring.places ≡ m.ring.places
-      either true = refl
-      either false = refl
+  same_places m = cond_both (is_offered_to holder m) _ _ (λ (x : Member). x.ring.places ≡ m.ring.places) (λ _. refl) (λ _. refl)
 
   pub same_number : (m : Member) → (with_run holder numbers m).number ≡ m.number
-  same_number m = either (is_offered_to holder m)
-    where
-      either : (b : Bool) → (if b then with_events (m.ring.events ++ numbers) m else m).number ≡ m.number
-      either true = refl
-      either false = refl
+  same_number m = cond_both (is_offered_to holder m) _ _ (λ (x : Member). x.number ≡ m.number) (λ _. refl) (λ _. refl)
 
   wanted_same : (ms : List Member) → wanted (map (with_run holder numbers) ms) ≡ wanted ms
-  wanted_same [] = refl
-  wanted_same (m ∷ ms) =
-      omega (
-        arith,
-        sum_by-cons (λ (x : Member). x.ring.places + 1) (with_run holder numbers m) (map (with_run holder numbers) ms),
-        sum_by-cons (λ (x : Member). x.ring.places + 1) m ms,
-        same_places m,
-        wanted_same ms,
-      )
+  wanted_same ms = sum_same (λ x. x.ring.places + 1) (λ m. omega (arith, same_places m)) ms
 
 module _ {locations : List Location} {before : Slab Member} {first store : StoreView} {f : Frame} {takers : ℕ} {numbers : List ℕ}
     (shared : AreShared locations before first) (run : FitsInOneRun locations before first f takers) (added : AreAdded first store (cells_of f) takers numbers) where
@@ -389,6 +325,9 @@ module _ {locations : List Location} {before : Slab Member} {first store : Store
     queue_with : map (cell_at store) (m.ring.events ++ numbers) ≡ map (cell_at first) m.ring.events ++ cells
     queue_with = map-append (cell_at store) m.ring.events numbers ∙ ap (λ (q : List Cell). q ++ map (cell_at store) numbers) stays ∙ ap (λ (q : List Cell). map (cell_at first) m.ring.events ++ q) added.there
 
+    room_with : is_offered_to holder m ≡ true → length (client_in first m).ring.events + length frame < m.ring.places
+    room_with h = omega (arith, (takes h).1, length-map m.ring.events (cell_at first))
+
     was : IsRing (ring_of m)
     was = All-get_or (λ (x : Member). IsRing (ring_of x)) ms j (new_client 0 0) in_j shared.stored.rings
 
@@ -396,36 +335,38 @@ module _ {locations : List Location} {before : Slab Member} {first store : Store
     was_fit = All-get_or (λ (x : Member). AreFit (map (cell_at first) x.ring.events)) ms j (new_client 0 0) in_j shared.stored.timed
 
     sound_with : IsRing (ring_of (with_run holder numbers m))
-    sound_with = either (is_offered_to holder m) refl
-      where
-        either : (b : Bool) → is_offered_to holder m ≡ b → IsRing (ring_of (if b then with_events (m.ring.events ++ numbers) m else m))
-        either true h = record { least = was.least; most = was.most; room = omega (arith, (takes h).1, length-append m.ring.events numbers, count_is); different = different_with }
-        either false h = was
+    sound_with =
+        cond_both (is_offered_to holder m) _ _ (λ (x : Member). IsRing (ring_of x))
+        (λ h. record { least = was.least; most = was.most; room = omega (arith, (takes h).1, length-append m.ring.events numbers, count_is); different = different_with })
+        (λ h. was)
 
     cells_fit : now ≤ MOMENT_MAX → (es : List Event) → AreFit (map (cell_of_event now place) es)
     cells_fit fits [] = All-nil (λ (cell : Cell). cell.now ≤ MOMENT_MAX)
     cells_fit fits (e ∷ es) = All-cons (λ (cell : Cell). cell.now ≤ MOMENT_MAX) (cell_of_event now place e) (map (cell_of_event now place) es) fits (cells_fit fits es)
 
     timed_with : now ≤ MOMENT_MAX → AreFit (map (cell_at store) (with_run holder numbers m).ring.events)
-    timed_with fits = either (is_offered_to holder m)
-      where
-        either : (b : Bool) → AreFit (map (cell_at store) (if b then with_events (m.ring.events ++ numbers) m else m).ring.events)
-        either true = let P : List Cell → Type 0 = λ q. AreFit q in subst P (sym queue_with) (All-append (λ (cell : Cell). cell.now ≤ MOMENT_MAX) (map (cell_at first) m.ring.events) cells was_fit (cells_fit fits frame))
-        either false = let P : List Cell → Type 0 = λ q. AreFit q in subst P (sym stays) was_fit
+    timed_with fits =
+        let P : List Cell → Type 0 = λ q. AreFit q in
+        cond_both (is_offered_to holder m) _ _ (λ (x : Member). AreFit (map (cell_at store) x.ring.events))
+        (λ _. subst P (sym queue_with) (All-append (λ (cell : Cell). cell.now ≤ MOMENT_MAX) (map (cell_at first) m.ring.events) cells was_fit (cells_fit fits frame)))
+        (λ _. subst P (sym stays) was_fit)
 
     seen_with : client_in store (with_run holder numbers m) ≡ after_offer frame now place holder (client_in first m)
-    seen_with = either (is_offered_to holder m) refl
-      where
-        either : (b : Bool) → is_offered_to holder m ≡ b → client_in store (if b then with_events (m.ring.events ++ numbers) m else m) ≡ after_offer frame now place holder (client_in first m)
-        either true h =
-            ap (λ (q : List Cell). with_events q (client_in first m)) queue_with
-            ∙ sym (taken_whole frame now place holder (client_in first m) h (takes h).0 run.apart (omega (arith, (takes h).1, length-map m.ring.events (cell_at first))))
-        either false h = ap (λ (q : List Cell). with_events q (client_in first m)) stays ∙ sym (cond-false (is_offered_to holder (client_in first m)) _ _ h)
+    seen_with =
+        cond_both (is_offered_to holder m) _ _ (λ (x : Member). client_in store x ≡ after_offer frame now place holder (client_in first m))
+        (λ h. ap (λ (q : List Cell). with_events q (client_in first m)) queue_with
+        ∙ sym (taken_whole frame now place holder (client_in first m) h (takes h).0 run.apart (room_with h)))
+        (λ h. ap (λ (q : List Cell). with_events q (client_in first m)) stays ∙ sym (cond-false (is_offered_to holder (client_in first m)) _ _ h))
+
+    put_at : IsPutBehind (admitted_numbers m.masks frame numbers) (loses frame now place holder (client_in first m)) m.ring.events (with_run holder numbers m).ring.events
+    put_at =
+        let P : List ℕ → List ℕ → Type 0 = λ given new. IsPutBehind given (loses frame now place holder (client_in first m)) m.ring.events new in
+        cond_both (is_offered_to holder m) _ _ (λ (x : Member). P (admitted_numbers m.masks frame numbers) x.ring.events)
+        (λ h. subst (λ (given : List ℕ). P given (m.ring.events ++ numbers)) (sym (admitted_all m.masks frame numbers (takes h).0 count_is))
+        (put_behind numbers m.ring.events (m.ring.events ++ numbers) _ (fits_whole frame now place holder (client_in first m) (room_with h)) refl))
+        (λ h. put_same (admitted_numbers m.masks frame numbers) m.ring.events m.ring.events _ (loses_none frame now place holder (client_in first m) h) refl)
 
   module _ {slab : Slab Member} (located : AreLocated locations slab) (members : clients_in locations slab ≡ map (with_run holder numbers) ms) (capacity : slab.capacity ≡ before.capacity) (fits : now ≤ MOMENT_MAX) where
-    long_next : length (map (with_run holder numbers) ms) ≡ length ms
-    long_next = length-map ms (with_run holder numbers)
-
     next_at : (j : ℕ) → j < length ms → get_or (map (with_run holder numbers) ms) j (new_client 0 0) ≡ with_run holder numbers (get_or ms j (new_client 0 0))
     next_at j in_j = get_or-map (with_run holder numbers) ms j (new_client 0 0) (new_client 0 0) in_j
 
@@ -442,14 +383,10 @@ module _ {locations : List Location} {before : Slab Member} {first store : Store
     stored_with : AreStored store (map (with_run holder numbers) ms) (λ n. 0)
     stored_with = record {
       held = held_with;
-      rings = All-from_get_or (λ (x : Member). IsRing (ring_of x)) (map (with_run holder numbers) ms) (new_client 0 0) (λ j in_j.
-          let P : Member → Type 0 = λ x. IsRing (ring_of x) in
-          let in_ms : j < length ms = omega (arith, in_j, long_next) in
-          subst P (sym (next_at j in_ms)) (sound_with j in_ms));
-      timed = All-from_get_or (λ (x : Member). AreFit (map (cell_at store) x.ring.events)) (map (with_run holder numbers) ms) (new_client 0 0) (λ j in_j.
-          let P : Member → Type 0 = λ x. AreFit (map (cell_at store) x.ring.events) in
-          let in_ms : j < length ms = omega (arith, in_j, long_next) in
-          subst P (sym (next_at j in_ms)) (timed_with j in_ms fits));
+      rings = All-map (λ (x : Member). IsRing (ring_of x)) (with_run holder numbers) ms
+          (All-from_get_or (λ (x : Member). IsRing (ring_of (with_run holder numbers x))) ms (new_client 0 0) (λ j in_j. sound_with j in_j));
+      timed = All-map (λ (x : Member). AreFit (map (cell_at store) x.ring.events)) (with_run holder numbers) ms
+          (All-from_get_or (λ (x : Member). AreFit (map (cell_at store) (with_run holder numbers x).ring.events)) ms (new_client 0 0) (λ j in_j. timed_with j in_j fits));
       room = omega (arith, shared.stored.room, added.room, wanted_same holder numbers ms);
     }
 
@@ -465,16 +402,11 @@ module _ {locations : List Location} {before : Slab Member} {first store : Store
 
     clients_with : cells_in store (clients_in locations slab) ≡ map (after_offer frame now place holder) (cells_in first ms)
     clients_with =
+        let seen : Member → ClientView Cell = λ m. client_in store (with_run holder numbers m) in
         ap (cells_in store) members
-        ∙ same_lists (cells_in store (map (with_run holder numbers) ms)) (map (after_offer frame now place holder) (cells_in first ms))
-        (omega (arith, length-map (map (with_run holder numbers) ms) (client_in store), long_next, length-map (cells_in first ms) (after_offer frame now place holder), length-map ms (client_in first)))
-        (λ j e within.
-        let in_ms : j < length ms = omega (arith, within, length-map (map (with_run holder numbers) ms) (client_in store), long_next) in
-        get_or-map (client_in store) (map (with_run holder numbers) ms) j (new_client 0 0) e (omega (arith, in_ms, long_next))
-        ∙ ap (client_in store) (next_at j in_ms)
-        ∙ seen_with j in_ms
-        ∙ sym (get_or-map (after_offer frame now place holder) (cells_in first ms) j (client_in first (new_client 0 0)) e (omega (arith, in_ms, length-map ms (client_in first)))
-        ∙ ap (after_offer frame now place holder) (get_or-map (client_in first) ms j (new_client 0 0) (client_in first (new_client 0 0)) in_ms)))
+        ∙ sym (map_over seen (with_run holder numbers) (client_in store) ms (λ j d in_j. refl))
+        ∙ map_over seen (client_in first) (after_offer frame now place holder) ms
+        (All-from_get_or (λ m. seen m ≡ after_offer frame now place holder (client_in first m)) ms (new_client 0 0) (λ j in_j. seen_with j in_j))
 
     -- each event has the number of its cell
     pub offered_with : IsOffered f locations before slab first store
@@ -490,13 +422,3 @@ module _ {locations : List Location} {before : Slab Member} {first store : Store
       wanted = ap wanted members ∙ wanted_same holder numbers ms;
       capacity = capacity;
     }
-      where
-        put_at : (j : ℕ) → j < length ms → IsPutBehind (admitted_numbers (seen_at first locations before j).masks frame numbers) (loses frame now place holder (seen_at first locations before j)) (ring_at locations before j) (with_run holder numbers (member_at locations before j)).ring.events
-        put_at j in_j = either (is_offered_to holder (member_at locations before j)) refl
-          where
-            either : (b : Bool) → is_offered_to holder (member_at locations before j) ≡ b → IsPutBehind (admitted_numbers (member_at locations before j).masks frame numbers) (loses frame now place holder (client_in first (member_at locations before j))) (member_at locations before j).ring.events (if b then with_events ((member_at locations before j).ring.events ++ numbers) (member_at locations before j) else (member_at locations before j)).ring.events
-            either true h =
-                let whole = takes j in_j h in
-                let P : List ℕ → Type 0 = λ g. IsPutBehind g (loses frame now place holder (client_in first (member_at locations before j))) (member_at locations before j).ring.events ((member_at locations before j).ring.events ++ numbers) in
-                subst P (sym (admitted_all (member_at locations before j).masks frame numbers whole.0 count_is)) (put_behind numbers (member_at locations before j).ring.events ((member_at locations before j).ring.events ++ numbers) _ (fits_whole frame now place holder (client_in first (member_at locations before j)) (omega (arith, whole.1, length-map (member_at locations before j).ring.events (cell_at first)))) refl)
-            either false h = put_same (admitted_numbers (member_at locations before j).masks frame numbers) (member_at locations before j).ring.events (member_at locations before j).ring.events _ (loses_none frame now place holder (client_in first (member_at locations before j)) h) refl

@@ -1,10 +1,10 @@
 -- The clients after each kind of step.
-use Rattle.std.proofs.Common.{◌≡◌, ℕ, ◌/◌, ◌%◌, ◌<◌, min, Bool, true, false, ◌&&◌, not, if◌then◌else◌, nat_eq, nat_lt, List, [], ◌∷◌, ◌++◌, length, map, drop, refl, sym, ap, ◌∙◌, arith, Some, None}
+use Rattle.std.proofs.Common.{◌≡◌, ℕ, ◌/◌, ◌%◌, ◌<◌, min, Bool, true, false, ◌&&◌, not, if◌then◌else◌, nat_eq, nat_lt, List, [], ◌∷◌, ◌++◌, length, map, drop, get_or, refl, sym, ap, ◌∙◌, arith, Some, None}
 use Rattle.std.specs.Prelude.{filter, unwrap_or, ◌==◌}
 use Rattle.std.specs.Int.{bit_at}
 use Rattle.std.specs.List.{list_any, range_with_len}
 use Rattle.std.proofs.Math.Path.{fun_ext}
-use Rattle.std.proofs.lemmas.Bool.Decides.{nat_tests}
+use Rattle.std.proofs.lemmas.Bool.{lt-ltb}
 use Rattle.std.proofs.lemmas.List.{map-append, drop-map}
 use Rattle.inp_model.specs.declared.taken.Taken.{Taken}
 use Rattle.inp_model.specs.declared.clock.Clock.{Clock}
@@ -28,7 +28,7 @@ use Rattle.inp_model.proofs.Opens.{is_open-lt}
 use Rattle.inp_device.proofs.OpenClients.{open_clients-open, open_clients-close}
 use Rattle.inp_model.proofs.Removal.{flush-map}
 use Rattle.inp_device.proofs.MaskWords.{masks_with-set}
-use Rattle.inp_client.proofs.Lists.{any_below}
+use Rattle.inp_client.proofs.Lists.{any_below, map_over, map_same}
 use Rattle.inp_client.proofs.ClientLists.{has_client-filter, events_of-map, has_revoked_client-map, without_client-map}
 use Rattle.inp_device.proofs.Named.{IsNumbered, nat_eq-same, nat_eq-other, map-filter_same, map_client-filter}
 use Rattle.inp_device.proofs.Offers.{client_with, after_offers, after_offers-with}
@@ -38,17 +38,14 @@ numbered d past n = refl
 
 -- Who is open
 
-lt_true : (m n : ℕ) → m < n → nat_lt m n ≡ true
-lt_true m n h = grind (arith, nat_tests, h)
-
 -- an open client is among the open clients
 among_open : (past : List Step) (n : ℕ) → is_open past n ≡ true → list_any (λ k. nat_eq k n) (open_clients past) ≡ true
 among_open past n h =
     any_below n (opens past) (is_open past)
-    ∙ ap (λ b. b && is_open past n) (lt_true n (opens past) (is_open-lt past n h)) ∙ h
+    ∙ ap (λ b. b && is_open past n) (lt-ltb n (opens past) (is_open-lt past n h)) ∙ h
 
 and_below : (past : List Step) (n : ℕ) (b : Bool) → b ≡ is_open past n → (nat_lt n (opens past) && b) ≡ b
-and_below past n true h = ap (λ c. c && true) (lt_true n (opens past) (is_open-lt past n (sym h)))
+and_below past n true h = ap (λ c. c && true) (lt-ltb n (opens past) (is_open-lt past n (sym h)))
 and_below past n false h = and_false (nat_lt n (opens past))
   where
     and_false : (c : Bool) → (c && false) ≡ false
@@ -104,79 +101,44 @@ clients_after-discard d past n removed chosen =
     (λ k other. ap (client_with d past k) (by_name n k (drop (visible model.event_of (queue d past k)) (queue d past k)) (queue d past k) other))
 
 -- a step that asks for something whole
-asked : (d : Description) (past : List Step) (x : Step) (n : ℕ) (query : Query) → open_clients (x ∷ past) ≡ open_clients past
-    → ((k : ℕ) → client_after d (x ∷ past) k ≡ client_with d past k (if nat_eq n k then flush model.event_of (is_part_of query) (queue d past k) else queue d past k))
-    → clients_after d (x ∷ past) ≡ map_client n (after_flush taken_event query) (clients_after d past)
-asked d past x n query same is =
-    changed_by d past x n (after_flush taken_event query) same
-    (λ opened. is n ∙ ap (client_with d past n) (at_name n (flush model.event_of (is_part_of query) (queue d past n)) (queue d past n)) ∙ flush_of d past n query (queue d past n))
-    (λ k other. is k ∙ ap (client_with d past k) (by_name n k (flush model.event_of (is_part_of query) (queue d past k)) (queue d past k) other))
-
 some_same : {X : Type 0} (x y : X) → Some x ≡ Some y → x ≡ y
 some_same x y e = cc
+
+asked : (d : Description) (past : List Step) (x : Step) (m n : ℕ) (asks query : Query) → Some m ≡ Some n → Some asks ≡ Some query → open_clients (x ∷ past) ≡ open_clients past
+    → ((k : ℕ) → client_after d (x ∷ past) k ≡ client_with d past k (if nat_eq m k then flush model.event_of (is_part_of asks) (queue d past k) else queue d past k))
+    → clients_after d (x ∷ past) ≡ map_client n (after_flush taken_event query) (clients_after d past)
+asked d past x m n asks query named whole same is =
+    changed_by d past x m (after_flush taken_event asks) same
+    (λ opened. is m ∙ ap (client_with d past m) (at_name m (flush model.event_of (is_part_of asks) (queue d past m)) (queue d past m)) ∙ flush_of d past m asks (queue d past m))
+    (λ k other. is k ∙ ap (client_with d past k) (by_name m k (flush model.event_of (is_part_of asks) (queue d past k)) (queue d past k) other))
+    ∙ ap (λ (j : ℕ). map_client j (after_flush taken_event asks) (clients_after d past)) (some_same m n named)
+    ∙ ap (λ q. map_client n (after_flush taken_event q) (clients_after d past)) (some_same asks query whole)
 
 -- the queries of bits, and of all slots
 pub clients_after-query : (d : Description) (past : List Step) (x : Step) (n : ℕ) (query : Query) → client_of x ≡ Some n → query_of x ≡ Some query → clients_after d (x ∷ past) ≡ map_client n (after_flush taken_event query) (clients_after d past)
 unfolding opens is_open is_revoked clock_of mask_bit queue_with raw_of_step cuts
-clients_after-query d past (GetKeys m) n query named whole =
-    let same : m ≡ n = some_same m n named in
-    let asks : Codes 1 ≡ query = some_same (Codes 1) query whole in
-    asked d past (GetKeys m) m (Codes 1) refl (λ k. refl) ∙ ap (λ (j : ℕ). map_client j (after_flush taken_event (Codes 1)) (clients_after d past)) same ∙ ap (λ q. map_client n (after_flush taken_event q) (clients_after d past)) asks
-clients_after-query d past (GetSwitches m) n query named whole =
-    let same : m ≡ n = some_same m n named in
-    let asks : Codes 5 ≡ query = some_same (Codes 5) query whole in
-    asked d past (GetSwitches m) m (Codes 5) refl (λ k. refl) ∙ ap (λ (j : ℕ). map_client j (after_flush taken_event (Codes 5)) (clients_after d past)) same ∙ ap (λ q. map_client n (after_flush taken_event q) (clients_after d past)) asks
-clients_after-query d past (GetLeds m) n query named whole =
-    let same : m ≡ n = some_same m n named in
-    let asks : Codes 17 ≡ query = some_same (Codes 17) query whole in
-    asked d past (GetLeds m) m (Codes 17) refl (λ k. refl) ∙ ap (λ (j : ℕ). map_client j (after_flush taken_event (Codes 17)) (clients_after d past)) same ∙ ap (λ q. map_client n (after_flush taken_event q) (clients_after d past)) asks
-clients_after-query d past (GetSounds m) n query named whole =
-    let same : m ≡ n = some_same m n named in
-    let asks : Codes 18 ≡ query = some_same (Codes 18) query whole in
-    asked d past (GetSounds m) m (Codes 18) refl (λ k. refl) ∙ ap (λ (j : ℕ). map_client j (after_flush taken_event (Codes 18)) (clients_after d past)) same ∙ ap (λ q. map_client n (after_flush taken_event q) (clients_after d past)) asks
-clients_after-query d past (SyncSlots m) n query named whole =
-    let same : m ≡ n = some_same m n named in
-    let asks : Slots ≡ query = some_same Slots query whole in
-    asked d past (SyncSlots m) m Slots refl (λ k. refl) ∙ ap (λ (j : ℕ). map_client j (after_flush taken_event Slots) (clients_after d past)) same ∙ ap (λ q. map_client n (after_flush taken_event q) (clients_after d past)) asks
+clients_after-query d past (GetKeys m) n query named whole = asked d past (GetKeys m) m n (Codes 1) query named whole refl (λ k. refl)
+clients_after-query d past (GetSwitches m) n query named whole = asked d past (GetSwitches m) m n (Codes 5) query named whole refl (λ k. refl)
+clients_after-query d past (GetLeds m) n query named whole = asked d past (GetLeds m) m n (Codes 17) query named whole refl (λ k. refl)
+clients_after-query d past (GetSounds m) n query named whole = asked d past (GetSounds m) m n (Codes 18) query named whole refl (λ k. refl)
+clients_after-query d past (SyncSlots m) n query named whole = asked d past (SyncSlots m) m n Slots query named whole refl (λ k. refl)
 clients_after-query d past x n query named whole = absurd (cc whole)
 
 pub clients_after-revoke : (d : Description) (past : List Step) (n : ℕ) → clients_after d (Revoke n ∷ past) ≡ map_client n after_revoke (clients_after d past)
 unfolding opens is_open is_revoked clock_of mask_bit queue_with raw_of_step cuts
 clients_after-revoke d past n =
-    changed_by d past (Revoke n) n after_revoke refl
-    (λ opened. here (nat_eq n n) (nat_eq-same n))
-    (λ k other. there k (nat_eq n k) (nat_eq-other n k (λ e. other (sym e))))
-  where
-    with_flag : ℕ → Bool → List Entry → ClientView Taken
-    with_flag k revoked q = record (client_with d past k q) { revoked = revoked }
-
-    here : (b : Bool) → b ≡ true → with_flag n (if b then true else is_revoked past n) (if b then queue d past n else queue d past n) ≡ after_revoke (client_after d past n)
-    here true h = refl
-    here false h = absurd (cc h)
-
-    there : (k : ℕ) (b : Bool) → b ≡ false → with_flag k (if b then true else is_revoked past k) (if b then queue d past k else queue d past k) ≡ client_after d past k
-    there k true h = absurd (cc h)
-    there k false h = refl
-
--- the masks of a client, by whether it is the one named
-mask_there : (d : Description) (past : List Step) (n k kind word bits : ℕ) (b : Bool) → b ≡ false
-    → (let changed : ℕ → ℕ → Bool = λ this i. unwrap_or (if b && nat_eq kind this && nat_eq word (i / 64) then Some (bit_at bits (i % 64) == 1) else None) (mask_bit past k this i) in
-    let c : ClientView Taken = record (client_with d past k (if b then queue d past k else queue d past k)) { masks = masks_with changed } in c ≡ client_after d past k)
-mask_there d past n k kind word bits true h = absurd (cc h)
-mask_there d past n k kind word bits false h = refl
-
-mask_here : (d : Description) (past : List Step) (n kind word bits : ℕ) (b : Bool) → word < mask_words kind → b ≡ true
-    → (let changed : ℕ → ℕ → Bool = λ this i. unwrap_or (if b && nat_eq kind this && nat_eq word (i / 64) then Some (bit_at bits (i % 64) == 1) else None) (mask_bit past n this i) in
-    let c : ClientView Taken = record (client_with d past n (if b then queue d past n else queue d past n)) { masks = masks_with changed } in c ≡ after_mask kind word bits (client_after d past n))
-mask_here d past n kind word bits true fits h = ap (λ m. record (client_after d past n) { masks = m }) (masks_with-set (mask_bit past n) kind word bits fits)
-mask_here d past n kind word bits false fits h = absurd (cc h)
+    let marked : ℕ → Bool → ClientView Taken = λ k b. record (client_with d past k (if b then queue d past k else queue d past k)) { revoked = if b then true else is_revoked past k } in
+    changed_by d past (Revoke n) n after_revoke refl (λ opened. ap (marked n) (nat_eq-same n)) (λ k other. ap (marked k) (nat_eq-other n k (λ e. other (sym e))))
 
 pub clients_after-mask : (d : Description) (past : List Step) (n kind word bits : ℕ) → word < mask_words kind → clients_after d (Mask n kind word bits ∷ past) ≡ map_client n (after_mask kind word bits) (clients_after d past)
 unfolding opens is_open is_revoked clock_of mask_bit queue_with raw_of_step cuts
 clients_after-mask d past n kind word bits fits =
+    let masked : ℕ → Bool → ClientView Taken = λ k b.
+    let changed : ℕ → ℕ → Bool = λ this i. unwrap_or (if b && nat_eq kind this && nat_eq word (i / 64) then Some (bit_at bits (i % 64) == 1) else None) (mask_bit past k this i) in
+    record (client_with d past k (if b then queue d past k else queue d past k)) { masks = masks_with changed } in
     changed_by d past (Mask n kind word bits) n (after_mask kind word bits) refl
-    (λ opened. mask_here d past n kind word bits (nat_eq n n) fits (nat_eq-same n))
-    (λ k other. mask_there d past n k kind word bits (nat_eq n k) (nat_eq-other n k (λ e. other (sym e))))
+    (λ opened. ap (masked n) (nat_eq-same n) ∙ ap (λ m. record (client_after d past n) { masks = m }) (masks_with-set (mask_bit past n) kind word bits fits))
+    (λ k other. ap (masked k) (nat_eq-other n k (λ e. other (sym e))))
 
 -- a change of clock, seen as the events that a client reads
 clock_changed-map : (d : Description) (past : List Step) (same : Bool) (e : Entry) (q : List Entry) → map taken_of (clock_changed same e q) ≡ clock_changed same (taken_of e) (map taken_of q)
@@ -184,23 +146,15 @@ clock_changed-map d past same e [] = refl
 clock_changed-map d past true e (x ∷ q) = refl
 clock_changed-map d past false e (x ∷ q) = refl
 
-clock_there : (d : Description) (past : List Step) (k : ℕ) (clock : Clock) (changed : List Entry) (b : Bool) → b ≡ false
-    → (let c : ClientView Taken = record (client_with d past k (if b then changed else queue d past k)) { clock = unwrap_or (if b then Some clock else None) (clock_of past k) } in c ≡ client_after d past k)
-clock_there d past k clock changed true h = absurd (cc h)
-clock_there d past k clock changed false h = refl
-
-clock_here : (d : Description) (past : List Step) (n : ℕ) (clock : Clock) (now : ℕ) (b : Bool) → b ≡ true
-    → (let c : ClientView Taken = record (client_with d past n (if b then clock_changed (is_same_clock (clock_of past n) clock) (clock_entry d past clock now) (queue d past n) else queue d past n)) { clock = unwrap_or (if b then Some clock else None) (clock_of past n) } in c ≡ read_after_clock d clock now (length past) (client_after d past n))
-clock_here d past n clock now true h =
-    ap (λ (ts : List Taken). record (with_events ts (client_after d past n)) { clock = clock }) (clock_changed-map d past (is_same_clock (clock_of past n) clock) (clock_entry d past clock now) (queue d past n))
-clock_here d past n clock now false h = absurd (cc h)
-
 pub clients_after-clock : (d : Description) (past : List Step) (n : ℕ) (clock : Clock) (now : ℕ) → clients_after d (ToClock n clock now ∷ past) ≡ map_client n (read_after_clock d clock now (length past)) (clients_after d past)
 unfolding opens is_open is_revoked clock_of mask_bit queue_with raw_of_step cuts
 clients_after-clock d past n clock now =
+    let clocked : ℕ → Bool → ClientView Taken = λ k b.
+    record (client_with d past k (if b then clock_changed (is_same_clock (clock_of past n) clock) (clock_entry d past clock now) (queue d past k) else queue d past k)) { clock = unwrap_or (if b then Some clock else None) (clock_of past k) } in
     changed_by d past (ToClock n clock now) n (read_after_clock d clock now (length past)) refl
-    (λ opened. clock_here d past n clock now (nat_eq n n) (nat_eq-same n))
-    (λ k other. clock_there d past k clock (clock_changed (is_same_clock (clock_of past n) clock) (clock_entry d past clock now) (queue d past k)) (nat_eq n k) (nat_eq-other n k (λ e. other (sym e))))
+    (λ opened. ap (clocked n) (nat_eq-same n)
+    ∙ ap (λ (ts : List Taken). record (with_events ts (client_after d past n)) { clock = clock }) (clock_changed-map d past (is_same_clock (clock_of past n) clock) (clock_entry d past clock now) (queue d past n)))
+    (λ k other. ap (clocked k) (nat_eq-other n k (λ e. other (sym e))))
 
 -- Clients that open and close
 
@@ -208,15 +162,11 @@ close_by : (b : Bool) (q : List Entry) → (if b then q else q) ≡ q
 close_by true q = refl
 close_by false q = refl
 
-map_same : {X : Type 0} → (f g : ℕ → X) (ns : List ℕ) → ((k : ℕ) → f k ≡ g k) → map f ns ≡ map g ns
-map_same f g [] same = refl
-map_same f g (n ∷ ns) same = ap (λ x. x ∷ map f ns) (same n) ∙ ap (λ xs. g n ∷ xs) (map_same f g ns same)
-
 pub clients_after-close : (d : Description) (past : List Step) (n : ℕ) → clients_after d (Close n ∷ past) ≡ without_client n (clients_after d past)
 unfolding is_revoked clock_of mask_bit queue_with raw_of_step cuts
 clients_after-close d past n =
     ap (map (client_after d (Close n ∷ past))) (open_clients-close past n)
-    ∙ map_same (client_after d (Close n ∷ past)) (client_after d past) (filter (λ k. not (nat_eq k n)) (open_clients past)) (λ k. ap (client_with d past k) (close_by (nat_eq n k) (queue d past k)))
+    ∙ map_same (client_after d (Close n ∷ past)) (client_after d past) (filter (λ k. not (nat_eq k n)) (open_clients past)) (λ j e in_j. let k = get_or (filter (λ k. not (nat_eq k n)) (open_clients past)) j e in ap (client_with d past k) (close_by (nat_eq n k) (queue d past k)))
     ∙ sym (without_client-map (client_after d past) (numbered d past) n (open_clients past))
 
 masks_with-true : masks_with (λ kind index. true) ≡ full_masks
@@ -233,30 +183,19 @@ new_client-is d past n fresh =
     ∙ ap (λ c. record (new_client n (ring d)) { clock = c; revoked = is_revoked past n }) fresh.clock
     ∙ ap (λ b. record (new_client n (ring d)) { revoked = b }) fresh.revoked
 
-open_by : (b : Bool) (q : List Entry) → b ≡ false → (if (if b then true else false) then [] else q) ≡ q
-open_by true q h = absurd (cc h)
-open_by false q h = refl
-
-opened_by : (b : Bool) (q : List Entry) → b ≡ true → (if (if b then true else false) then [] else q) ≡ []
-opened_by true q h = refl
-opened_by false q h = absurd (cc h)
-
 pub clients_after-open : (d : Description) (past : List Step) → IsFresh past (opens past) → clients_after d (Open ∷ past) ≡ clients_after d past ++ new_client (opens past) (ring d) ∷ []
 unfolding is_revoked clock_of mask_bit queue_with raw_of_step cuts
 clients_after-open d past fresh =
     let n = opens past in
     let f = client_after d (Open ∷ past) in
+    let opened : ℕ → Bool → ClientView Taken = λ k b. client_with d past k (if (if b then true else false) then [] else queue d past k) in
     ap (map f) (open_clients-open past)
     ∙ map-append f (open_clients past) (n ∷ [])
     ∙ ap (λ (cs : List (ClientView Taken)). cs ++ f n ∷ [])
-    (map-filter_same f (client_after d past) (is_open past) (range_with_len 0 n) (λ k opened. ap (client_with d past k) (open_by (nat_eq n k) (queue d past k) (nat_eq-other n k (λ e. absurd (omega (arith, e, is_open-lt past k opened)))))))
-    ∙ ap (λ c. clients_after d past ++ c ∷ []) (ap (client_with d past n) (opened_by (nat_eq n n) (queue d past n) (nat_eq-same n)) ∙ new_client-is d past n fresh)
+    (map-filter_same f (client_after d past) (is_open past) (range_with_len 0 n) (λ k there. ap (opened k) (nat_eq-other n k (λ e. absurd (omega (arith, e, is_open-lt past k there))))))
+    ∙ ap (λ c. clients_after d past ++ c ∷ []) (ap (opened n) (nat_eq-same n) ∙ new_client-is d past n fresh)
 
 -- Steps that may end frames
-
-map_map : {X : Type 0} → (f : ClientView Taken → X) (g : ℕ → ClientView Taken) (ns : List ℕ) → map f (map g ns) ≡ map (λ n. f (g n)) ns
-map_map f g [] = refl
-map_map f g (n ∷ ns) = ap (λ xs. f (g n) ∷ xs) (map_map f g ns)
 
 -- the clients were offered the frames of the step
 framed : (d : Description) (past : List Step) (x : Step) → MasksEnd past → open_clients (x ∷ past) ≡ open_clients past
@@ -264,7 +203,7 @@ framed : (d : Description) (past : List Step) (x : Step) → MasksEnd past → o
     → map (after_offers d (frames_of_step d past x)) (clients_after d past) ≡ clients_after d (x ∷ past)
 framed d past x ends same is =
     let offers = after_offers d (frames_of_step d past x) in
-    map_map offers (client_after d past) (open_clients past)
+    sym (map_over (λ k. offers (client_after d past k)) (client_after d past) offers (open_clients past) (λ j e in_j. refl))
     ∙ map-filter_same (λ k. offers (client_after d past k)) (client_after d (x ∷ past)) (is_open past) (range_with_len 0 (opens past))
     (λ k opened. after_offers-with d past k x (cuts_of_step d past x) (queue d past k) opened (ends k) ∙ sym (is k))
     ∙ ap (map (client_after d (x ∷ past))) (sym same)
@@ -300,7 +239,7 @@ leaves_clients End = true
 leaves_clients _ = false
 
 left : (d : Description) (past : List Step) (x : Step) → open_clients (x ∷ past) ≡ open_clients past → ((k : ℕ) → client_after d (x ∷ past) k ≡ client_after d past k) → clients_after d (x ∷ past) ≡ clients_after d past
-left d past x same is = ap (map (client_after d (x ∷ past))) same ∙ map_same (client_after d (x ∷ past)) (client_after d past) (open_clients past) is
+left d past x same is = ap (map (client_after d (x ∷ past))) same ∙ map_same (client_after d (x ∷ past)) (client_after d past) (open_clients past) (λ j e in_j. is (get_or (open_clients past) j e))
 
 pub clients_after-left : (d : Description) (past : List Step) (x : Step) → leaves_clients x ≡ true → clients_after d (x ∷ past) ≡ clients_after d past
 unfolding opens is_open is_revoked clock_of mask_bit queue_with raw_of_step cuts

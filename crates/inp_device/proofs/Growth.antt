@@ -1,10 +1,9 @@
 -- How many more numbers the rings of all clients have after frames that are offered.
-use Rattle.std.proofs.Common.{◌≡◌, ◌≤◌, ◌<◌, ◌⊎◌, ℕ, suc, ◌+◌, Bool, true, false, ◌&&◌, ◌||◌, if◌then◌else◌, nat_eq, nat_lt, List, [], ◌∷◌, ◌++◌, length, map, get_or, Option, refl, sym, ap, ◌∙◌, subst, inl, inr, arith}
+use Rattle.std.proofs.Common.{◌≡◌, ◌≤◌, ◌<◌, ℕ, suc, ◌+◌, Bool, true, false, ◌&&◌, ◌||◌, if◌then◌else◌, nat_eq, nat_lt, List, [], ◌∷◌, ◌++◌, length, map, get_or, Option, refl, sym, ap, ◌∙◌, subst, inl, inr, arith}
 use Rattle.std.specs.Prelude.{filter, flat_map, count_by}
 use Rattle.std.specs.List.{list_any}
-use Rattle.std.proofs.lemmas.Bool.{cases_lt, le-ltb}
+use Rattle.std.proofs.lemmas.Bool.{cond_both, cases_lt, le-ltb}
 use Rattle.std.proofs.lemmas.List.{length-append, length-map, get_or-map}
-use Rattle.std.proofs.lemmas.List.Sums.{sum_by-cons}
 use Rattle.std.proofs.lemmas.List.Folds.{list_any-append}
 use Rattle.inp_model.specs.declared.event.TheConstants.{EV_SYN, SYN_DROPPED}
 use Rattle.inp_model.specs.declared.event.Event.{Event}
@@ -15,12 +14,12 @@ use Rattle.inp_ring.specs.Store.{event_of_cell, dropped_cell}
 use Rattle.inp_ring.specs.Ring.{times}
 use Rattle.inp_ring.proofs.Times.{times-append}
 use Rattle.inp_client.specs.Masks.{admits_of}
-use Rattle.inp_client.specs.Client.{ClientView, new_client, with_events, is_offered_to, cell_of_event, admitted_cells, after_offer}
+use Rattle.inp_client.specs.Client.{ClientView, new_client, is_offered_to, cell_of_event, after_offer}
 use Rattle.inp_client.specs.Clients.{ClientsView, distinct}
 use Rattle.inp_client.specs.Member.{after_event}
-use Rattle.inp_client.specs.Numbers.{held_numbers, stored_of, loses_event, loses, admitted_numbers, HoldNoneNew, IsPutBehind, IsStoredOnce}
+use Rattle.inp_client.specs.Numbers.{held_numbers, stored_of, loses_event, loses, HoldNoneNew, IsStoredOnce}
 use Rattle.inp_client.proofs.CellCounts.{distinct_few, distinct_there}
-use Rattle.inp_client.proofs.Numbers.{admitted_few}
+use Rattle.inp_client.proofs.Numbers.{IsGrown, after_event-cases, grown_put, stored_among}
 use Rattle.inp_client.proofs.Offers.{after_offer-cons}
 use Rattle.inp_device.proofs.Named.{nat_eq-same}
 
@@ -54,26 +53,19 @@ lost_stays_all now place places q (e ∷ es) h =
 
 module _ (now place : ℕ) (holder : Option ℕ) where
   lost_kept : (frame : List Event) (c : ClientView Cell) → is_lost place c ≡ true → is_lost place (after_offer frame now place holder c) ≡ true
-  lost_kept frame c h = either (is_offered_to holder c)
-    where
-      either : (b : Bool) → is_lost place (if b then with_events (put_all event_of_cell dropped_cell c.ring.places c.ring.events (admitted_cells frame now place c)) c else c) ≡ true
-      either true = lost_stays_all now place c.ring.places c.ring.events (filter (admits_of c.masks) frame) h
-      either false = h
+  lost_kept frame c h =
+      cond_both (is_offered_to holder c) _ _ (λ (x : ClientView Cell). is_lost place x ≡ true)
+      (λ _. lost_stays_all now place c.ring.places c.ring.events (filter (admits_of c.masks) frame) h) (λ _. h)
 
   -- a client that loses its queue by an event is told so
   told_of_event : (e : Event) (c : ClientView Cell) → loses_event (cell_of_event now place e) holder c ≡ true → is_lost place (after_event (cell_of_event now place e) holder c) ≡ true
   told_of_event e c h =
-      by (is_offered_to holder c && admits_of c.masks e) (is_report e && (is_empty c.ring.events || ends_in_report event_of_cell c.ring.events)) (nat_lt (suc (length c.ring.events)) c.ring.places) h
-    where
-      x : Cell
-      x = cell_of_event now place e
-
-      by : (g a b : Bool) → (let new : ClientView Cell = if g then with_events (with_cell a b c.ring.events x) c else c in nat_lt (length new.ring.events) (length c.ring.events) ≡ true)
-          → (let new : ClientView Cell = if g then with_events (with_cell a b c.ring.events x) c else c in is_lost place new ≡ true)
-      by false a b h = absurd (cc (h, le-ltb (length c.ring.events) (length c.ring.events) (omega arith)))
-      by true true b h = absurd (cc (h, le-ltb (length c.ring.events) (length c.ring.events) (omega arith)))
-      by true false true h = absurd (cc (h, le-ltb (length (c.ring.events ++ x ∷ [])) (length c.ring.events) (omega (arith, length-append c.ring.events (x ∷ [])))))
-      by true false false h = dropped_tells place x (x ∷ []) refl
+      let x : Cell = cell_of_event now place e in
+      let P : ClientView Cell → Type 0 = λ new. nat_lt (length new.ring.events) (length c.ring.events) ≡ true → is_lost place new ≡ true in
+      after_event-cases P x holder c
+      (λ g. absurd (cc (g, le-ltb (length c.ring.events) (length c.ring.events) (omega arith))))
+      (λ g. absurd (cc (g, le-ltb (length (c.ring.events ++ x ∷ [])) (length c.ring.events) (omega (arith, length-append c.ring.events (x ∷ []))))))
+      (λ _ g. dropped_tells place x (x ∷ []) refl) h
 
   told_of_frame : (frame : List Event) (c : ClientView Cell) → loses frame now place holder c ≡ true → is_lost place (after_offer frame now place holder c) ≡ true
   told_of_frame [] c h = absurd (cc h)
@@ -89,12 +81,6 @@ module _ (now place : ℕ) (holder : Option ℕ) where
       by false is h rest = rest h
 
 -- How the numbers of one ring grow
-
--- All that a ring has is from a frame, or was there before. Where its queue was lost, SYN_DROPPED stands for what was there.
-pub record IsGrown (given : List ℕ) (is_lost : Bool) (old new : List ℕ) : Type 0 where
-  pub front : List ℕ
-  pub kept_or_lost : (front ≡ old) ⊎ ((is_lost ≡ true) × (length front ≡ 1))
-  pub among : (n : ℕ) → 1 ≤ times n new → 1 ≤ times n front + times n given
 
 grown_then : (first rest old mid new : List ℕ) (a b : Bool) → (a ≡ true → b ≡ true) → IsGrown first a old mid → IsGrown rest b mid new → IsGrown (first ++ rest) b old new
 grown_then first rest old mid new a b stays p q = elim q.kept_or_lost [
@@ -138,29 +124,15 @@ grown_by_frame frame now place holder old new offered once = record {
   few = omega (arith, once.long);
   same = ap length offered ∙ length-map old.list (after_offer frame now place holder);
   rings = once.rings;
-  each = one;
+  each = λ i in_i.
+      grown_put (get_or old.list i some_client).masks frame (is_lost place (get_or new.list i some_client))
+      (λ is. subst (λ (c : ClientView Cell). is_lost place c ≡ true) (sym (client_is i in_i)) (told_of_frame now place holder frame (get_or old.list i some_client) is))
+      (once.each i in_i);
   stay = λ i in_i h. subst (λ (c : ClientView Cell). is_lost place c ≡ true) (sym (client_is i in_i)) (lost_kept now place holder frame (get_or old.list i some_client) h);
 }
   where
     client_is : (i : ℕ) → i < length old.list → get_or new.list i some_client ≡ after_offer frame now place holder (get_or old.list i some_client)
     client_is i in_i = ap (λ (cs : List (ClientView Cell)). get_or cs i some_client) offered ∙ get_or-map (after_offer frame now place holder) old.list i some_client some_client in_i
-
-    one : (i : ℕ) → i < length old.list → IsGrown once.given (is_lost place (get_or new.list i some_client)) (get_or old.rings i []) (get_or new.rings i [])
-    one i in_i = by (loses frame now place holder (get_or old.list i some_client)) refl
-      where
-        put : IsPutBehind (admitted_numbers (get_or old.list i some_client).masks frame once.given) (loses frame now place holder (get_or old.list i some_client)) (get_or old.rings i []) (get_or new.rings i [])
-        put = once.each i in_i
-
-        there_of : (n : ℕ) → 1 ≤ times n (get_or new.rings i []) → 1 ≤ times n put.front + times n once.given
-        there_of n there = omega (arith, there, ap (times n) put.numbers, times-append n put.front put.behind, put.theirs n, admitted_few (get_or old.list i some_client).masks frame once.given n)
-
-        by : (b : Bool) → loses frame now place holder (get_or old.list i some_client) ≡ b → IsGrown once.given (is_lost place (get_or new.list i some_client)) (get_or old.rings i []) (get_or new.rings i [])
-        by true is = record {
-          front = put.front;
-          kept_or_lost = inr (subst (λ (c : ClientView Cell). is_lost place c ≡ true) (sym (client_is i in_i)) (told_of_frame now place holder frame (get_or old.list i some_client) is), put.lost is);
-          among = there_of;
-        }
-        by false is = record { front = put.front; kept_or_lost = inl (put.kept is); among = there_of }
 
 -- by one frame after another
 pub are_grown_then : (first rest place : ℕ) (old mid new : ClientsView) → AreGrown first place old mid → AreGrown rest place mid new → AreGrown (first + rest) place old new
@@ -176,76 +148,19 @@ are_grown_then first rest place old mid new p q = record {
   stay = λ i in_i h. q.stay i (omega (arith, in_i, p.same)) (p.stay i in_i h);
 }
 
--- How many different numbers there are then
-
-abbrev all_of : List (List ℕ) → List ℕ
-all_of rings = flat_map (λ q. q) rings
-
--- the numbers of SYN_DROPPED that came
-record AreLosses (count : ℕ) (given old new : List ℕ) : Type 0 where
-  losses : List ℕ
-  few : length losses ≤ count
-  among : (n : ℕ) → 1 ≤ times n new → 1 ≤ times n old + times n given + times n losses
-
-module _ (place : ℕ) (given : List ℕ) where
-  abbrev lost : ClientView Cell → Bool
-  lost c = is_lost place c
-
-  one_more : (c : ClientView Cell) (cs : List (ClientView Cell)) (o n old new : List ℕ) → IsGrown given (lost c) o n → AreLosses (count_by lost cs) given old new → AreLosses (count_by lost (c ∷ cs)) given (o ++ old) (n ++ new)
-  one_more c cs o n old new grown rest = elim grown.kept_or_lost [
-    | inl kept ↦ record {
-      losses = rest.losses;
-      few = omega (arith, rest.few, sum_by-cons (λ (x : ClientView Cell). if lost x then 1 else 0) c cs);
-      among = λ k there. elim (cases_lt 0 (times k new)) [
-        | inl had ↦ omega (arith, rest.among k (omega (arith, had)), times-append k o old)
-        | inr none ↦ omega (arith, grown.among k (omega (arith, there, none, times-append k n new)), ap (times k) kept, times-append k o old)
-      ];
-    }
-    | inr was ↦ record {
-      losses = grown.front ++ rest.losses;
-      few = omega (arith, length-append grown.front rest.losses, was.1, rest.few, sum_by-cons (λ (x : ClientView Cell). if lost x then 1 else 0) c cs, ap {B = ℕ} (λ (b : Bool). if b then 1 else 0) was.0);
-      among = λ k there. elim (cases_lt 0 (times k new)) [
-        | inl had ↦ omega (arith, rest.among k (omega (arith, had)), times-append k o old, times-append k grown.front rest.losses)
-        | inr none ↦ omega (arith, grown.among k (omega (arith, there, none, times-append k n new)), times-append k grown.front rest.losses)
-      ];
-    }
-  ]
-
-  losses_of : (cs : List (ClientView Cell)) (os ns : List (List ℕ)) → length os ≡ length cs → length ns ≡ length cs
-      → ((i : ℕ) → i < length cs → IsGrown given (lost (get_or cs i some_client)) (get_or os i []) (get_or ns i [])) → AreLosses (count_by lost cs) given (all_of os) (all_of ns)
-  losses_of [] [] [] a b each = record { losses = []; few = omega arith; among = λ n there. absurd (omega (arith, there)) }
-  losses_of [] [] (n ∷ ns) a b each = absurd (omega (arith, b))
-  losses_of [] (o ∷ os) ns a b each = absurd (omega (arith, a))
-  losses_of (c ∷ cs) [] ns a b each = absurd (omega (arith, a))
-  losses_of (c ∷ cs) (o ∷ os) [] a b each = absurd (omega (arith, b))
-  losses_of (c ∷ cs) (o ∷ os) (n ∷ ns) a b each =
-      one_more c cs o n (all_of os) (all_of ns) (each 0 (omega arith)) (losses_of cs os ns (omega (arith, a)) (omega (arith, b)) (λ i in_i. each (suc i) (omega (arith, in_i))))
-
 -- no more different numbers than came, and one of each client that lost its queue
 pub stored_grown : (count place : ℕ) (old new : ClientsView) → AreGrown count place old new → stored_of new ≤ stored_of old + count + count_by (is_lost place) new.list
 stored_grown count place old new are =
     omega (
       arith,
-      distinct_few (held_numbers new) (distinct (held_numbers old) ++ (are.given ++ found.losses)) in_all,
-      length-append (distinct (held_numbers old)) (are.given ++ found.losses),
-      length-append are.given found.losses,
       are.few,
-      found.few,
+      stored_among (is_lost place) are.given old new new.list (are.rings.0 ∙ sym are.same) (are.rings.1 ∙ sym are.same) (λ i in_i. are.each i (omega (arith, in_i, are.same))),
     )
-  where
-    found : AreLosses (count_by (is_lost place) new.list) are.given (held_numbers old) (held_numbers new)
-    found = losses_of place are.given new.list old.rings new.rings (are.rings.0 ∙ sym are.same) (are.rings.1 ∙ sym are.same) (λ i in_i. are.each i (omega (arith, in_i, are.same)))
-
-    in_all : (n : ℕ) → 1 ≤ times n (held_numbers new) → 1 ≤ times n (distinct (held_numbers old) ++ (are.given ++ found.losses))
-    in_all n there =
-        let parts : times n (distinct (held_numbers old) ++ (are.given ++ found.losses)) ≡ times n (distinct (held_numbers old)) + (times n are.given + times n found.losses) =
-        omega (arith, times-append n (distinct (held_numbers old)) (are.given ++ found.losses), times-append n are.given found.losses) in
-        elim (cases_lt 0 (times n (held_numbers old))) [
-          | inl had ↦ omega (arith, parts, distinct_there n (held_numbers old) (omega (arith, had)))
-          | inr had_not ↦ omega (arith, parts, had_not, found.among n there)
-        ]
 
 -- Calls after which no number is new
+
+abbrev all_of : List (List ℕ) → List ℕ
+all_of rings = flat_map (λ q. q) rings
 
 pub stored_fewer : (old new : ClientsView) (more : ℕ) → ((n : ℕ) → times n (held_numbers new) ≤ times n (held_numbers old)) → stored_of new ≤ stored_of old + more
 stored_fewer old new more fewer = omega (arith, distinct_few (held_numbers new) (distinct (held_numbers old)) (λ n there. distinct_there n (held_numbers old) (omega (arith, there, fewer n))))

@@ -1,9 +1,10 @@
 -- The frames of a step that were passed to the handler: what came to the filters, and what was offered of them.
-use Rattle.std.proofs.Common.{◌≡◌, ◌⊎◌, ℕ, ◌+◌, Bool, true, false, if◌then◌else◌, List, [], ◌∷◌, length, map, refl, sym, ap, ◌∙◌, subst, Option, Some, None, inl, inr, arith}
+use Rattle.std.proofs.Common.{◌≡◌, ◌⊎◌, ℕ, ◌+◌, Bool, true, false, ◌||◌, if◌then◌else◌, List, [], ◌∷◌, length, map, refl, sym, ap, ◌∙◌, subst, Option, Some, None, inl, inr, arith}
+use Rattle.std.proofs.lemmas.Bool.{or_left, or_right}
 use Rattle.std.specs.Prelude.{is_some, sum_by}
+use Rattle.std.proofs.lemmas.List.{map-id}
 use Rattle.std.proofs.lemmas.List.Sums.{sum_by-cons}
 use Rattle.inp_model.specs.declared.event.Event.{Event}
-use Rattle.inp_model.specs.declared.taken.Taken.{Taken}
 use Rattle.inp_model.specs.declared.step.Step.{Step}
 use Rattle.inp_model.specs.declared.step.Step.TheVariants.{Inject, Tick, Write, Inhibit}
 use Rattle.inp_model.specs.Description.{Description}
@@ -21,9 +22,10 @@ use Rattle.inp_filter.proofs.LeftOfFrames.{left-let_through, left-held}
 use Rattle.inp_filter.proofs.GivenBefore.{AreGiven, all_given}
 use Rattle.inp_frames.specs.Frames.{TakesAll}
 use Rattle.inp_frames.proofs.KeptCore.{makes_no_events}
-use Rattle.inp_client.specs.Client.{ClientView, after_offer}
+use Rattle.inp_client.specs.Client.{after_offer}
 use Rattle.inp_client.specs.Clients.{ClientsView}
 use Rattle.inp_client.specs.Read.{clients_on, read_after_offer}
+use Rattle.inp_client.proofs.Lists.{map_over}
 use Rattle.inp_client.proofs.OnClock.{clients_on-map, on_offer}
 use Rattle.inp_device.specs.declared.handler.Handler.{Handler}
 use Rattle.inp_device.specs.FrameFilters.{FilterView}
@@ -54,19 +56,12 @@ given_in-none d past x h =
     ap (λ (cs : List Cut). if is_some (holder past) then given_in d past else given_by (map (frame_of past x) cs) (given_in d past)) (cuts-none d past x h)
     ∙ same_either (is_some (holder past)) (given_in d past)
 
-events_none : (x : Step) → makes_no_events x ≡ true → makes_events x ≡ false
+events_none : (x : Step) → (makes_no_events x || leaves_clients x) ≡ true → makes_events x ≡ false
 events_none (Inject e now) h = absurd (cc h)
 events_none (Write client e now) h = absurd (cc h)
 events_none (Tick now) h = absurd (cc h)
 events_none (Inhibit now) h = absurd (cc h)
 events_none _ h = refl
-
-events_left : (x : Step) → leaves_clients x ≡ true → makes_events x ≡ false
-events_left (Inject e now) h = absurd (cc h)
-events_left (Write client e now) h = absurd (cc h)
-events_left (Tick now) h = absurd (cc h)
-events_left (Inhibit now) h = absurd (cc h)
-events_left _ h = refl
 
 -- the filters are as before, and nothing came to them
 module _ (d : Description) (past : List Step) (x : Step) (old new : Handler) (same : new.filters ≡ old.filters) (was : FiltersStandFor d.filters (given_in d past) old.filters.kept) where
@@ -76,10 +71,10 @@ module _ (d : Description) (past : List Step) (x : Step) (old new : Handler) (sa
       (subst (λ (f : FilterView). FiltersStandFor d.filters (given_in d past) f.kept) (sym same) was)
 
   pub filters-called : makes_no_events x ≡ true → FiltersStandFor d.filters (given_in d (x ∷ past)) new.filters.kept
-  filters-called h = kept_filters (events_none x h)
+  filters-called h = kept_filters (events_none x (or_left (makes_no_events x) (leaves_clients x) h))
 
   pub filters-left : leaves_clients x ≡ true → FiltersStandFor d.filters (given_in d (x ∷ past)) new.filters.kept
-  filters-left h = kept_filters (events_left x h)
+  filters-left h = kept_filters (events_none x (or_right (makes_no_events x) (leaves_clients x) h))
 
 -- What was offered
 
@@ -107,14 +102,6 @@ given_of-held client now given (c ∷ cs) = given_of-held client now given cs
 given_of-step : (d : Description) (past : List Step) (x : Step) (o : Option ℕ) → given_of o (moment_of x) (given_in d past) (cuts_of_step d past x) ≡ (if is_some o then given_in d past else given_by (frames_of_step d past x) (given_in d past))
 given_of-step d past x None = given_of-frames past x (cuts_of_step d past x) (given_in d past)
 given_of-step d past x (Some client) = given_of-held client (moment_of x) (given_in d past) (cuts_of_step d past x)
-
-map_id : (cs : List (ClientView Taken)) → map (λ c. c) cs ≡ cs
-map_id [] = refl
-map_id (c ∷ cs) = ap (λ (xs : List (ClientView Taken)). c ∷ xs) (map_id cs)
-
-map_map : (f g : ClientView Taken → ClientView Taken) (cs : List (ClientView Taken)) → map f (map g cs) ≡ map (λ c. f (g c)) cs
-map_map f g [] = refl
-map_map f g (c ∷ cs) = ap (λ (xs : List (ClientView Taken)). f (g c) ∷ xs) (map_map f g cs)
 
 -- how the handler takes frames
 abbrev pub takes : Handler → List Event → ℕ → Handler → Type 0
@@ -181,7 +168,7 @@ frames_grown d past x c cs old mid new first rest =
 
 took_all : (d : Description) (past : List Step) (x : Step) (given : List Timed) (cs : List Cut) (old new : Handler) → IsBegun d past given old → (holder past ≡ None → AreGiven d past x cs given) → TakesAll takes (moment_of x) cs old new → AreOffered d past x given cs old new
 took_all d past x given [] old new begun are took = record {
-  clients = ap (λ (h : Handler). clients_on d h.clients.list) took ∙ sym (map_id (clients_on d old.clients.list));
+  clients = ap (λ (h : Handler). clients_on d h.clients.list) took ∙ sym (map-id (clients_on d old.clients.list));
   grown = inl (ap (λ (h : Handler). h.clients) took);
   filters = subst (λ (h : Handler). FiltersStandFor d.filters given h.filters.kept) (sym took) begun.filters;
 }
@@ -192,7 +179,7 @@ took_all d past x given (c ∷ cs) old new begun are took =
     record {
       clients = rest.clients
           ∙ ap (map (after_offers d (map (frame_of past x) cs))) first
-          ∙ map_map (after_offers d (map (frame_of past x) cs)) (read_after_offer d (left (eaten d) f) (moment_of x) (length past) (holder past)) (clients_on d old.clients.list);
+          ∙ sym (map_over (after_offers d (map (frame_of past x) (c ∷ cs))) (read_after_offer d (left (eaten d) f) (moment_of x) (length past) (holder past)) (after_offers d (map (frame_of past x) cs)) (clients_on d old.clients.list) (λ j e in_j. refl));
       grown = inr (frames_grown d past x c cs old.clients took.0.clients new.clients (first_grown d past x given c old took.0 begun (λ h. (are h).0) took.1) rest.grown);
       filters = rest.filters;
     }

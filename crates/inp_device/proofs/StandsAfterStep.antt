@@ -10,7 +10,7 @@ use Rattle.inp_model.specs.declared.taken.Taken.{Taken}
 use Rattle.inp_model.specs.declared.step.Step.{Step}
 use Rattle.inp_model.specs.declared.step.Step.TheVariants.{Open, Close, Grab, Ungrab, Mask, Clock as ToClock, Revoke, End}
 use Rattle.inp_model.specs.Description.{Description, offset}
-use Rattle.inp_model.specs.Step.{is_open_step, is_end_step, ends_grab_of, is_same}
+use Rattle.inp_model.specs.Step.{client_of, is_open_step, is_end_step, ends_grab_of, is_same}
 use Rattle.inp_model.specs.Past.{opens, open_clients, is_revoked, holder, holder_kept, clock_of, mask_bit, ends}
 use Rattle.inp_model.specs.Queue.{Entry, queue}
 use Rattle.inp_model.specs.Reply.{is_busy, is_not_grabber, taken_of}
@@ -30,7 +30,7 @@ use Rattle.inp_client.specs.Read.{client_on, clients_on}
 use Rattle.inp_device.specs.declared.handler.Handler.{Handler}
 use Rattle.inp_device.specs.declared.present.Present.{Present}
 use Rattle.inp_device.specs.Device.{is_loss_at, is_lost_at, offered_count}
-use Rattle.inp_device.specs.Present.{client_after, clients_after, MasksEnd, IsFresh, AreFresh, HandlerStandsFor, PresentStandsFor}
+use Rattle.inp_device.specs.Present.{client_after, clients_after, MasksEnd, AreFresh, HandlerStandsFor, PresentStandsFor}
 use Rattle.inp_device.proofs.MaskWords.{MasksEnd-mask}
 use Rattle.inp_device.proofs.Offers.{after_offers}
 use Rattle.inp_device.proofs.Calls.{clients_after-frames, makes_events}
@@ -39,29 +39,25 @@ use Rattle.inp_device.proofs.PassedFrames.{takes, IsPassed, passed_all, filters-
 
 -- Clients that no step named
 
-other_number : (m n o : ℕ) → m < o → o ≤ n → nat_eq m n ≡ false
-other_number m n o h l = grind (arith, nat_tests, h, l)
-
-fresh_mask : (past : List Step) (n client kind word bits : ℕ) → nat_eq client n ≡ false → IsFresh past n → IsFresh (Mask client kind word bits ∷ past) n
-unfolding mask_bit clock_of is_revoked
-fresh_mask past n client kind word bits h was = record {
-  bits = λ this i. ap (λ b. unwrap_or (if b && nat_eq kind this && nat_eq word (i / 64) then Some (bit_at bits (i % 64) == 1) else None) (mask_bit past n this i)) h ∙ was.bits this i;
-  clock = was.clock;
-  revoked = was.revoked;
-}
+not_named : (d : Description) (past : List Step) (x : Step) (client n : ℕ) → client_of x ≡ Some client → IsAllowed d past x → opens past ≤ n → nat_eq client n ≡ false
+not_named d past x client n named ok h =
+    let low : client < opens past = is_open-lt past client (named_open past x client named ok.client) in
+    grind (arith, nat_tests, h, low)
 
 pub AreFresh-step : (d : Description) (past : List Step) (x : Step) → IsAllowed d past x → AreFresh past → AreFresh (x ∷ past)
 unfolding opens mask_bit clock_of is_revoked
 AreFresh-step d past Open ok was n h = let below : opens past ≤ n = omega (arith, h) in record { bits = (was n below).bits; clock = (was n below).clock; revoked = (was n below).revoked }
-AreFresh-step d past (Mask client kind word bits) ok was n h =
-    let low : client < opens past = is_open-lt past client (named_open past (Mask client kind word bits) client refl ok.client) in
-    fresh_mask past n client kind word bits (other_number client n (opens past) low h) (was n h)
+AreFresh-step d past (Mask client kind word bits) ok was n h = record {
+  bits = λ this i.
+      ap (λ b. unwrap_or (if b && nat_eq kind this && nat_eq word (i / 64) then Some (bit_at bits (i % 64) == 1) else None) (mask_bit past n this i)) (not_named d past (Mask client kind word bits) client n refl ok h)
+      ∙ (was n h).bits this i;
+  clock = (was n h).clock;
+  revoked = (was n h).revoked;
+}
 AreFresh-step d past (ToClock client clock now) ok was n h =
-    let low : client < opens past = is_open-lt past client (named_open past (ToClock client clock now) client refl ok.client) in
-    record { bits = (was n h).bits; clock = ap (λ b. unwrap_or (if b then Some clock else None) (clock_of past n)) (other_number client n (opens past) low h) ∙ (was n h).clock; revoked = (was n h).revoked }
+    record { bits = (was n h).bits; clock = ap (λ b. unwrap_or (if b then Some clock else None) (clock_of past n)) (not_named d past (ToClock client clock now) client n refl ok h) ∙ (was n h).clock; revoked = (was n h).revoked }
 AreFresh-step d past (Revoke client) ok was n h =
-    let low : client < opens past = is_open-lt past client (named_open past (Revoke client) client refl ok.client) in
-    record { bits = (was n h).bits; clock = (was n h).clock; revoked = ap (λ b. if b then true else is_revoked past n) (other_number client n (opens past) low h) ∙ (was n h).revoked }
+    record { bits = (was n h).bits; clock = (was n h).clock; revoked = ap (λ b. if b then true else is_revoked past n) (not_named d past (Revoke client) client n refl ok h) ∙ (was n h).revoked }
 AreFresh-step d past x ok was n h = record { bits = (was n h).bits; clock = (was n h).clock; revoked = (was n h).revoked }
 
 pub MasksEnd-step : (d : Description) (past : List Step) (x : Step) → IsAllowed d past x → MasksEnd past → MasksEnd (x ∷ past)
@@ -228,24 +224,14 @@ lost_queue place (e ∷ q) = ap (λ (b : Bool). is_loss_at place e.taken || b) (
 abbrev reads_loss : ℕ → ClientView Taken → Bool
 reads_loss place c = list_any (is_loss_at place) c.ring.events
 
-lost_kept_count : (d : Description) (place : ℕ) (cs : List (ClientView Cell)) → count_by (is_lost place) cs ≡ count_by (reads_loss place) (clients_on d cs)
-lost_kept_count d place [] = refl
-lost_kept_count d place (c ∷ cs) = omega (
+count_map : {X Y : Type 0} (p : X → Bool) (q : Y → Bool) (f : X → Y) → ((x : X) → p x ≡ q (f x)) → (xs : List X) → count_by p xs ≡ count_by q (map f xs)
+count_map p q f same [] = refl
+count_map {X} {Y} p q f same (x ∷ xs) = omega (
   arith,
-  sum_by-cons (λ (c : ClientView Cell). if is_lost place c then 1 else 0) c cs,
-  sum_by-cons (λ (c : ClientView Taken). if reads_loss place c then 1 else 0) (client_on d c) (clients_on d cs),
-  ap {B = ℕ} (λ (b : Bool). if b then 1 else 0) (lost_read place (offset d c.clock) c.ring.events),
-  lost_kept_count d place cs,
-)
-
-lost_after_count : (d : Description) (past : List Step) (x : Step) (ns : List ℕ) → count_by (reads_loss (length past)) (map (client_after d (x ∷ past)) ns) ≡ count_by (is_lost_at d past x) ns
-lost_after_count d past x [] = refl
-lost_after_count d past x (n ∷ ns) = omega (
-  arith,
-  sum_by-cons (λ (c : ClientView Taken). if reads_loss (length past) c then 1 else 0) (client_after d (x ∷ past) n) (map (client_after d (x ∷ past)) ns),
-  sum_by-cons (λ (n : ℕ). if is_lost_at d past x n then 1 else 0) n ns,
-  ap {B = ℕ} (λ (b : Bool). if b then 1 else 0) (lost_queue (length past) (queue d (x ∷ past) n)),
-  lost_after_count d past x ns,
+  sum_by-cons (λ (x : X). if p x then 1 else 0) x xs,
+  sum_by-cons (λ (y : Y). if q y then 1 else 0) (f x) (map f xs),
+  ap {B = ℕ} (λ (b : Bool). if b then 1 else 0) (same x),
+  count_map p q f same xs,
 )
 
 grown_stored : (count place : ℕ) (old new : ClientsView) → (new ≡ old) ⊎ AreGrown count place old new → stored_of new ≤ stored_of old + count + count_by (is_lost place) new.list
@@ -264,7 +250,7 @@ stored_framed d past x old new begun was begins entered stands =
       arith,
       grown_stored (offered_count d past x) (length past) begun.clients new.handler.clients all.grown,
       ap (λ (h : Handler). stored_of h.clients) begins,
-      lost_kept_count d (length past) new.handler.clients.list,
+      count_map (is_lost (length past)) (reads_loss (length past)) (client_on d) (λ c. lost_read (length past) (offset d c.clock) c.ring.events) new.handler.clients.list,
       ap (count_by (reads_loss (length past))) stands.handler.clients,
-      lost_after_count d past x (open_clients (x ∷ past)),
+      count_map (is_lost_at d past x) (reads_loss (length past)) (client_after d (x ∷ past)) (λ n. sym (lost_queue (length past) (queue d (x ∷ past) n))) (open_clients (x ∷ past)),
     )

@@ -1,5 +1,5 @@
 -- What a step leaves, from what its parts leave.
-use Rattle.std.proofs.Common.{◌≡◌, ◌≢◌, ℕ, suc, ◌+◌, ◌<◌, ◌≤◌, min, Bool, true, false, ◌&&◌, not, if◌then◌else◌, nat_eq, nat_le, List, [], ◌∷◌, ◌++◌, length, map, take, reverse, refl, sym, ap, subst, ◌∙◌, ℤ, arith, inl, inr, Some, None}
+use Rattle.std.proofs.Common.{◌≡◌, ◌≢◌, ℕ, suc, ◌+◌, ◌<◌, ◌≤◌, min, Bool, true, false, ◌&&◌, not, if◌then◌else◌, nat_eq, nat_le, List, [], ◌∷◌, ◌++◌, length, map, take, reverse, refl, sym, ap, subst, ◌∙◌, ℤ, arith, inl, inr, Option, Some, None}
 use Rattle.std.specs.Prelude.{Result, Ok, Err, IsOk, OnOk, IsNone, IsTrue, is_some, count_by}
 use Rattle.std.proofs.lemmas.Bool.Decides.{nat_tests}
 use Rattle.std.proofs.lemmas.List.Elements.{All-map}
@@ -110,25 +110,20 @@ clients_same history x old ready leaves = ready.stands.handler.clients ∙ sym (
 pub made_call : (history : List Step) (x : Step) (old new : Present) (reply : Reply) → accepted old.caps (reverse history) x ≡ done_answer (reverse history) → reply ≡ Done (length history) → PresentStandsFor old.caps (x ∷ reverse history) new → IsAcceptedStep history x old reply [] [] [] [] new
 made_call history x old new reply e r stands = made_alone history x old new reply (Done (length (reverse history))) e (done_at history reply r) stands
 
--- a step that may end frames
-pub made_frames : (history : List Step) (x : Step) (old new : Present) (begun : Handler) (reply : Reply) → IsReadyFor history x old → makes_events x ≡ true → accepted old.caps (reverse history) x ≡ done_answer (reverse history) → reply ≡ Done (length history)
-    → begun ≡ record old.handler { place = length history; holder = old.handles.holder } → IsEntered old.caps (reverse history) x new.core takes begun new.handler → IsFor old.caps new.core
+-- a step that may end frames, and how many events are kept then
+pub framed : (history : List Step) (x : Step) (old new : Present) (begun : Handler) (reply : Reply) {o : Option ℕ} → IsReadyFor history x old → makes_events x ≡ true → accepted old.caps (reverse history) x ≡ done_answer (reverse history) → reply ≡ Done (length history)
+    → begun ≡ record old.handler { place = length history; holder = o } → o ≡ old.handles.holder → IsEntered old.caps (reverse history) x new.core takes begun new.handler → IsFor old.caps new.core
     → new.caps ≡ old.caps → new.handles.holder ≡ old.handles.holder → new.opens ≡ old.opens → new.ends ≡ old.ends
-    → leaves_grab x ≡ true → is_open_step x ≡ false → is_end_step x ≡ false → IsAcceptedStep history x old reply [] [] [] [] new
-made_frames history x old new begun reply ready makes e r begins entered made caps handles opened ended grab opening ending =
-    made_alone history x old new reply (Done (length (reverse history))) e (done_at history reply r)
-    (stands_framed old.caps (reverse history) x old new begun ready.stands (allowed old.caps (reverse history) x ready.allowed) makes
-    (begins ∙ ap (λ (n : ℕ). record old.handler { place = n; holder = old.handles.holder }) (sym (length-reverse history)))
-    entered made caps handles opened ended grab opening ending)
-
--- how many events are kept then
-pub stored_frames : (history : List Step) (x : Step) (old new : Present) (begun : Handler) → IsReadyFor history x old
-    → begun ≡ record old.handler { place = length history; holder = old.handles.holder } → IsEntered old.caps (reverse history) x new.core takes begun new.handler → PresentStandsFor old.caps (x ∷ reverse history) new
-    → stored_of new.handler.clients ≤ stored_of old.handler.clients + (offered_count old.caps (reverse history) x + count_by (is_lost_at old.caps (reverse history) x) (open_clients (x ∷ reverse history)))
-stored_frames history x old new begun ready begins entered stands =
-    stored_framed old.caps (reverse history) x old new begun ready.stands
-    (begins ∙ ap (λ (n : ℕ). record old.handler { place = n; holder = old.handles.holder }) (sym (length-reverse history)))
-    entered stands
+    → leaves_grab x ≡ true → is_open_step x ≡ false → is_end_step x ≡ false
+    → IsAcceptedStep history x old reply [] [] [] [] new
+    × (stored_of new.handler.clients ≤ stored_of old.handler.clients + (offered_count old.caps (reverse history) x + count_by (is_lost_at old.caps (reverse history) x) (open_clients (x ∷ reverse history))))
+framed history x old new begun reply {o} ready makes e r begun_as held entered made caps handles opened ended grab opening ending =
+    let past : List Step = reverse history in
+    let begins : begun ≡ record old.handler { place = length past; holder = old.handles.holder } =
+    begun_as ∙ ap (λ (k : Option ℕ). record old.handler { place = length history; holder = k }) held
+    ∙ ap (λ (n : ℕ). record old.handler { place = n; holder = old.handles.holder }) (sym (length-reverse history)) in
+    let stands = stands_framed old.caps past x old new begun ready.stands (allowed old.caps past x ready.allowed) makes begins entered made caps handles opened ended grab opening ending in
+    (made_alone history x old new reply (Done (length past)) e (done_at history reply r) stands, stored_framed old.caps past x old new begun ready.stands begins entered stands)
 
 -- a step that changes the core alone, and ends no frame
 pub stands_in_core : (history : List Step) (x : Step) (old new : Present) → IsReadyFor history x old → leaves_clients x ≡ true → leaves_grab x ≡ true → is_open_step x ≡ false → is_end_step x ≡ false

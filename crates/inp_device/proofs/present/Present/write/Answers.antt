@@ -1,20 +1,10 @@
-use Rattle.std.proofs.Common.{◌≡◌, ℕ, Option, length, reverse, refl, ap, ◌∙◌}
+use Rattle.std.proofs.Common.{reverse, refl}
 use Rattle.inp_model.specs.declared.step.Step.TheVariants.{Write}
-use Rattle.inp_device.specs.declared.handler.Handler.{Handler}
-use Rattle.inp_device.proofs.StepParts.{made_frames, stored_frames}
+use Rattle.inp_device.proofs.StepParts.{framed}
 use Rattle.inp_device.proofs.present.Present.write.Goals as goal
-
--- the frames that come are those of the step
-begins : (c : goal.After-done) → c.begin.new.self ≡ record c.args.self.now.handler { place = length c.args.history.now; holder = c.args.self.now.handles.holder }
-begins c = c.begin.ensures.begun ∙ ap (λ (o : Option ℕ). let h : Handler = record c.args.self.now.handler { place = length c.args.history.now; holder = o } in h) c.holder.ensures.holder
 
 pub returns : goal.returns
 returns c =
-    let made = made_frames c.args.history.now (Write c.args.client c.args.event c.args.now) c.args.self.now _ c.begin.new.self c.done.result c.requires.ready refl refl c.done.ensures.done
-    (begins c)
-    (c.inject.ensures.enters_write (reverse c.args.history.now) c.args.client c.requires.ready.stands.core)
-    c.inject.ensures.made refl refl refl refl refl refl refl in
-    record {
-      made = made;
-      stored = stored_frames c.args.history.now (Write c.args.client c.args.event c.args.now) c.args.self.now _ c.begin.new.self c.requires.ready (begins c) (c.inject.ensures.enters_write (reverse c.args.history.now) c.args.client c.requires.ready.stands.core) made.stands;
-    }
+    let all = framed c.args.history.now (Write c.args.client c.args.event c.args.now) c.args.self.now _ c.begin.new.self c.done.result c.requires.ready refl refl c.done.ensures.done c.begin.ensures.begun c.holder.ensures.holder
+    (c.inject.ensures.enters_write (reverse c.args.history.now) c.args.client c.requires.ready.stands.core) c.inject.ensures.made refl refl refl refl refl refl refl in
+    record { made = all.0; stored = all.1 }
