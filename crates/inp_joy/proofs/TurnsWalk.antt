@@ -13,7 +13,7 @@ use Rattle.inp_reader.specs.declared.next.Next.TheVariants.{Success, Dropped}
 use Rattle.inp_reader.specs.Reader.{Reading, next_talk}
 use Rattle.inp_reader.specs.ReaderPlace.{is_needed}
 use Rattle.inp_reader.specs.Talk.{Talk, finish, ask}
-use Rattle.inp_reader.proofs.Meets.{Meets, meets-then}
+use Rattle.inp_reader.proofs.Meets.{Meets, AnyAnswer, meets-then, meets-weaker, Asks, meets-asks}
 use Rattle.inp_joy.specs.declared.joy_read.JoyRead.{JoyRead}
 use Rattle.inp_joy.specs.declared.joy_read.JoyRead.TheVariants.{Record, Frame, More}
 use Rattle.inp_joy.specs.declared.joy_record.JoyRecord.{JoyRecord}
@@ -99,3 +99,33 @@ turns-meets {S} P R I N Q d rules (suc most) n s k i =
     by t m (gives answer) more h = h
     by t m (goes_on here) more h =
         cond_both (is_long d here m) _ _ (Meets P R (OfAnswer Q) t) (λ _. rules.longs t here.reading h) (λ _. more m here h)
+
+-- ---- the steps alone
+
+asks-meet : {A : Type 0} (P : Step → Type 0) (s : Unit {0}) (talk : Talk A) → Asks P talk
+    → Meets (λ (t : Unit {0}) (x : Step). P x) AnyAnswer (λ (t : Unit {0}) (a : A). Unit {0}) s talk
+asks-meet P s (finish a) h = tt
+asks-meet P s (ask x rest) h = (h.0, λ t a any. asks-meet P t (rest a) (h.1 a))
+
+-- each step of a read has the property that each step of `next` has
+pub turns-ask : (P : Step → Type 0) (d : Description) → ((mode : Mode) (r : Reading) → Asks P (next_talk d mode r))
+    → (most n : ℕ) (k : Joying) → Asks P (turns d most n k)
+turns-ask P d nexts most n k =
+    meets-asks P (turns d most n k) (meets-weaker Of AnyAnswer (OfAnswer Answered) (λ s o. Unit {0}) tt (turns d most n k)
+    (turns-meets Of AnyAnswer (λ s r. Unit {0}) (λ s o. Unit {0}) Answered d rules most n tt k tt) (λ s o h. tt))
+  where
+    Of : Unit {0} → Step → Type 0
+    Of s x = P x
+
+    Answered : Unit {0} → JoyRead → Reading → Type 0
+    Answered s read r = Unit {0}
+
+    rules : TurnRules Of AnyAnswer (λ s r. Unit {0}) (λ s o. Unit {0}) Answered d
+    rules = record {
+      nexts = λ s mode r i. asks-meet P s (next_talk d mode r) (nexts mode r);
+      stops = λ s next r read h is. tt;
+      continues = λ s next r h is. tt;
+      hands = λ s r i. tt;
+      frames = λ s r place i. tt;
+      longs = λ s r i. tt;
+    }
