@@ -32,9 +32,9 @@ use Rattle.inp_reader.specs.ReaderPlace.{is_needed}
 use Rattle.inp_reader.specs.Talk.{Talk, finish, ask, and_then}
 use Rattle.inp_script.specs.declared.sight.Sight.{Sight}
 use Rattle.inp_script.specs.declared.sight.Sight.TheVariants.{Took, Made, Again as AgainSight, Record}
-use Rattle.inp_script.specs.Client.{Going, Turn, start_job, handed, one_less, is_done, turn_after, after_next, mode_of, with_sight, next_round, rounds}
+use Rattle.inp_script.specs.Client.{job_after_start, Going, Turn, start_job, handed, one_less, is_done, turn_after, after_next, mode_of, with_sight, next_round, rounds}
 use Rattle.inp_script.specs.DoneLine.{line_talk}
-use Rattle.inp_script.specs.Job.{Job, joying_of, with_joying}
+use Rattle.inp_script.specs.Job.{Job, Stick, joying_of, with_joying}
 use Rattle.inp_script.specs.Joystick.{record_sight, after_joy_start, start_joystick, after_joy_answer}
 use Rattle.inp_script.specs.Legal.{is_call_entry}
 use Rattle.inp_script.specs.Line.{after_call, event_of_taken, after_tap_call}
@@ -58,10 +58,6 @@ KeptAt d entries j = IsKept d j entries
 
 abbrev pub IsKeptIfSome : Description → Option Job → List Sight → Type 0
 IsKeptIfSome d o entries = OfJob (KeptAt d) entries o
-
-kept_unless : (d : Description) (lacks : Bool) (j : Job) (entries : List Sight) → IsKept d j entries → IsKeptIfSome d (if lacks then None else Some j) entries
-kept_unless d true j entries h = tt
-kept_unless d false j entries h = h
 
 -- Single calls
 
@@ -181,25 +177,33 @@ kept-read d s j most h =
     of_turns u (Some answer) k =
         of_read u.0 answer.read (after_joy_answer j answer u.1) k.0 (ap (λ (ks : List Sight). ks ++ again_of_read answer.read) (record_told u.1 answer.record_out) ∙ k.1)
 
-abbrev IsJoyStarted : Description → Started × Joying → List Sight → List Sight → Type 0
-IsJoyStarted d o kept entries = IsSizedFor d.slots o.1.reading.view × (kept ≡ entries)
+-- a start, by what its reader leaves, whatever is left of a startup then
+pub start_joystick-meets : {S : Type 0} (R : S → Step → Answer → S → Type 0) (I : S → Job → Type 0) (d : Description) (s : S) (j : Job)
+    → Meets Any (NotedBy R) (λ (u : S × List Sight) (o : Started × Reading). (stick : Stick) → I u.0 (record (job_after_start o.0 o.1 u.1) { stick = stick })) (s, j.sight) (start_talk d j.reading)
+    → Meets Any R (OfJob I) s (start_joystick d j)
+unfolding start_joystick joy_start
+start_joystick-meets {S} R I d s j h =
+    let joins : Started × Reading → Talk (Started × Joying) = λ o. finish (joy_started d (joying_of j) o) in
+    let talk : Talk (Started × Joying) = and_then (start_talk d j.reading) joins in
+    let N : S → (Started × Joying) × List Sight → Type 0 = λ t o. I t (record (with_joying j o.0.1) { sight = o.1; stop = stop_after_start o.0.0 }) in
+    meets-then Any R N (OfJob I) s (noted talk j.sight) (λ o. finish (after_joy_start j o))
+    (meets-noted R N s j.sight talk
+    (meets-then Any (NotedBy R) Left (λ (u : S × List Sight) (o : Started × Joying). N u.0 (o, u.1)) (s, j.sight) (start_talk d j.reading) joins h (λ u o left. of_start u o.0 o.1 left)))
+    (λ t o k. cond_both (start_lacks_memory o.0.0) _ _ (OfJob I t) (λ _. tt) (λ _. k))
+  where
+    Left : S × List Sight → Started × Reading → Type 0
+    Left u o = (stick : Stick) → I u.0 (record (job_after_start o.0 o.1 u.1) { stick = stick })
 
-joy_started-sized : (d : Description) (k : Joying) (started : Started) → IsSizedFor d.slots k.reading.view → IsSizedFor d.slots (joy.joying_after_start d k started).reading.view
-joy_started-sized d k (Opened client ring) sized = sized
-joy_started-sized d k (Refused at why) sized =
-    cond_both (is_needed k.reading.phase) _ _ (λ (x : Joying). IsSizedFor d.slots x.reading.view) (λ _. sized) (λ _. sized)
+    of_start : (u : S × List Sight) (started : Started) (r : Reading) → Left u (started, r) → I u.0 (record (with_joying j (joy.joying_after_start d (with_reading (joying_of j) r) started)) { sight = u.1; stop = stop_after_start started })
+    of_start u (Opened client ring) r left = left _
+    of_start u (Refused at why) r left =
+        cond_both (is_needed r.phase) _ _ (λ (k : Joying). I u.0 (record (with_joying j k) { sight = u.1; stop = stop_after_start (Refused at why) })) (λ _. left _) (λ _. left _)
 
 kept-joy_start : (d : Description) (s : List Sight) (j : Job) → KeptAt d s j → Meets Any (EntriesBy d) (OfJob (KeptAt d)) s (start_joystick d j)
-unfolding start_joystick joy_start
 kept-joy_start d s j h =
-    let k : Joying = joying_of j in
-    let joy : Started × Reading → Talk (Started × Joying) = λ o. finish (joy_started d k o) in
-    let N : List Sight → (Started × Joying) × List Sight → Type 0 = λ t o. IsJoyStarted d o.0 (filter is_call_entry o.1) t in
-    meets-then Any (EntriesBy d) N (OfJob (KeptAt d)) s (noted (and_then (start_talk d k.reading) joy) j.sight) (λ o. finish (after_joy_start j o))
-    (meets-noted (EntriesBy d) N s j.sight (and_then (start_talk d k.reading) joy)
-    (meets-then Any (NotedBy (EntriesBy d)) (AtBoth (IsStarted d)) (AtBoth (IsJoyStarted d)) (s, j.sight) (start_talk d k.reading) joy (answers-start d k.reading (s, j.sight) h.0 h.1)
-    (λ u o e. (joy_started-sized d (with_reading k o.1) o.0 e.0, e.1))))
-    (λ t o e. kept_unless d (start_lacks_memory o.0.0) (record (with_joying j o.0.1) { sight = o.1; stop = stop_after_start o.0.0 }) t e)
+    start_joystick-meets (EntriesBy d) (KeptAt d) d s j
+    (meets-weaker Any (NotedBy (EntriesBy d)) (AtBoth (IsStarted d)) (λ (u : Both) (o : Started × Reading). (stick : Stick) → KeptAt d u.0 (record (job_after_start o.0 o.1 u.1) { stick = stick }))
+    (s, j.sight) (start_talk d j.reading) (answers-start d j.reading (s, j.sight) h.0 h.1) (λ u o k stick. k))
 
 -- Lines
 
