@@ -1,21 +1,19 @@
 -- What a line that does not wait leaves of a job: a view of the device's size, and a sight that tells of all calls.
-use Rattle.std.proofs.Common.{◌≡◌, ℕ, zero, suc, ◌+◌, Bool, true, false, if◌then◌else◌, List, [], ◌∷◌, ◌++◌, map, sym, ap, subst, ◌∙◌, append-nil, Option, Some, None, refl}
-use Rattle.std.specs.Prelude.{filter, slice_get}
+use Rattle.std.proofs.Common.{◌≡◌, ℕ, Bool, List, [], ◌∷◌, ◌++◌, map, sym, ap, subst, ◌∙◌, append-nil, Option, Some, None, refl}
+use Rattle.std.specs.Prelude.{filter}
 use Rattle.std.proofs.lemmas.List.Elements.{filter-append}
 use Rattle.std.proofs.lemmas.Bool.{cond_both}
 use Rattle.inp_model.specs.declared.stamped.Stamped.{Stamped}
 use Rattle.inp_model.specs.declared.taken.Taken.{Taken}
 use Rattle.inp_model.specs.declared.step.Step.{Step}
 use Rattle.inp_model.specs.Description.{Description}
-use Rattle.inp_model.specs.Event.{is_report}
-use Rattle.inp_model.specs.Reply.{Answer, answer, is_accepted}
+use Rattle.inp_model.specs.Reply.{Answer, answer}
 use Rattle.inp_actors.specs.declared.command.Command.{Command}
 use Rattle.inp_actors.specs.declared.line.Line.{Line}
 use Rattle.inp_actors.specs.declared.role.Role.{Role}
 use Rattle.inp_recon.specs.View.{IsSizedFor, view_after_answer}
 use Rattle.inp_recon.proofs.Sizes.{IsSizedFor-after_events}
 use Rattle.inp_reader.specs.declared.mode.Mode.{Mode}
-use Rattle.inp_reader.specs.declared.mode.Mode.TheVariants.{Normal, Sync as Synchronising}
 use Rattle.inp_reader.specs.declared.next.Next.{Next}
 use Rattle.inp_reader.specs.declared.next.Next.TheVariants.{Success, Dropped, Sync, Again, Synced, NoDevice, Closed, Full}
 use Rattle.inp_reader.specs.declared.started.Started.{Started}
@@ -29,10 +27,10 @@ use Rattle.inp_joy.specs.Joy as joy
 use Rattle.inp_joy.specs.Joy.{Joying, JoyAnswer, JoyTurn, gives, goes_on as reads_on, startup, with_reading, joy_started, joy_start, joy_record_of, record_or_on, joying_after_event, joying_after_sync, sync_turn, after_normal, event_turn, record_or_turn, turn_talk, with_count, is_long, after_turn, turns}
 use Rattle.inp_joy.proofs.TurnsWalk.{OfAnswer, TurnRules, turns-meets}
 use Rattle.inp_reader.specs.ReaderPlace.{is_needed}
-use Rattle.inp_reader.specs.Talk.{Talk, finish, ask, and_then}
+use Rattle.inp_reader.specs.Talk.{Talk, finish, and_then}
 use Rattle.inp_script.specs.declared.sight.Sight.{Sight}
 use Rattle.inp_script.specs.declared.sight.Sight.TheVariants.{Took, Made, Again as AgainSight, Record}
-use Rattle.inp_script.specs.Client.{job_after_start, Going, Turn, start_job, handed, one_less, is_done, turn_after, after_next, mode_of, with_sight, next_round, rounds}
+use Rattle.inp_script.specs.Client.{job_after_start, Going, Turn, start_job, handed, one_less, is_done, turn_after, after_next, mode_of, with_sight, next_round}
 use Rattle.inp_script.specs.DoneLine.{line_talk}
 use Rattle.inp_script.specs.Job.{Job, Stick, joying_of, with_joying}
 use Rattle.inp_script.specs.Joystick.{record_sight, after_joy_start, start_joystick, after_joy_answer}
@@ -46,8 +44,8 @@ use Rattle.inp_script.specs.declared.waiting.Waiting.{Waiting}
 use Rattle.inp_reader.proofs.Meets.{Meets, Any, meets-then, meets-weaker}
 use Rattle.inp_script.proofs.LineWalk.{NotedBy, meets-noted, OfJob, OfTurn, OfGoing, read_so, start_job-meets, round-meets, LineRules, line-meets}
 use Rattle.inp_script.proofs.JoyWalk.{AfterRead, AfterTurns, joystick-meets}
-use Rattle.inp_runs.proofs.memory.LeftByTalks.{EntriesBy, Leaves, Answers}
-use Rattle.inp_runs.proofs.memory.ReaderTalks.{Both, IsSame, IsSizedReader, LeavesNext, IsStarted, IsNext, again_of, sized-answered, answers-start, answers-next}
+use Rattle.inp_runs.proofs.memory.LeftByTalks.{EntriesBy, Leaves}
+use Rattle.inp_runs.proofs.memory.ReaderTalks.{Both, IsSizedReader, LeavesNext, IsStarted, IsNext, again_of, sized-answered, answers-start, answers-next}
 
 -- the job's view has the device's slots, and its sight tells of these calls
 abbrev pub IsKept : Description → Job → List Sight → Type 0

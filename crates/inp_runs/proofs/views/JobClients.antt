@@ -1,6 +1,6 @@
 -- Which clients the calls of a job name: each names none, or the one that the job opened last.
-use Rattle.std.proofs.Common.{◌≡◌, ◌⊎◌, ℕ, zero, suc, ◌+◌, Bool, true, false, if◌then◌else◌, nat_le, List, [], ◌∷◌, ◌++◌, refl, sym, ap, subst, ◌∙◌, inl, inr, Option, Some, None}
-use Rattle.std.specs.Prelude.{Result, Ok, Err, slice_get}
+use Rattle.std.proofs.Common.{◌≡◌, ◌⊎◌, ℕ, true, false, List, [], ◌∷◌, ◌++◌, refl, sym, ap, subst, ◌∙◌, inl, inr, Option, Some, None}
+use Rattle.std.specs.Prelude.{Result, Ok, Err}
 use Rattle.std.proofs.lemmas.Bool.{true≢false, cond_both}
 use Rattle.std.proofs.lemmas.Option.{same_Some}
 use Rattle.inp_model.specs.declared.stamped.Stamped.{Stamped}
@@ -11,45 +11,38 @@ use Rattle.inp_model.specs.declared.reply.Reply.TheVariants.{Opened, Again as No
 use Rattle.inp_model.specs.declared.reply.Refusal.{Refusal}
 use Rattle.inp_model.specs.declared.reply.Refusal.TheVariants.{NoDevice as Revoked, LogFull}
 use Rattle.inp_model.specs.Description.{Description}
-use Rattle.inp_model.specs.Event.{is_report}
 use Rattle.inp_model.specs.Reply.{Answer, is_accepted}
 use Rattle.inp_model.specs.Run.{Call}
 use Rattle.inp_model.specs.Step.{client_of, is_open_step}
 use Rattle.inp_actors.specs.declared.command.Command.{Command}
-use Rattle.inp_actors.specs.declared.command.Command.TheVariants.{Event as ToEvent, Tick, Inhibit, Uninhibit, Stream, Stream16, Open, Read, Next as ToNext, Skip, Follow, Force, Feedback}
+use Rattle.inp_actors.specs.declared.command.Command.TheVariants.{Event as ToEvent, Tick, Inhibit, Uninhibit, Stream, Stream16, Open, Next as ToNext, Skip, Follow, Force, Feedback}
 use Rattle.inp_actors.specs.declared.line.Line.{Line}
 use Rattle.inp_actors.specs.declared.role.Role.{Role}
 use Rattle.inp_actors.specs.declared.role.Role.TheVariants.{Source, Client, Tap, Joy, Owner}
 use Rattle.inp_recon.specs.declared.view.View.{View}
 use Rattle.inp_recon.proofs.Each.{Each}
 use Rattle.inp_reader.specs.declared.mode.Mode.{Mode}
-use Rattle.inp_reader.specs.declared.mode.Mode.TheVariants.{Normal, Sync as Synchronising}
 use Rattle.inp_reader.specs.declared.next.Next.{Next}
-use Rattle.inp_reader.specs.declared.next.Next.TheVariants.{Success, Dropped, Sync, Again, Synced, NoDevice, Closed, Full}
+use Rattle.inp_reader.specs.declared.next.Next.TheVariants.{Dropped, Again}
 use Rattle.inp_reader.specs.declared.started.Started.{Started}
-use Rattle.inp_reader.specs.declared.started.Started.TheVariants.{Opened as StartedOn, Refused}
 use Rattle.inp_reader.specs.declared.reader.TheConstants.{NO_CLIENT}
 use Rattle.inp_recon.specs.Synchronised.{is_dropped}
 use Rattle.inp_reader.specs.Reader.{Reading, queries, start_talk, stop_of, next_talk}
 use Rattle.inp_joy.specs.declared.joy_read.JoyRead.{JoyRead}
-use Rattle.inp_joy.specs.declared.joy_read.JoyRead.TheVariants.{Record as HandedOut, Frame, Again as NothingToRead, NoDevice as Revoked, Closed as NotOpen, Full as FullHistory, More}
-use Rattle.inp_joy.specs.declared.joy_record.JoyRecord.{JoyRecord}
-use Rattle.inp_joy.specs.Joy as joy
-use Rattle.inp_joy.specs.Joy.{Joying, JoyAnswer, JoyTurn, gives, goes_on as reads_on, startup, with_reading, joy_started, joy_start, joy_record_of, record_or_on, stop_or_on, joying_after_sync, sync_turn, after_normal, event_turn, record_or_turn, turn_talk, with_count, is_long, after_turn, turns}
-use Rattle.inp_reader.specs.ReaderPlace.{is_needed}
+use Rattle.inp_joy.specs.declared.joy_read.JoyRead.TheVariants.{Again as NothingToRead, NoDevice as Revoked}
+use Rattle.inp_joy.specs.Joy.{JoyAnswer, turns}
 use Rattle.inp_reader.proofs.Meets.{Meets, Any, Listed, meets-then, meets-weaker, meets-ends, listed-run}
 use Rattle.inp_reader.proofs.NextWalk.{OfQueries, each-query, each-sync, AskRules, asked-meets, sync-meets, Queried, start-meets, Renewed, NextRules, next-meets}
-use Rattle.inp_reader.specs.Talk.{Talk, finish, ask, and_then, LeadsTo, EndsWith}
+use Rattle.inp_reader.specs.Talk.{Talk, finish, EndsWith}
 use Rattle.inp_script.specs.declared.sight.Sight.{Sight}
-use Rattle.inp_script.specs.declared.sight.Sight.TheVariants.{Took, Made}
 use Rattle.inp_script.specs.declared.stop.Stop.{Stop}
 use Rattle.inp_script.specs.declared.waiting.Waiting.{Waiting}
-use Rattle.inp_script.specs.Client.{Going, Turn, goes_on, ends_with, start_job, start_ends, job_after_start, handed, one_less, is_done, patience, after_again, turn_after, after_next, mode_of, with_sight, next_round, on_turn, rounds, hand_talk, client_talk}
-use Rattle.inp_script.specs.DoneLine.{command_talk, unless_stopped, line_talk}
-use Rattle.inp_script.specs.Job.{Job, Stick, first_job, joying_of, with_joying}
-use Rattle.inp_script.specs.Joystick.{Reach, handed_out, line_ends, after_joy_start, start_joystick, after_joy_answer, after_joy_read, after_turns, read_on, on_reach, read_records, joystick_talk}
-use Rattle.inp_script.specs.Line.{step_of, after_call, call_if, stream_talk, stream_numbered, source_talk, end_talk, tap_client_after, after_tap_call, tap_call_if, tap_talk}
-use Rattle.inp_script.specs.Sight.{noted, call_sight, lacks_memory, start_lacks_memory, stop_after_start}
+use Rattle.inp_script.specs.Client.{job_after_start, after_next, mode_of}
+use Rattle.inp_script.specs.DoneLine.{unless_stopped, line_talk}
+use Rattle.inp_script.specs.Job.{Job, Stick, first_job, joying_of}
+use Rattle.inp_script.specs.Joystick.{after_joy_answer, joystick_talk}
+use Rattle.inp_script.specs.Line.{step_of, after_call, stream_talk, stream_numbered, source_talk, end_talk, tap_client_after, tap_call_if, tap_talk}
+use Rattle.inp_script.specs.Sight.{lacks_memory}
 use Rattle.inp_script.proofs.LineWalk.{NotedBy, meets-noted, note-meets, OfJob, OfTurn, OfGoing, AfterNext, read_so, is_one_call, call_if-meets, start_job-meets, round-meets, turn-of, LineRules, line-meets}
 use Rattle.inp_script.proofs.JoyWalk.{AfterRead, AfterTurns, is_joy_call, JoyRules, joystick-meets}
 use Rattle.inp_joy.proofs.TurnsWalk.{OfAnswer as JoyAnswers, TurnRules, turns-meets}
