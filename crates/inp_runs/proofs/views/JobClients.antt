@@ -257,6 +257,10 @@ one_call client command x is other =
 abbrev Reads : Role → ℕ → List Call → Job → Type 0
 Reads role first s j = NameLast first s × ReadsAs role (last_opened first s) j
 
+-- it is so of the job that a talk leaves, if there is one
+abbrev Keeps : Role → ℕ → List Call → Talk (Option Job) → Type 0
+Keeps role first s talk = Meets Any Listed (OfJob (Reads role first)) s talk
+
 -- Sources
 
 -- a step that names no client
@@ -267,7 +271,7 @@ no-client first s t j k x a h of by = ((named-more first s t (last_opened first 
     none client (inl is) = inr is
     none client (inr is) = inr is
 
-names-stream : (first : ℕ) (stream : List Stamped) (j : Job) (s : List Call) → Reads Source first s j → Meets Any Listed (OfJob (Reads Source first)) s (stream_talk stream j)
+names-stream : (first : ℕ) (stream : List Stamped) (j : Job) (s : List Call) → Reads Source first s j → Keeps Source first s (stream_talk stream j)
 unfolding stream_talk
 names-stream first [] j s h = h
 names-stream first (stamped ∷ stream) j s h = (
@@ -276,10 +280,10 @@ names-stream first (stamped ∷ stream) j s h = (
       let x : Step = Inject stamped.event stamped.now in
       let k : Job = after_call j x a in
       let here : Reads Source first t k = no-client first s t j k x a h (names-none NO_CLIENT x refl) by in
-      cond_both (is_accepted a.reply) _ _ (Meets Any Listed (OfJob (Reads Source first)) t) (λ _. names-stream first stream k t here) (λ _. here),
+      cond_both (is_accepted a.reply) _ _ (Keeps Source first t) (λ _. names-stream first stream k t here) (λ _. here),
 )
 
-names-source : (first : ℕ) (streams : List (List Stamped)) (command : Command) (j : Job) (s : List Call) → Reads Source first s j → Meets Any Listed (OfJob (Reads Source first)) s (source_talk streams command j)
+names-source : (first : ℕ) (streams : List (List Stamped)) (command : Command) (j : Job) (s : List Call) → Reads Source first s j → Keeps Source first s (source_talk streams command j)
 names-source first streams (Stream file index) j s h = names-stream first (stream_numbered streams index) j s h
 names-source first streams (Stream16 file index) j s h = names-stream first (stream_numbered streams index) j s h
 names-source first streams command j s h =
@@ -288,7 +292,7 @@ names-source first streams command j s h =
 
 -- Taps
 
-names-tap : (first : ℕ) (j : Job) (o : Option Step) (s : List Call) → OfStep (NamesOr j.reading.client) o → Reads Tap first s j → Meets Any Listed (OfJob (Reads Tap first)) s (tap_call_if j o)
+names-tap : (first : ℕ) (j : Job) (o : Option Step) (s : List Call) → OfStep (NamesOr j.reading.client) o → Reads Tap first s j → Keeps Tap first s (tap_call_if j o)
 names-tap first j None s of h = h
 names-tap first j (Some x) s of h = (
   tt,
@@ -358,11 +362,11 @@ joy-rules first d command = record {
 
 -- Lines
 
-names-unless : (role : Role) (first : ℕ) (stop : Option Stop) (j : Job) (talk : Talk (Option Job)) (s : List Call) → Reads role first s j → Meets Any Listed (OfJob (Reads role first)) s talk → Meets Any Listed (OfJob (Reads role first)) s (unless_stopped stop j talk)
+names-unless : (role : Role) (first : ℕ) (stop : Option Stop) (j : Job) (talk : Talk (Option Job)) (s : List Call) → Reads role first s j → Keeps role first s talk → Keeps role first s (unless_stopped stop j talk)
 names-unless role first None j talk s h k = k
 names-unless role first (Some stop) j talk s h k = h
 
-names-line : (role : Role) (first : ℕ) (d : Description) (streams : List (List Stamped)) (wait : Option Waiting) (n : ℕ) (command : Command) (j : Job) (s : List Call) → Reads role first s j → Meets Any Listed (OfJob (Reads role first)) s (line_talk role d streams wait n command j)
+names-line : (role : Role) (first : ℕ) (d : Description) (streams : List (List Stamped)) (wait : Option Waiting) (n : ℕ) (command : Command) (j : Job) (s : List Call) → Reads role first s j → Keeps role first s (line_talk role d streams wait n command j)
 unfolding line_talk
 names-line Source first d streams wait n command j s h = names-unless Source first j.stop j (source_talk streams command j) s h (names-source first streams command j s h)
 names-line Client first d streams wait n command j s h = line-meets Listed (Reads Client first) (OfGoing (Reads Client first)) d Client command wait (client-rules first d command wait) streams n s j h
@@ -370,23 +374,23 @@ names-line Tap first d streams wait n command j s h = names-unless Tap first j.s
 names-line Joy first d streams wait n command j s h = names-unless Joy first j.stop j (joystick_talk d n command j) s h (joystick-meets Listed (Reads Joy first) d command (joy-rules first d command) n s j h)
 names-line Owner first d streams wait n command j s h = names-unless Owner first j.stop j (finish (Some j)) s h h
 
-names-last : (first : ℕ) (wait : Option Waiting) (role : Role) (j : Job) (s : List Call) → Reads role first s j → Meets Any Listed (OfJob (Reads role first)) s (last_talk wait role j)
+names-last : (first : ℕ) (wait : Option Waiting) (role : Role) (j : Job) (s : List Call) → Reads role first s j → Keeps role first s (last_talk wait role j)
 names-last first None role j s h = h
 names-last first (Some waiting) Source j s h = ends j.stop
   where
-    ends : (stop : Option Stop) → Meets Any Listed (OfJob (Reads Source first)) s (end_talk stop j)
+    ends : (stop : Option Stop) → Keeps Source first s (end_talk stop j)
     ends None = (tt, λ t a by. no-client first s t j (after_call j End a) End a h (names-none NO_CLIENT End refl) by)
     ends (Some stop) = h
 names-last first (Some waiting) _ j s h = h
 
-names-lines : (role : Role) (first : ℕ) (d : Description) (streams : List (List Stamped)) (wait : Option Waiting) (n : ℕ) (lines : List Line) (j : Job) (s : List Call) → Reads role first s j → Meets Any Listed (OfJob (Reads role first)) s (lines_talk role d streams wait n lines j)
+names-lines : (role : Role) (first : ℕ) (d : Description) (streams : List (List Stamped)) (wait : Option Waiting) (n : ℕ) (lines : List Line) (j : Job) (s : List Call) → Reads role first s j → Keeps role first s (lines_talk role d streams wait n lines j)
 unfolding lines_talk
 names-lines role first d streams wait n [] j s h = names-last first wait role j s h
 names-lines role first d streams wait n (line ∷ lines) j s h =
     meets-then Any Listed (OfJob (Reads role first)) (OfJob (Reads role first)) s (line_talk role d streams wait n line.command j) (on_job (lines_talk role d streams wait n lines)) (names-line role first d streams wait n line.command j s h)
     (λ t o k. by t o (λ mid there. names-lines role first d streams wait n lines mid t there) k)
   where
-    by : (t : List Call) (o : Option Job) → ((mid : Job) → Reads role first t mid → Meets Any Listed (OfJob (Reads role first)) t (lines_talk role d streams wait n lines mid)) → OfJob (Reads role first) t o → Meets Any Listed (OfJob (Reads role first)) t (on_job (lines_talk role d streams wait n lines) o)
+    by : (t : List Call) (o : Option Job) → ((mid : Job) → Reads role first t mid → Keeps role first t (lines_talk role d streams wait n lines mid)) → OfJob (Reads role first) t o → Keeps role first t (on_job (lines_talk role d streams wait n lines) o)
     by t None more k = tt
     by t (Some mid) more k = more mid k
 
