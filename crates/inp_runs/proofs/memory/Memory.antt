@@ -139,8 +139,7 @@ pub gives_up-stream : (stream : List Stamped) (j : Job) → GivesUp (stream_talk
 unfolding stream_talk
 gives_up-stream [] j = tt
 gives_up-stream (stamped ∷ stream) j =
-    let x : Step = Inject stamped.event stamped.now in
-    (
+    let x : Step = Inject stamped.event stamped.now in (
       λ e n. absurd (other_step x refl e),
       λ answer. cond_both (is_accepted answer.reply) _ _ GivesUp (λ _. gives_up-stream stream (after_call j x answer)) (λ _. tt),
     )
