@@ -142,18 +142,22 @@ AtBoth P u a = P a (filter is_call_entry u.1) u.0
 abbrev LeavesRead : Description → Both → JoyRead → Reading → Type 0
 LeavesRead d u read r = IsSizedFor d.slots r.view × (filter is_call_entry u.1 ++ again_of_read read ≡ u.0)
 
-turn-rules : (d : Description) → TurnRules Any (NotedBy (EntriesBy d)) (IsSizedReader d) (LeavesNext d) (LeavesRead d) d
+turn-rules : (d : Description)
+    → TurnRules Any (NotedBy (EntriesBy d)) (IsSizedReader d) (LeavesNext d) (LeavesRead d) d
 turn-rules d = record {
   nexts = λ u mode r h. answers-next d mode r u h.0 h.1;
   stops = λ u next r read h is. (h.0, same_agains u next (Some read) is ∙ h.1);
-  continues = λ u next r h is. (h.0, sym (append-nil (filter is_call_entry u.1)) ∙ same_agains u next None is ∙ h.1);
+  continues = λ u next r h is.
+      (h.0, sym (append-nil (filter is_call_entry u.1)) ∙ same_agains u next None is ∙ h.1);
   hands = λ u r h. (h.0, append-nil (filter is_call_entry u.1) ∙ h.1);
   frames = λ u r place h. (h.0, append-nil (filter is_call_entry u.1) ∙ h.1);
   longs = λ u r h. (h.0, append-nil (filter is_call_entry u.1) ∙ h.1);
 }
   where
-    same_agains : (u : Both) (next : Next) (o : Option JoyRead) → joy.joy_read_of next ≡ o → filter is_call_entry u.1 ++ again_if o ≡ filter is_call_entry u.1 ++ again_of next
-    same_agains u next o is = ap (λ (es : List Sight). filter is_call_entry u.1 ++ es) (sym (ap again_if is) ∙ again_same next)
+    same_agains : (u : Both) (next : Next) (o : Option JoyRead) → joy.joy_read_of next ≡ o
+        → filter is_call_entry u.1 ++ again_if o ≡ filter is_call_entry u.1 ++ again_of next
+    same_agains u next o is = ap (λ (es : List Sight). filter is_call_entry u.1 ++ es)
+        (sym (ap again_if is) ∙ again_same next)
 
 -- records are no calls
 record_told : (sight : List Sight) (out : Option JoyRecord) → filter is_call_entry (sight ++ record_sight out) ≡ filter is_call_entry sight
@@ -164,43 +168,59 @@ kept-read : (d : Description) (s : List Sight) (j : Job) (most : ℕ) → KeptAt
 kept-read d s j most h =
     let Q : List Sight → Option JoyAnswer × List Sight → Type 0 = λ t o. AfterTurns (KeptAt d) j t o.0 o.1 in
     meets-noted (EntriesBy d) Q s j.sight (turns d most 0 (joying_of j))
-    (meets-weaker Any (NotedBy (EntriesBy d)) (OfAnswer (LeavesRead d)) (λ (u : Both) (o : Option JoyAnswer). AfterTurns (KeptAt d) j u.0 o u.1) (s, j.sight) (turns d most 0 (joying_of j)) (turns-meets Any (NotedBy (EntriesBy d)) (IsSizedReader d) (LeavesNext d) (LeavesRead d) d (turn-rules d) most 0 (s, j.sight) (joying_of j) h) (λ u o k. of_turns u o k))
+    (meets-weaker Any (NotedBy (EntriesBy d)) (OfAnswer (LeavesRead d))
+        (λ (u : Both) (o : Option JoyAnswer). AfterTurns (KeptAt d) j u.0 o u.1) (s, j.sight)
+        (turns d most 0 (joying_of j))
+        (turns-meets Any (NotedBy (EntriesBy d)) (IsSizedReader d) (LeavesNext d) (LeavesRead d) d
+        (turn-rules d) most 0 (s, j.sight) (joying_of j) h) (λ u o k. of_turns u o k))
   where
     of_read : (es : List Sight) (read : JoyRead) (here : Job) → IsSizedFor d.slots here.reading.view → filter is_call_entry here.sight ++ again_of_read read ≡ es → AfterRead (KeptAt d) es read here
     of_read es (NothingToRead at ends) here sized told = (sized, filter-append is_call_entry here.sight (AgainSight at ends ∷ []) ∙ told)
     of_read es _ here sized told = (sized, silent here.sight es told)
 
-    of_turns : (u : Both) (o : Option JoyAnswer) → OfAnswer (LeavesRead d) u o → AfterTurns (KeptAt d) j u.0 o u.1
+    of_turns : (u : Both) (o : Option JoyAnswer) → OfAnswer (LeavesRead d) u o
+        → AfterTurns (KeptAt d) j u.0 o u.1
     of_turns u None k = tt
     of_turns u (Some answer) k =
         of_read u.0 answer.read (after_joy_answer j answer u.1) k.0 (ap (λ (ks : List Sight). ks ++ again_of_read answer.read) (record_told u.1 answer.record_out) ∙ k.1)
 
 -- a start, by what its reader leaves, whatever is left of a startup then
-pub start_joystick-meets : {S : Type 0} (R : S → Step → Answer → S → Type 0) (I : S → Job → Type 0) (d : Description) (s : S) (j : Job)
-    → Meets Any (NotedBy R) (λ (u : S × List Sight) (o : Started × Reading). (stick : Stick) → I u.0 (record (job_after_start o.0 o.1 u.1) { stick = stick })) (s, j.sight) (start_talk d j.reading)
+pub start_joystick-meets : {S : Type 0} (R : S → Step → Answer → S → Type 0) (I : S → Job → Type 0) (d :
+    Description) (s : S) (j : Job)
+    → Meets Any (NotedBy R) (λ (u : S × List Sight) (o : Started × Reading). (stick : Stick) → I u.0
+    (record (job_after_start o.0 o.1 u.1) { stick = stick })) (s, j.sight) (start_talk d j.reading)
     → Meets Any R (OfJob I) s (start_joystick d j)
 unfolding start_joystick joy_start
 start_joystick-meets {S} R I d s j h =
     let joins : Started × Reading → Talk (Started × Joying) = λ o. finish (joy_started d (joying_of j) o) in
     let talk : Talk (Started × Joying) = and_then (start_talk d j.reading) joins in
-    let N : S → (Started × Joying) × List Sight → Type 0 = λ t o. I t (record (with_joying j o.0.1) { sight = o.1; stop = stop_after_start o.0.0 }) in
+    let N : S → (Started × Joying) × List Sight → Type 0 = λ t o. I t
+        (record (with_joying j o.0.1) { sight = o.1; stop = stop_after_start o.0.0 }) in
     meets-then Any R N (OfJob I) s (noted talk j.sight) (λ o. finish (after_joy_start j o))
     (meets-noted R N s j.sight talk
-    (meets-then Any (NotedBy R) Left (λ (u : S × List Sight) (o : Started × Joying). N u.0 (o, u.1)) (s, j.sight) (start_talk d j.reading) joins h (λ u o left. of_start u o.0 o.1 left)))
+    (meets-then Any (NotedBy R) Left (λ (u : S × List Sight) (o : Started × Joying). N u.0 (o, u.1))
+        (s, j.sight) (start_talk d j.reading) joins h (λ u o left. of_start u o.0 o.1 left)))
     (λ t o k. cond_both (start_lacks_memory o.0.0) _ _ (OfJob I t) (λ _. tt) (λ _. k))
   where
     Left : S × List Sight → Started × Reading → Type 0
     Left u o = (stick : Stick) → I u.0 (record (job_after_start o.0 o.1 u.1) { stick = stick })
 
-    of_start : (u : S × List Sight) (started : Started) (r : Reading) → Left u (started, r) → I u.0 (record (with_joying j (joy.joying_after_start d (with_reading (joying_of j) r) started)) { sight = u.1; stop = stop_after_start started })
+    of_start : (u : S × List Sight) (started : Started) (r : Reading) → Left u (started, r)
+        → I u.0 (record (with_joying j (joy.joying_after_start d (with_reading (joying_of j) r) started))
+        { sight = u.1; stop = stop_after_start started })
     of_start u (Opened client ring) r left = left _
     of_start u (Refused at why) r left =
-        cond_both (is_needed r.phase) _ _ (λ (k : Joying). I u.0 (record (with_joying j k) { sight = u.1; stop = stop_after_start (Refused at why) })) (λ _. left _) (λ _. left _)
+        cond_both (is_needed r.phase) _ _
+            (λ (k : Joying). I u.0
+            (record (with_joying j k) { sight = u.1; stop = stop_after_start (Refused at why) }))
+            (λ _. left _) (λ _. left _)
 
 kept-joy_start : (d : Description) (s : List Sight) (j : Job) → KeptAt d s j → Meets Any (EntriesBy d) (OfJob (KeptAt d)) s (start_joystick d j)
 kept-joy_start d s j h =
     start_joystick-meets (EntriesBy d) (KeptAt d) d s j
-    (meets-weaker Any (NotedBy (EntriesBy d)) (AtBoth (IsStarted d)) (λ (u : Both) (o : Started × Reading). (stick : Stick) → KeptAt d u.0 (record (job_after_start o.0 o.1 u.1) { stick = stick }))
+    (meets-weaker Any (NotedBy (EntriesBy d)) (AtBoth (IsStarted d))
+        (λ (u : Both) (o : Started × Reading). (stick : Stick) → KeptAt d u.0
+        (record (job_after_start o.0 o.1 u.1) { stick = stick }))
     (s, j.sight) (start_talk d j.reading) (answers-start d j.reading (s, j.sight) h.0 h.1) (λ u o k stick. k))
 
 -- Lines

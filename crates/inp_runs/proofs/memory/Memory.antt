@@ -101,12 +101,16 @@ no_open-hand d wait skips left n j =
 
 -- Starts
 
-no_open-opened : (d : Description) (r : Reading) (at client ring : ℕ) → NoOpen (after_open d r (Opened at client ring))
+no_open-opened : (d : Description) (r : Reading) (at client ring : ℕ)
+    → NoOpen (after_open d r (Opened at client ring))
 no_open-opened d r at client ring =
-    asks-then opens_none (ask_each (queries d client) r.view) (λ asked. finish (after_queries client ring r asked))
-    (asks-each opens_none (queries d client) r.view (each-query d client opens_none (no_open-queries d client))) (λ asked. tt)
+    asks-then opens_none (ask_each (queries d client) r.view)
+        (λ asked. finish (after_queries client ring r asked))
+    (asks-each opens_none (queries d client) r.view
+        (each-query d client opens_none (no_open-queries d client))) (λ asked. tt)
 
-noted-gives_up : {A : Type 0} (talk : Talk A) (sight : List Sight) (ends : A × List Sight → Option Job) → NoOpen talk
+noted-gives_up : {A : Type 0} (talk : Talk A) (sight : List Sight) (ends : A × List Sight → Option Job)
+    → NoOpen talk
     → GivesUp (and_then (noted talk sight) (λ o. finish (ends o)))
 noted-gives_up talk sight ends h =
     no_open-gives_up (and_then (noted talk sight) (λ o. finish (ends o)))
@@ -118,7 +122,8 @@ unfolding start_job start_talk
 gives_up-start d j = ((λ e n. refl), λ answer. by_reply answer.reply (j.sight ++ call_sight ToOpen answer.reply))
   where
     by_reply : (reply : Reply) (sight : List Sight) → GivesUp (and_then (noted (after_open d j.reading reply) sight) (λ o. finish (start_ends o)))
-    by_reply (Opened at client ring) sight = noted-gives_up (after_open d j.reading (Opened at client ring)) sight start_ends (no_open-opened d j.reading at client ring)
+    by_reply (Opened at client ring) sight = noted-gives_up (after_open d j.reading (Opened at client ring))
+        sight start_ends (no_open-opened d j.reading at client ring)
     by_reply _ sight = tt
 
 -- Single calls
@@ -141,7 +146,8 @@ gives_up-stream [] j = tt
 gives_up-stream (stamped ∷ stream) j =
     let x : Step = Inject stamped.event stamped.now in (
       λ e n. absurd (other_step x refl e),
-      λ answer. cond_both (is_accepted answer.reply) _ _ GivesUp (λ _. gives_up-stream stream (after_call j x answer)) (λ _. tt),
+      λ answer. cond_both (is_accepted answer.reply) _ _ GivesUp
+          (λ _. gives_up-stream stream (after_call j x answer)) (λ _. tt),
     )
 
 -- Lines
@@ -167,7 +173,8 @@ unfolding read_on
 no_open-read_on d most zero j = tt
 no_open-read_on d most (suc n) j =
     asks-then opens_none (noted (turns d most 0 (joying_of j)) j.sight) (λ o. after_turns (read_on d most n) j o.0 o.1)
-    (no_open-noted (turns d most 0 (joying_of j)) j.sight (turns-ask opens_none d (no_open-next d) most 0 (joying_of j)))
+    (no_open-noted (turns d most 0 (joying_of j)) j.sight
+        (turns-ask opens_none d (no_open-next d) most 0 (joying_of j)))
     (λ o. by_answer o.0 o.1 (no_open-read_on d most n))
   where
     by_read : (read : JoyRead) (here : Job) → NoOpen (read_on d most n here) → NoOpen (after_joy_read (read_on d most n) read here)
@@ -197,8 +204,10 @@ gives_up-joy_start d j = ((λ e n. refl), λ answer. by_reply answer.reply (j.si
     by_reply : (reply : Reply) (sight : List Sight) → GivesUp (and_then (noted (and_then (after_open d j.reading reply) (λ o. finish (joy_started d (joying_of j) o))) sight) (λ o. finish (after_joy_start j o)))
     by_reply (Opened at client ring) sight =
         let opened : Talk (Started × Reading) = after_open d j.reading (Opened at client ring) in
-        let joins : Started × Reading → Talk (Started × Joying) = λ o. finish (joy_started d (joying_of j) o) in
-        noted-gives_up (and_then opened joins) sight (after_joy_start j) (asks-then opens_none opened joins (no_open-opened d j.reading at client ring) (λ o. tt))
+        let joins : Started × Reading → Talk (Started × Joying) = λ o. finish (joy_started d (joying_of j) o)
+            in
+        noted-gives_up (and_then opened joins) sight (after_joy_start j)
+            (asks-then opens_none opened joins (no_open-opened d j.reading at client ring) (λ o. tt))
     by_reply _ sight = tt
 
 joystick-gives_up : (d : Description) (n : ℕ) (command : Command) (j : Job) → GivesUp (joystick_talk d n command j)

@@ -178,10 +178,12 @@ actors-more r rounds lines stage now line s u i a text past is_a is_text is_past
     by_actor (inr is) (inr behind) = other is.0 is.1 past behind.1 ([], sym (append-nil (reverse past)))
 
 -- what is so of the past of the line's device, and of each one before the line, is so of each one behind it
-each-past : (r : RecordView) (rounds : ℕ) (stage now : Stage) (line : Line) (u : IsLinePlayed r rounds stage now line) (P : ℕ → List Step → Type 0)
+each-past : (r : RecordView) (rounds : ℕ) (stage now : Stage) (line : Line) (u : IsLinePlayed r rounds stage
+    now line) (P : ℕ → List Step → Type 0)
     → P u.text.device u.after → ((i : ℕ) (past : List Step) → slice_get stage.pasts i ≡ Some past → P i past)
     → (i : ℕ) (past : List Step) → slice_get now.pasts i ≡ Some past → P i past
-each-past r rounds stage now line u P new old i past is_past = elim (past-behind r rounds stage now line u i past is_past) [
+each-past r rounds stage now line u P new old i past is_past = elim
+    (past-behind r rounds stage now line u i past is_past) [
   | inl behind ↦ subst (P i) (sym behind.1) (subst (λ (k : ℕ). P k u.after) (sym behind.0) new)
   | inr behind ↦ old i past behind.1
 ]
@@ -241,16 +243,19 @@ stage-more r rounds lines stage now line s u =
     let at : slice_get stage.actors u.actor.actor ≡ Some u.actor = ap (λ (k : ℕ). slice_get stage.actors k) (its_number r rounds lines stage now line s u) ∙ u.is_actor in
     let d : Description = description_at r u.text.device in
     let exact : AreExact d u.past u.after u.calls =
-    subst (λ (e : Description). AreExact e u.past u.after u.calls) (its_actor r rounds lines stage now line s u).description u.exact in
+    subst (λ (e : Description). AreExact e u.past u.after u.calls)
+        (its_actor r rounds lines stage now line s u).description u.exact in
     record {
       numbers = ap (λ (xs : List ActorView). map number xs) u.actors ∙ map-set_same number stage.actors u.actor.actor u.actor (record u.actor { job = u.job; owning = u.owning }) at refl ∙ s.numbers;
       devices = ap (λ (ps : List (List Step)). length ps) u.pasts ∙ length-set stage.pasts u.text.device u.after ∙ s.devices;
       actors = actors-more r rounds lines stage now line s u;
       within =
-          each-past r rounds stage now line u (λ (i : ℕ) (past : List Step). length past ≤ (description_at r i).log_limit)
+          each-past r rounds stage now line u
+              (λ (i : ℕ) (past : List Step). length past ≤ (description_at r i).log_limit)
           (exact-within d u.past u.after u.calls exact (s.within u.text.device u.past u.is_past)) s.within;
       history =
-          each-past r rounds stage now line u (λ (i : ℕ) (past : List Step). IsHistory (description_at r i) past)
+          each-past r rounds stage now line u
+              (λ (i : ℕ) (past : List Step). IsHistory (description_at r i) past)
           (exact-history d u.past u.after u.calls exact (s.history u.text.device u.past u.is_past)) s.history;
       once = once-more r rounds lines stage now line s u;
     }

@@ -82,17 +82,21 @@ source-step client _ h = absurd cc
 
 module _ (P : List Sight → Taken → Type 0) (d : Description) (h : List Step) (Q : ℕ → Type 0) where
   -- a call that gave no event
-  call-eventless : (j : Job) (x : Step) (a : Answer) → a.events ≡ [] → AtEach P [] j.sight → AtEach P [] (after_call j x a).sight
+  call-eventless : (j : Job) (x : Step) (a : Answer) → a.events ≡ [] → AtEach P [] j.sight
+      → AtEach P [] (after_call j x a).sight
   call-eventless j x a none s =
       let told : List Sight = call_sight x a.reply ++ again_sight a.reply in
       at_each-append P [] j.sight (told ++ map taken_sight a.events) s
       (at_each-append P j.sight told (map taken_sight a.events)
-      (at_each-append P j.sight (call_sight x a.reply) (again_sight a.reply) (at_each-call P j.sight x a.reply) (at_each-again P (j.sight ++ call_sight x a.reply) a.reply))
+      (at_each-append P j.sight (call_sight x a.reply) (again_sight a.reply)
+          (at_each-call P j.sight x a.reply) (at_each-again P (j.sight ++ call_sight x a.reply) a.reply))
       (subst (λ (ts : List Taken). AtEach P (j.sight ++ told) (map taken_sight ts)) (sym none) tt))
 
   source-call : (least : ℕ) (j : Job) (call : Call) (calls : List Call) → is_read call.step ≡ false → AreToCome d h Q least (call ∷ calls) → AtEach P [] j.sight → AtEach P [] (after_call j call.step call.answer).sight
   source-call least j call calls unread_step c s =
-      call-eventless j call.step call.answer (unread d (past_at h (place_of call.answer.reply)) call.step call.answer unread_step c.legal.1.exact) s
+      call-eventless j call.step call.answer
+          (unread d (past_at h (place_of call.answer.reply)) call.step call.answer unread_step
+          c.legal.1.exact) s
 
   source-same : (j k : Job) (calls : List Call) → EndsWith (finish (Some j)) calls (Some k) → AtEach P [] j.sight → AtEach P [] k.sight
   source-same j k calls ends s =
@@ -129,44 +133,56 @@ module _ (P : List Sight → Taken → Type 0) (d : Description) (h : List Step)
 
   -- Joysticks: their calls are told, and no events
 
-  noted-each : (j : Job) (calls : List Call) → AtEach P [] j.sight → AtEach P [] (j.sight ++ noted_sight calls)
+  noted-each : (j : Job) (calls : List Call) → AtEach P [] j.sight
+      → AtEach P [] (j.sight ++ noted_sight calls)
   noted-each j calls s = at_each-append P [] j.sight (noted_sight calls) s (at_each-noted P j.sight calls)
 
   abbrev HasEach : Unit {0} → Job → Type 0
   HasEach u j = AtEach P [] j.sight
 
-  joystick-rules : (command : Command) → is_command_of Joy command ≡ true → JoyRules (Placed d h) HasEach d command
+  joystick-rules : (command : Command) → is_command_of Joy command ≡ true
+      → JoyRules (Placed d h) HasEach d command
   joystick-rules command of_role = record {
     starts = λ u j s.
         job-ends-meet (Placed d h) HasEach u (start_joystick d j)
         (λ t calls k run ends. subst (HasEach t) (sym (starts d j k calls ends).is) (noted-each j calls s));
     reads = λ u j most s.
         let talk : Talk (Option JoyAnswer) = turns d most 0 (joying_of j) in
-        ends-meet (Placed d h) (λ (t : Unit {0}) (o : Option JoyAnswer × List Sight). AfterTurns HasEach j t o.0 o.1) u (noted talk j.sight)
-        (λ t calls o run ends. of_turns j o.0 o.1 (subst (AtEach P []) (sym (noted-back talk j.sight calls o ends).1) (noted-each j calls s)));
+        ends-meet (Placed d h)
+            (λ (t : Unit {0}) (o : Option JoyAnswer × List Sight). AfterTurns HasEach j t o.0 o.1) u
+            (noted talk j.sight)
+        (λ t calls o run ends. of_turns j o.0 o.1
+            (subst (AtEach P []) (sym (noted-back talk j.sight calls o ends).1) (noted-each j calls s)));
     calls = λ one u v j x a is s by.
-        call-eventless j x a (unread d (past_at h (place_of a.reply)) x a (subst IsUnread is (of_call command one of_role j.reading.client)) by.exact) s;
+        call-eventless j x a
+            (unread d (past_at h (place_of a.reply)) x a
+            (subst IsUnread is (of_call command one of_role j.reading.client)) by.exact) s;
   }
     where
-      of_call : (c : Command) → is_joy_call c ≡ true → is_command_of Joy c ≡ true → (client : ℕ) → IsUnread (step_of client c)
+      of_call : (c : Command) → is_joy_call c ≡ true → is_command_of Joy c ≡ true → (client : ℕ)
+          → IsUnread (step_of client c)
       of_call Close one joy client = refl
       of_call c one joy client = absurd cc
 
       -- an entry of no event more
-      entry-each : (entry : Sight) (sight : List Sight) → AtEntry P sight entry → AtEach P [] sight → AtEach P [] (sight ++ entry ∷ [])
+      entry-each : (entry : Sight) (sight : List Sight) → AtEntry P sight entry → AtEach P [] sight
+          → AtEach P [] (sight ++ entry ∷ [])
       entry-each entry sight none s = at_each-append P [] sight (entry ∷ []) s (none, tt)
 
       of_read : (read : JoyRead) (j : Job) → AtEach P [] j.sight → AfterRead HasEach tt read j
       of_read (NothingToRead at ends) j s = entry-each (AgainSight at ends) j.sight tt s
       of_read _ j s = s
 
-      of_record : (out : Option JoyRecord) (sight : List Sight) → AtEach P [] sight → AtEach P [] (sight ++ record_sight out)
+      of_record : (out : Option JoyRecord) (sight : List Sight) → AtEach P [] sight
+          → AtEach P [] (sight ++ record_sight out)
       of_record None sight s = subst (AtEach P []) (sym (append-nil sight)) s
       of_record (Some r) sight s = entry-each (Record (bytes_of_record r)) sight tt s
 
-      of_turns : (j : Job) (o : Option JoyAnswer) (sight : List Sight) → AtEach P [] sight → AfterTurns HasEach j tt o sight
+      of_turns : (j : Job) (o : Option JoyAnswer) (sight : List Sight) → AtEach P [] sight
+          → AfterTurns HasEach j tt o sight
       of_turns j None sight s = tt
-      of_turns j (Some answer) sight s = of_read answer.read (after_joy_answer j answer sight) (of_record answer.record_out sight s)
+      of_turns j (Some answer) sight s = of_read answer.read (after_joy_answer j answer sight)
+          (of_record answer.record_out sight s)
 
   joystick-line : (least n : ℕ) (command : Command) (j k : Job) (calls more : List Call) → is_command_of Joy command ≡ true → AreToCome d h Q least (calls ++ more) → EndsWith (joystick_talk d n command j) calls (Some k) → AtEach P [] j.sight → AtEach P [] k.sight
   joystick-line least n command j k calls more of_role c ends s =
