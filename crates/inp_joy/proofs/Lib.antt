@@ -16,4 +16,5 @@ pub mod ReadTurns
 pub mod MoreTurns
 pub mod NewJoys
 pub mod TurnCases
+pub mod TurnsWalk
 pub mod Records

@@ -1,21 +1,19 @@
 -- What a line that does not wait leaves of a job: a view of the device's size, and a sight that tells of all calls.
-use Rattle.std.proofs.Common.{◌≡◌, ℕ, zero, suc, ◌+◌, Bool, true, false, if◌then◌else◌, List, [], ◌∷◌, ◌++◌, map, sym, ap, subst, ◌∙◌, append-nil, Option, Some, None, refl}
-use Rattle.std.specs.Prelude.{filter, slice_get}
+use Rattle.std.proofs.Common.{◌≡◌, ℕ, Bool, List, [], ◌∷◌, ◌++◌, map, sym, ap, subst, ◌∙◌, append-nil, Option, Some, None, refl}
+use Rattle.std.specs.Prelude.{filter}
 use Rattle.std.proofs.lemmas.List.Elements.{filter-append}
 use Rattle.std.proofs.lemmas.Bool.{cond_both}
 use Rattle.inp_model.specs.declared.stamped.Stamped.{Stamped}
 use Rattle.inp_model.specs.declared.taken.Taken.{Taken}
 use Rattle.inp_model.specs.declared.step.Step.{Step}
 use Rattle.inp_model.specs.Description.{Description}
-use Rattle.inp_model.specs.Event.{is_report}
-use Rattle.inp_model.specs.Reply.{Answer, answer, is_accepted}
+use Rattle.inp_model.specs.Reply.{Answer, answer}
 use Rattle.inp_actors.specs.declared.command.Command.{Command}
 use Rattle.inp_actors.specs.declared.line.Line.{Line}
 use Rattle.inp_actors.specs.declared.role.Role.{Role}
 use Rattle.inp_recon.specs.View.{IsSizedFor, view_after_answer}
 use Rattle.inp_recon.proofs.Sizes.{IsSizedFor-after_events}
 use Rattle.inp_reader.specs.declared.mode.Mode.{Mode}
-use Rattle.inp_reader.specs.declared.mode.Mode.TheVariants.{Normal, Sync as Synchronising}
 use Rattle.inp_reader.specs.declared.next.Next.{Next}
 use Rattle.inp_reader.specs.declared.next.Next.TheVariants.{Success, Dropped, Sync, Again, Synced, NoDevice, Closed, Full}
 use Rattle.inp_reader.specs.declared.started.Started.{Started}
@@ -27,13 +25,14 @@ use Rattle.inp_joy.specs.declared.joy_record.JoyRecord.{JoyRecord}
 use Rattle.inp_joy.specs.JoyRecord.{bytes_of_record}
 use Rattle.inp_joy.specs.Joy as joy
 use Rattle.inp_joy.specs.Joy.{Joying, JoyAnswer, JoyTurn, gives, goes_on as reads_on, startup, with_reading, joy_started, joy_start, joy_record_of, record_or_on, joying_after_event, joying_after_sync, sync_turn, after_normal, event_turn, record_or_turn, turn_talk, with_count, is_long, after_turn, turns}
+use Rattle.inp_joy.proofs.TurnsWalk.{OfAnswer, TurnRules, turns-meets}
 use Rattle.inp_reader.specs.ReaderPlace.{is_needed}
-use Rattle.inp_reader.specs.Talk.{Talk, finish, ask, and_then}
+use Rattle.inp_reader.specs.Talk.{Talk, finish, and_then}
 use Rattle.inp_script.specs.declared.sight.Sight.{Sight}
 use Rattle.inp_script.specs.declared.sight.Sight.TheVariants.{Took, Made, Again as AgainSight, Record}
-use Rattle.inp_script.specs.Client.{Going, Turn, start_job, handed, one_less, is_done, turn_after, after_next, mode_of, with_sight, next_round, rounds}
+use Rattle.inp_script.specs.Client.{job_after_start, Going, Turn, start_job, handed, one_less, is_done, turn_after, after_next, mode_of, with_sight, next_round}
 use Rattle.inp_script.specs.DoneLine.{line_talk}
-use Rattle.inp_script.specs.Job.{Job, joying_of, with_joying}
+use Rattle.inp_script.specs.Job.{Job, Stick, joying_of, with_joying}
 use Rattle.inp_script.specs.Joystick.{record_sight, after_joy_start, start_joystick, after_joy_answer}
 use Rattle.inp_script.specs.Legal.{is_call_entry}
 use Rattle.inp_script.specs.Line.{after_call, event_of_taken, after_tap_call}
@@ -45,8 +44,8 @@ use Rattle.inp_script.specs.declared.waiting.Waiting.{Waiting}
 use Rattle.inp_reader.proofs.Meets.{Meets, Any, meets-then, meets-weaker}
 use Rattle.inp_script.proofs.LineWalk.{NotedBy, meets-noted, OfJob, OfTurn, OfGoing, read_so, start_job-meets, round-meets, LineRules, line-meets}
 use Rattle.inp_script.proofs.JoyWalk.{AfterRead, AfterTurns, joystick-meets}
-use Rattle.inp_runs.proofs.memory.LeftByTalks.{EntriesBy, Leaves, Answers}
-use Rattle.inp_runs.proofs.memory.ReaderTalks.{Both, IsSame, IsStarted, IsNext, again_of, sized-answered, answers-start, answers-next}
+use Rattle.inp_runs.proofs.memory.LeftByTalks.{EntriesBy, Leaves}
+use Rattle.inp_runs.proofs.memory.ReaderTalks.{Both, IsSizedReader, LeavesNext, IsStarted, IsNext, again_of, sized-answered, answers-start, answers-next}
 
 -- the job's view has the device's slots, and its sight tells of these calls
 abbrev pub IsKept : Description → Job → List Sight → Type 0
@@ -57,10 +56,6 @@ KeptAt d entries j = IsKept d j entries
 
 abbrev pub IsKeptIfSome : Description → Option Job → List Sight → Type 0
 IsKeptIfSome d o entries = OfJob (KeptAt d) entries o
-
-kept_unless : (d : Description) (lacks : Bool) (j : Job) (entries : List Sight) → IsKept d j entries → IsKeptIfSome d (if lacks then None else Some j) entries
-kept_unless d true j entries h = tt
-kept_unless d false j entries h = h
 
 -- Single calls
 
@@ -133,78 +128,36 @@ abbrev again_of_read : JoyRead → List Sight
 again_of_read (NothingToRead at ends) = AgainSight at ends ∷ []
 again_of_read _ = []
 
-abbrev IsTurned : Description → JoyTurn → List Sight → List Sight → Type 0
-IsTurned d (gives answer) kept entries = IsSizedFor d.slots answer.joying.reading.view × (kept ++ again_of_read answer.read ≡ entries)
-IsTurned d (reads_on k) kept entries = IsSizedFor d.slots k.reading.view × (kept ≡ entries)
+abbrev again_if : Option JoyRead → List Sight
+again_if None = []
+again_if (Some read) = again_of_read read
 
-turned-sync : (d : Description) (k : Joying) (next : Next) (r : Reading) (kept entries : List Sight) → IsSizedFor d.slots r.view → kept ++ again_of next ≡ entries → IsTurned d (joying_after_sync k (next, r)) kept entries
-turned-sync d k (Again at ends) r kept entries sized h = (sized, h)
-turned-sync d k NoDevice r kept entries sized h = (sized, h)
-turned-sync d k Closed r kept entries sized h = (sized, h)
-turned-sync d k (Full at) r kept entries sized h = (sized, h)
-turned-sync d k _ r kept entries sized h = (sized, sym (append-nil kept) ∙ h)
-
-turned-taken : (d : Description) (k : Joying) (taken : Taken) (kept entries : List Sight) → IsSizedFor d.slots k.reading.view → kept ++ [] ≡ entries → IsTurned d (joying_after_event d k taken) kept entries
-turned-taken d k taken kept entries sized h =
-    cond_both (is_report taken.event) _ _ (λ x. IsTurned d x kept entries) (λ _. (sized, h)) (λ _. by_record (joy_record_of d k.picture taken))
-  where
-    by_record : (out : Option JoyRecord) → IsTurned d (record_or_on k out) kept entries
-    by_record None = (sized, sym (append-nil kept) ∙ h)
-    by_record (Some r) = (sized, h)
-
-turned-next : (d : Description) (k : Joying) (next : Next) (kept entries : List Sight) → IsSizedFor d.slots k.reading.view → kept ++ again_of next ≡ entries → IsTurned d (joy.joying_after_next d k next) kept entries
-turned-next d k (Success taken) kept entries sized h = turned-taken d k taken kept entries sized h
-turned-next d k (Again at ends) kept entries sized h = (sized, h)
-turned-next d k NoDevice kept entries sized h = (sized, h)
-turned-next d k Closed kept entries sized h = (sized, h)
-turned-next d k (Full at) kept entries sized h = (sized, h)
-turned-next d k _ kept entries sized h = (sized, sym (append-nil kept) ∙ h)
+again_same : (next : Next) → again_if (joy.joy_read_of next) ≡ again_of next
+again_same (Again at ends) = refl
+again_same _ = refl
 
 abbrev AtBoth : {A : Type 0} → (A → List Sight → List Sight → Type 0) → Both → A → Type 0
 AtBoth P u a = P a (filter is_call_entry u.1) u.0
 
-answers-sync_turn : (d : Description) (k : Joying) (u : Both) → IsSizedFor d.slots k.reading.view → IsSame u → Answers d (IsTurned d) u (sync_turn d k)
-unfolding sync_turn
-answers-sync_turn d k u sized same =
-    meets-then Any (NotedBy (EntriesBy d)) (AtBoth (IsNext d)) (AtBoth (IsTurned d)) u (next_talk d Synchronising k.reading) (λ o. finish (joying_after_sync k o)) (answers-next d Synchronising k.reading u sized same)
-    (λ v o h. turned-sync d k o.0 o.1 (filter is_call_entry v.1) v.0 h.0 h.1)
+abbrev LeavesRead : Description → Both → JoyRead → Reading → Type 0
+LeavesRead d u read r = IsSizedFor d.slots r.view × (filter is_call_entry u.1 ++ again_of_read read ≡ u.0)
 
-answers-normal : (d : Description) (k : Joying) (next : Next) (r : Reading) (u : Both) → IsSizedFor d.slots r.view → filter is_call_entry u.1 ++ again_of next ≡ u.0 → Answers d (IsTurned d) u (after_normal d k (next, r))
-answers-normal d k (Dropped taken) r u sized h = answers-sync_turn d (with_reading k r) u sized (sym (append-nil (filter is_call_entry u.1)) ∙ h)
-answers-normal d k next r u sized h = turned-next d (with_reading k r) next (filter is_call_entry u.1) u.0 sized h
-
-answers-event_turn : (d : Description) (k : Joying) (u : Both) → IsSizedFor d.slots k.reading.view → IsSame u → Answers d (IsTurned d) u (event_turn d k)
-unfolding event_turn
-answers-event_turn d k u sized same =
-    meets-then Any (NotedBy (EntriesBy d)) (AtBoth (IsNext d)) (AtBoth (IsTurned d)) u (next_talk d Normal k.reading) (after_normal d k) (answers-next d Normal k.reading u sized same)
-    (λ v o h. answers-normal d k o.0 o.1 v h.0 h.1)
-
-answers-turn : (d : Description) (k : Joying) (out : Option JoyRecord) (u : Both) → IsSizedFor d.slots k.reading.view → IsSame u → Answers d (IsTurned d) u (record_or_turn d k out)
-answers-turn d k (Some r) u sized same = (sized, append-nil (filter is_call_entry u.1) ∙ same)
-answers-turn d k None u sized same =
-    cond_both (is_needed k.reading.phase) _ _ (Answers d (IsTurned d) u)
-    (λ _. answers-sync_turn d k u sized same) (λ _. answers-event_turn d k u sized same)
-
-answers-counted : {A : Type 0} (d : Description) (P : A → List Sight → List Sight → Type 0) (u : Both) (talk : Talk A) (n : ℕ) → Answers d P u talk → Answers d (λ (o : ℕ × A). P o.1) u (with_count talk n)
-answers-counted d P u (finish a) n h = h
-answers-counted d P u (ask x rest) n h = (tt, λ v a by. answers-counted d P v (rest a) (if is_accepted a.reply then n + 1 else n) (h.1 v a by))
-
-abbrev IsJoyRead : Description → Option JoyAnswer → List Sight → List Sight → Type 0
-IsJoyRead d None kept entries = Unit {0}
-IsJoyRead d (Some answer) kept entries = IsTurned d (gives answer) kept entries
-
-answers-turns : (d : Description) (most n : ℕ) (k : Joying) (u : Both) → IsSizedFor d.slots k.reading.view → IsSame u → Answers d (IsJoyRead d) u (turns d most n k)
-unfolding turns
-answers-turns d zero n k u sized same = tt
-answers-turns d (suc most) n k u sized same =
-    meets-then Any (NotedBy (EntriesBy d)) (AtBoth (λ (o : ℕ × JoyTurn). IsTurned d o.1)) (AtBoth (IsJoyRead d)) u (with_count (turn_talk d k) n) (λ o. after_turn d (turns d most) o.0 o.1)
-    (answers-counted d (IsTurned d) u (turn_talk d k) n (answers-turn d k (slice_get (startup d k.reading.view) k.handed) u sized same))
-    (λ v o h. by_turn o.0 o.1 v (λ (m : ℕ) (here : Joying) s e. answers-turns d most m here v s e) h)
+turn-rules : (d : Description)
+    → TurnRules Any (NotedBy (EntriesBy d)) (IsSizedReader d) (LeavesNext d) (LeavesRead d) d
+turn-rules d = record {
+  nexts = λ u mode r h. answers-next d mode r u h.0 h.1;
+  stops = λ u next r read h is. (h.0, same_agains u next (Some read) is ∙ h.1);
+  continues = λ u next r h is.
+      (h.0, sym (append-nil (filter is_call_entry u.1)) ∙ same_agains u next None is ∙ h.1);
+  hands = λ u r h. (h.0, append-nil (filter is_call_entry u.1) ∙ h.1);
+  frames = λ u r place h. (h.0, append-nil (filter is_call_entry u.1) ∙ h.1);
+  longs = λ u r h. (h.0, append-nil (filter is_call_entry u.1) ∙ h.1);
+}
   where
-    by_turn : (m : ℕ) (turn : JoyTurn) (v : Both) → ((m : ℕ) (here : Joying) → IsSizedFor d.slots here.reading.view → IsSame v → Answers d (IsJoyRead d) v (turns d most m here)) → IsTurned d turn (filter is_call_entry v.1) v.0 → Answers d (IsJoyRead d) v (after_turn d (turns d most) m turn)
-    by_turn m (gives answer) v more h = h
-    by_turn m (reads_on here) v more h =
-        cond_both (is_long d here m) _ _ (Answers d (IsJoyRead d) v) (λ _. (h.0, append-nil (filter is_call_entry v.1) ∙ h.1)) (λ _. more m here h.0 h.1)
+    same_agains : (u : Both) (next : Next) (o : Option JoyRead) → joy.joy_read_of next ≡ o
+        → filter is_call_entry u.1 ++ again_if o ≡ filter is_call_entry u.1 ++ again_of next
+    same_agains u next o is = ap (λ (es : List Sight). filter is_call_entry u.1 ++ es)
+        (sym (ap again_if is) ∙ again_same next)
 
 -- records are no calls
 record_told : (sight : List Sight) (out : Option JoyRecord) → filter is_call_entry (sight ++ record_sight out) ≡ filter is_call_entry sight
@@ -215,36 +168,60 @@ kept-read : (d : Description) (s : List Sight) (j : Job) (most : ℕ) → KeptAt
 kept-read d s j most h =
     let Q : List Sight → Option JoyAnswer × List Sight → Type 0 = λ t o. AfterTurns (KeptAt d) j t o.0 o.1 in
     meets-noted (EntriesBy d) Q s j.sight (turns d most 0 (joying_of j))
-    (meets-weaker Any (NotedBy (EntriesBy d)) (AtBoth (IsJoyRead d)) (λ (u : Both) (o : Option JoyAnswer). AfterTurns (KeptAt d) j u.0 o u.1) (s, j.sight) (turns d most 0 (joying_of j)) (answers-turns d most 0 (joying_of j) (s, j.sight) h.0 h.1) (λ u o k. of_turns u o k))
+    (meets-weaker Any (NotedBy (EntriesBy d)) (OfAnswer (LeavesRead d))
+        (λ (u : Both) (o : Option JoyAnswer). AfterTurns (KeptAt d) j u.0 o u.1) (s, j.sight)
+        (turns d most 0 (joying_of j))
+        (turns-meets Any (NotedBy (EntriesBy d)) (IsSizedReader d) (LeavesNext d) (LeavesRead d) d
+        (turn-rules d) most 0 (s, j.sight) (joying_of j) h) (λ u o k. of_turns u o k))
   where
     of_read : (es : List Sight) (read : JoyRead) (here : Job) → IsSizedFor d.slots here.reading.view → filter is_call_entry here.sight ++ again_of_read read ≡ es → AfterRead (KeptAt d) es read here
     of_read es (NothingToRead at ends) here sized told = (sized, filter-append is_call_entry here.sight (AgainSight at ends ∷ []) ∙ told)
     of_read es _ here sized told = (sized, silent here.sight es told)
 
-    of_turns : (u : Both) (o : Option JoyAnswer) → AtBoth (IsJoyRead d) u o → AfterTurns (KeptAt d) j u.0 o u.1
+    of_turns : (u : Both) (o : Option JoyAnswer) → OfAnswer (LeavesRead d) u o
+        → AfterTurns (KeptAt d) j u.0 o u.1
     of_turns u None k = tt
     of_turns u (Some answer) k =
         of_read u.0 answer.read (after_joy_answer j answer u.1) k.0 (ap (λ (ks : List Sight). ks ++ again_of_read answer.read) (record_told u.1 answer.record_out) ∙ k.1)
 
-abbrev IsJoyStarted : Description → Started × Joying → List Sight → List Sight → Type 0
-IsJoyStarted d o kept entries = IsSizedFor d.slots o.1.reading.view × (kept ≡ entries)
+-- a start, by what its reader leaves, whatever is left of a startup then
+pub start_joystick-meets : {S : Type 0} (R : S → Step → Answer → S → Type 0) (I : S → Job → Type 0) (d :
+    Description) (s : S) (j : Job)
+    → Meets Any (NotedBy R) (λ (u : S × List Sight) (o : Started × Reading). (stick : Stick) → I u.0
+    (record (job_after_start o.0 o.1 u.1) { stick = stick })) (s, j.sight) (start_talk d j.reading)
+    → Meets Any R (OfJob I) s (start_joystick d j)
+unfolding start_joystick joy_start
+start_joystick-meets {S} R I d s j h =
+    let joins : Started × Reading → Talk (Started × Joying) = λ o. finish (joy_started d (joying_of j) o) in
+    let talk : Talk (Started × Joying) = and_then (start_talk d j.reading) joins in
+    let N : S → (Started × Joying) × List Sight → Type 0 = λ t o. I t
+        (record (with_joying j o.0.1) { sight = o.1; stop = stop_after_start o.0.0 }) in
+    meets-then Any R N (OfJob I) s (noted talk j.sight) (λ o. finish (after_joy_start j o))
+    (meets-noted R N s j.sight talk
+    (meets-then Any (NotedBy R) Left (λ (u : S × List Sight) (o : Started × Joying). N u.0 (o, u.1))
+        (s, j.sight) (start_talk d j.reading) joins h (λ u o left. of_start u o.0 o.1 left)))
+    (λ t o k. cond_both (start_lacks_memory o.0.0) _ _ (OfJob I t) (λ _. tt) (λ _. k))
+  where
+    Left : S × List Sight → Started × Reading → Type 0
+    Left u o = (stick : Stick) → I u.0 (record (job_after_start o.0 o.1 u.1) { stick = stick })
 
-joy_started-sized : (d : Description) (k : Joying) (started : Started) → IsSizedFor d.slots k.reading.view → IsSizedFor d.slots (joy.joying_after_start d k started).reading.view
-joy_started-sized d k (Opened client ring) sized = sized
-joy_started-sized d k (Refused at why) sized =
-    cond_both (is_needed k.reading.phase) _ _ (λ (x : Joying). IsSizedFor d.slots x.reading.view) (λ _. sized) (λ _. sized)
+    of_start : (u : S × List Sight) (started : Started) (r : Reading) → Left u (started, r)
+        → I u.0 (record (with_joying j (joy.joying_after_start d (with_reading (joying_of j) r) started))
+        { sight = u.1; stop = stop_after_start started })
+    of_start u (Opened client ring) r left = left _
+    of_start u (Refused at why) r left =
+        cond_both (is_needed r.phase) _ _
+            (λ (k : Joying). I u.0
+            (record (with_joying j k) { sight = u.1; stop = stop_after_start (Refused at why) }))
+            (λ _. left _) (λ _. left _)
 
 kept-joy_start : (d : Description) (s : List Sight) (j : Job) → KeptAt d s j → Meets Any (EntriesBy d) (OfJob (KeptAt d)) s (start_joystick d j)
-unfolding start_joystick joy_start
 kept-joy_start d s j h =
-    let k : Joying = joying_of j in
-    let joy : Started × Reading → Talk (Started × Joying) = λ o. finish (joy_started d k o) in
-    let N : List Sight → (Started × Joying) × List Sight → Type 0 = λ t o. IsJoyStarted d o.0 (filter is_call_entry o.1) t in
-    meets-then Any (EntriesBy d) N (OfJob (KeptAt d)) s (noted (and_then (start_talk d k.reading) joy) j.sight) (λ o. finish (after_joy_start j o))
-    (meets-noted (EntriesBy d) N s j.sight (and_then (start_talk d k.reading) joy)
-    (meets-then Any (NotedBy (EntriesBy d)) (AtBoth (IsStarted d)) (AtBoth (IsJoyStarted d)) (s, j.sight) (start_talk d k.reading) joy (answers-start d k.reading (s, j.sight) h.0 h.1)
-    (λ u o e. (joy_started-sized d (with_reading k o.1) o.0 e.0, e.1))))
-    (λ t o e. kept_unless d (start_lacks_memory o.0.0) (record (with_joying j o.0.1) { sight = o.1; stop = stop_after_start o.0.0 }) t e)
+    start_joystick-meets (EntriesBy d) (KeptAt d) d s j
+    (meets-weaker Any (NotedBy (EntriesBy d)) (AtBoth (IsStarted d))
+        (λ (u : Both) (o : Started × Reading). (stick : Stick) → KeptAt d u.0
+        (record (job_after_start o.0 o.1 u.1) { stick = stick }))
+    (s, j.sight) (start_talk d j.reading) (answers-start d j.reading (s, j.sight) h.0 h.1) (λ u o k stick. k))
 
 -- Lines
 

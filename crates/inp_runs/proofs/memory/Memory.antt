@@ -1,6 +1,5 @@
 -- A line whose Open was refused for want of memory leaves no job.
-use Rattle.std.proofs.Common.{◌≡◌, ℕ, zero, suc, ◌+◌, Bool, true, false, if◌then◌else◌, List, [], ◌∷◌, ◌++◌, length, Option, Some, None, refl, sym, ap, subst, ◌∙◌, inl, inr}
-use Rattle.std.specs.Prelude.{Result, slice_get}
+use Rattle.std.proofs.Common.{◌≡◌, ℕ, zero, suc, Bool, true, false, List, [], ◌∷◌, ◌++◌, length, Option, Some, None, refl, sym, ap, subst, ◌∙◌, inl, inr}
 use Rattle.std.specs.List.{list_any}
 use Rattle.std.proofs.lemmas.Bool.{cond_both}
 use Rattle.inp_model.specs.declared.stamped.Stamped.{Stamped}
@@ -20,19 +19,15 @@ use Rattle.inp_actors.specs.declared.line.Line.{Line}
 use Rattle.inp_actors.specs.declared.role.Role.{Role}
 use Rattle.inp_actors.specs.declared.role.Role.TheVariants.{Source, Client, Tap, Joy, Owner}
 use Rattle.inp_actors.specs.Command.{is_command_of}
-use Rattle.inp_recon.specs.declared.view.View.{View}
 use Rattle.inp_reader.specs.declared.mode.Mode.{Mode}
-use Rattle.inp_reader.specs.declared.mode.Mode.TheVariants.{Normal, Sync as Synchronising}
 use Rattle.inp_reader.specs.declared.next.Next.{Next as Answered}
-use Rattle.inp_reader.specs.declared.next.Next.TheVariants.{Dropped}
 use Rattle.inp_reader.specs.declared.reader.TheConstants.{NO_CLIENT}
 use Rattle.inp_reader.specs.declared.started.Started.{Started}
 use Rattle.inp_reader.specs.Reader.{Reading, ask_each, queries, start_talk, after_open, after_queries, next_talk}
 use Rattle.inp_joy.specs.declared.joy_read.JoyRead.{JoyRead}
 use Rattle.inp_joy.specs.declared.joy_read.JoyRead.TheVariants.{Frame, More}
-use Rattle.inp_joy.specs.declared.joy_record.JoyRecord.{JoyRecord}
-use Rattle.inp_joy.specs.Joy.{Joying, JoyAnswer, JoyTurn, gives, goes_on as reads_on, startup, with_reading, joy_started, joy_start, joying_after_sync, sync_turn, after_normal, event_turn, record_or_turn, turn_talk, with_count, is_long, after_turn, turns}
-use Rattle.inp_reader.specs.ReaderPlace.{is_needed}
+use Rattle.inp_joy.specs.Joy.{Joying, JoyAnswer, joy_started, joy_start, turns}
+use Rattle.inp_joy.proofs.TurnsWalk.{turns-ask}
 use Rattle.inp_reader.specs.Talk.{Talk, finish, ask, and_then, LeadsTo, EndsWith}
 use Rattle.inp_reader.proofs.Meets.{Asks, asks-then}
 use Rattle.inp_reader.proofs.NextWalk.{OfQueries, each-query, asks-each, next-asks}
@@ -104,20 +99,31 @@ no_open-hand : (d : Description) (wait : Option Waiting) (skips : Bool) (left : 
 no_open-hand d wait skips left n j =
     cond_both (is_done left) _ _ NoOpen (λ _. tt) (λ _. no_open-rounds d wait skips n (record { job = j; left = left; agains = 0 }))
 
+-- Starts
+
+no_open-opened : (d : Description) (r : Reading) (at client ring : ℕ)
+    → NoOpen (after_open d r (Opened at client ring))
+no_open-opened d r at client ring =
+    asks-then opens_none (ask_each (queries d client) r.view)
+        (λ asked. finish (after_queries client ring r asked))
+    (asks-each opens_none (queries d client) r.view
+        (each-query d client opens_none (no_open-queries d client))) (λ asked. tt)
+
+noted-gives_up : {A : Type 0} (talk : Talk A) (sight : List Sight) (ends : A × List Sight → Option Job)
+    → NoOpen talk
+    → GivesUp (and_then (noted talk sight) (λ o. finish (ends o)))
+noted-gives_up talk sight ends h =
+    no_open-gives_up (and_then (noted talk sight) (λ o. finish (ends o)))
+    (asks-then opens_none (noted talk sight) (λ o. finish (ends o)) (no_open-noted talk sight h) (λ o. tt))
+
 -- a start asks for nothing more where its Open was refused
 gives_up-start : (d : Description) (j : Job) → GivesUp (start_job d j)
 unfolding start_job start_talk
 gives_up-start d j = ((λ e n. refl), λ answer. by_reply answer.reply (j.sight ++ call_sight ToOpen answer.reply))
   where
     by_reply : (reply : Reply) (sight : List Sight) → GivesUp (and_then (noted (after_open d j.reading reply) sight) (λ o. finish (start_ends o)))
-    by_reply (Opened at client ring) sight =
-        let asks : Talk (Result View Reply) = ask_each (queries d client) j.reading.view in
-        let talk : Talk (Started × Reading) = and_then asks (λ asked. finish (after_queries client ring j.reading asked)) in
-        no_open-gives_up (and_then (noted talk sight) (λ o. finish (start_ends o)))
-        (asks-then opens_none (noted talk sight) (λ o. finish (start_ends o))
-        (no_open-noted talk sight
-        (asks-then opens_none asks (λ asked. finish (after_queries client ring j.reading asked)) (asks-each opens_none (queries d client) j.reading.view (each-query d client opens_none (no_open-queries d client))) (λ asked. tt)))
-        (λ o. tt))
+    by_reply (Opened at client ring) sight = noted-gives_up (after_open d j.reading (Opened at client ring))
+        sight start_ends (no_open-opened d j.reading at client ring)
     by_reply _ sight = tt
 
 -- Single calls
@@ -138,12 +144,11 @@ pub gives_up-stream : (stream : List Stamped) (j : Job) → GivesUp (stream_talk
 unfolding stream_talk
 gives_up-stream [] j = tt
 gives_up-stream (stamped ∷ stream) j =
-    let x : Step = Inject stamped.event stamped.now in
-    ((λ e n. absurd (other_step x refl e)), λ answer. by_flag (is_accepted answer.reply) (after_call j x answer) (gives_up-stream stream (after_call j x answer)))
-  where
-    by_flag : (b : Bool) (k : Job) → GivesUp (stream_talk stream k) → GivesUp (if b then stream_talk stream k else finish (Some k))
-    by_flag true k more = more
-    by_flag false k more = tt
+    let x : Step = Inject stamped.event stamped.now in (
+      λ e n. absurd (other_step x refl e),
+      λ answer. cond_both (is_accepted answer.reply) _ _ GivesUp
+          (λ _. gives_up-stream stream (after_call j x answer)) (λ _. tt),
+    )
 
 -- Lines
 
@@ -163,47 +168,13 @@ gives_up-client d wait n command j = gives_up-call (step_of j.reading.client com
 
 -- The lines of a joystick
 
-no_open-sync_turn : (d : Description) (k : Joying) → NoOpen (sync_turn d k)
-unfolding sync_turn
-no_open-sync_turn d k = asks-then opens_none (next_talk d Synchronising k.reading) (λ o. finish (joying_after_sync k o)) (no_open-next d Synchronising k.reading) (λ o. tt)
-
-no_open-event_turn : (d : Description) (k : Joying) → NoOpen (event_turn d k)
-unfolding event_turn
-no_open-event_turn d k =
-    asks-then opens_none (next_talk d Normal k.reading) (after_normal d k) (no_open-next d Normal k.reading)
-    (λ o. by_next o.0 o.1)
-  where
-    by_next : (next : Answered) (r : Reading) → NoOpen (after_normal d k (next, r))
-    by_next (Dropped taken) r = no_open-sync_turn d (with_reading k r)
-    by_next next r = tt
-
-no_open-joy_turn : (d : Description) (k : Joying) (out : Option JoyRecord) → NoOpen (record_or_turn d k out)
-no_open-joy_turn d k (Some r) = tt
-no_open-joy_turn d k None =
-    cond_both (is_needed k.reading.phase) _ _ NoOpen (λ _. no_open-sync_turn d k) (λ _. no_open-event_turn d k)
-
-no_open-counted : {A : Type 0} (talk : Talk A) (n : ℕ) → NoOpen talk → NoOpen (with_count talk n)
-no_open-counted (finish a) n h = tt
-no_open-counted (ask x rest) n h = (h.0, λ answer. no_open-counted (rest answer) (if is_accepted answer.reply then n + 1 else n) (h.1 answer))
-
-no_open-turns : (d : Description) (most n : ℕ) (k : Joying) → NoOpen (turns d most n k)
-unfolding turns
-no_open-turns d zero n k = tt
-no_open-turns d (suc most) n k =
-    asks-then opens_none (with_count (turn_talk d k) n) (λ o. after_turn d (turns d most) o.0 o.1)
-    (no_open-counted (turn_talk d k) n (no_open-joy_turn d k (slice_get (startup d k.reading.view) k.handed)))
-    (λ o. by_turn o.0 o.1 (λ (m : ℕ) (here : Joying). no_open-turns d most m here))
-  where
-    by_turn : (m : ℕ) (turn : JoyTurn) → ((m : ℕ) (here : Joying) → NoOpen (turns d most m here)) → NoOpen (after_turn d (turns d most) m turn)
-    by_turn m (gives answer) more = tt
-    by_turn m (reads_on here) more = cond_both (is_long d here m) _ _ NoOpen (λ _. tt) (λ _. more m here)
-
 no_open-read_on : (d : Description) (most n : ℕ) (j : Job) → NoOpen (read_on d most n j)
 unfolding read_on
 no_open-read_on d most zero j = tt
 no_open-read_on d most (suc n) j =
     asks-then opens_none (noted (turns d most 0 (joying_of j)) j.sight) (λ o. after_turns (read_on d most n) j o.0 o.1)
-    (no_open-noted (turns d most 0 (joying_of j)) j.sight (no_open-turns d most 0 (joying_of j)))
+    (no_open-noted (turns d most 0 (joying_of j)) j.sight
+        (turns-ask opens_none d (no_open-next d) most 0 (joying_of j)))
     (λ o. by_answer o.0 o.1 (no_open-read_on d most n))
   where
     by_read : (read : JoyRead) (here : Job) → NoOpen (read_on d most n here) → NoOpen (after_joy_read (read_on d most n) read here)
@@ -232,16 +203,11 @@ gives_up-joy_start d j = ((λ e n. refl), λ answer. by_reply answer.reply (j.si
   where
     by_reply : (reply : Reply) (sight : List Sight) → GivesUp (and_then (noted (and_then (after_open d j.reading reply) (λ o. finish (joy_started d (joying_of j) o))) sight) (λ o. finish (after_joy_start j o)))
     by_reply (Opened at client ring) sight =
-        let asks : Talk (Result View Reply) = ask_each (queries d client) j.reading.view in
-        let start : Talk (Started × Reading) = and_then asks (λ asked. finish (after_queries client ring j.reading asked)) in
-        let talk : Talk (Started × Joying) = and_then start (λ o. finish (joy_started d (joying_of j) o)) in
-        no_open-gives_up (and_then (noted talk sight) (λ o. finish (after_joy_start j o)))
-        (asks-then opens_none (noted talk sight) (λ o. finish (after_joy_start j o))
-        (no_open-noted talk sight
-        (asks-then opens_none start (λ o. finish (joy_started d (joying_of j) o))
-        (asks-then opens_none asks (λ asked. finish (after_queries client ring j.reading asked)) (asks-each opens_none (queries d client) j.reading.view (each-query d client opens_none (no_open-queries d client))) (λ asked. tt))
-        (λ o. tt)))
-        (λ o. tt))
+        let opened : Talk (Started × Reading) = after_open d j.reading (Opened at client ring) in
+        let joins : Started × Reading → Talk (Started × Joying) = λ o. finish (joy_started d (joying_of j) o)
+            in
+        noted-gives_up (and_then opened joins) sight (after_joy_start j)
+            (asks-then opens_none opened joins (no_open-opened d j.reading at client ring) (λ o. tt))
     by_reply _ sight = tt
 
 joystick-gives_up : (d : Description) (n : ℕ) (command : Command) (j : Job) → GivesUp (joystick_talk d n command j)

@@ -124,10 +124,10 @@ stopped-again _ = refl
 abbrev pub IsNext : Description → Next × Reading → List Sight → List Sight → Type 0
 IsNext d o kept entries = IsSizedFor d.slots o.1.view × (kept ++ again_of o.0 ≡ entries)
 
-abbrev IsSizedReader : Description → Both → Reading → Type 0
+abbrev pub IsSizedReader : Description → Both → Reading → Type 0
 IsSizedReader d u r = IsSizedFor d.slots r.view × IsSame u
 
-abbrev LeavesNext : Description → Both → Next × Reading → Type 0
+abbrev pub LeavesNext : Description → Both → Next × Reading → Type 0
 LeavesNext d u o = IsNext d o (filter is_call_entry u.1) u.0
 
 next-nothing : (d : Description) (u : Both) (o : Next × Reading) → IsSizedFor d.slots o.1.view → again_of o.0 ≡ [] → IsSame u → LeavesNext d u o

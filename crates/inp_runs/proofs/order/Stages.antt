@@ -177,29 +177,16 @@ actors-more r rounds lines stage now line s u i a text past is_a is_text is_past
         other is.0 is.1 u.past before (subst (λ (p : List Step). BeginsWith (reverse u.past) (reverse p)) (sym behind.1) (exact-grows u.actor.description u.past u.after u.calls u.exact history))
     by_actor (inr is) (inr behind) = other is.0 is.1 past behind.1 ([], sym (append-nil (reverse past)))
 
-within-more : (r : RecordView) (rounds : ℕ) (lines : List Line) (stage now : Stage) (line : Line) → IsStage r rounds lines stage → (u : IsLinePlayed r rounds stage now line)
-    → (i : ℕ) (past : List Step) → slice_get now.pasts i ≡ Some past → length past ≤ (description_at r i).log_limit
-within-more r rounds lines stage now line s u i past is_past = by_past (past-behind r rounds stage now line u i past is_past)
-  where
-    by_past : ((i ≡ u.text.device) × (past ≡ u.after)) ⊎ ((i ≡ u.text.device → ⊥) × (slice_get stage.pasts i ≡ Some past)) → length past ≤ (description_at r i).log_limit
-    by_past (inl behind) =
-        let d : Description = description_at r u.text.device in
-        let exact : AreExact d u.past u.after u.calls = subst (λ (e : Description). AreExact e u.past u.after u.calls) (its_actor r rounds lines stage now line s u).description u.exact in
-        let after : length u.after ≤ d.log_limit = exact-within d u.past u.after u.calls exact (s.within u.text.device u.past u.is_past) in
-        subst (λ (p : List Step). length p ≤ (description_at r i).log_limit) (sym behind.1) (subst (λ (k : ℕ). length u.after ≤ (description_at r k).log_limit) (sym behind.0) after)
-    by_past (inr behind) = s.within i past behind.1
-
-history-more : (r : RecordView) (rounds : ℕ) (lines : List Line) (stage now : Stage) (line : Line) → IsStage r rounds lines stage → (u : IsLinePlayed r rounds stage now line)
-    → (i : ℕ) (past : List Step) → slice_get now.pasts i ≡ Some past → IsHistory (description_at r i) past
-history-more r rounds lines stage now line s u i past is_past = by_past (past-behind r rounds stage now line u i past is_past)
-  where
-    by_past : ((i ≡ u.text.device) × (past ≡ u.after)) ⊎ ((i ≡ u.text.device → ⊥) × (slice_get stage.pasts i ≡ Some past)) → IsHistory (description_at r i) past
-    by_past (inl behind) =
-        let d : Description = description_at r u.text.device in
-        let exact : AreExact d u.past u.after u.calls = subst (λ (e : Description). AreExact e u.past u.after u.calls) (its_actor r rounds lines stage now line s u).description u.exact in
-        let after : IsHistory d u.after = exact-history d u.past u.after u.calls exact (s.history u.text.device u.past u.is_past) in
-        subst (λ (p : List Step). IsHistory (description_at r i) p) (sym behind.1) (subst (λ (k : ℕ). IsHistory (description_at r k) u.after) (sym behind.0) after)
-    by_past (inr behind) = s.history i past behind.1
+-- what is so of the past of the line's device, and of each one before the line, is so of each one behind it
+each-past : (r : RecordView) (rounds : ℕ) (stage now : Stage) (line : Line) (u : IsLinePlayed r rounds stage
+    now line) (P : ℕ → List Step → Type 0)
+    → P u.text.device u.after → ((i : ℕ) (past : List Step) → slice_get stage.pasts i ≡ Some past → P i past)
+    → (i : ℕ) (past : List Step) → slice_get now.pasts i ≡ Some past → P i past
+each-past r rounds stage now line u P new old i past is_past = elim
+    (past-behind r rounds stage now line u i past is_past) [
+  | inl behind ↦ subst (P i) (sym behind.1) (subst (λ (k : ℕ). P k u.after) (sym behind.0) new)
+  | inr behind ↦ old i past behind.1
+]
 
 replaced_sum : (sum_now old sum_before new from to : ℕ) → sum_now + old ≡ sum_before + new → sum_before ≡ from → new + from ≡ old + to → sum_now ≡ to
 replaced_sum sum_now old sum_before new from to h k l = omega arith
@@ -254,12 +241,22 @@ pub stage-more : (r : RecordView) (rounds : ℕ) (lines : List Line) (stage now 
 stage-more r rounds lines stage now line s u =
     let number : ActorView → ℕ = λ (b : ActorView). b.actor in
     let at : slice_get stage.actors u.actor.actor ≡ Some u.actor = ap (λ (k : ℕ). slice_get stage.actors k) (its_number r rounds lines stage now line s u) ∙ u.is_actor in
+    let d : Description = description_at r u.text.device in
+    let exact : AreExact d u.past u.after u.calls =
+    subst (λ (e : Description). AreExact e u.past u.after u.calls)
+        (its_actor r rounds lines stage now line s u).description u.exact in
     record {
       numbers = ap (λ (xs : List ActorView). map number xs) u.actors ∙ map-set_same number stage.actors u.actor.actor u.actor (record u.actor { job = u.job; owning = u.owning }) at refl ∙ s.numbers;
       devices = ap (λ (ps : List (List Step)). length ps) u.pasts ∙ length-set stage.pasts u.text.device u.after ∙ s.devices;
       actors = actors-more r rounds lines stage now line s u;
-      within = within-more r rounds lines stage now line s u;
-      history = history-more r rounds lines stage now line s u;
+      within =
+          each-past r rounds stage now line u
+              (λ (i : ℕ) (past : List Step). length past ≤ (description_at r i).log_limit)
+          (exact-within d u.past u.after u.calls exact (s.within u.text.device u.past u.is_past)) s.within;
+      history =
+          each-past r rounds stage now line u
+              (λ (i : ℕ) (past : List Step). IsHistory (description_at r i) past)
+          (exact-history d u.past u.after u.calls exact (s.history u.text.device u.past u.is_past)) s.history;
       once = once-more r rounds lines stage now line s u;
     }
 

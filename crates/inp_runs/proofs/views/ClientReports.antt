@@ -1,5 +1,5 @@
 -- The view of a client's job at each report that it took.
-use Rattle.std.proofs.Common.{◌≡◌, ◌<◌, ◌⊎◌, inl, inr, ℕ, zero, suc, Bool, true, false, ◌&&◌, nat_eq, nat_le, List, [], ◌∷◌, ◌++◌, length, map, reverse, refl, sym, ap, subst, ◌∙◌, arith, append-nil, append_assoc, Option, Some, None}
+use Rattle.std.proofs.Common.{◌≡◌, ◌<◌, ◌⊎◌, inl, inr, ℕ, zero, suc, Bool, true, false, ◌&&◌, nat_eq, List, [], ◌∷◌, ◌++◌, length, map, reverse, refl, sym, ap, subst, ◌∙◌, arith, append-nil, append_assoc, Option, Some, None}
 use Rattle.std.specs.Prelude.{slice_get}
 use Rattle.std.proofs.lemmas.Bool.{true≢false, cond_both, eqb-true}
 use Rattle.inp_model.specs.declared.event.Event.{Event}
@@ -29,7 +29,7 @@ use Rattle.inp_model.specs.History.{IsHistory}
 use Rattle.inp_recon.proofs.Each.{and-right}
 use Rattle.inp_reader.specs.declared.mode.Mode.{Mode}
 use Rattle.inp_reader.specs.declared.next.Next.{Next}
-use Rattle.inp_reader.specs.declared.next.Next.TheVariants.{Success, Dropped, Sync, Again, Synced, NoDevice, Closed, Full}
+use Rattle.inp_reader.specs.declared.next.Next.TheVariants.{Success, Dropped, Sync, Again}
 use Rattle.inp_reader.specs.declared.reader.TheConstants.{NO_CLIENT}
 use Rattle.inp_reader.specs.declared.started.Started.{Started}
 use Rattle.inp_recon.specs.Synchronised.{is_dropped}
@@ -43,9 +43,9 @@ use Rattle.inp_reader.proofs.TalksKeepSpare.{new-spare}
 use Rattle.inp_script.specs.declared.sight.Sight.{Sight}
 use Rattle.inp_script.specs.declared.sight.Sight.TheVariants.{Took, Made, Again as AgainSight}
 use Rattle.inp_script.specs.declared.stop.Stop.{Stop}
-use Rattle.inp_script.specs.declared.stop.Stop.TheVariants.{Idle, Full as FullHistory}
 use Rattle.inp_script.specs.declared.waiting.Waiting.{Waiting}
-use Rattle.inp_script.specs.Client.{Going, Turn, goes_on, ends_with, start_job, start_ends, job_after_start, handed, one_less, is_done, patience, after_again, turn_after, after_next, mode_of, with_sight, with_stop, next_round, on_turn, rounds, hand_talk, forced, client_talk}
+use Rattle.inp_script.proofs.LineWalk.{OfTurn, OfGoing, AfterNext, turn-of}
+use Rattle.inp_script.specs.Client.{Going, Turn, goes_on, ends_with, start_job, start_ends, job_after_start, is_done, after_next, mode_of, with_sight, with_stop, next_round, on_turn, rounds, hand_talk, forced, client_talk}
 use Rattle.inp_script.specs.Fold.{settled, after_first_call, client_fold}
 use Rattle.inp_script.specs.Job.{Job, first_job, first_reading}
 use Rattle.inp_script.specs.Line.{after_call, call_talk, tap_client_after}
@@ -165,10 +165,10 @@ module _ (d : Description) (h : List Step) (Q : ℕ → Type 0) (history : IsHis
       subst (λ (o : Option LastRead). AreAtHand d h least j.reading.client o queue) (sym (read_after-append j.reading.client None j.sight (entry ∷ []) ∙ same)) hand
 
   took-job : (least : ℕ) (j : Job) (taken : Taken) → IsReadingAt d h Q least j.reading → client_fold d h (settled (first_view d)) (j.sight ++ Took taken ∷ []) ≡ settled j.reading.view → reads_as j.sight ≡ j.reading.client
-      → IsRest d h least j.reading.client (read_after_sight j.reading.client None j.sight) (taken ∷ j.reading.queue) → AtEach (ClientSaw d h) [] j.sight → ClientSaw d h (j.sight ++ Took taken ∷ []) taken
+      → IsRest d h least j.reading.client (read_after_sight j.reading.client None j.sight) (taken ∷ j.reading.queue) → AtEach (ClientSaw d h) [] j.sight → (is_report taken.event ≡ true → IsSeenAt d h Client (j.sight ++ Took taken ∷ []) taken)
       → IsAt least (with_sight j (Took taken))
   unfolding client_after_sight
-  took-job least j taken reading folded reads rest seen saw =
+  took-job least j taken reading folded reads rest seen shown =
       let client : ℕ = j.reading.client in
       let last : Option LastRead = read_after_sight client None j.sight in
       record {
@@ -178,7 +178,7 @@ module _ (d : Description) (h : List Step) (Q : ℕ → Type 0) (history : IsHis
         hand =
             subst (λ (o : Option LastRead). AreAtHand d h least client o j.reading.queue) (sym (read_after-append client None j.sight (Took taken ∷ []) ∙ read_after-took client last taken))
             (inr (hand-took d h least client last taken j.reading.queue rest));
-        seen = at_each-append (ClientSaw d h) [] j.sight (Took taken ∷ []) seen (saw, tt);
+        seen = at_each-append (ClientSaw d h) [] j.sight (Took taken ∷ []) seen (record { own = took-own least j taken reads rest; seen = shown }, tt);
       }
 
   made-job : (least : ℕ) (j : Job) (event : Event) → IsReadingAt d h Q least j.reading → client_fold d h (settled (first_view d)) (j.sight ++ Made event ∷ []) ≡ settled j.reading.view → reads_as j.sight ≡ j.reading.client → HasAtHand d h least j j.reading.queue → AtEach (ClientSaw d h) [] j.sight → IsAt least (with_sight j (Made event))
@@ -206,18 +206,8 @@ module _ (d : Description) (h : List Step) (Q : ℕ → Type 0) (history : IsHis
 
   -- Rounds
 
-  abbrev OfTurn : ℕ → Turn → Type 0
-  OfTurn least (goes_on g) = IsAt least g.job
-  OfTurn least (ends_with j) = IsAt least j
-
-  turn-handed : (least : ℕ) (left : Option ℕ) (j : Job) → IsAt least j → OfTurn least (handed left j)
-  turn-handed least left j s = cond_both (is_done left) _ _ (OfTurn least) (λ _. s) (λ _. s)
-
-  turn-again : (least : ℕ) (patient left : Option ℕ) (agains at ends : ℕ) (j : Job) → IsAt least j → OfTurn least (after_again patient left agains at ends j)
-  turn-again least None left agains at ends j s = again-job least at ends j s
-  turn-again least (Some idle) left agains at ends j s =
-      cond_both (nat_le idle agains) _ _ (OfTurn least)
-      (λ _. stop-job least (with_sight j (AgainSight at ends)) (Idle idle at) (again-job least at ends j s)) (λ _. s)
+  abbrev IsTurned : ℕ → Turn → Type 0
+  IsTurned least turn = OfTurn IsAt (OfGoing IsAt) least turn
 
   -- no entry is added
   bare-job : (least : ℕ) (j : Job) → IsReadingAt d h Q least j.reading → client_fold d h (settled (first_view d)) (j.sight ++ []) ≡ settled j.reading.view → reads_as j.sight ≡ j.reading.client → HasAtHand d h least j j.reading.queue → AtEach (ClientSaw d h) [] j.sight → IsAt least j
@@ -229,22 +219,18 @@ module _ (d : Description) (h : List Step) (Q : ℕ → Type 0) (history : IsHis
     seen = seen;
   }
 
-  turn-job : (least : ℕ) (wait : Option Waiting) (left : Option ℕ) (agains : ℕ) (next : Next) (j : Job) → IsReadingAt d h Q least j.reading → client_fold d h (settled (first_view d)) (j.sight ++ entries_of_next next) ≡ settled j.reading.view → reads_as j.sight ≡ j.reading.client
-      → HasAtHand d h least j (with_handed next j.reading.queue) → AtEach (ClientSaw d h) [] j.sight → HandsAt d h Q least next j.reading → Drops next → OfTurn least (turn_after wait left agains next j)
-  turn-job least wait left agains (Success taken) j reading folded reads hand seen hands drops =
+  turn-job : (least : ℕ) (next : Next) (j : Job) → IsReadingAt d h Q least j.reading → client_fold d h (settled (first_view d)) (j.sight ++ entries_of_next next) ≡ settled j.reading.view → reads_as j.sight ≡ j.reading.client
+      → HasAtHand d h least j (with_handed next j.reading.queue) → AtEach (ClientSaw d h) [] j.sight → HandsAt d h Q least next j.reading → Drops next → AfterNext IsAt least next j
+  turn-job least (Success taken) j reading folded reads hand seen hands drops =
       let rest = hand-first d h least j.reading.client (read_after_sight j.reading.client None j.sight) taken j.reading.queue hand in
-      let saw : ClientSaw d h (j.sight ++ Took taken ∷ []) taken = record { own = took-own least j taken reads rest; seen = λ report. took-seen least j taken folded reads rest hands } in
-      turn-handed least (one_less left) (with_sight j (Took taken)) (took-job least j taken reading folded reads rest seen saw)
-  turn-job least wait left agains (Dropped taken) j reading folded reads hand seen hands drops =
+      took-job least j taken reading folded reads rest seen (λ report. took-seen least j taken folded reads rest hands)
+  turn-job least (Dropped taken) j reading folded reads hand seen hands drops =
       let rest = hand-first d h least j.reading.client (read_after_sight j.reading.client None j.sight) taken j.reading.queue hand in
-      let saw : ClientSaw d h (j.sight ++ Took taken ∷ []) taken = record { own = took-own least j taken reads rest; seen = λ report. absurd (not-both taken.event drops report) } in
-      turn-handed least (one_less left) (with_sight j (Took taken)) (took-job least j taken reading folded reads rest seen saw)
-  turn-job least wait left agains (Sync event) j reading folded reads hand seen hands drops = turn-handed least (one_less left) (with_sight j (Made event)) (made-job least j event reading folded reads hand seen)
-  turn-job least wait left agains Synced j reading folded reads hand seen hands drops = bare-job least j reading folded reads hand seen
-  turn-job least wait left agains (Again at ends) j reading folded reads hand seen hands drops = turn-again least (patience wait ends) left (suc agains) at ends j (bare-job least j reading folded reads hand seen)
-  turn-job least wait left agains NoDevice j reading folded reads hand seen hands drops = bare-job least j reading folded reads hand seen
-  turn-job least wait left agains Closed j reading folded reads hand seen hands drops = bare-job least j reading folded reads hand seen
-  turn-job least wait left agains (Full at) j reading folded reads hand seen hands drops = stop-job least j (FullHistory at) (bare-job least j reading folded reads hand seen)
+      took-job least j taken reading folded reads rest seen (λ report. absurd (not-both taken.event drops report))
+  turn-job least (Sync event) j reading folded reads hand seen hands drops = made-job least j event reading folded reads hand seen
+  turn-job least (Again at ends) j reading folded reads hand seen hands drops =
+      let bare : IsAt least j = bare-job least j reading folded reads hand seen in (bare, again-job least at ends j bare)
+  turn-job least _ j reading folded reads hand seen hands drops = bare-job least j reading folded reads hand seen
 
   placed : (least : ℕ) (calls more : List Call) → AreToCome d h Q least (calls ++ more) → ArePlaced d h calls
   placed least calls more c = legal-placed d h least calls (legal-first d h least calls more c.legal)
@@ -267,7 +253,7 @@ module _ (d : Description) (h : List Step) (Q : ℕ → Type 0) (history : IsHis
       subst (λ (n : ℕ). AreAtHand d h at n (read_after_sight n None after) queue) (sym same)
       (subst (λ (o : Option LastRead). AreAtHand d h at client o queue) (sym (ap (λ (es : List Sight). read_after_sight client None es) is ∙ read_after-append client None sight (noted_sight calls))) hand)
 
-  round-job : (least : ℕ) (wait : Option Waiting) (skips : Bool) (g : Going) (turn : Turn) (calls more : List Call) → AreToCome d h Q least (calls ++ more) → EndsWith (next_round d wait skips g) calls turn → IsAt least g.job → OfTurn (place_behind least calls) turn
+  round-job : (least : ℕ) (wait : Option Waiting) (skips : Bool) (g : Going) (turn : Turn) (calls more : List Call) → AreToCome d h Q least (calls ++ more) → EndsWith (next_round d wait skips g) calls turn → IsAt least g.job → IsTurned (place_behind least calls) turn
   unfolding next_round
   round-job least wait skips g turn calls more c ends s =
       let r : Reading = g.job.reading in
@@ -292,9 +278,9 @@ module _ (d : Description) (h : List Step) (Q : ℕ → Type 0) (history : IsHis
       next-hand d h Q least r.client (read_after_sight r.client None g.job.sight) r.queue (with_handed p.between.0.0 p.between.0.1.queue) p.first (p.later ++ more) here s.hand (next-sources d mode r p.between.0.1 p.between.0.0 p.first b.0) in
       let hand : HasAtHand d h (place_behind least p.first) job (with_handed p.between.0.0 p.between.0.1.queue) =
       noted-hand (place_behind least p.first) r.client p.between.0.1.client g.job.sight p.between.1 p.first (with_handed p.between.0.0 p.between.0.1.queue) same b.1 left_hand in
-      subst (λ (cs : List Call). OfTurn (place_behind least cs) turn) (none-behind calls p.first p.later p.calls_are f.0)
-      (subst (OfTurn (place_behind least p.first)) f.1
-      (turn-job (place_behind least p.first) wait g.left g.agains p.between.0.0 job reads.reading folded now hand seen reads.hands names.1))
+      subst (λ (cs : List Call). IsTurned (place_behind least cs) turn) (none-behind calls p.first p.later p.calls_are f.0)
+      (subst (IsTurned (place_behind least p.first)) f.1
+      (turn-of IsAt stop-job (place_behind least p.first) wait g.left g.agains p.between.0.0 job (turn-job (place_behind least p.first) p.between.0.0 job reads.reading folded now hand seen reads.hands names.1)))
 
   same-job : (least : ℕ) (j k : Job) (calls : List Call) → EndsWith (finish (Some j)) calls (Some k) → IsAt least j → IsAt (place_behind least calls) k
   same-job least j k calls ends s =
@@ -308,12 +294,12 @@ module _ (d : Description) (h : List Step) (Q : ℕ → Type 0) (history : IsHis
   rounds-job least wait skips (suc n) g k calls more c ends s =
       let p = split-and_then (next_round d wait skips g) (on_turn (rounds d wait skips n)) calls (Some k) ends in
       let here : AreToCome d h Q least (p.first ++ (p.later ++ more)) = split-come d h Q least calls p.first p.later more p.calls_are c in
-      let t : OfTurn (place_behind least p.first) p.between = round-job least wait skips g p.between p.first (p.later ++ more) here p.first_ends s in
+      let t : IsTurned (place_behind least p.first) p.between = round-job least wait skips g p.between p.first (p.later ++ more) here p.first_ends s in
       let later : AreToCome d h Q (place_behind least p.first) (p.later ++ more) = to-come-behind d h Q least p.first (p.later ++ more) here in
       subst (λ (m : ℕ). IsAt m k) (split-place least calls p.first p.later p.calls_are)
       (by (place_behind least p.first) p.between p.later t (λ (next : Going) u e. rounds-job (place_behind least p.first) wait skips n next k p.later more later e u) p.later_ends)
     where
-      by : (at : ℕ) (turn : Turn) (second : List Call) → OfTurn at turn → ((next : Going) → IsAt at next.job → EndsWith (rounds d wait skips n next) second (Some k) → IsAt (place_behind at second) k) → EndsWith (on_turn (rounds d wait skips n) turn) second (Some k) → IsAt (place_behind at second) k
+      by : (at : ℕ) (turn : Turn) (second : List Call) → IsTurned at turn → ((next : Going) → IsAt at next.job → EndsWith (rounds d wait skips n next) second (Some k) → IsAt (place_behind at second) k) → EndsWith (on_turn (rounds d wait skips n) turn) second (Some k) → IsAt (place_behind at second) k
       by at (goes_on next) second t rest e = rest next t e
       by at (ends_with j) second t rest e = same-job at j k second e t
 

@@ -1,13 +1,12 @@
 -- At each report that a job took, its view is its client's in the history, and each loss that it took has its cause.
-use Rattle.std.proofs.Common.{◌≡◌, ◌<◌, inl, inr, ℕ, zero, Bool, true, false, ◌||◌, List, [], ◌∷◌, ◌++◌, length, map, take, reverse, suc, refl, sym, ap, subst, ◌∙◌, arith, append-nil, if◌then◌else◌, Option, Some, None}
+use Rattle.std.proofs.Common.{◌≡◌, ◌<◌, inl, inr, ℕ, Bool, true, false, ◌||◌, List, [], ◌∷◌, ◌++◌, length, map, take, reverse, suc, refl, sym, ap, subst, ◌∙◌, arith, append-nil, if◌then◌else◌, Option, Some, None}
 use Rattle.std.specs.Prelude.{slice_get}
 use Rattle.std.specs.List.{list_any}
 use Rattle.std.proofs.lemmas.Bool.{eq-eqb}
 use Rattle.inp_model.specs.declared.stamped.Stamped.{Stamped}
 use Rattle.inp_model.specs.declared.taken.Taken.{Taken}
 use Rattle.inp_model.specs.declared.step.Step.{Step}
-use Rattle.inp_model.specs.declared.step.Step.TheVariants.{Inject, Close as ToClose, End}
-use Rattle.inp_model.specs.declared.reply.Reply.{Reply}
+use Rattle.inp_model.specs.declared.step.Step.TheVariants.{Inject, End}
 use Rattle.inp_model.specs.declared.reply.Reply.TheVariants.{Opened}
 use Rattle.inp_model.specs.Description.{Description}
 use Rattle.inp_model.specs.Past.{past_at}
@@ -15,7 +14,7 @@ use Rattle.inp_model.specs.Reply.{Answer, IsAnswer, is_accepted}
 use Rattle.inp_model.specs.Run.{Call, IsLegalRun, place_of}
 use Rattle.inp_actors.specs.declared.actor_text.ActorText.{ActorText}
 use Rattle.inp_actors.specs.declared.command.Command.{Command}
-use Rattle.inp_actors.specs.declared.command.Command.TheVariants.{Event as ToEvent, Tick, Inhibit, Uninhibit, Stream, Stream16, Open, Close, Read}
+use Rattle.inp_actors.specs.declared.command.Command.TheVariants.{Event as ToEvent, Tick, Inhibit, Uninhibit, Stream, Stream16, Close}
 use Rattle.inp_actors.specs.declared.line.Line.{Line}
 use Rattle.inp_actors.specs.declared.role.Role.{Role}
 use Rattle.inp_actors.specs.declared.role.Role.TheVariants.{Source, Client, Tap, Joy, Owner}
@@ -26,33 +25,36 @@ use Rattle.inp_recon.proofs.Each.{Each}
 use Rattle.inp_reader.specs.declared.reader.TheConstants.{NO_CLIENT}
 use Rattle.inp_reader.specs.ReaderPlace.{is_read}
 use Rattle.inp_joy.specs.declared.joy_read.JoyRead.{JoyRead}
-use Rattle.inp_joy.specs.declared.joy_read.JoyRead.TheVariants.{Record as HandedOut, Frame, Again as NothingToRead, NoDevice as Revoked, Closed as NotOpen, Full as FullHistory, More}
+use Rattle.inp_joy.specs.declared.joy_read.JoyRead.TheVariants.{Again as NothingToRead}
 use Rattle.inp_joy.specs.declared.joy_record.JoyRecord.{JoyRecord}
 use Rattle.inp_joy.specs.JoyRecord.{bytes_of_record}
-use Rattle.inp_joy.specs.Joy.{JoyAnswer, joy_start, turns}
+use Rattle.inp_joy.specs.Joy.{JoyAnswer, turns}
 use Rattle.inp_reader.specs.Talk.{Talk, finish, LeadsTo, EndsWith}
 use Rattle.inp_reader.proofs.ClientViews.{no_read-takes}
 use Rattle.inp_reader.proofs.PastsAtCalls.{AreAllOwn}
 use Rattle.inp_script.specs.declared.sight.Sight.{Sight}
 use Rattle.inp_script.specs.declared.sight.Sight.TheVariants.{Again as AgainSight, Record}
 use Rattle.inp_script.specs.declared.stop.Stop.{Stop}
-use Rattle.inp_script.specs.declared.stop.Stop.TheVariants.{Full}
 use Rattle.inp_script.specs.declared.waiting.Waiting.{Waiting}
 use Rattle.inp_script.specs.DoneLine.{command_talk, unless_stopped, line_talk}
-use Rattle.inp_script.specs.Job.{Job, JobView, first_job, joying_of, with_joying}
-use Rattle.inp_script.specs.Joystick.{Reach, handed_out, line_ends, record_sight, after_joy_start, start_joystick, after_joy_answer, after_joy_read, after_turns, read_on, on_reach, read_records, joystick_talk}
+use Rattle.inp_script.specs.Job.{Job, JobView, first_job, joying_of}
+use Rattle.inp_script.specs.Joystick.{record_sight, start_joystick, after_joy_answer, joystick_talk}
 use Rattle.inp_script.specs.Line.{step_of, after_call, call_if, stream_talk, stream_numbered, source_talk, end_talk}
-use Rattle.inp_script.specs.Client.{with_sight, with_stop}
-use Rattle.inp_script.specs.Sight.{call_sight, again_sight, taken_sight, noted, stop_after_start, start_lacks_memory}
+use Rattle.inp_script.specs.Sight.{call_sight, again_sight, taken_sight, noted}
 use Rattle.inp_reader.proofs.Calls.{finished, split-and_then}
-use Rattle.inp_script.proofs.LineTold.{memory_there}
+use Rattle.inp_reader.proofs.Meets.{Any, ends-meet, meets-ends}
+use Rattle.inp_script.proofs.Folds.{Placed, placed-run}
+use Rattle.inp_script.proofs.JoyTold.{starts}
+use Rattle.inp_script.proofs.JoyWalk.{AfterRead, AfterTurns, is_joy_call, JoyRules, joystick-meets}
+use Rattle.inp_script.proofs.LineWalk.{OfJob, job-ends-meet}
 use Rattle.inp_script.proofs.Told.{noted-back, noted_sight}
 use Rattle.inp_runs.specs.Job.{lines_by, on_job, last_talk, lines_talk, AreTold}
 use Rattle.inp_runs.specs.JobViews.{AreEventsOwn, AreReportsSeen, sight_view}
 use Rattle.inp_runs.specs.Losses.{AreLossesCaused}
 use Rattle.inp_runs.proofs.views.AtHand.{own-caused, shown-own}
 use Rattle.inp_runs.proofs.views.ClientReports.{IsClientJob, ClientSaw, client-line, client-first}
-use Rattle.inp_runs.proofs.views.Folded.{AreOfRole, its_lines}
+use Rattle.inp_runs.proofs.views.ClientReadings.{legal-first}
+use Rattle.inp_runs.proofs.views.Folded.{AreOfRole, its_lines, legal-placed}
 use Rattle.inp_runs.proofs.owners.Owners.{HasOwners, is_opened_as, is_opening_of, history-of-jobs}
 use Rattle.inp_runs.proofs.owners.OwnUses.{own-uses}
 use Rattle.inp_runs.proofs.views.Reports.{AtEntry, AtEach, at_each-append, at_each-at, at_each-call, at_each-again, at_each-noted, AreToCome, to-come-next, to-come-behind, place_behind, place_behind-append}
@@ -79,16 +81,22 @@ source-step client (Stream16 file index) h = tt
 source-step client _ h = absurd cc
 
 module _ (P : List Sight → Taken → Type 0) (d : Description) (h : List Step) (Q : ℕ → Type 0) where
+  -- a call that gave no event
+  call-eventless : (j : Job) (x : Step) (a : Answer) → a.events ≡ [] → AtEach P [] j.sight
+      → AtEach P [] (after_call j x a).sight
+  call-eventless j x a none s =
+      let told : List Sight = call_sight x a.reply ++ again_sight a.reply in
+      at_each-append P [] j.sight (told ++ map taken_sight a.events) s
+      (at_each-append P j.sight told (map taken_sight a.events)
+      (at_each-append P j.sight (call_sight x a.reply) (again_sight a.reply)
+          (at_each-call P j.sight x a.reply) (at_each-again P (j.sight ++ call_sight x a.reply) a.reply))
+      (subst (λ (ts : List Taken). AtEach P (j.sight ++ told) (map taken_sight ts)) (sym none) tt))
+
   source-call : (least : ℕ) (j : Job) (call : Call) (calls : List Call) → is_read call.step ≡ false → AreToCome d h Q least (call ∷ calls) → AtEach P [] j.sight → AtEach P [] (after_call j call.step call.answer).sight
   source-call least j call calls unread_step c s =
-      let x : Step = call.step in
-      let reply : Reply = call.answer.reply in
-      let told : List Sight = call_sight x reply ++ again_sight reply in
-      let none : call.answer.events ≡ [] = unread d (past_at h (place_of reply)) x call.answer unread_step c.legal.1.exact in
-      at_each-append P [] j.sight (told ++ map taken_sight call.answer.events) s
-      (at_each-append P j.sight told (map taken_sight call.answer.events)
-      (at_each-append P j.sight (call_sight x reply) (again_sight reply) (at_each-call P j.sight x reply) (at_each-again P (j.sight ++ call_sight x reply) reply))
-      (subst (λ (ts : List Taken). AtEach P (j.sight ++ told) (map taken_sight ts)) (sym none) tt))
+      call-eventless j call.step call.answer
+          (unread d (past_at h (place_of call.answer.reply)) call.step call.answer unread_step
+          c.legal.1.exact) s
 
   source-same : (j k : Job) (calls : List Call) → EndsWith (finish (Some j)) calls (Some k) → AtEach P [] j.sight → AtEach P [] k.sight
   source-same j k calls ends s =
@@ -125,76 +133,62 @@ module _ (P : List Sight → Taken → Type 0) (d : Description) (h : List Step)
 
   -- Joysticks: their calls are told, and no events
 
-  joystick-noted : {A : Type 0} (talk : Talk A) (sight : List Sight) (calls : List Call) (o : A × List Sight) → EndsWith (noted talk sight) calls o → AtEach P [] sight → AtEach P [] o.1
-  joystick-noted talk sight calls o ends s =
-      subst (AtEach P []) (sym (noted-back talk sight calls o ends).1) (at_each-append P [] sight (noted_sight calls) s (at_each-noted P sight calls))
+  noted-each : (j : Job) (calls : List Call) → AtEach P [] j.sight
+      → AtEach P [] (j.sight ++ noted_sight calls)
+  noted-each j calls s = at_each-append P [] j.sight (noted_sight calls) s (at_each-noted P j.sight calls)
 
-  -- an entry of no event more
-  joystick-entry : (entry : Sight) (sight : List Sight) → AtEntry P sight entry → AtEach P [] sight → AtEach P [] (sight ++ entry ∷ [])
-  joystick-entry entry sight none s = at_each-append P [] sight (entry ∷ []) s (none, tt)
+  abbrev HasEach : Unit {0} → Job → Type 0
+  HasEach u j = AtEach P [] j.sight
 
-  joystick-record : (out : Option JoyRecord) (sight : List Sight) → AtEach P [] sight → AtEach P [] (sight ++ record_sight out)
-  joystick-record None sight s = subst (AtEach P []) (sym (append-nil sight)) s
-  joystick-record (Some r) sight s = joystick-entry (Record (bytes_of_record r)) sight tt s
-
-  joystick-start : (j k : Job) (calls : List Call) → EndsWith (start_joystick d j) calls (Some k) → AtEach P [] j.sight → AtEach P [] k.sight
-  unfolding start_joystick
-  joystick-start j k calls ends s =
-      let p = split-and_then (noted (joy_start d (joying_of j)) j.sight) (λ o. finish (after_joy_start j o)) calls (Some k) ends in
-      let last : Job = record (with_joying j p.between.0.1) { sight = p.between.1; stop = stop_after_start p.between.0.0 } in
-      let f = finished (after_joy_start j p.between) (Some k) p.later p.later_ends in
-      let same : last ≡ k = memory_there (start_lacks_memory p.between.0.0) last k f.1 in
-      subst (λ (y : Job). AtEach P [] y.sight) same (joystick-noted (joy_start d (joying_of j)) j.sight p.first p.between p.first_ends s)
-
-  abbrev AtReach : Option Reach → Type 0
-  AtReach None = Unit {0}
-  AtReach (Some (handed_out j)) = AtEach P [] j.sight
-  AtReach (Some (line_ends j)) = AtEach P [] j.sight
-
-  joystick-ends : {A : Type 0} (Q : A → Type 0) (o result : A) (calls : List Call) → EndsWith (finish o) calls result → Q o → Q result
-  joystick-ends Q o result calls ends s = let f = finished o result calls ends in subst Q f.1 s
-
-  joystick-read_on : (most n : ℕ) (j : Job) (reach : Option Reach) (calls : List Call) → EndsWith (read_on d most n j) calls reach → AtEach P [] j.sight → AtReach reach
-  unfolding read_on
-  joystick-read_on most zero j reach calls ends s = joystick-ends AtReach None reach calls ends tt
-  joystick-read_on most (suc n) j reach calls ends s =
-      let p = split-and_then (noted (turns d most 0 (joying_of j)) j.sight) (λ o. after_turns (read_on d most n) j o.0 o.1) calls reach ends in
-      by_answer p.between.0 p.between.1 p.later (λ (here : Job) e t. joystick-read_on most n here reach p.later e t) p.later_ends
-      (joystick-noted (turns d most 0 (joying_of j)) j.sight p.first p.between p.first_ends s)
+  joystick-rules : (command : Command) → is_command_of Joy command ≡ true
+      → JoyRules (Placed d h) HasEach d command
+  joystick-rules command of_role = record {
+    starts = λ u j s.
+        job-ends-meet (Placed d h) HasEach u (start_joystick d j)
+        (λ t calls k run ends. subst (HasEach t) (sym (starts d j k calls ends).is) (noted-each j calls s));
+    reads = λ u j most s.
+        let talk : Talk (Option JoyAnswer) = turns d most 0 (joying_of j) in
+        ends-meet (Placed d h)
+            (λ (t : Unit {0}) (o : Option JoyAnswer × List Sight). AfterTurns HasEach j t o.0 o.1) u
+            (noted talk j.sight)
+        (λ t calls o run ends. of_turns j o.0 o.1
+            (subst (AtEach P []) (sym (noted-back talk j.sight calls o ends).1) (noted-each j calls s)));
+    calls = λ one u v j x a is s by.
+        call-eventless j x a
+            (unread d (past_at h (place_of a.reply)) x a
+            (subst IsUnread is (of_call command one of_role j.reading.client)) by.exact) s;
+  }
     where
-      by_read : (read : JoyRead) (here : Job) (second : List Call) → (EndsWith (read_on d most n here) second reach → AtReach reach) → EndsWith (after_joy_read (read_on d most n) read here) second reach → AtEach P [] here.sight → AtReach reach
-      by_read HandedOut here second more e t = joystick-ends AtReach (Some (handed_out here)) reach second e t
-      by_read (Frame place) here second more e t = more e
-      by_read More here second more e t = more e
-      by_read (NothingToRead at ends) here second more e t = joystick-ends AtReach (Some (line_ends (with_sight here (AgainSight at ends)))) reach second e (joystick-entry (AgainSight at ends) here.sight tt t)
-      by_read Revoked here second more e t = joystick-ends AtReach (Some (line_ends here)) reach second e t
-      by_read NotOpen here second more e t = joystick-ends AtReach (Some (line_ends here)) reach second e t
-      by_read (FullHistory at) here second more e t = joystick-ends AtReach (Some (line_ends (with_stop here (Full at)))) reach second e t
+      of_call : (c : Command) → is_joy_call c ≡ true → is_command_of Joy c ≡ true → (client : ℕ)
+          → IsUnread (step_of client c)
+      of_call Close one joy client = refl
+      of_call c one joy client = absurd cc
 
-      by_answer : (read : Option JoyAnswer) (sight : List Sight) (second : List Call) → ((here : Job) → EndsWith (read_on d most n here) second reach → AtEach P [] here.sight → AtReach reach) → EndsWith (after_turns (read_on d most n) j read sight) second reach → AtEach P [] sight → AtReach reach
-      by_answer None sight second more e t = joystick-ends AtReach None reach second e tt
-      by_answer (Some answer) sight second more e t =
-          let here : Job = after_joy_answer j answer sight in
-          let told : AtEach P [] here.sight = joystick-record answer.record_out sight t in
-          by_read answer.read here second (λ m. more here m told) e told
+      -- an entry of no event more
+      entry-each : (entry : Sight) (sight : List Sight) → AtEntry P sight entry → AtEach P [] sight
+          → AtEach P [] (sight ++ entry ∷ [])
+      entry-each entry sight none s = at_each-append P [] sight (entry ∷ []) s (none, tt)
 
-  joystick-records : (n count : ℕ) (j k : Job) (calls : List Call) → EndsWith (read_records d n count j) calls (Some k) → AtEach P [] j.sight → AtEach P [] k.sight
-  unfolding read_records
-  joystick-records n zero j k calls ends s = source-same j k calls ends s
-  joystick-records n (suc count) j k calls ends s =
-      let p = split-and_then (read_on d n n j) (on_reach (read_records d n count)) calls (Some k) ends in
-      by_reach p.between p.later (λ (here : Job) e t. joystick-records n count here k p.later e t) p.later_ends (joystick-read_on n n j p.between p.first p.first_ends s)
-    where
-      by_reach : (reach : Option Reach) (second : List Call) → ((here : Job) → EndsWith (read_records d n count here) second (Some k) → AtEach P [] here.sight → AtEach P [] k.sight) → EndsWith (on_reach (read_records d n count) reach) second (Some k) → AtReach reach → AtEach P [] k.sight
-      by_reach None second more e t = let f = finished None (Some k) second e in absurd cc
-      by_reach (Some (handed_out here)) second more e t = more here e t
-      by_reach (Some (line_ends here)) second more e t = source-same here k second e t
+      of_read : (read : JoyRead) (j : Job) → AtEach P [] j.sight → AfterRead HasEach tt read j
+      of_read (NothingToRead at ends) j s = entry-each (AgainSight at ends) j.sight tt s
+      of_read _ j s = s
+
+      of_record : (out : Option JoyRecord) (sight : List Sight) → AtEach P [] sight
+          → AtEach P [] (sight ++ record_sight out)
+      of_record None sight s = subst (AtEach P []) (sym (append-nil sight)) s
+      of_record (Some r) sight s = entry-each (Record (bytes_of_record r)) sight tt s
+
+      of_turns : (j : Job) (o : Option JoyAnswer) (sight : List Sight) → AtEach P [] sight
+          → AfterTurns HasEach j tt o sight
+      of_turns j None sight s = tt
+      of_turns j (Some answer) sight s = of_read answer.read (after_joy_answer j answer sight)
+          (of_record answer.record_out sight s)
 
   joystick-line : (least n : ℕ) (command : Command) (j k : Job) (calls more : List Call) → is_command_of Joy command ≡ true → AreToCome d h Q least (calls ++ more) → EndsWith (joystick_talk d n command j) calls (Some k) → AtEach P [] j.sight → AtEach P [] k.sight
-  joystick-line least n Open j k calls more of_role c ends s = joystick-start j k calls ends s
-  joystick-line least n (Read count) j k calls more of_role c ends s = joystick-records n count j k calls ends s
-  joystick-line least n Close j k calls more of_role c ends s = source-if least j k (Some (ToClose j.reading.client)) calls more refl c ends s
-  joystick-line least n command j k calls more of_role c ends s = absurd cc
+  joystick-line least n command j k calls more of_role c ends s =
+      meets-ends Any (Placed d h) (OfJob HasEach) tt tt (joystick_talk d n command j) calls (Some k)
+      (joystick-meets (Placed d h) HasEach d command (joystick-rules command of_role) n tt j s)
+      (placed-run d h calls (legal-placed d h least calls (legal-first d h least calls more c.legal))) ends
 
 -- ---- the lines of a job
 
