@@ -271,9 +271,10 @@ pub record Leaves (d : Description) (past : List Step) (result : Next × Reading
   pub stands : IsOpenInStep d past result.1
   pub hands_out : HandsOut d past result.0 result.1
 
--- the same reader, at a past since which nothing was read or asked for
-pub in-step-kept : (d : Description) (past after : List Step) (r : Reading) → IsInStep d past r → calls_since d after r.client ≡ calls_since d past r.client → IsInStep d after r
-in-step-kept d past after r i same = record {
+-- in another phase too, with other events left to make
+in-step-moved : (d : Description) (past after : List Step) (r : Reading) (phase : Phase) (left : List Event)
+    → IsInStep d past r → calls_since d after r.client ≡ calls_since d past r.client → IsInStep d after (record r { phase = phase; left = left })
+in-step-moved d past after r phase left i same = record {
   asked = i.asked;
   reads = i.reads;
   handed = i.handed;
@@ -283,6 +284,10 @@ in-step-kept d past after r i same = record {
   taken = i.taken;
   view = i.view;
 }
+
+-- the same reader, at a past since which nothing was read or asked for
+pub in-step-kept : (d : Description) (past after : List Step) (r : Reading) → IsInStep d past r → calls_since d after r.client ≡ calls_since d past r.client → IsInStep d after r
+in-step-kept d past after r i same = in-step-moved d past after r r.phase r.left i same
 
 AreReads-push : (reads : List Call) (call : Call) → AreReads reads → is_read call.step ≡ true → AreReads (reads ++ call ∷ [])
 AreReads-push [] call h k = (k, tt)
@@ -333,28 +338,7 @@ nothing-met d client past after [] none m = m
 nothing-met d client past after (call ∷ calls) none m = absurd cc
 
 in-step-plain : (d : Description) (past : List Step) (r : Reading) → IsInStep d past r → IsInStep d past (as_plain r)
-in-step-plain d past r i = record {
-  asked = i.asked;
-  reads = i.reads;
-  handed = i.handed;
-  calls = i.calls;
-  queries = i.queries;
-  reads_only = i.reads_only;
-  taken = i.taken;
-  view = i.view;
-}
-
-in-step-left : (d : Description) (past : List Step) (r : Reading) (left : List Event) → IsInStep d past r → IsInStep d past (record r { left = left })
-in-step-left d past r left i = record {
-  asked = i.asked;
-  reads = i.reads;
-  handed = i.handed;
-  calls = i.calls;
-  queries = i.queries;
-  reads_only = i.reads_only;
-  taken = i.taken;
-  view = i.view;
-}
+in-step-plain d past r i = in-step-moved d past past r Plain [] i refl
 
 -- Synchronising
 
@@ -363,50 +347,42 @@ unfolding view_after_events
 nothing_handed v = refl
 
 -- in step after all queries, with nothing read
-in-step-anew : (d : Description) (past : List Step) (client : ℕ) (asked : List Call) (view told : View) (phase : Phase) (left : List Event) → calls_since d past client ≡ asked → steps_of asked ≡ queries d client → AreAccepted asked → AreAnswered d asked → told ≡ view_after_answers view asked → IsMadeAnew d client view
-    → IsInStep d past (record { client = client; queue = []; view = told; phase = phase; left = left })
+in-step-anew : (d : Description) (client : ℕ) (past after : List Step) (view told : View) (calls : List Call) (phase : Phase) (left : List Event)
+    → client < opens past → calls_since d past client ≡ [] → IsMadeAnew d client view → AreMet d client past after calls → EndsWith (ask_each (queries d client) view) calls (Ok told)
+    → IsInStep d after (record { client = client; queue = []; view = told; phase = phase; left = left })
 unfolding IsMadeAnew
-in-step-anew d past client asked view told phase left since steps accepted answered told_is anew = record {
-  asked = asked;
-  reads = [];
-  handed = [];
-  calls = since ∙ sym (append-nil asked);
-  queries = steps;
-  reads_only = tt;
-  taken = refl;
-  view = told_is ∙ anew asked steps accepted answered ∙ nothing_handed (view_after_answers (first_view d) asked);
-}
+in-step-anew d client past after view told calls phase left opened none anew m ends =
+    let a : IsAsked d client past after (queries d client) view calls told =
+        asks d client past after (queries d client) view calls told opened (asks-queries d client) m ends in
+    let answered : AreAnswered d calls = AreMet-answered d client past after calls m in
+    record {
+      asked = calls;
+      reads = [];
+      handed = [];
+      calls = a.since ∙ ap (λ (cs : List Call). cs ++ calls) none ∙ sym (append-nil calls);
+      queries = a.steps;
+      reads_only = tt;
+      taken = refl;
+      view = a.view_is ∙ anew calls a.steps a.accepted answered ∙ nothing_handed (view_after_answers (first_view d) calls);
+    }
 
-discard-view : (client : ℕ) (view : View) (reply : Reply) (cells : List ℤ) → view_after_answer view (Discard client) reply cells ≡ view
+anew-discarded : (d : Description) (client : ℕ) (view : View) (reply : Reply) (cells : List ℤ) → IsMadeAnew d client view → IsMadeAnew d client (view_after_answer view (Discard client) reply cells)
 unfolding view_after_answer
-discard-view client view reply cells = refl
+anew-discarded d client view reply cells anew = anew
 
-record IsSynchronised (d : Description) (client : ℕ) (past after : List Step) (view : View) (calls : List Call) (told : View) : Type 0 where
-  asked : List Call
-  since : calls_since d after client ≡ asked
-  steps : steps_of asked ≡ queries d client
-  accepted : AreAccepted asked
-  answered : AreAnswered d asked
-  view_is : told ≡ view_after_answers view asked
-
-synchronised : (d : Description) (client : ℕ) (past after : List Step) (view : View) (calls : List Call) (told : View) → client < opens past → AreMet d client past after calls → EndsWith (ask_each (Discard client ∷ queries d client) view) calls (Ok told) → IsSynchronised d client past after view calls told
+synchronised : (d : Description) (client : ℕ) (past after : List Step) (view told : View) (calls : List Call) (phase : Phase) (left : List Event)
+    → client < opens past → IsMadeAnew d client view → AreMet d client past after calls → EndsWith (ask_each (Discard client ∷ queries d client) view) calls (Ok told)
+    → IsInStep d after (record { client = client; queue = []; view = told; phase = phase; left = left })
 unfolding LeadsTo ask_each AreMet
-synchronised d client past after view [] told h m ends = absurd cc
-synchronised d client past after view (call ∷ calls) told h m ends =
+synchronised d client past after view told [] phase left h anew m ends = absurd cc
+synchronised d client past after view told (call ∷ calls) phase left h anew m ends =
     let next : View = view_after_answer view (Discard client) call.answer.reply call.answer.cells in
     let a : (is_accepted call.answer.reply ≡ true) × EndsWith (ask_each (queries d client) next) calls (Ok told) = accepted_if (is_accepted call.answer.reply) (ask_each (queries d client) next) call.answer.reply calls told ends.1 in
     let met : IsMet d client past m.0 call = m.1 in
     let entered : m.0 ≡ Discard client ∷ (met.others ++ past) = met.entered ∙ accepted-past call.answer.reply call.step (met.others ++ past) a.0 ∙ ap (λ (x : Step). x ∷ (met.others ++ past)) ends.0 in
     let none : calls_since d m.0 client ≡ [] = ap (λ (p : List Step). calls_since d p client) entered ∙ discard-step d (met.others ++ past) client in
-    let rest : IsAsked d client m.0 after (queries d client) next calls told = asks d client m.0 after (queries d client) next calls told (met-opens d client past m.0 call h m.1) (asks-queries d client) m.2 a.1 in
-    record {
-      asked = calls;
-      since = rest.since ∙ ap (λ (cs : List Call). cs ++ calls) none;
-      steps = rest.steps;
-      accepted = rest.accepted;
-      answered = AreMet-answered d client m.0 after calls m.2;
-      view_is = rest.view_is ∙ ap (λ (v : View). view_after_answers v calls) (discard-view client view call.answer.reply call.answer.cells);
-    }
+    in-step-anew d client m.0 after next told calls phase left (met-opens d client past m.0 call h met) none
+    (anew-discarded d client view call.answer.reply call.answer.cells anew) m.2 a.1
 
 -- `next`
 
@@ -452,11 +428,10 @@ stands-renewed d client past r s needed = ends-meet (MetBy d client) (Renewed (S
     by : (after : List Step) (calls : List Call) (asked : Result View Reply) → Runs (MetBy d client) past calls after → EndsWith (ask_each (Discard r.client ∷ queries d r.client) r.view) calls asked → Renewed (StandsAs d client) (Leaves d) r after asked
     by after calls (Ok view) run ends =
         let m : AreMet d r.client past after calls = subst (λ (n : ℕ). AreMet d n past after calls) s.same (run-met d client past after calls run) in
-        let k : IsSynchronised d r.client past after r.view calls view = synchronised d r.client past after r.view calls view s.opened m ends in
         record {
           same = s.same;
           opened = opens-met d r.client past after calls s.opened m;
-          in_step = λ e. in-step-anew d after r.client k.asked r.view view Handing (after_full_sync r view).left k.since k.steps k.accepted k.answered k.view_is (s.anew needed);
+          in_step = λ e. synchronised d r.client past after r.view view calls Handing (after_full_sync r view).left s.opened (s.anew needed) m ends;
           anew = λ e. absurd cc;
         }
     by after calls (Err reply) run ends =
@@ -475,7 +450,7 @@ stands-rules d client mode = record {
   empty = λ p r s plain q. record { stands = record { opened = s.opened; in_step = s.in_step }; hands_out = tt };
   idles = λ p r s plain is. record { stands = record { opened = s.opened; in_step = s.in_step }; hands_out = tt };
   syncs = λ p r s needed. stands-renewed d client p r s needed;
-  makes = λ p r event left s handing sync is. record { stands = record { opened = s.opened; in_step = λ e. in-step-left d p r left (s.in_step e) }; hands_out = tt };
+  makes = λ p r event left s handing sync is. record { stands = record { opened = s.opened; in_step = λ e. in-step-moved d p p r r.phase left (s.in_step e) refl }; hands_out = tt };
   made_all = λ p r s handing sync is. record { stands = record { opened = s.opened; in_step = λ e. in-step-plain d p r (s.in_step (not_needed r.phase Handing handing refl)) }; hands_out = tt };
   goes_on = λ p r s handing is. record {
     same = s.same;
@@ -527,10 +502,9 @@ met-unused d client past after call h m unused = ap (λ (p : List Step). calls_s
 pub stands-queried : (d : Description) (client ring : ℕ) (past after : List Step) (r : Reading) (asked : Result View Reply) (calls : List Call) → client < opens past → calls_since d past client ≡ [] → IsMadeAnew d client r.view → AreMet d client past after calls → EndsWith (ask_each (queries d client) r.view) calls asked
     → IsOpenInStep d after (after_queries client ring r asked).1
 stands-queried d client ring past after r (Ok view) calls opened none anew m h =
-    let a : IsAsked d client past after (queries d client) r.view calls view = asks d client past after (queries d client) r.view calls view opened (asks-queries d client) m h in
     record {
       opened = opens-met d client past after calls opened m;
-      in_step = λ needed. in-step-anew d after client calls r.view view Plain [] (a.since ∙ ap (λ (cs : List Call). cs ++ calls) none) a.steps a.accepted (AreMet-answered d client past after calls m) a.view_is anew;
+      in_step = λ needed. in-step-anew d client past after r.view view calls Plain [] opened none anew m h;
     }
 stands-queried d client ring past after r (Err reply) calls opened none anew m h =
     record { opened = opens-met d client past after calls opened m; in_step = λ needed. absurd (true≢false needed) }
