@@ -123,14 +123,14 @@ IsSpare-after_event d v e is s = record {
 -- An answer to what the device has
 
 -- no key or switch that the device has not is on
-never_down : (d : Description) (r : List RawItem) (code : ℕ) → supports d EV_KEY code ≡ false → key_down d r code ≡ false
+pub never_down : (d : Description) (r : List RawItem) (code : ℕ) → supports d EV_KEY code ≡ false → key_down d r code ≡ false
 unfolding key_down
 never_down d [] code none = refl
 never_down d (Described axis i ∷ r) code none = never_down d r code none
 never_down d (Occurred e ∷ r) code none =
     ap (λ (b : Bool). if b && (nat_eq e.kind EV_KEY && nat_eq e.code code) && not (is_repeat e) then is_set e else key_down d r code) none ∙ never_down d r code none
 
-never_on : (d : Description) (r : List RawItem) (kind code : ℕ) → supports d kind code ≡ false → turned_on d r kind code ≡ false
+pub never_on : (d : Description) (r : List RawItem) (kind code : ℕ) → supports d kind code ≡ false → turned_on d r kind code ≡ false
 unfolding turned_on
 never_on d [] kind code none = refl
 never_on d (Described axis i ∷ r) kind code none = never_on d r kind code none
@@ -231,15 +231,10 @@ IsSpare-after_answer d past v x given wanted are s = record {
 
 -- A new view
 
-zeros : (n code : ℕ) → slice_index_or (replicate n (pos 0)) code (pos 0) ≡ pos 0
-zeros zero code = refl
-zeros (suc n) zero = refl
-zeros (suc n) (suc code) = zeros n code
-
-all_off : (n code : ℕ) → slice_index_or (replicate n false) code false ≡ false
-all_off zero code = refl
-all_off (suc n) zero = refl
-all_off (suc n) (suc code) = all_off n code
+pub all_same : {X : Type 0} (x : X) (n code : ℕ) → slice_index_or (replicate n x) code x ≡ x
+all_same x zero code = refl
+all_same x (suc n) zero = refl
+all_same x (suc n) (suc code) = all_same x n code
 
 pub IsSpare-first_view : (d : Description) → IsSpare d (first_view d)
 unfolding first_view
@@ -248,9 +243,9 @@ IsSpare-first_view d = record {
   keys = λ none. refl;
   switches = λ none. refl;
   leds = λ none. refl;
-  key_codes = λ code none. all_off key_count code;
-  switch_codes = λ code none. all_off code_count code;
-  led_codes = λ code none. all_off code_count code;
-  axes = λ code none. zeros code_count code;
+  key_codes = λ code none. all_same false key_count code;
+  switch_codes = λ code none. all_same false code_count code;
+  led_codes = λ code none. all_same false code_count code;
+  axes = λ code none. all_same (pos 0) code_count code;
   slot = λ none. refl;
 }

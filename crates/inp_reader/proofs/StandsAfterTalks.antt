@@ -1,7 +1,7 @@
 -- Where a reader stands after the talks of `start` and `next`, by the pasts at which its calls were answered.
 use Rattle.std.proofs.Common.{◌≡◌, ◌<◌, ◌⊎◌, inl, inr, ℕ, suc, nat_eq, Bool, true, false, ◌&&◌, ◌||◌, List, [], ◌∷◌, ◌++◌, length, refl, sym, ap, subst, ◌∙◌, arith, append-nil, append_assoc, if◌then◌else◌, ℤ, Option, Some, None}
 use Rattle.std.specs.Prelude.{Result, Ok, Err}
-use Rattle.std.proofs.lemmas.Bool.{true≢false, false≢true, ne_eqb, eq-eqb, cond-false, cond-true}
+use Rattle.std.proofs.lemmas.Bool.{true≢false, false≢true, ne_eqb, eq-eqb, and_right, cond-false, cond-true, cond_both}
 use Rattle.std.proofs.lemmas.List.{map-append}
 use Rattle.std.proofs.lemmas.List.Concat.{flat_map-append}
 use Rattle.inp_model.specs.declared.event.Event.{Event}
@@ -38,25 +38,17 @@ use Rattle.inp_reader.proofs.PastsAtCalls.{AreQuiet, IsMet, AreMet, AreMet-split
 
 -- Steps since the client was opened
 
-opens-if : (b : Bool) (n client : ℕ) → client < n → client < (if b then suc n else n)
-opens-if true n client h = omega (arith, h)
-opens-if false n client h = h
-
 pub opens-step : (past : List Step) (x : Step) (client : ℕ) → client < opens past → client < opens (x ∷ past)
 unfolding opens
-opens-step past x client h = opens-if (is_open_step x) (opens past) client h
+opens-step past x client h = cond_both (is_open_step x) _ _ (λ (n : ℕ). client < n) (λ _. omega (arith, h)) (λ _. h)
 
 pub opens-steps : (past others : List Step) (client : ℕ) → client < opens past → client < opens (others ++ past)
 opens-steps past [] client h = h
 opens-steps past (x ∷ others) client h = opens-step (others ++ past) x client (opens-steps past others client h)
 
 -- an open client is opened by no later step
-no_opening : (b : Bool) (n client : ℕ) → client < n → (b && nat_eq n client) ≡ false
-no_opening true n client h = ne_eqb n client (λ e. omega (arith, h, e))
-no_opening false n client h = refl
-
 pub not_opening : (past : List Step) (x : Step) (client : ℕ) → client < opens past → is_opening past client x ≡ false
-not_opening past x client h = no_opening (is_open_step x) (opens past) client h
+not_opening past x client h = and_right (is_open_step x) _ (ne_eqb (opens past) client (λ e. omega (arith, h, e)))
 
 not_beginning : (past : List Step) (x : Step) (client : ℕ) → client < opens past → is_discard_of client x ≡ false → is_start past client x ≡ false
 not_beginning past x client h k = ap (λ (b : Bool). b || is_discard_of client x) (not_opening past x client h) ∙ k
@@ -66,16 +58,12 @@ no_discard client (Discard named) h = h
 no_discard client _ h = refl
 
 -- a step that is no beginning: with its call, where it is a use
-since_if : (begins used : Bool) (before more : List Call) → begins ≡ false → (if begins then [] else if used then before ++ more else before) ≡ (if used then before ++ more else before)
-since_if true used before more h = absurd (true≢false h)
-since_if false used before more h = refl
-
 quiet-step : (d : Description) (past : List Step) (x : Step) (client : ℕ) → client < opens past → is_use_of client x ≡ false → calls_since d (x ∷ past) client ≡ calls_since d past client
 unfolding calls_since
 quiet-step d past x client h quiet =
     let before : List Call = calls_since d past client in
     let more : List Call = record { step = x; answer = answer d past x } ∷ [] in
-    since_if (is_start past client x) (is_use_of client x) before more (not_beginning past x client h (no_discard client x quiet))
+    cond-false (is_start past client x) [] (if is_use_of client x then before ++ more else before) (not_beginning past x client h (no_discard client x quiet))
     ∙ cond-false (is_use_of client x) (before ++ more) before quiet
 
 quiet-steps : (d : Description) (past others : List Step) (client : ℕ) → client < opens past → AreQuiet client others → calls_since d (others ++ past) client ≡ calls_since d past client
@@ -89,7 +77,7 @@ unfolding calls_since
 use-step d past x client h used kept =
     let before : List Call = calls_since d past client in
     let more : List Call = record { step = x; answer = answer d past x } ∷ [] in
-    since_if (is_start past client x) (is_use_of client x) before more (not_beginning past x client h kept)
+    cond-false (is_start past client x) [] (if is_use_of client x then before ++ more else before) (not_beginning past x client h kept)
     ∙ cond-true (is_use_of client x) (before ++ more) before used
 
 discard-step : (d : Description) (past : List Step) (client : ℕ) → calls_since d (Discard client ∷ past) client ≡ []
@@ -139,11 +127,8 @@ met-opens d client past after call h m =
     let before : List Step = m.others ++ past in
     let open_before : client < opens before = opens-steps past m.others client h in
     let P : List Step → Type 0 = λ p. client < opens p in
-    subst P (sym m.entered) (either (is_accepted call.answer.reply) call.step before open_before)
-  where
-    either : (b : Bool) (x : Step) (before : List Step) → client < opens before → (let p : List Step = if b then x ∷ before else before in client < opens p)
-    either true x before h = opens-step before x client h
-    either false x before h = h
+    subst P (sym m.entered)
+    (cond_both (is_accepted call.answer.reply) _ _ P (λ _. opens-step before call.step client open_before) (λ _. open_before))
 
 pub opens-met : (d : Description) (client : ℕ) (past after : List Step) (calls : List Call) → client < opens past → AreMet d client past after calls → client < opens after
 unfolding AreMet
@@ -211,10 +196,6 @@ IsMadeAnew d client view = (calls : List Call) → steps_of calls ≡ queries d 
 taken_events-push : (handed : List Taken) (taken : Taken) → taken_events (handed ++ taken ∷ []) ≡ taken_events handed ++ taken.event ∷ []
 taken_events-push handed taken = map-append (λ (t : Taken). t.event) handed (taken ∷ [])
 
-one-event : (v : View) (e : Event) → view_after_events v (e ∷ []) ≡ view_after_event v e
-unfolding view_after_events
-one-event v e = refl
-
 -- the reader is in step, and this is the last event that it handed out
 pub record IsHandedOut (d : Description) (past : List Step) (r : Reading) (last : Taken) : Type 0 where
   pub asked : List Call
@@ -239,6 +220,7 @@ handed-in-step d past r last h = record {
 }
 
 handed : (d : Description) (past : List Step) (r : Reading) (taken : Taken) (rest : List Taken) → IsInStep d past r → r.queue ≡ taken ∷ rest → IsHandedOut d past (record r { queue = rest; view = view_after_event r.view taken.event }) taken
+unfolding view_after_events
 handed d past r taken rest i q =
     let begun : View = view_after_answers (first_view d) i.asked in
     record {
@@ -251,7 +233,6 @@ handed d past r taken rest i q =
       taken = i.taken ∙ ap (λ (ts : List Taken). i.handed ++ ts) q ∙ sym (append_assoc i.handed (taken ∷ []) rest);
       view =
           ap (λ (v : View). view_after_event v taken.event) i.view
-          ∙ sym (one-event (view_after_events begun (taken_events i.handed)) taken.event)
           ∙ sym (view_after_events-append begun (taken_events i.handed) (taken.event ∷ []))
           ∙ ap (λ (es : List Event). view_after_events begun es) (sym (taken_events-push i.handed taken));
     }
@@ -342,15 +323,11 @@ in-step-plain d past r i = in-step-moved d past past r Plain [] i refl
 
 -- Synchronising
 
-nothing_handed : (v : View) → v ≡ view_after_events v []
-unfolding view_after_events
-nothing_handed v = refl
-
 -- in step after all queries, with nothing read
 in-step-anew : (d : Description) (client : ℕ) (past after : List Step) (view told : View) (calls : List Call) (phase : Phase) (left : List Event)
     → client < opens past → calls_since d past client ≡ [] → IsMadeAnew d client view → AreMet d client past after calls → EndsWith (ask_each (queries d client) view) calls (Ok told)
     → IsInStep d after (record { client = client; queue = []; view = told; phase = phase; left = left })
-unfolding IsMadeAnew
+unfolding IsMadeAnew view_after_events
 in-step-anew d client past after view told calls phase left opened none anew m ends =
     let a : IsAsked d client past after (queries d client) view calls told =
         asks d client past after (queries d client) view calls told opened (asks-queries d client) m ends in
@@ -363,17 +340,13 @@ in-step-anew d client past after view told calls phase left opened none anew m e
       queries = a.steps;
       reads_only = tt;
       taken = refl;
-      view = a.view_is ∙ anew calls a.steps a.accepted answered ∙ nothing_handed (view_after_answers (first_view d) calls);
+      view = a.view_is ∙ anew calls a.steps a.accepted answered;
     }
-
-anew-discarded : (d : Description) (client : ℕ) (view : View) (reply : Reply) (cells : List ℤ) → IsMadeAnew d client view → IsMadeAnew d client (view_after_answer view (Discard client) reply cells)
-unfolding view_after_answer
-anew-discarded d client view reply cells anew = anew
 
 synchronised : (d : Description) (client : ℕ) (past after : List Step) (view told : View) (calls : List Call) (phase : Phase) (left : List Event)
     → client < opens past → IsMadeAnew d client view → AreMet d client past after calls → EndsWith (ask_each (Discard client ∷ queries d client) view) calls (Ok told)
     → IsInStep d after (record { client = client; queue = []; view = told; phase = phase; left = left })
-unfolding LeadsTo ask_each AreMet
+unfolding LeadsTo ask_each AreMet view_after_answer
 synchronised d client past after view told [] phase left h anew m ends = absurd cc
 synchronised d client past after view told (call ∷ calls) phase left h anew m ends =
     let next : View = view_after_answer view (Discard client) call.answer.reply call.answer.cells in
@@ -382,7 +355,7 @@ synchronised d client past after view told (call ∷ calls) phase left h anew m 
     let entered : m.0 ≡ Discard client ∷ (met.others ++ past) = met.entered ∙ accepted-past call.answer.reply call.step (met.others ++ past) a.0 ∙ ap (λ (x : Step). x ∷ (met.others ++ past)) ends.0 in
     let none : calls_since d m.0 client ≡ [] = ap (λ (p : List Step). calls_since d p client) entered ∙ discard-step d (met.others ++ past) client in
     in-step-anew d client m.0 after next told calls phase left (met-opens d client past m.0 call h met) none
-    (anew-discarded d client view call.answer.reply call.answer.cells anew) m.2 a.1
+    anew m.2 a.1
 
 -- `next`
 
@@ -489,14 +462,12 @@ open-opens past client h = omega (arith, h)
 
 -- a call that is no use of the client leaves what it did
 pub met-unused : (d : Description) (client : ℕ) (past after : List Step) (call : Call) → client < opens past → IsMet d client past after call → is_use_of client call.step ≡ false → calls_since d after client ≡ calls_since d past client
-met-unused d client past after call h m unused = ap (λ (p : List Step). calls_since d p client) m.entered ∙ by (is_accepted call.answer.reply)
-  where
-    before : List Step
-    before = m.others ++ past
-
-    by : (b : Bool) → (let p : List Step = if b then call.step ∷ before else before in calls_since d p client ≡ calls_since d past client)
-    by true = quiet-step d before call.step client (opens-steps past m.others client h) unused ∙ quiet-steps d past m.others client h m.quiet
-    by false = quiet-steps d past m.others client h m.quiet
+met-unused d client past after call h m unused =
+    let before : List Step = m.others ++ past in
+    let quiet : calls_since d before client ≡ calls_since d past client = quiet-steps d past m.others client h m.quiet in
+    ap (λ (p : List Step). calls_since d p client) m.entered
+    ∙ cond_both (is_accepted call.answer.reply) _ _ (λ (p : List Step). calls_since d p client ≡ calls_since d past client)
+      (λ _. quiet-step d before call.step client (opens-steps past m.others client h) unused ∙ quiet) (λ _. quiet)
 
 -- what a start leaves once its queries ended
 pub stands-queried : (d : Description) (client ring : ℕ) (past after : List Step) (r : Reading) (asked : Result View Reply) (calls : List Call) → client < opens past → calls_since d past client ≡ [] → IsMadeAnew d client r.view → AreMet d client past after calls → EndsWith (ask_each (queries d client) r.view) calls asked
