@@ -2,8 +2,7 @@
 use Rattle.std.proofs.Common.{◌≡◌, ◌≤◌, ◌<◌, inl, inr, ℕ, zero, suc, ◌+◌, ◌*◌, nat_eq, nat_lt, nat_le, ℤ, pos, Bool, true, false, ◌&&◌, ◌||◌, not, List, [], ◌∷◌, ◌++◌, length, take, set, refl, sym, ap, subst, ◌∙◌, arith, if◌then◌else◌, Option, Some, None}
 use Rattle.std.specs.Prelude.{slice_index_or}
 use Rattle.std.specs.List.{list_any, range_with_len, filter}
-use Rattle.std.proofs.lemmas.Bool.{true≢false, false≢true, eq-eqb, ne_eqb, ltb-false, not-true, cases_eq, cases_lt, and_parts, or_parts, or_left, or_right, false_from_ne_true, cond_both, lt-ltb, le-leb}
-use Rattle.std.proofs.lemmas.Bool.Decides.{nat_tests}
+use Rattle.std.proofs.lemmas.Bool.{true≢false, false≢true, eq-eqb, ne_eqb, ltb-true, ltb-false, not-true, and_left, and_right, cases_eq, cases_lt, and_parts, or_parts, or_left, or_right, false_from_ne_true, cond_both, lt-ltb, le-leb}
 use Rattle.std.proofs.lemmas.List.{get_or-set_other, get_or-set_same, get_or_past, ext_get_or, nil_from_length, map-append}
 use Rattle.std.proofs.lemmas.List.Folds.{list_any-append}
 use Rattle.inp_model.specs.declared.event.TheConstants.{EV_KEY, EV_ABS, EV_SW, EV_LED}
@@ -140,24 +139,17 @@ value-agrees v w index code value rest long_v long_w own h none = by (nat_lt ind
 
     by : (b : Bool) → nat_lt index code_count ≡ b → slice_index_or (if b then set v index value else v) code (pos 0) ≡ slice_index_or (if b then set w index value else w) code (pos 0)
     by true within = elim (cases_eq code index) [
-      | inl same ↦ at_it same (ltb_index within)
-      | inr apart ↦ get_or-set_other v index code value (pos 0) apart ∙ other (ap (λ (b : Bool). b && nat_lt index code_count) (ne_eqb index code (λ e. apart (sym e)))) ∙ sym (get_or-set_other w index code value (pos 0) apart)
+      | inl same ↦ at_it same (ltb-true index code_count within)
+      | inr apart ↦ get_or-set_other v index code value (pos 0) apart ∙ other (and_left (nat_eq index code) _ (ne_eqb index code (λ e. apart (sym e)))) ∙ sym (get_or-set_other w index code value (pos 0) apart)
     ]
       where
-        ltb_index : nat_lt index code_count ≡ true → index < code_count
-        ltb_index k = grind (arith, nat_tests, k)
-
         at_it : code ≡ index → index < code_count → slice_index_or (set v index value) code (pos 0) ≡ slice_index_or (set w index value) code (pos 0)
         at_it same k =
             ap (λ (i : ℕ). slice_index_or (set v index value) i (pos 0)) same
             ∙ get_or-set_same v index value (pos 0) (omega (arith, k, long_v))
             ∙ sym (get_or-set_same w index value (pos 0) (omega (arith, k, long_w)))
             ∙ ap (λ (i : ℕ). slice_index_or (set w index value) i (pos 0)) (sym same)
-    by false past = other (ap (λ (b : Bool). nat_eq index code && b) past ∙ never (nat_eq index code))
-      where
-        never : (a : Bool) → (a && false) ≡ false
-        never true = refl
-        never false = refl
+    by false past = other (and_right (nat_eq index code) _ past)
 
 axis-told : (index code : ℕ) (value : ℤ) (rest touch : Bool) (v w : List ℤ) → is_multi_touch_code index ≡ touch → length v ≡ code_count → length w ≡ code_count
     → ((nat_eq index code && (nat_lt index code_count && not (is_multi_touch_code index)) || rest) ≡ false → slice_index_or v code (pos 0) ≡ slice_index_or w code (pos 0)) → rest ≡ false

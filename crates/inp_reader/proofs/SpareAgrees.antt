@@ -25,7 +25,7 @@ use Rattle.inp_recon.specs.View.{bit_in, bits_in, flags_after_reply, key_count, 
 use Rattle.inp_recon.proofs.Sizes.{IsSizedFor-first_view, IsSizedFor-after_event, IsSizedFor-after_answer}
 use Rattle.inp_recon.specs.Synchronised.{has_axis}
 use Rattle.inp_reader.specs.Spare.{IsSpare, is_event_of}
-use Rattle.inp_reader.proofs.UnsetSlotAxes.{has_cells}
+use Rattle.inp_reader.proofs.UnsetSlotAxes.{other-stays, has_cells}
 
 -- An event of the device
 
@@ -78,12 +78,6 @@ axis-supported d code value is own = by (nat_eq code ABS_MT_SLOT) refl
     by true k = absurd (true≢false (sym (ap (λ (n : ℕ). is_multi_touch_code n) (eqb-true code ABS_MT_SLOT k)) ∙ own))
     by false k = plain (sym (ap (λ (b : Bool). if b then nat_lt 0 d.slots else supports d EV_ABS code) k) ∙ is)
 
--- a value that is set elsewhere leaves this one
-value-elsewhere : (axes : List ℤ) (index code : ℕ) (value : ℤ) → (code ≡ index → ⊥) → slice_index_or (with_value_at code_count axes index value) code (pos 0) ≡ slice_index_or axes code (pos 0)
-value-elsewhere axes index code value h =
-    cond_both (nat_lt index code_count) _ _ (λ x. slice_index_or x code (pos 0) ≡ slice_index_or axes code (pos 0))
-    (λ _. get_or-set_other axes index code value (pos 0) h) (λ _. refl)
-
 apart : (d : Description) (code other : ℕ) → has_axis d code ≡ false → has_axis d other ≡ true → code ≡ other → ⊥
 apart d code other h k e = true≢false (sym k ∙ ap (λ (n : ℕ). has_axis d n) (sym e) ∙ h)
 
@@ -92,7 +86,7 @@ axis-after_event d axes e code is none = by (nat_eq e.kind EV_ABS) (is_multi_tou
   where
     by : (abs touch : Bool) → nat_eq e.kind EV_ABS ≡ abs → is_multi_touch_code e.code ≡ touch → slice_index_or (if abs && not (abs && touch) then with_value_at code_count axes e.code e.value else axes) code (pos 0) ≡ slice_index_or axes code (pos 0)
     by true true h k = refl
-    by true false h k = value-elsewhere axes e.code code e.value (apart d code e.code none (axis-supported d e.code e.value (of-kind d e EV_ABS (eqb-true e.kind EV_ABS h) is) k))
+    by true false h k = other-stays axes code e.code e.value (apart d code e.code none (axis-supported d e.code e.value (of-kind d e EV_ABS (eqb-true e.kind EV_ABS h) is) k))
     by false touch h k = refl
 
 slot-after_event : (d : Description) (slot : ℤ) (e : Event) → is_event_of d e ≡ true → d.slots ≡ 0 → slot_after_event slot e ≡ slot
@@ -202,7 +196,7 @@ spare-leds d _ reply leds wanted none = refl
 axis-after_reply : (axes : List ℤ) (index code : ℕ) (reply : Reply) → (code ≡ index → ⊥) → slice_index_or (axes_after_reply index reply axes) code (pos 0) ≡ slice_index_or axes code (pos 0)
 axis-after_reply axes index code (Axis at info) h =
     cond_both (is_multi_touch_code index) _ _ (λ x. slice_index_or x code (pos 0) ≡ slice_index_or axes code (pos 0))
-    (λ _. refl) (λ _. value-elsewhere axes index code info.value h)
+    (λ _. refl) (λ _. other-stays axes code index info.value h)
 axis-after_reply axes index code _ h = refl
 
 spare-axes : (d : Description) (x : Step) (reply : Reply) (axes : List ℤ) (code : ℕ) → IsWanted d x → has_axis d code ≡ false → slice_index_or (axes_after_answer x reply axes) code (pos 0) ≡ slice_index_or axes code (pos 0)
