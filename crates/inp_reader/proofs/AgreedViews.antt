@@ -269,7 +269,7 @@ axis-in-range code test client first (suc count) from below h own = elim (cases_
       (λ is. absurd (true≢false (sym h ∙ ap test same ∙ is)))
   | inr apart ↦
       (let later : P (filter test (range_with_len (first + 1) count)) =
-          axis-in-range code test client (first + 1) count (omega (arith, from, apart)) (omega (arith, below)) h own in
+      axis-in-range code test client (first + 1) count (omega (arith, from, apart)) (omega (arith, below)) h own in
       cond_both (test first) _ _ P (λ _. or_right (is_get_axis code (GetAxis client first)) _ later) (λ _. later))
 ]
   where

@@ -1,5 +1,5 @@
 -- The view that a client makes of a history, by what it read and asked for since its start.
-use Rattle.std.proofs.Common.{◌≡◌, ◌≤◌, ◌<◌, ◌⊎◌, inl, inr, ℕ, zero, suc, ◌+◌, ◌-◌, nat_eq, nat_lt, Bool, true, false, ◌&&◌, ◌||◌, List, [], ◌∷◌, ◌++◌, length, map, take, refl, sym, ap, subst, ◌∙◌, arith, append-nil, append_assoc, length-append, if◌then◌else◌, ℤ, Option, Some, None}
+use Rattle.std.proofs.Common.{◌≡◌, ◌≤◌, ◌<◌, ◌⊎◌, inl, inr, ℕ, suc, ◌+◌, ◌-◌, nat_eq, nat_lt, Bool, true, false, ◌||◌, List, [], ◌∷◌, ◌++◌, length, map, take, refl, sym, ap, subst, ◌∙◌, arith, append-nil, append_assoc, length-append, if◌then◌else◌, ℤ, Option, Some, None}
 use Rattle.std.proofs.lemmas.Bool.{true≢false, false≢true, false_from_ne_true, eqb-true, cond-false, cond-true, and_from, and_parts, cases_lt, lt-ltb, le-ltb, ltb-true, ltb-false, cond_both}
 use Rattle.std.proofs.lemmas.List.{map-append, take-append-le, length-map, take-map}
 use Rattle.std.proofs.lemmas.List.Concat.{flat_map-append}

@@ -1,5 +1,5 @@
 -- The talks of a reader, walked once: what has to be shown of `start`, of `next`, and of steps asked for in order, for `Meets` of the whole.
-use Rattle.std.proofs.Common.{◌≡◌, ◌≤◌, ◌<◌, ℕ, zero, suc, ◌+◌, nat_lt, nat_le, Bool, true, false, ◌&&◌, not, if◌then◌else◌, List, [], ◌∷◌, ◌++◌, refl, sym, ap, subst, ◌∙◌, arith}
+use Rattle.std.proofs.Common.{◌≡◌, ◌≤◌, ◌<◌, ℕ, zero, suc, ◌+◌, nat_lt, nat_le, Bool, true, false, ◌&&◌, not, List, [], ◌∷◌, ◌++◌, refl, sym, ap, subst, ◌∙◌, arith}
 use Rattle.std.specs.Prelude.{Result, Ok, Err}
 use Rattle.std.specs.List.{range_with_len, filter}
 use Rattle.std.proofs.lemmas.Bool.{and_left, and_right, lt-leb, cond_both, true≢false}
@@ -31,7 +31,7 @@ use Rattle.inp_reader.specs.declared.started.Started.{Started}
 use Rattle.inp_reader.specs.Reader.{Reading, only_if, axes_among, plain_axes, bit_queries, axis_queries, slot_queries, queries, ask_each, start_stop_of, after_queries, after_open, start_talk, stop_of, hand_out_event, hand_out, after_read, read_or_hand_out, read_talk, hand_synthesised, handing, as_plain, after_full_sync, after_failed_sync, talk_after_sync, sync_talk, talk_in, next_talk}
 use Rattle.inp_reader.specs.ReaderPlace.{is_needed}
 use Rattle.inp_reader.specs.Says.{Says}
-use Rattle.inp_reader.specs.Talk.{Talk, finish, EndsWith}
+use Rattle.inp_reader.specs.Talk.{finish, EndsWith}
 use Rattle.inp_reader.proofs.Meets.{Meets, Any, AnyAnswer, meets-then, meets-if, Asks, meets-asks, Runs, meets-ends, IsCallOn, says-meets}
 
 -- ---- queries

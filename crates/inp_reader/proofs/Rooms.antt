@@ -1,5 +1,5 @@
 -- There is room for all events that a synchronisation makes.
-use Rattle.std.proofs.Common.{◌≡◌, ◌≤◌, ◌<◌, ◌+◌, ℕ, Bool, true, false, ◌&&◌, not, int_eq, List, length, refl, sym, ap, ◌∙◌, arith}
+use Rattle.std.proofs.Common.{◌≡◌, ◌≤◌, ◌<◌, ◌+◌, ℕ, Bool, true, false, ◌&&◌, not, int_eq, List, length, sym, ap, ◌∙◌, arith}
 use Rattle.std.specs.Prelude.{Ok, Option, Some, None, is_some, slice_index_or}
 use Rattle.std.proofs.lemmas.Bool.{true_from_ne_false, true≢false}
 use Rattle.std.proofs.lemmas.List.{length-map}

@@ -10,7 +10,7 @@ use Rattle.inp_model.specs.declared.event.TheConstants.{EV_KEY, EV_ABS, EV_SW, E
 use Rattle.inp_model.specs.declared.taken.Taken.{Taken}
 use Rattle.inp_model.specs.declared.step.Step.{Step}
 use Rattle.inp_model.specs.Description.{Description, IsDescription, has_kind, has_code}
-use Rattle.inp_model.specs.Event.{is_repeat, is_set, is_multi_touch}
+use Rattle.inp_model.specs.Event.{is_multi_touch}
 use Rattle.inp_model.specs.State.{key_down, turned_on}
 use Rattle.inp_model.specs.Queue.{took}
 use Rattle.inp_model.specs.Reply.{taken_of, rows}
@@ -19,7 +19,7 @@ use Rattle.inp_recon.specs.declared.view.View.{View}
 use Rattle.inp_recon.specs.View.{IsSizedFor, with_value_at, first_view, view_after_event, view_after_events, keys_after_event, bits_after_event, slot_after_event, cells_after_event}
 use Rattle.inp_recon.specs.ClientView.{ReadEntry, read_entries, view_at}
 use Rattle.inp_recon.proofs.ReadEntries.{HasEntry, entry-of}
-use Rattle.inp_model.specs.RawItem.{RawItem, Occurred, Described}
+use Rattle.inp_model.specs.RawItem.{RawItem}
 use Rattle.inp_model.specs.Left.{eaten}
 use Rattle.inp_model.specs.History.{IsHistory}
 use Rattle.inp_recon.specs.Faithful.{IsDeviceState, AreFaithful}

@@ -1,5 +1,5 @@
 -- Where a reader stands after the talks of `start` and `next`, by the pasts at which its calls were answered.
-use Rattle.std.proofs.Common.{◌≡◌, ◌<◌, ◌⊎◌, inl, inr, ℕ, suc, nat_eq, Bool, true, false, ◌&&◌, ◌||◌, List, [], ◌∷◌, ◌++◌, length, refl, sym, ap, subst, ◌∙◌, arith, append-nil, append_assoc, if◌then◌else◌, ℤ, Option, Some, None}
+use Rattle.std.proofs.Common.{◌≡◌, ◌<◌, ◌⊎◌, inl, inr, ℕ, nat_eq, Bool, true, false, ◌||◌, List, [], ◌∷◌, ◌++◌, length, refl, sym, ap, subst, ◌∙◌, arith, append-nil, append_assoc, if◌then◌else◌, Option, Some, None}
 use Rattle.std.specs.Prelude.{Result, Ok, Err}
 use Rattle.std.proofs.lemmas.Bool.{true≢false, false≢true, ne_eqb, eq-eqb, and_right, cond-false, cond-true, cond_both}
 use Rattle.std.proofs.lemmas.List.{map-append}
@@ -330,7 +330,7 @@ in-step-anew : (d : Description) (client : ℕ) (past after : List Step) (view t
 unfolding IsMadeAnew view_after_events
 in-step-anew d client past after view told calls phase left opened none anew m ends =
     let a : IsAsked d client past after (queries d client) view calls told =
-        asks d client past after (queries d client) view calls told opened (asks-queries d client) m ends in
+    asks d client past after (queries d client) view calls told opened (asks-queries d client) m ends in
     let answered : AreAnswered d calls = AreMet-answered d client past after calls m in
     record {
       asked = calls;
@@ -467,7 +467,7 @@ met-unused d client past after call h m unused =
     let quiet : calls_since d before client ≡ calls_since d past client = quiet-steps d past m.others client h m.quiet in
     ap (λ (p : List Step). calls_since d p client) m.entered
     ∙ cond_both (is_accepted call.answer.reply) _ _ (λ (p : List Step). calls_since d p client ≡ calls_since d past client)
-      (λ _. quiet-step d before call.step client (opens-steps past m.others client h) unused ∙ quiet) (λ _. quiet)
+    (λ _. quiet-step d before call.step client (opens-steps past m.others client h) unused ∙ quiet) (λ _. quiet)
 
 -- what a start leaves once its queries ended
 pub stands-queried : (d : Description) (client ring : ℕ) (past after : List Step) (r : Reading) (asked : Result View Reply) (calls : List Call) → client < opens past → calls_since d past client ≡ [] → IsMadeAnew d client r.view → AreMet d client past after calls → EndsWith (ask_each (queries d client) r.view) calls asked
