@@ -55,7 +55,9 @@ keys-stay false c new old h = refl
 
 -- a flag of a code that the device has not is not set by an event that it has, where b tests the event's type
 flags-after : (d : Description) (kind count : ℕ) (flags : List Bool) (e : Event) (code : ℕ) (b : Bool)
-    → (b ≡ true → nat_eq e.kind kind ≡ true) → is_event_of d e ≡ true → (is_event_of d (record e { kind = kind }) ≡ true → supports d kind e.code ≡ true) → supports d kind code ≡ false
+    → (b ≡ true → nat_eq e.kind kind ≡ true) → is_event_of d e ≡ true
+    → (is_event_of d (record e { kind = kind }) ≡ true → supports d kind e.code ≡ true)
+    → supports d kind code ≡ false
     → slice_index_or (if b then with_flag count flags e else flags) code false ≡ slice_index_or flags code false
 flags-after d kind count flags e code b of own told none =
     cond_both b _ _ (λ x. slice_index_or x code false ≡ slice_index_or flags code false)

@@ -128,7 +128,8 @@ met-opens d client past after call h m =
     let open_before : client < opens before = opens-steps past m.others client h in
     let P : List Step → Type 0 = λ p. client < opens p in
     subst P (sym m.entered)
-    (cond_both (is_accepted call.answer.reply) _ _ P (λ _. opens-step before call.step client open_before) (λ _. open_before))
+    (cond_both (is_accepted call.answer.reply) _ _ P
+    (λ _. opens-step before call.step client open_before) (λ _. open_before))
 
 pub opens-met : (d : Description) (client : ℕ) (past after : List Step) (calls : List Call) → client < opens past → AreMet d client past after calls → client < opens after
 unfolding AreMet
@@ -254,7 +255,8 @@ pub record Leaves (d : Description) (past : List Step) (result : Next × Reading
 
 -- in another phase too, with other events left to make
 in-step-moved : (d : Description) (past after : List Step) (r : Reading) (phase : Phase) (left : List Event)
-    → IsInStep d past r → calls_since d after r.client ≡ calls_since d past r.client → IsInStep d after (record r { phase = phase; left = left })
+    → IsInStep d past r → calls_since d after r.client ≡ calls_since d past r.client
+    → IsInStep d after (record r { phase = phase; left = left })
 in-step-moved d past after r phase left i same = record {
   asked = i.asked;
   reads = i.reads;
@@ -324,8 +326,10 @@ in-step-plain d past r i = in-step-moved d past past r Plain [] i refl
 -- Synchronising
 
 -- in step after all queries, with nothing read
-in-step-anew : (d : Description) (client : ℕ) (past after : List Step) (view told : View) (calls : List Call) (phase : Phase) (left : List Event)
-    → client < opens past → calls_since d past client ≡ [] → IsMadeAnew d client view → AreMet d client past after calls → EndsWith (ask_each (queries d client) view) calls (Ok told)
+in-step-anew : (d : Description) (client : ℕ) (past after : List Step) (view told : View) (calls : List Call)
+    → (phase : Phase) (left : List Event)
+    → client < opens past → calls_since d past client ≡ [] → IsMadeAnew d client view
+    → AreMet d client past after calls → EndsWith (ask_each (queries d client) view) calls (Ok told)
     → IsInStep d after (record { client = client; queue = []; view = told; phase = phase; left = left })
 unfolding IsMadeAnew view_after_events
 in-step-anew d client past after view told calls phase left opened none anew m ends =
@@ -343,8 +347,10 @@ in-step-anew d client past after view told calls phase left opened none anew m e
       view = a.view_is ∙ anew calls a.steps a.accepted answered;
     }
 
-synchronised : (d : Description) (client : ℕ) (past after : List Step) (view told : View) (calls : List Call) (phase : Phase) (left : List Event)
-    → client < opens past → IsMadeAnew d client view → AreMet d client past after calls → EndsWith (ask_each (Discard client ∷ queries d client) view) calls (Ok told)
+synchronised : (d : Description) (client : ℕ) (past after : List Step) (view told : View) (calls : List Call)
+    → (phase : Phase) (left : List Event)
+    → client < opens past → IsMadeAnew d client view → AreMet d client past after calls
+    → EndsWith (ask_each (Discard client ∷ queries d client) view) calls (Ok told)
     → IsInStep d after (record { client = client; queue = []; view = told; phase = phase; left = left })
 unfolding LeadsTo ask_each AreMet view_after_answer
 synchronised d client past after view told [] phase left h anew m ends = absurd cc
