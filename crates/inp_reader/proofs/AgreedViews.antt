@@ -2,8 +2,7 @@
 use Rattle.std.proofs.Common.{◌≡◌, ◌≤◌, ◌<◌, inl, inr, ℕ, zero, suc, ◌+◌, ◌*◌, nat_eq, nat_lt, nat_le, ℤ, pos, Bool, true, false, ◌&&◌, ◌||◌, not, List, [], ◌∷◌, ◌++◌, length, take, set, refl, sym, ap, subst, ◌∙◌, arith, if◌then◌else◌, Option, Some, None}
 use Rattle.std.specs.Prelude.{slice_index_or}
 use Rattle.std.specs.List.{list_any, range_with_len, filter}
-use Rattle.std.proofs.lemmas.Bool.{true≢false, false≢true, eq-eqb, ne_eqb, cases_eq, cases_lt, or_parts, lt-ltb, le-leb}
-use Rattle.std.proofs.lemmas.Bool.Decides.{nat_tests}
+use Rattle.std.proofs.lemmas.Bool.{true≢false, false≢true, eq-eqb, ne_eqb, ltb-true, ltb-false, not-true, and_left, and_right, cases_eq, cases_lt, and_parts, or_parts, or_left, or_right, false_from_ne_true, cond_both, lt-ltb, le-leb}
 use Rattle.std.proofs.lemmas.List.{get_or-set_other, get_or-set_same, get_or_past, ext_get_or, nil_from_length, map-append}
 use Rattle.std.proofs.lemmas.List.Folds.{list_any-append}
 use Rattle.inp_model.specs.declared.event.TheConstants.{EV_KEY, EV_ABS, EV_SW, EV_LED}
@@ -140,24 +139,17 @@ value-agrees v w index code value rest long_v long_w own h none = by (nat_lt ind
 
     by : (b : Bool) → nat_lt index code_count ≡ b → slice_index_or (if b then set v index value else v) code (pos 0) ≡ slice_index_or (if b then set w index value else w) code (pos 0)
     by true within = elim (cases_eq code index) [
-      | inl same ↦ at_it same (ltb_index within)
-      | inr apart ↦ get_or-set_other v index code value (pos 0) apart ∙ other (ap (λ (b : Bool). b && nat_lt index code_count) (ne_eqb index code (λ e. apart (sym e)))) ∙ sym (get_or-set_other w index code value (pos 0) apart)
+      | inl same ↦ at_it same (ltb-true index code_count within)
+      | inr apart ↦ get_or-set_other v index code value (pos 0) apart ∙ other (and_left (nat_eq index code) _ (ne_eqb index code (λ e. apart (sym e)))) ∙ sym (get_or-set_other w index code value (pos 0) apart)
     ]
       where
-        ltb_index : nat_lt index code_count ≡ true → index < code_count
-        ltb_index k = grind (arith, nat_tests, k)
-
         at_it : code ≡ index → index < code_count → slice_index_or (set v index value) code (pos 0) ≡ slice_index_or (set w index value) code (pos 0)
         at_it same k =
             ap (λ (i : ℕ). slice_index_or (set v index value) i (pos 0)) same
             ∙ get_or-set_same v index value (pos 0) (omega (arith, k, long_v))
             ∙ sym (get_or-set_same w index value (pos 0) (omega (arith, k, long_w)))
             ∙ ap (λ (i : ℕ). slice_index_or (set w index value) i (pos 0)) (sym same)
-    by false past = other (ap (λ (b : Bool). nat_eq index code && b) past ∙ never (nat_eq index code))
-      where
-        never : (a : Bool) → (a && false) ≡ false
-        never true = refl
-        never false = refl
+    by false past = other (and_right (nat_eq index code) _ past)
 
 axis-told : (index code : ℕ) (value : ℤ) (rest touch : Bool) (v w : List ℤ) → is_multi_touch_code index ≡ touch → length v ≡ code_count → length w ≡ code_count
     → ((nat_eq index code && (nat_lt index code_count && not (is_multi_touch_code index)) || rest) ≡ false → slice_index_or v code (pos 0) ≡ slice_index_or w code (pos 0)) → rest ≡ false
@@ -263,34 +255,26 @@ pub switches-spared : (d : Description) (client : ℕ) → list_any is_get_switc
 switches-spared d client h = sym (asked-if is_get_switches (has_kind d EV_SW) (GetSwitches client) refl) ∙ (parts is_get_switches d client h).2
 
 pub slots-spared : (d : Description) (client : ℕ) → list_any is_sync_slots (queries d client) ≡ false → d.slots ≡ 0
-slots-spared d client h = none (d.slots) (sym (asked-if is_sync_slots (nat_lt 0 d.slots) (SyncSlots client) refl) ∙ (parts is_sync_slots d client h).4)
-  where
-    none : (n : ℕ) → nat_lt 0 n ≡ false → n ≡ 0
-    none zero k = refl
-    none (suc n) k = absurd (true≢false (sym (lt-ltb 0 (suc n) (omega arith)) ∙ k))
+slots-spared d client h =
+    let none : d.slots ≤ 0 = ltb-false 0 d.slots (sym (asked-if is_sync_slots (nat_lt 0 d.slots) (SyncSlots client) refl) ∙ (parts is_sync_slots d client h).4) in
+    omega arith
 
 -- an axis that the device has is asked for
 axis-in-range : (code : ℕ) (test : ℕ → Bool) (client : ℕ) (first count : ℕ) → first ≤ code → code < first + count → test code ≡ true → is_get_axis code (GetAxis client code) ≡ true → list_any (is_get_axis code) (axis_queries client (filter test (range_with_len first count))) ≡ true
 axis-in-range code test client first zero from below h own = absurd (omega (arith, from, below))
 axis-in-range code test client first (suc count) from below h own = elim (cases_eq code first) [
-  | inl same ↦ here (test first) (sym (ap test same) ∙ h) (ap (λ (n : ℕ). is_get_axis code (GetAxis client n)) (sym same) ∙ own)
-  | inr apart ↦ there (test first) (axis-in-range code test client (first + 1) count (omega (arith, from, apart)) (omega (arith, below)) h own)
+  | inl same ↦
+      cond_both (test first) _ _ P
+      (λ _. or_left (is_get_axis code (GetAxis client first)) _ (ap (λ (n : ℕ). is_get_axis code (GetAxis client n)) (sym same) ∙ own))
+      (λ is. absurd (true≢false (sym h ∙ ap test same ∙ is)))
+  | inr apart ↦
+      (let later : P (filter test (range_with_len (first + 1) count)) =
+      axis-in-range code test client (first + 1) count (omega (arith, from, apart)) (omega (arith, below)) h own in
+      cond_both (test first) _ _ P (λ _. or_right (is_get_axis code (GetAxis client first)) _ later) (λ _. later))
 ]
   where
-    rest : List ℕ
-    rest = filter test (range_with_len (first + 1) count)
-
-    here : (b : Bool) → b ≡ true → is_get_axis code (GetAxis client first) ≡ true → list_any (is_get_axis code) (axis_queries client (if b then first ∷ rest else rest)) ≡ true
-    here true is k = ap (λ (c : Bool). c || list_any (is_get_axis code) (axis_queries client rest)) k
-    here false is k = absurd (false≢true is)
-
-    there : (b : Bool) → list_any (is_get_axis code) (axis_queries client rest) ≡ true → list_any (is_get_axis code) (axis_queries client (if b then first ∷ rest else rest)) ≡ true
-    there true k = ap (λ (c : Bool). is_get_axis code (GetAxis client first) || c) k ∙ or_true (is_get_axis code (GetAxis client first))
-      where
-        or_true : (a : Bool) → (a || true) ≡ true
-        or_true true = refl
-        or_true false = refl
-    there false k = k
+    P : List ℕ → Type 0
+    P xs = list_any (is_get_axis code) (axis_queries client xs) ≡ true
 
 axis-asked : (d : Description) (client code : ℕ) → supports d EV_ABS code ≡ true → is_multi_touch_code code ≡ false → code < 64 → list_any (is_get_axis code) (axis_queries client (plain_axes d)) ≡ true
 unfolding axes_among
@@ -298,8 +282,8 @@ axis-asked d client code has own below =
     ap (λ (xs : List Step). list_any (is_get_axis code) xs) (map-append (GetAxis client) first second)
     ∙ list_any-append (is_get_axis code) (axis_queries client first) (axis_queries client second)
     ∙ elim (cases_lt code ABS_MT_SLOT) [
-      | inl low ↦ ap (λ (b : Bool). b || list_any (is_get_axis code) (axis_queries client second)) (axis-in-range code (supports d EV_ABS) client 0 47 (omega arith) (omega (arith, low)) has it)
-      | inr high ↦ ap (λ (b : Bool). list_any (is_get_axis code) (axis_queries client first) || b) (axis-in-range code (supports d EV_ABS) client 62 2 (above high) (omega (arith, below)) has it) ∙ or_true (list_any (is_get_axis code) (axis_queries client first))
+      | inl low ↦ or_left (list_any (is_get_axis code) (axis_queries client first)) _ (axis-in-range code (supports d EV_ABS) client 0 47 (omega arith) (omega (arith, low)) has it)
+      | inr high ↦ or_right (list_any (is_get_axis code) (axis_queries client first)) _ (axis-in-range code (supports d EV_ABS) client 62 2 (above high) (omega (arith, below)) has it)
     ]
   where
     first : List ℕ
@@ -307,10 +291,6 @@ axis-asked d client code has own below =
 
     second : List ℕ
     second = filter (supports d EV_ABS) (range_with_len 62 2)
-
-    or_true : (a : Bool) → (a || true) ≡ true
-    or_true true = refl
-    or_true false = refl
 
     above : 47 ≤ code → 62 ≤ code
     above h = elim (cases_lt code 62) [
@@ -328,12 +308,9 @@ axis-asked d client code has own below =
         ∙ ap (λ (b : Bool). not b) own
 
 pub plain-asked : (d : Description) (client code : ℕ) → list_any (is_get_axis code) (queries d client) ≡ false → code < 64 → has_axis d code ≡ false
-plain-asked d client code h below = by (supports d EV_ABS code) (is_multi_touch_code code) refl refl
-  where
-    by : (s t : Bool) → supports d EV_ABS code ≡ s → is_multi_touch_code code ≡ t → (s && not t) ≡ false
-    by true true x y = refl
-    by true false x y = absurd (true≢false (sym (axis-asked d client code x y below) ∙ (parts (is_get_axis code) d client h).3))
-    by false t x y = refl
+plain-asked d client code h below = false_from_ne_true (has_axis d code) (λ is.
+    let both : (supports d EV_ABS code ≡ true) × (not (is_multi_touch_code code) ≡ true) = and_parts (supports d EV_ABS code) (not (is_multi_touch_code code)) is in
+    true≢false (sym (axis-asked d client code both.0 (not-true (is_multi_touch_code code) both.1) below) ∙ (parts (is_get_axis code) d client h).3))
 
 agree-spare : (d : Description) (client : ℕ) (v w : View) → IsSpare d v → IsSpare d w → AgreeBut whole (queries d client) v w
 agree-spare d client v w s t = record {

@@ -1,8 +1,9 @@
 -- The view that a client makes of a history, by what it read and asked for since its start.
-use Rattle.std.proofs.Common.{◌≡◌, ◌≤◌, ◌<◌, ◌⊎◌, inl, inr, ℕ, zero, suc, ◌+◌, ◌-◌, nat_eq, nat_lt, Bool, true, false, ◌&&◌, ◌||◌, List, [], ◌∷◌, ◌++◌, length, map, take, refl, sym, ap, subst, ◌∙◌, arith, append-nil, append_assoc, length-append, if◌then◌else◌, ℤ, Option, Some, None}
-use Rattle.std.proofs.lemmas.Bool.{true≢false, false≢true, eqb-true, cond-false, cond-true, and_parts, cases_lt, lt-ltb, le-ltb, ltb-true, ltb-false, cond_both}
+use Rattle.std.proofs.Common.{◌≡◌, ◌≤◌, ◌<◌, ◌⊎◌, inl, inr, ℕ, suc, ◌+◌, ◌-◌, nat_eq, nat_lt, Bool, true, false, ◌||◌, List, [], ◌∷◌, ◌++◌, length, map, take, refl, sym, ap, subst, ◌∙◌, arith, append-nil, append_assoc, length-append, if◌then◌else◌, ℤ, Option, Some, None}
+use Rattle.std.proofs.lemmas.Bool.{true≢false, false≢true, false_from_ne_true, eqb-true, cond-false, cond-true, and_from, and_parts, cases_lt, lt-ltb, le-ltb, ltb-true, ltb-false, cond_both}
 use Rattle.std.proofs.lemmas.List.{map-append, take-append-le, length-map, take-map}
 use Rattle.std.proofs.lemmas.List.Concat.{flat_map-append}
+use Rattle.std.proofs.Math.Seq.{take-append-add}
 use Rattle.inp_model.specs.declared.event.Event.{Event}
 use Rattle.inp_model.specs.declared.taken.Taken.{Taken}
 use Rattle.inp_model.specs.declared.step.Step.{Step}
@@ -74,18 +75,11 @@ idle-own d past client (SyncSlots named) v h = absurd (true≢false h)
 idle-own d past client _ v h = no-events v
 
 pub idle-step : (d : Description) (past : List Step) (client : ℕ) (x : Step) (v : View) → is_use_of client x ≡ false → view_after_step d past client x v ≡ v
-idle-step d past client x v h = by (is_same (client_of x) client) refl
-  where
-    nothing : (y : Step) → is_use y ≡ false → view_after_answer (view_after_events v (map event_of (taken_by d past client y))) y (accepted d past y).reply (accepted d past y).cells ≡ v
-    nothing y k = idle-own d past client y v k
-
-    by : (b : Bool) → is_same (client_of x) client ≡ b → (if b then view_after_answer (view_after_events v (map event_of (taken_by d past client x))) x (accepted d past x).reply (accepted d past x).cells else v) ≡ v
-    by true same = nothing x (not_used (is_use x) (is_same (client_of x) client) h same)
-      where
-        not_used : (a b : Bool) → (a && b) ≡ false → b ≡ true → a ≡ false
-        not_used true b k is = absurd (true≢false (sym is ∙ k))
-        not_used false b k is = refl
-    by false same = refl
+idle-step d past client x v h =
+    cond_both (is_same (client_of x) client) _ _ (λ (w : View). w ≡ v)
+    (λ same. idle-own d past client x v (false_from_ne_true (is_use x) (λ used.
+    true≢false (sym (and_from (is_use x) (is_same (client_of x) client) used same) ∙ h))))
+    (λ _. refl)
 
 -- The view at a client's last start, and what it had taken before
 
@@ -318,13 +312,6 @@ unfolding view_after_answer
 read-view (Read client count) v reply cells h = refl
 read-view _ v reply cells h = absurd (false≢true h)
 
-take-more : (xs ys : List Taken) (n : ℕ) → length xs ≤ n → take n (xs ++ ys) ≡ xs ++ take (n - length xs) ys
-take-more [] ys n h = ap (λ (k : ℕ). take k ys) (omega arith)
-take-more (x ∷ xs) ys zero h = absurd (omega (arith, h))
-take-more (x ∷ xs) ys (suc n) h =
-    let e : n - length xs ≡ suc n - suc (length xs) = omega arith in
-    ap (λ (zs : List Taken). x ∷ zs) (take-more xs ys n (omega (arith, h))) ∙ ap (λ (k : ℕ). x ∷ xs ++ take k ys) e
-
 upto-reads : (v : View) (reads : List Call) (j : ℕ) → AreReads reads → j < length (taken_by_calls reads) → view_upto v reads j ≡ view_after_events v (taken_events (take (suc j) (taken_by_calls reads)))
 unfolding view_upto
 upto-reads v [] j are h = absurd (omega (arith, h))
@@ -349,13 +336,13 @@ upto-reads v (call ∷ reads) j are h = by (nat_lt j n) refl (λ k. upto-reads (
         ap (λ (ts : List Taken). view_after_events v (taken_events ts)) (sym (take-append-le (suc j) E R (omega (arith, below))))
     by false is rest =
         let above : n ≤ j = ltb-false j n is in
-        let same : suc (j - n) ≡ suc j - n = omega (arith, above) in
+        let same : n + suc (j - n) ≡ suc j = omega (arith, above) in
         ap (λ (w : View). view_upto w reads (j - n)) (read-view call.step (view_after_events v (taken_events E)) call.answer.reply call.answer.cells are.0)
         ∙ rest (omega (arith, h, above, length-append E R))
         ∙ sym (view_after_events-append v (taken_events E) (taken_events (take (suc (j - n)) R)))
         ∙ ap (λ (es : List Event). view_after_events v es) (sym (map-append (λ (t : Taken). t.event) E (take (suc (j - n)) R)))
-        ∙ ap (λ (m : ℕ). view_after_events v (taken_events (E ++ take m R))) same
-        ∙ ap (λ (ts : List Taken). view_after_events v (taken_events ts)) (sym (take-more E R (suc j) (omega (arith, above))))
+        ∙ ap (λ (ts : List Taken). view_after_events v (taken_events ts)) (sym (take-append-add E R (suc (j - n))))
+        ∙ ap (λ (m : ℕ). view_after_events v (taken_events (take m (E ++ R)))) same
 
 -- a query takes nothing
 pub no_read-takes : (d : Description) (past : List Step) (x : Step) → is_read x ≡ false → (answer d past x).events ≡ []

@@ -1,5 +1,5 @@
 -- The talks of a reader, walked once: what has to be shown of `start`, of `next`, and of steps asked for in order, for `Meets` of the whole.
-use Rattle.std.proofs.Common.{◌≡◌, ◌≤◌, ◌<◌, ℕ, zero, suc, ◌+◌, nat_lt, nat_le, Bool, true, false, ◌&&◌, not, if◌then◌else◌, List, [], ◌∷◌, ◌++◌, refl, sym, ap, subst, ◌∙◌, arith}
+use Rattle.std.proofs.Common.{◌≡◌, ◌≤◌, ◌<◌, ℕ, zero, suc, ◌+◌, nat_lt, nat_le, Bool, true, false, ◌&&◌, not, List, [], ◌∷◌, ◌++◌, refl, sym, ap, subst, ◌∙◌, arith}
 use Rattle.std.specs.Prelude.{Result, Ok, Err}
 use Rattle.std.specs.List.{range_with_len, filter}
 use Rattle.std.proofs.lemmas.Bool.{and_left, and_right, lt-leb, cond_both, true≢false}
@@ -31,7 +31,7 @@ use Rattle.inp_reader.specs.declared.started.Started.{Started}
 use Rattle.inp_reader.specs.Reader.{Reading, only_if, axes_among, plain_axes, bit_queries, axis_queries, slot_queries, queries, ask_each, start_stop_of, after_queries, after_open, start_talk, stop_of, hand_out_event, hand_out, after_read, read_or_hand_out, read_talk, hand_synthesised, handing, as_plain, after_full_sync, after_failed_sync, talk_after_sync, sync_talk, talk_in, next_talk}
 use Rattle.inp_reader.specs.ReaderPlace.{is_needed}
 use Rattle.inp_reader.specs.Says.{Says}
-use Rattle.inp_reader.specs.Talk.{Talk, finish, EndsWith}
+use Rattle.inp_reader.specs.Talk.{finish, EndsWith}
 use Rattle.inp_reader.proofs.Meets.{Meets, Any, AnyAnswer, meets-then, meets-if, Asks, meets-asks, Runs, meets-ends, IsCallOn, says-meets}
 
 -- ---- queries
@@ -189,24 +189,18 @@ unfolding read_talk
 next-meets {S} P R I Q d mode rules s r i = in_phase mode refl s r r.phase refl i
   where
     event : (t : S) (r : Reading) (taken : Taken) (rest : List Taken) → I t r → r.phase ≡ Plain → r.queue ≡ taken ∷ rest → Q t (hand_out_event r taken rest)
-    event t r taken rest i plain is = by (is_dropped taken.event) refl
-      where
-        by : (b : Bool) → is_dropped taken.event ≡ b
-            → (let view : View = view_after_event r.view taken.event in
-            let o : Next × Reading = if b then (Dropped taken, record r { queue = rest; view = view; phase = Needed }) else (Success taken, record r { queue = rest; view = view }) in Q t o)
-        by true e = rules.loses t r taken rest i plain is e
-        by false e = rules.hands t r taken rest i plain is e
+    event t r taken rest i plain is =
+        cond_both (is_dropped taken.event) _ _ (λ (o : Next × Reading). Q t o)
+        (λ e. rules.loses t r taken rest i plain is e) (λ e. rules.hands t r taken rest i plain is e)
 
     queue : (t : S) (r : Reading) (q : List Taken) → I t (record r { queue = q }) → r.phase ≡ Plain → Q t (hand_out r q)
     queue t r [] i plain = rules.empty t (record r { queue = [] }) i plain refl
     queue t r (taken ∷ rest) i plain = event t (record r { queue = taken ∷ rest }) taken rest i plain refl
 
     after : (t u : S) (r : Reading) (a : Answer) → I t r → r.phase ≡ Plain → r.queue ≡ [] → R t (Read r.client 64) a u → Q u (after_read r a)
-    after t u r a i plain is allowed = by (is_accepted a.reply) refl
-      where
-        by : (b : Bool) → is_accepted a.reply ≡ b → (let o : Next × Reading = if b then hand_out r a.events else (stop_of a.reply, r) in Q u o)
-        by true e = queue u r a.events (rules.reads t u r a i plain is allowed e) plain
-        by false e = rules.stops t u r a i plain is allowed e
+    after t u r a i plain is allowed =
+        cond_both (is_accepted a.reply) _ _ (λ (o : Next × Reading). Q u o)
+        (λ e. queue u r a.events (rules.reads t u r a i plain is allowed e) plain) (λ e. rules.stops t u r a i plain is allowed e)
 
     read : (t : S) (r : Reading) (q : List Taken) → r.queue ≡ q → I t r → r.phase ≡ Plain → Meets P R Q t (read_or_hand_out r q)
     read t r [] is i plain = (rules.asks_read t r i, λ u a allowed. after t u r a i plain is allowed)
@@ -270,11 +264,12 @@ stop-cases P _ again revoked closed full = closed
 pub asks-each : (P : Step → Type 0) (xs : List Step) (view : View) → Each P xs → Asks P (ask_each xs view)
 unfolding ask_each
 asks-each P [] view h = tt
-asks-each P (x ∷ xs) view h = (h.0, λ a. by (is_accepted a.reply) a.reply (ask_each xs (view_after_answer view x a.reply a.cells)) (asks-each P xs (view_after_answer view x a.reply a.cells) h.1))
-  where
-    by : (b : Bool) (reply : Reply) (talk : Talk (Result View Reply)) → Asks P talk → Asks P (if b then talk else finish (Err reply))
-    by true reply talk k = k
-    by false reply talk k = tt
+asks-each P (x ∷ xs) view h = (
+  h.0,
+  λ a.
+      let next : View = view_after_answer view x a.reply a.cells in
+      cond_both (is_accepted a.reply) (ask_each xs next) (finish (Err a.reply)) (Asks P) (λ _. asks-each P xs next h.1) (λ _. tt),
+)
 
 -- each step of `next` has this property
 pub record OfNext (d : Description) (client : ℕ) (P : Step → Type 0) : Type 0 where

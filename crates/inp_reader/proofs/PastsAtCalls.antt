@@ -1,11 +1,11 @@
 -- The pasts at which a reader's calls were answered: what others did in between, and then the call.
-use Rattle.std.proofs.Common.{◌≡◌, ◌≤◌, ◌<◌, inl, inr, ℕ, zero, suc, ◌+◌, ◌-◌, Bool, true, false, List, [], ◌∷◌, ◌++◌, length, take, reverse, get_or, refl, sym, ap, subst, ◌∙◌, arith, length-append, if◌then◌else◌, Some}
+use Rattle.std.proofs.Common.{◌≡◌, ◌≤◌, ◌<◌, inl, inr, ℕ, suc, ◌+◌, ◌-◌, Bool, true, false, List, [], ◌∷◌, ◌++◌, length, take, reverse, get_or, refl, sym, ap, subst, ◌∙◌, arith, length-append, if◌then◌else◌, Some}
 use Rattle.std.specs.List.{slice_get, Contains}
-use Rattle.std.proofs.lemmas.Bool.{false_from_ne_true}
+use Rattle.std.proofs.lemmas.Bool.{false_from_ne_true, cond-true, cond_both}
 use Rattle.std.proofs.lemmas.List.{reverse-append, take_more, take_all, get_or-append-add, length-take, get_or-take}
+use Rattle.std.proofs.Math.Seq.{take-append-add}
 use Rattle.std.proofs.lemmas.Option.{slice_get-get_or, slice_get_within, get_or_from_slice_get}
 use Rattle.inp_model.specs.declared.step.Step.{Step}
-use Rattle.inp_model.specs.declared.reply.Reply.{Reply}
 use Rattle.inp_model.specs.Description.{Description}
 use Rattle.inp_model.specs.Evdev.{EvdevView, IsCall}
 use Rattle.inp_model.specs.Past.{past_at}
@@ -80,13 +80,6 @@ slice_get-behind xs ys k x h =
     slice_get-get_or (xs ++ ys) (length xs + k) x (omega (arith, length-append xs ys))
     ∙ ap (λ (y : Step). Some y) (get_or-append-add xs ys k x ∙ get_or_from_slice_get ys k x x h)
 
-take-behind : (xs ys : List Step) (n : ℕ) → length xs ≤ n → take n (xs ++ ys) ≡ xs ++ take (n - length xs) ys
-take-behind [] ys n h = ap (λ (k : ℕ). take k ys) (omega (arith))
-take-behind (x ∷ xs) ys zero h = absurd (omega (arith, h))
-take-behind (x ∷ xs) ys (suc n) h =
-    let e : suc n - suc (length xs) ≡ n - length xs = omega arith in
-    ap (λ (zs : List Step). x ∷ zs) (take-behind xs ys n (omega (arith, h))) ∙ ap (λ (k : ℕ). x ∷ xs ++ take k ys) (sym e)
-
 -- what an accepted or a refused call leaves
 pub entered_if : (b : Bool) (x : Step) (history : List Step) (at : ℕ) → length history ≡ (if b then suc at else at) → (b ≡ true → slice_get history at ≡ Some x) → reverse history ≡ (if b then x ∷ past_at history at else past_at history at)
 entered_if true x history at long entered =
@@ -106,28 +99,24 @@ unfolding IsPlaceOf
 not_own d history place call calls before after h long below (inl same) = omega (arith, below, same.1)
 not_own d history place call calls before after h long below (inr k) =
     let least : length before.seen ≤ place = place-least after.description after.seen (length before.seen) place calls (calls-legal before after calls h) k in
-    omega (arith, below, least, long, at_most_next call.answer.reply (is_accepted call.answer.reply) refl)
-  where
-    at_most_next : (reply : Reply) (b : Bool) → is_accepted reply ≡ b → place_of reply ≤ (if b then suc (place_of reply) else place_of reply)
-    at_most_next reply true e = omega arith
-    at_most_next reply false e = omega arith
+    let at : ℕ = place_of call.answer.reply in
+    let next : at ≤ next_place call.answer.reply = cond_both (is_accepted call.answer.reply) (suc at) at (λ (n : ℕ). at ≤ n) (λ _. omega arith) (λ _. omega arith) in
+    omega (arith, below, least, long, next)
 
 pub later_own : (client : ℕ) (history : List Step) (before : ℕ) (call : Call) (calls : List Call) (least : ℕ) → least ≤ before → before ≡ next_place call.answer.reply → AreAllOwn client least history (call ∷ calls) → AreAllOwn client before history calls
 unfolding IsPlaceOf
 later_own client history before call calls least below long own = λ place x from at used. without_first place from (own place x (omega (arith, below, from)) at used)
   where
-    next_of : (b : Bool) (at : ℕ) → b ≡ true → (if b then suc at else at) ≡ suc at
-    next_of true at h = refl
-    next_of false at h = absurd cc
-
     without_first : (place : ℕ) → before ≤ place → IsPlaceOf place (call ∷ calls) → IsPlaceOf place calls
-    without_first place from (inl same) = absurd (omega (arith, from, same.1, long, next_of (is_accepted call.answer.reply) (place_of call.answer.reply) same.0))
+    without_first place from (inl same) = absurd (omega (arith, from, same.1, long, cond-true (is_accepted call.answer.reply) (suc (place_of call.answer.reply)) (place_of call.answer.reply) same.0))
     without_first place from (inr k) = k
 
 pub past_before : (history before more : List Step) (at : ℕ) → history ≡ before ++ more → length before ≤ at → past_at history at ≡ reverse (take (at - length before) more) ++ reverse before
 past_before history before more at h from =
+    let e : at ≡ length before + (at - length before) = omega (arith, from) in
     ap (λ (xs : List Step). reverse (take at xs)) h
-    ∙ ap (λ (xs : List Step). reverse xs) (take-behind before more at from)
+    ∙ ap (λ (n : ℕ). reverse (take n (before ++ more))) e
+    ∙ ap (λ (xs : List Step). reverse xs) (take-append-add before more (at - length before))
     ∙ reverse-append before (take (at - length before) more)
 
 met : (d : Description) (client : ℕ) (before between after : EvdevView) (call : Call) (calls : List Call) → before.description ≡ d → IsCall before between call → AreCalls between after calls → AreAllOwn client (length before.seen) after.seen (call ∷ calls)

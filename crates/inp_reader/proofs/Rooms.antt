@@ -1,7 +1,7 @@
 -- There is room for all events that a synchronisation makes.
-use Rattle.std.proofs.Common.{◌≡◌, ◌≤◌, ◌<◌, ◌+◌, ℕ, Bool, true, false, ◌&&◌, not, int_eq, List, length, refl, sym, ap, ◌∙◌, arith}
+use Rattle.std.proofs.Common.{◌≡◌, ◌≤◌, ◌<◌, ◌+◌, ℕ, Bool, true, false, ◌&&◌, not, int_eq, List, length, sym, ap, ◌∙◌, arith}
 use Rattle.std.specs.Prelude.{Ok, Option, Some, None, is_some, slice_index_or}
-use Rattle.std.proofs.lemmas.Bool.{true≢false}
+use Rattle.std.proofs.lemmas.Bool.{true_from_ne_false, true≢false}
 use Rattle.std.proofs.lemmas.List.{length-map}
 use Rattle.inp_bits.specs.Bits.{bits_differ}
 use Rattle.inp_model.specs.declared.event.TheConstants.{EV_KEY, EV_ABS, EV_SW, EV_LED}
@@ -27,24 +27,17 @@ bits_few d kind count old new off_old off_new =
     omega (arith, length-map (where_below count (bits_differ_at old new)) (bit_event kind new), length-where_below_fewer count (bits_differ_at old new) (supports d kind) had)
   where
     had : (k : ℕ) → k < count → bits_differ_at old new k ≡ true → supports d kind k ≡ true
-    had k lt differ = by (supports d kind k) refl
-      where
-        by : (b : Bool) → supports d kind k ≡ b → supports d kind k ≡ true
-        by true is = is
-        by false is = absurd (true≢false (sym differ ∙ (λ i. bits_differ (off_old k is i) (off_new k is i))))
+    had k lt differ =
+        true_from_ne_false (supports d kind k) (λ is. true≢false (sym differ ∙ (λ i. bits_differ (off_old k is i) (off_new k is i))))
 
 axes_few : (d : Description) (old new : View) → IsSpare d old → IsSpare d new → length (axis_changes old.axes new.axes) ≤ code_total d EV_ABS 64
 axes_few d old new a b =
     omega (arith, length-map (where_below 64 (differs_at old.axes new.axes)) (λ code. axis_event new.axes code code), length-where_below_fewer 64 (differs_at old.axes new.axes) (supports d EV_ABS) had)
   where
     had : (k : ℕ) → k < 64 → differs_at old.axes new.axes k ≡ true → supports d EV_ABS k ≡ true
-    had k lt differ = by (supports d EV_ABS k) refl
-      where
-        by : (s : Bool) → supports d EV_ABS k ≡ s → supports d EV_ABS k ≡ true
-        by true is = is
-        by false is =
-            let none : has_axis d k ≡ false = ap (λ (s : Bool). s && not (is_multi_touch_code k)) is in
-            absurd (true≢false (sym differ ∙ (λ i. not (int_eq (a.axes k none i) (b.axes k none i)))))
+    had k lt differ = true_from_ne_false (supports d EV_ABS k) (λ is.
+        let none : has_axis d k ≡ false = ap (λ (s : Bool). s && not (is_multi_touch_code k)) is in
+        true≢false (sym differ ∙ (λ i. not (int_eq (a.axes k none i) (b.axes k none i)))))
 
 -- of all types
 pub classes_few : (d : Description) (old new : View) → IsSpare d old → IsSpare d new → length (class_changes old new) ≤ code_total d EV_KEY 768 + code_total d EV_LED 64 + code_total d EV_SW 64 + code_total d EV_ABS 64

@@ -2,7 +2,7 @@
 use Rattle.std.proofs.Common.{◌≡◌, ◌<◌, inl, inr, ℕ, zero, suc, ◌+◌, nat_eq, nat_lt, Bool, true, false, ◌&&◌, not, List, [], ◌∷◌, ◌++◌, length, map, take, replicate, set, refl, sym, ap, subst, ◌∙◌, arith, append_assoc, length-append, if◌then◌else◌, ℤ, pos, Some}
 use Rattle.std.specs.Prelude.{slice_index_or}
 use Rattle.std.specs.List.{slice_get}
-use Rattle.std.proofs.lemmas.Bool.{true≢false, cases_lt, cases_eq, lt-ltb}
+use Rattle.std.proofs.lemmas.Bool.{true≢false, and_left, cases_lt, cases_eq, lt-ltb}
 use Rattle.std.proofs.lemmas.List.{length-map, take_at, get_or_at, get_or_past, get_or-set_same, get_or-set_other, set_past, nil_from_length}
 use Rattle.std.proofs.lemmas.Option.{slice_get-get_or}
 use Rattle.inp_model.specs.declared.event.Event.{Event}
@@ -10,7 +10,7 @@ use Rattle.inp_model.specs.declared.event.TheConstants.{EV_KEY, EV_ABS, EV_SW, E
 use Rattle.inp_model.specs.declared.taken.Taken.{Taken}
 use Rattle.inp_model.specs.declared.step.Step.{Step}
 use Rattle.inp_model.specs.Description.{Description, IsDescription, has_kind, has_code}
-use Rattle.inp_model.specs.Event.{is_repeat, is_set, is_multi_touch}
+use Rattle.inp_model.specs.Event.{is_multi_touch}
 use Rattle.inp_model.specs.State.{key_down, turned_on}
 use Rattle.inp_model.specs.Queue.{took}
 use Rattle.inp_model.specs.Reply.{taken_of, rows}
@@ -19,7 +19,7 @@ use Rattle.inp_recon.specs.declared.view.View.{View}
 use Rattle.inp_recon.specs.View.{IsSizedFor, with_value_at, first_view, view_after_event, view_after_events, keys_after_event, bits_after_event, slot_after_event, cells_after_event}
 use Rattle.inp_recon.specs.ClientView.{ReadEntry, read_entries, view_at}
 use Rattle.inp_recon.proofs.ReadEntries.{HasEntry, entry-of}
-use Rattle.inp_model.specs.RawItem.{RawItem, Occurred, Described}
+use Rattle.inp_model.specs.RawItem.{RawItem}
 use Rattle.inp_model.specs.Left.{eaten}
 use Rattle.inp_model.specs.History.{IsHistory}
 use Rattle.inp_recon.specs.Faithful.{IsDeviceState, AreFaithful}
@@ -29,6 +29,7 @@ use Rattle.inp_reader.specs.TrueView.{index_handed_out, ShowsTheDevice}
 use Rattle.inp_recon.specs.Synchronised.{has_axis}
 use Rattle.inp_reader.specs.Spare.{IsSpare}
 use Rattle.inp_reader.specs.ReaderPlace.{calls_since, steps_of, view_after_answers, taken_by_calls, taken_events}
+use Rattle.inp_reader.proofs.SpareAgrees.{never_down, never_on, all_same}
 use Rattle.inp_reader.proofs.StandsAfterTalks.{IsHandedOut}
 use Rattle.inp_reader.proofs.AgreedViews.{Compared, AgreeBut, agree-answers, keys-spared, switches-spared, leds-spared, slots-spared, plain-asked}
 use Rattle.inp_reader.proofs.Calls.{AreAnswered, AreAccepted}
@@ -146,36 +147,15 @@ agree-then d past r t at h history is =
 
 -- What the device cannot have is off
 
-off-if : (k c x y : Bool) (s before : Bool) → k ≡ false → before ≡ false → (if ((k && c) && x) && y then s else before) ≡ false
-off-if true c x y s before h b = absurd (true≢false h)
-off-if false c x y s before h b = b
-
-off-if-on : (k c x : Bool) (s before : Bool) → k ≡ false → before ≡ false → (if (k && c) && x then s else before) ≡ false
-off-if-on true c x s before h b = absurd (true≢false h)
-off-if-on false c x s before h b = b
-
 pub no-key-down : (d : Description) (r : List RawItem) (code : ℕ) → has_kind d EV_KEY ≡ false → key_down d r code ≡ false
-unfolding key_down
-no-key-down d [] code h = refl
-no-key-down d (Described axis i ∷ r) code h = no-key-down d r code h
-no-key-down d (Occurred e ∷ r) code h =
-    off-if (has_kind d EV_KEY) (has_code d EV_KEY code) (nat_eq e.kind EV_KEY && nat_eq e.code code) (not (is_repeat e)) (is_set e) (key_down d r code) h (no-key-down d r code h)
+no-key-down d r code h = never_down d r code (and_left (has_kind d EV_KEY) (has_code d EV_KEY code) h)
 
 pub nothing-on : (d : Description) (r : List RawItem) (kind code : ℕ) → has_kind d kind ≡ false → turned_on d r kind code ≡ false
-unfolding turned_on
-nothing-on d [] kind code h = refl
-nothing-on d (Described axis i ∷ r) kind code h = nothing-on d r kind code h
-nothing-on d (Occurred e ∷ r) kind code h =
-    off-if-on (has_kind d kind) (has_code d kind code) (nat_eq e.kind kind && nat_eq e.code code) (is_set e) (turned_on d r kind code) h (nothing-on d r kind code h)
-
-all-off : (n code : ℕ) → slice_index_or (replicate n false) code false ≡ false
-all-off zero code = refl
-all-off (suc n) zero = refl
-all-off (suc n) (suc code) = all-off n code
+nothing-on d r kind code h = never_on d r kind code (and_left (has_kind d kind) (has_code d kind code) h)
 
 flag-shown : (had on : Bool) (v w : List Bool) (n code : ℕ) → (had ≡ true → v ≡ w) → (had ≡ false → w ≡ replicate n false) → (had ≡ false → on ≡ false) → slice_index_or v code false ≡ on → slice_index_or w code false ≡ on
 flag-shown true on v w n code same none off h = ap (λ (xs : List Bool). slice_index_or xs code false) (sym (same refl)) ∙ h
-flag-shown false on v w n code same none off h = ap (λ (xs : List Bool). slice_index_or xs code false) (none refl) ∙ all-off n code ∙ sym (off refl)
+flag-shown false on v w n code same none off h = ap (λ (xs : List Bool). slice_index_or xs code false) (none refl) ∙ all_same false n code ∙ sym (off refl)
 
 -- All values
 

@@ -2,7 +2,7 @@
 use Rattle.std.proofs.Common.{◌≡◌, ◌≤◌, ℕ, zero, suc, nat_eq, nat_lt, ℤ, pos, Bool, true, false, ◌&&◌, not, List, [], ◌∷◌, length, replicate, Option, Some, None, refl, sym, ap, subst, ◌∙◌, if◌then◌else◌, inl, inr, arith}
 use Rattle.std.specs.Prelude.{slice_index_or}
 use Rattle.std.specs.List.{range_with_len}
-use Rattle.std.proofs.lemmas.Bool.{true≢false, false≢true, eqb-true, cond-false, cond_both, cases_lt}
+use Rattle.std.proofs.lemmas.Bool.{true≢false, false≢true, eqb-true, ne_eqb, cond-false, cond_both, and_parts, cases_lt}
 use Rattle.std.proofs.lemmas.List.{get_or-set_other, get_or_past, length-map}
 use Rattle.std.proofs.lemmas.List.FromFn.{length-range_with_len}
 use Rattle.inp_model.specs.declared.event.Event.{Event}
@@ -25,7 +25,7 @@ use Rattle.inp_recon.specs.View.{bit_in, bits_in, flags_after_reply, key_count, 
 use Rattle.inp_recon.proofs.Sizes.{IsSizedFor-first_view, IsSizedFor-after_event, IsSizedFor-after_answer}
 use Rattle.inp_recon.specs.Synchronised.{has_axis}
 use Rattle.inp_reader.specs.Spare.{IsSpare, is_event_of}
-use Rattle.inp_reader.proofs.UnsetSlotAxes.{has_cells}
+use Rattle.inp_reader.proofs.UnsetSlotAxes.{other-stays, has_cells}
 
 -- An event of the device
 
@@ -38,61 +38,36 @@ of-kind d e kind h is = ap (λ (n : ℕ). is_event_of d (record e { kind = n }))
 
 -- a flag of a type that the device has not is not set
 pub no-keys : (d : Description) (e : Event) → is_event_of d e ≡ true → has_kind d EV_KEY ≡ false → nat_eq e.kind EV_KEY ≡ false
-no-keys d e is none = by (nat_eq e.kind EV_KEY) refl
-  where
-    by : (b : Bool) → nat_eq e.kind EV_KEY ≡ b → b ≡ false
-    by true k = absurd (had-kind (has_kind d EV_KEY) (has_code d EV_KEY e.code) (of-kind d e EV_KEY (eqb-true e.kind EV_KEY k) is) none)
-    by false k = refl
+no-keys d e is none =
+    ne_eqb e.kind EV_KEY (λ k. had-kind (has_kind d EV_KEY) (has_code d EV_KEY e.code) (of-kind d e EV_KEY k is) none)
 
 pub no-switches : (d : Description) (e : Event) → is_event_of d e ≡ true → has_kind d EV_SW ≡ false → nat_eq e.kind EV_SW ≡ false
-no-switches d e is none = by (nat_eq e.kind EV_SW) refl
-  where
-    by : (b : Bool) → nat_eq e.kind EV_SW ≡ b → b ≡ false
-    by true k = absurd (had-kind (has_kind d EV_SW) (has_code d EV_SW e.code) (of-kind d e EV_SW (eqb-true e.kind EV_SW k) is) none)
-    by false k = refl
+no-switches d e is none =
+    ne_eqb e.kind EV_SW (λ k. had-kind (has_kind d EV_SW) (has_code d EV_SW e.code) (of-kind d e EV_SW k is) none)
 
 pub no-leds : (d : Description) (e : Event) → is_event_of d e ≡ true → has_kind d EV_LED ≡ false → nat_eq e.kind EV_LED ≡ false
-no-leds d e is none = by (nat_eq e.kind EV_LED) refl
-  where
-    by : (b : Bool) → nat_eq e.kind EV_LED ≡ b → b ≡ false
-    by true k = absurd (had-kind (has_kind d EV_LED) (has_code d EV_LED e.code) (of-kind d e EV_LED (eqb-true e.kind EV_LED k) is) none)
-    by false k = refl
+no-leds d e is none =
+    ne_eqb e.kind EV_LED (λ k. had-kind (has_kind d EV_LED) (has_code d EV_LED e.code) (of-kind d e EV_LED k is) none)
 
 pub keys-stay : (b c : Bool) (new old : List Bool) → b ≡ false → (if b && c then new else old) ≡ old
 keys-stay true c new old h = absurd (true≢false h)
 keys-stay false c new old h = refl
 
--- a flag of a code that the device has not is not set by an event that it has
-flag-elsewhere : (d : Description) (kind count : ℕ) (flags : List Bool) (e : Event) (code : ℕ) → (e.kind ≡ kind → supports d kind e.code ≡ true) → supports d kind code ≡ false → e.kind ≡ kind → slice_index_or (with_flag count flags e) code false ≡ slice_index_or flags code false
-flag-elsewhere d kind count flags e code own none is =
-    cond_both (nat_lt e.code count) _ _ (λ x. slice_index_or x code false ≡ slice_index_or flags code false)
-    (λ _. get_or-set_other flags e.code code (is_set e) false (λ same. true≢false (sym (own is) ∙ ap (λ (n : ℕ). supports d kind n) (sym same) ∙ none))) (λ _. refl)
-
-flags-after : (d : Description) (kind count : ℕ) (flags : List Bool) (e : Event) (code : ℕ) (c : Bool) → (e.kind ≡ kind → supports d kind e.code ≡ true) → supports d kind code ≡ false
-    → slice_index_or (if nat_eq e.kind kind && c then with_flag count flags e else flags) code false ≡ slice_index_or flags code false
-flags-after d kind count flags e code c own none = by (nat_eq e.kind kind) c refl
+-- a flag of a code that the device has not is not set by an event that it has, where b tests the event's type
+flags-after : (d : Description) (kind count : ℕ) (flags : List Bool) (e : Event) (code : ℕ) (b : Bool)
+    → (b ≡ true → nat_eq e.kind kind ≡ true) → is_event_of d e ≡ true
+    → (is_event_of d (record e { kind = kind }) ≡ true → supports d kind e.code ≡ true)
+    → supports d kind code ≡ false
+    → slice_index_or (if b then with_flag count flags e else flags) code false ≡ slice_index_or flags code false
+flags-after d kind count flags e code b of own told none =
+    cond_both b _ _ (λ x. slice_index_or x code false ≡ slice_index_or flags code false)
+    (λ is. cond_both (nat_lt e.code count) _ _ (λ x. slice_index_or x code false ≡ slice_index_or flags code false)
+    (λ _. get_or-set_other flags e.code code (is_set e) false (apart_by (eqb-true e.kind kind (of is)))) (λ _. refl))
+    (λ _. refl)
   where
-    by : (b c : Bool) → nat_eq e.kind kind ≡ b → slice_index_or (if b && c then with_flag count flags e else flags) code false ≡ slice_index_or flags code false
-    by true true is = flag-elsewhere d kind count flags e code own none (eqb-true e.kind kind is)
-    by true false is = refl
-    by false c is = refl
-
-flags-after_plain : (d : Description) (kind count : ℕ) (flags : List Bool) (e : Event) (code : ℕ) → (e.kind ≡ kind → supports d kind e.code ≡ true) → supports d kind code ≡ false
-    → slice_index_or (if nat_eq e.kind kind then with_flag count flags e else flags) code false ≡ slice_index_or flags code false
-flags-after_plain d kind count flags e code own none = by (nat_eq e.kind kind) refl
-  where
-    by : (b : Bool) → nat_eq e.kind kind ≡ b → slice_index_or (if b then with_flag count flags e else flags) code false ≡ slice_index_or flags code false
-    by true is = flag-elsewhere d kind count flags e code own none (eqb-true e.kind kind is)
-    by false is = refl
-
-own-key : (d : Description) (e : Event) → is_event_of d e ≡ true → e.kind ≡ EV_KEY → supports d EV_KEY e.code ≡ true
-own-key d e is k = of-kind d e EV_KEY k is
-
-own-switch : (d : Description) (e : Event) → is_event_of d e ≡ true → e.kind ≡ EV_SW → supports d EV_SW e.code ≡ true
-own-switch d e is k = of-kind d e EV_SW k is
-
-own-led : (d : Description) (e : Event) → is_event_of d e ≡ true → e.kind ≡ EV_LED → supports d EV_LED e.code ≡ true
-own-led d e is k = of-kind d e EV_LED k is
+    apart_by : e.kind ≡ kind → code ≡ e.code → ⊥
+    apart_by is same =
+        true≢false (sym (told (of-kind d e kind is own)) ∙ ap (λ (n : ℕ). supports d kind n) (sym same) ∙ none)
 
 -- an axis of its own that an event is about is one that the device has
 axis-supported : (d : Description) (code : ℕ) (value : ℤ) → is_event_of d (record { kind = EV_ABS; code = code; value = value }) ≡ true → is_multi_touch_code code ≡ false → has_axis d code ≡ true
@@ -105,12 +80,6 @@ axis-supported d code value is own = by (nat_eq code ABS_MT_SLOT) refl
     by true k = absurd (true≢false (sym (ap (λ (n : ℕ). is_multi_touch_code n) (eqb-true code ABS_MT_SLOT k)) ∙ own))
     by false k = plain (sym (ap (λ (b : Bool). if b then nat_lt 0 d.slots else supports d EV_ABS code) k) ∙ is)
 
--- a value that is set elsewhere leaves this one
-value-elsewhere : (axes : List ℤ) (index code : ℕ) (value : ℤ) → (code ≡ index → ⊥) → slice_index_or (with_value_at code_count axes index value) code (pos 0) ≡ slice_index_or axes code (pos 0)
-value-elsewhere axes index code value h =
-    cond_both (nat_lt index code_count) _ _ (λ x. slice_index_or x code (pos 0) ≡ slice_index_or axes code (pos 0))
-    (λ _. get_or-set_other axes index code value (pos 0) h) (λ _. refl)
-
 apart : (d : Description) (code other : ℕ) → has_axis d code ≡ false → has_axis d other ≡ true → code ≡ other → ⊥
 apart d code other h k e = true≢false (sym k ∙ ap (λ (n : ℕ). has_axis d n) (sym e) ∙ h)
 
@@ -119,7 +88,7 @@ axis-after_event d axes e code is none = by (nat_eq e.kind EV_ABS) (is_multi_tou
   where
     by : (abs touch : Bool) → nat_eq e.kind EV_ABS ≡ abs → is_multi_touch_code e.code ≡ touch → slice_index_or (if abs && not (abs && touch) then with_value_at code_count axes e.code e.value else axes) code (pos 0) ≡ slice_index_or axes code (pos 0)
     by true true h k = refl
-    by true false h k = value-elsewhere axes e.code code e.value (apart d code e.code none (axis-supported d e.code e.value (of-kind d e EV_ABS (eqb-true e.kind EV_ABS h) is) k))
+    by true false h k = other-stays axes code e.code e.value (apart d code e.code none (axis-supported d e.code e.value (of-kind d e EV_ABS (eqb-true e.kind EV_ABS h) is) k))
     by false touch h k = refl
 
 slot-after_event : (d : Description) (slot : ℤ) (e : Event) → is_event_of d e ≡ true → d.slots ≡ 0 → slot_after_event slot e ≡ slot
@@ -140,9 +109,9 @@ IsSpare-after_event d v e is s = record {
   keys = λ none. keys-stay (nat_eq e.kind EV_KEY) (not (is_repeat e)) (with_flag key_count v.keys e) v.keys (no-keys d e is none) ∙ s.keys none;
   switches = λ none. cond-false (nat_eq e.kind EV_SW) (with_flag code_count v.switches e) v.switches (no-switches d e is none) ∙ s.switches none;
   leds = λ none. cond-false (nat_eq e.kind EV_LED) (with_flag code_count v.leds e) v.leds (no-leds d e is none) ∙ s.leds none;
-  key_codes = λ code none. flags-after d EV_KEY key_count v.keys e code (not (is_repeat e)) (own-key d e is) none ∙ s.key_codes code none;
-  switch_codes = λ code none. flags-after_plain d EV_SW code_count v.switches e code (own-switch d e is) none ∙ s.switch_codes code none;
-  led_codes = λ code none. flags-after_plain d EV_LED code_count v.leds e code (own-led d e is) none ∙ s.led_codes code none;
+  key_codes = λ code none. flags-after d EV_KEY key_count v.keys e code (nat_eq e.kind EV_KEY && not (is_repeat e)) (λ h. (and_parts (nat_eq e.kind EV_KEY) (not (is_repeat e)) h).0) is (λ h. h) none ∙ s.key_codes code none;
+  switch_codes = λ code none. flags-after d EV_SW code_count v.switches e code (nat_eq e.kind EV_SW) (λ h. h) is (λ h. h) none ∙ s.switch_codes code none;
+  led_codes = λ code none. flags-after d EV_LED code_count v.leds e code (nat_eq e.kind EV_LED) (λ h. h) is (λ h. h) none ∙ s.led_codes code none;
   axes = λ code none. axis-after_event d v.axes e code is none ∙ s.axes code none;
   slot = λ none. slot-after_event d v.slot e is none ∙ s.slot none;
 }
@@ -150,14 +119,14 @@ IsSpare-after_event d v e is s = record {
 -- An answer to what the device has
 
 -- no key or switch that the device has not is on
-never_down : (d : Description) (r : List RawItem) (code : ℕ) → supports d EV_KEY code ≡ false → key_down d r code ≡ false
+pub never_down : (d : Description) (r : List RawItem) (code : ℕ) → supports d EV_KEY code ≡ false → key_down d r code ≡ false
 unfolding key_down
 never_down d [] code none = refl
 never_down d (Described axis i ∷ r) code none = never_down d r code none
 never_down d (Occurred e ∷ r) code none =
     ap (λ (b : Bool). if b && (nat_eq e.kind EV_KEY && nat_eq e.code code) && not (is_repeat e) then is_set e else key_down d r code) none ∙ never_down d r code none
 
-never_on : (d : Description) (r : List RawItem) (kind code : ℕ) → supports d kind code ≡ false → turned_on d r kind code ≡ false
+pub never_on : (d : Description) (r : List RawItem) (kind code : ℕ) → supports d kind code ≡ false → turned_on d r kind code ≡ false
 unfolding turned_on
 never_on d [] kind code none = refl
 never_on d (Described axis i ∷ r) kind code none = never_on d r kind code none
@@ -229,7 +198,7 @@ spare-leds d _ reply leds wanted none = refl
 axis-after_reply : (axes : List ℤ) (index code : ℕ) (reply : Reply) → (code ≡ index → ⊥) → slice_index_or (axes_after_reply index reply axes) code (pos 0) ≡ slice_index_or axes code (pos 0)
 axis-after_reply axes index code (Axis at info) h =
     cond_both (is_multi_touch_code index) _ _ (λ x. slice_index_or x code (pos 0) ≡ slice_index_or axes code (pos 0))
-    (λ _. refl) (λ _. value-elsewhere axes index code info.value h)
+    (λ _. refl) (λ _. other-stays axes code index info.value h)
 axis-after_reply axes index code _ h = refl
 
 spare-axes : (d : Description) (x : Step) (reply : Reply) (axes : List ℤ) (code : ℕ) → IsWanted d x → has_axis d code ≡ false → slice_index_or (axes_after_answer x reply axes) code (pos 0) ≡ slice_index_or axes code (pos 0)
@@ -258,15 +227,10 @@ IsSpare-after_answer d past v x given wanted are s = record {
 
 -- A new view
 
-zeros : (n code : ℕ) → slice_index_or (replicate n (pos 0)) code (pos 0) ≡ pos 0
-zeros zero code = refl
-zeros (suc n) zero = refl
-zeros (suc n) (suc code) = zeros n code
-
-all_off : (n code : ℕ) → slice_index_or (replicate n false) code false ≡ false
-all_off zero code = refl
-all_off (suc n) zero = refl
-all_off (suc n) (suc code) = all_off n code
+pub all_same : {X : Type 0} (x : X) (n code : ℕ) → slice_index_or (replicate n x) code x ≡ x
+all_same x zero code = refl
+all_same x (suc n) zero = refl
+all_same x (suc n) (suc code) = all_same x n code
 
 pub IsSpare-first_view : (d : Description) → IsSpare d (first_view d)
 unfolding first_view
@@ -275,9 +239,9 @@ IsSpare-first_view d = record {
   keys = λ none. refl;
   switches = λ none. refl;
   leds = λ none. refl;
-  key_codes = λ code none. all_off key_count code;
-  switch_codes = λ code none. all_off code_count code;
-  led_codes = λ code none. all_off code_count code;
-  axes = λ code none. zeros code_count code;
+  key_codes = λ code none. all_same false key_count code;
+  switch_codes = λ code none. all_same false code_count code;
+  led_codes = λ code none. all_same false code_count code;
+  axes = λ code none. all_same (pos 0) code_count code;
   slot = λ none. refl;
 }

@@ -1,7 +1,7 @@
 -- Where a reader stands after the talks of `start` and `next`, by the pasts at which its calls were answered.
-use Rattle.std.proofs.Common.{◌≡◌, ◌<◌, ◌⊎◌, inl, inr, ℕ, suc, nat_eq, Bool, true, false, ◌&&◌, ◌||◌, List, [], ◌∷◌, ◌++◌, length, refl, sym, ap, subst, ◌∙◌, arith, append-nil, append_assoc, if◌then◌else◌, ℤ, Option, Some, None}
+use Rattle.std.proofs.Common.{◌≡◌, ◌<◌, ◌⊎◌, inl, inr, ℕ, nat_eq, Bool, true, false, ◌||◌, List, [], ◌∷◌, ◌++◌, length, refl, sym, ap, subst, ◌∙◌, arith, append-nil, append_assoc, if◌then◌else◌, Option, Some, None}
 use Rattle.std.specs.Prelude.{Result, Ok, Err}
-use Rattle.std.proofs.lemmas.Bool.{true≢false, false≢true, ne_eqb, eq-eqb, cond-false, cond-true}
+use Rattle.std.proofs.lemmas.Bool.{true≢false, false≢true, ne_eqb, eq-eqb, and_right, cond-false, cond-true, cond_both}
 use Rattle.std.proofs.lemmas.List.{map-append}
 use Rattle.std.proofs.lemmas.List.Concat.{flat_map-append}
 use Rattle.inp_model.specs.declared.event.Event.{Event}
@@ -38,25 +38,17 @@ use Rattle.inp_reader.proofs.PastsAtCalls.{AreQuiet, IsMet, AreMet, AreMet-split
 
 -- Steps since the client was opened
 
-opens-if : (b : Bool) (n client : ℕ) → client < n → client < (if b then suc n else n)
-opens-if true n client h = omega (arith, h)
-opens-if false n client h = h
-
 pub opens-step : (past : List Step) (x : Step) (client : ℕ) → client < opens past → client < opens (x ∷ past)
 unfolding opens
-opens-step past x client h = opens-if (is_open_step x) (opens past) client h
+opens-step past x client h = cond_both (is_open_step x) _ _ (λ (n : ℕ). client < n) (λ _. omega (arith, h)) (λ _. h)
 
 pub opens-steps : (past others : List Step) (client : ℕ) → client < opens past → client < opens (others ++ past)
 opens-steps past [] client h = h
 opens-steps past (x ∷ others) client h = opens-step (others ++ past) x client (opens-steps past others client h)
 
 -- an open client is opened by no later step
-no_opening : (b : Bool) (n client : ℕ) → client < n → (b && nat_eq n client) ≡ false
-no_opening true n client h = ne_eqb n client (λ e. omega (arith, h, e))
-no_opening false n client h = refl
-
 pub not_opening : (past : List Step) (x : Step) (client : ℕ) → client < opens past → is_opening past client x ≡ false
-not_opening past x client h = no_opening (is_open_step x) (opens past) client h
+not_opening past x client h = and_right (is_open_step x) _ (ne_eqb (opens past) client (λ e. omega (arith, h, e)))
 
 not_beginning : (past : List Step) (x : Step) (client : ℕ) → client < opens past → is_discard_of client x ≡ false → is_start past client x ≡ false
 not_beginning past x client h k = ap (λ (b : Bool). b || is_discard_of client x) (not_opening past x client h) ∙ k
@@ -66,16 +58,12 @@ no_discard client (Discard named) h = h
 no_discard client _ h = refl
 
 -- a step that is no beginning: with its call, where it is a use
-since_if : (begins used : Bool) (before more : List Call) → begins ≡ false → (if begins then [] else if used then before ++ more else before) ≡ (if used then before ++ more else before)
-since_if true used before more h = absurd (true≢false h)
-since_if false used before more h = refl
-
 quiet-step : (d : Description) (past : List Step) (x : Step) (client : ℕ) → client < opens past → is_use_of client x ≡ false → calls_since d (x ∷ past) client ≡ calls_since d past client
 unfolding calls_since
 quiet-step d past x client h quiet =
     let before : List Call = calls_since d past client in
     let more : List Call = record { step = x; answer = answer d past x } ∷ [] in
-    since_if (is_start past client x) (is_use_of client x) before more (not_beginning past x client h (no_discard client x quiet))
+    cond-false (is_start past client x) [] (if is_use_of client x then before ++ more else before) (not_beginning past x client h (no_discard client x quiet))
     ∙ cond-false (is_use_of client x) (before ++ more) before quiet
 
 quiet-steps : (d : Description) (past others : List Step) (client : ℕ) → client < opens past → AreQuiet client others → calls_since d (others ++ past) client ≡ calls_since d past client
@@ -89,7 +77,7 @@ unfolding calls_since
 use-step d past x client h used kept =
     let before : List Call = calls_since d past client in
     let more : List Call = record { step = x; answer = answer d past x } ∷ [] in
-    since_if (is_start past client x) (is_use_of client x) before more (not_beginning past x client h kept)
+    cond-false (is_start past client x) [] (if is_use_of client x then before ++ more else before) (not_beginning past x client h kept)
     ∙ cond-true (is_use_of client x) (before ++ more) before used
 
 discard-step : (d : Description) (past : List Step) (client : ℕ) → calls_since d (Discard client ∷ past) client ≡ []
@@ -139,11 +127,9 @@ met-opens d client past after call h m =
     let before : List Step = m.others ++ past in
     let open_before : client < opens before = opens-steps past m.others client h in
     let P : List Step → Type 0 = λ p. client < opens p in
-    subst P (sym m.entered) (either (is_accepted call.answer.reply) call.step before open_before)
-  where
-    either : (b : Bool) (x : Step) (before : List Step) → client < opens before → (let p : List Step = if b then x ∷ before else before in client < opens p)
-    either true x before h = opens-step before x client h
-    either false x before h = h
+    subst P (sym m.entered)
+    (cond_both (is_accepted call.answer.reply) _ _ P
+    (λ _. opens-step before call.step client open_before) (λ _. open_before))
 
 pub opens-met : (d : Description) (client : ℕ) (past after : List Step) (calls : List Call) → client < opens past → AreMet d client past after calls → client < opens after
 unfolding AreMet
@@ -211,10 +197,6 @@ IsMadeAnew d client view = (calls : List Call) → steps_of calls ≡ queries d 
 taken_events-push : (handed : List Taken) (taken : Taken) → taken_events (handed ++ taken ∷ []) ≡ taken_events handed ++ taken.event ∷ []
 taken_events-push handed taken = map-append (λ (t : Taken). t.event) handed (taken ∷ [])
 
-one-event : (v : View) (e : Event) → view_after_events v (e ∷ []) ≡ view_after_event v e
-unfolding view_after_events
-one-event v e = refl
-
 -- the reader is in step, and this is the last event that it handed out
 pub record IsHandedOut (d : Description) (past : List Step) (r : Reading) (last : Taken) : Type 0 where
   pub asked : List Call
@@ -239,6 +221,7 @@ handed-in-step d past r last h = record {
 }
 
 handed : (d : Description) (past : List Step) (r : Reading) (taken : Taken) (rest : List Taken) → IsInStep d past r → r.queue ≡ taken ∷ rest → IsHandedOut d past (record r { queue = rest; view = view_after_event r.view taken.event }) taken
+unfolding view_after_events
 handed d past r taken rest i q =
     let begun : View = view_after_answers (first_view d) i.asked in
     record {
@@ -251,7 +234,6 @@ handed d past r taken rest i q =
       taken = i.taken ∙ ap (λ (ts : List Taken). i.handed ++ ts) q ∙ sym (append_assoc i.handed (taken ∷ []) rest);
       view =
           ap (λ (v : View). view_after_event v taken.event) i.view
-          ∙ sym (one-event (view_after_events begun (taken_events i.handed)) taken.event)
           ∙ sym (view_after_events-append begun (taken_events i.handed) (taken.event ∷ []))
           ∙ ap (λ (es : List Event). view_after_events begun es) (sym (taken_events-push i.handed taken));
     }
@@ -271,9 +253,11 @@ pub record Leaves (d : Description) (past : List Step) (result : Next × Reading
   pub stands : IsOpenInStep d past result.1
   pub hands_out : HandsOut d past result.0 result.1
 
--- the same reader, at a past since which nothing was read or asked for
-pub in-step-kept : (d : Description) (past after : List Step) (r : Reading) → IsInStep d past r → calls_since d after r.client ≡ calls_since d past r.client → IsInStep d after r
-in-step-kept d past after r i same = record {
+-- in another phase too, with other events left to make
+in-step-moved : (d : Description) (past after : List Step) (r : Reading) (phase : Phase) (left : List Event)
+    → IsInStep d past r → calls_since d after r.client ≡ calls_since d past r.client
+    → IsInStep d after (record r { phase = phase; left = left })
+in-step-moved d past after r phase left i same = record {
   asked = i.asked;
   reads = i.reads;
   handed = i.handed;
@@ -283,6 +267,10 @@ in-step-kept d past after r i same = record {
   taken = i.taken;
   view = i.view;
 }
+
+-- the same reader, at a past since which nothing was read or asked for
+pub in-step-kept : (d : Description) (past after : List Step) (r : Reading) → IsInStep d past r → calls_since d after r.client ≡ calls_since d past r.client → IsInStep d after r
+in-step-kept d past after r i same = in-step-moved d past after r r.phase r.left i same
 
 AreReads-push : (reads : List Call) (call : Call) → AreReads reads → is_read call.step ≡ true → AreReads (reads ++ call ∷ [])
 AreReads-push [] call h k = (k, tt)
@@ -333,80 +321,47 @@ nothing-met d client past after [] none m = m
 nothing-met d client past after (call ∷ calls) none m = absurd cc
 
 in-step-plain : (d : Description) (past : List Step) (r : Reading) → IsInStep d past r → IsInStep d past (as_plain r)
-in-step-plain d past r i = record {
-  asked = i.asked;
-  reads = i.reads;
-  handed = i.handed;
-  calls = i.calls;
-  queries = i.queries;
-  reads_only = i.reads_only;
-  taken = i.taken;
-  view = i.view;
-}
-
-in-step-left : (d : Description) (past : List Step) (r : Reading) (left : List Event) → IsInStep d past r → IsInStep d past (record r { left = left })
-in-step-left d past r left i = record {
-  asked = i.asked;
-  reads = i.reads;
-  handed = i.handed;
-  calls = i.calls;
-  queries = i.queries;
-  reads_only = i.reads_only;
-  taken = i.taken;
-  view = i.view;
-}
+in-step-plain d past r i = in-step-moved d past past r Plain [] i refl
 
 -- Synchronising
 
-nothing_handed : (v : View) → v ≡ view_after_events v []
-unfolding view_after_events
-nothing_handed v = refl
-
 -- in step after all queries, with nothing read
-in-step-anew : (d : Description) (past : List Step) (client : ℕ) (asked : List Call) (view told : View) (phase : Phase) (left : List Event) → calls_since d past client ≡ asked → steps_of asked ≡ queries d client → AreAccepted asked → AreAnswered d asked → told ≡ view_after_answers view asked → IsMadeAnew d client view
-    → IsInStep d past (record { client = client; queue = []; view = told; phase = phase; left = left })
-unfolding IsMadeAnew
-in-step-anew d past client asked view told phase left since steps accepted answered told_is anew = record {
-  asked = asked;
-  reads = [];
-  handed = [];
-  calls = since ∙ sym (append-nil asked);
-  queries = steps;
-  reads_only = tt;
-  taken = refl;
-  view = told_is ∙ anew asked steps accepted answered ∙ nothing_handed (view_after_answers (first_view d) asked);
-}
+in-step-anew : (d : Description) (client : ℕ) (past after : List Step) (view told : View) (calls : List Call)
+    → (phase : Phase) (left : List Event)
+    → client < opens past → calls_since d past client ≡ [] → IsMadeAnew d client view
+    → AreMet d client past after calls → EndsWith (ask_each (queries d client) view) calls (Ok told)
+    → IsInStep d after (record { client = client; queue = []; view = told; phase = phase; left = left })
+unfolding IsMadeAnew view_after_events
+in-step-anew d client past after view told calls phase left opened none anew m ends =
+    let a : IsAsked d client past after (queries d client) view calls told =
+    asks d client past after (queries d client) view calls told opened (asks-queries d client) m ends in
+    let answered : AreAnswered d calls = AreMet-answered d client past after calls m in
+    record {
+      asked = calls;
+      reads = [];
+      handed = [];
+      calls = a.since ∙ ap (λ (cs : List Call). cs ++ calls) none ∙ sym (append-nil calls);
+      queries = a.steps;
+      reads_only = tt;
+      taken = refl;
+      view = a.view_is ∙ anew calls a.steps a.accepted answered;
+    }
 
-discard-view : (client : ℕ) (view : View) (reply : Reply) (cells : List ℤ) → view_after_answer view (Discard client) reply cells ≡ view
-unfolding view_after_answer
-discard-view client view reply cells = refl
-
-record IsSynchronised (d : Description) (client : ℕ) (past after : List Step) (view : View) (calls : List Call) (told : View) : Type 0 where
-  asked : List Call
-  since : calls_since d after client ≡ asked
-  steps : steps_of asked ≡ queries d client
-  accepted : AreAccepted asked
-  answered : AreAnswered d asked
-  view_is : told ≡ view_after_answers view asked
-
-synchronised : (d : Description) (client : ℕ) (past after : List Step) (view : View) (calls : List Call) (told : View) → client < opens past → AreMet d client past after calls → EndsWith (ask_each (Discard client ∷ queries d client) view) calls (Ok told) → IsSynchronised d client past after view calls told
-unfolding LeadsTo ask_each AreMet
-synchronised d client past after view [] told h m ends = absurd cc
-synchronised d client past after view (call ∷ calls) told h m ends =
+synchronised : (d : Description) (client : ℕ) (past after : List Step) (view told : View) (calls : List Call)
+    → (phase : Phase) (left : List Event)
+    → client < opens past → IsMadeAnew d client view → AreMet d client past after calls
+    → EndsWith (ask_each (Discard client ∷ queries d client) view) calls (Ok told)
+    → IsInStep d after (record { client = client; queue = []; view = told; phase = phase; left = left })
+unfolding LeadsTo ask_each AreMet view_after_answer
+synchronised d client past after view told [] phase left h anew m ends = absurd cc
+synchronised d client past after view told (call ∷ calls) phase left h anew m ends =
     let next : View = view_after_answer view (Discard client) call.answer.reply call.answer.cells in
     let a : (is_accepted call.answer.reply ≡ true) × EndsWith (ask_each (queries d client) next) calls (Ok told) = accepted_if (is_accepted call.answer.reply) (ask_each (queries d client) next) call.answer.reply calls told ends.1 in
     let met : IsMet d client past m.0 call = m.1 in
     let entered : m.0 ≡ Discard client ∷ (met.others ++ past) = met.entered ∙ accepted-past call.answer.reply call.step (met.others ++ past) a.0 ∙ ap (λ (x : Step). x ∷ (met.others ++ past)) ends.0 in
     let none : calls_since d m.0 client ≡ [] = ap (λ (p : List Step). calls_since d p client) entered ∙ discard-step d (met.others ++ past) client in
-    let rest : IsAsked d client m.0 after (queries d client) next calls told = asks d client m.0 after (queries d client) next calls told (met-opens d client past m.0 call h m.1) (asks-queries d client) m.2 a.1 in
-    record {
-      asked = calls;
-      since = rest.since ∙ ap (λ (cs : List Call). cs ++ calls) none;
-      steps = rest.steps;
-      accepted = rest.accepted;
-      answered = AreMet-answered d client m.0 after calls m.2;
-      view_is = rest.view_is ∙ ap (λ (v : View). view_after_answers v calls) (discard-view client view call.answer.reply call.answer.cells);
-    }
+    in-step-anew d client m.0 after next told calls phase left (met-opens d client past m.0 call h met) none
+    anew m.2 a.1
 
 -- `next`
 
@@ -452,11 +407,10 @@ stands-renewed d client past r s needed = ends-meet (MetBy d client) (Renewed (S
     by : (after : List Step) (calls : List Call) (asked : Result View Reply) → Runs (MetBy d client) past calls after → EndsWith (ask_each (Discard r.client ∷ queries d r.client) r.view) calls asked → Renewed (StandsAs d client) (Leaves d) r after asked
     by after calls (Ok view) run ends =
         let m : AreMet d r.client past after calls = subst (λ (n : ℕ). AreMet d n past after calls) s.same (run-met d client past after calls run) in
-        let k : IsSynchronised d r.client past after r.view calls view = synchronised d r.client past after r.view calls view s.opened m ends in
         record {
           same = s.same;
           opened = opens-met d r.client past after calls s.opened m;
-          in_step = λ e. in-step-anew d after r.client k.asked r.view view Handing (after_full_sync r view).left k.since k.steps k.accepted k.answered k.view_is (s.anew needed);
+          in_step = λ e. synchronised d r.client past after r.view view calls Handing (after_full_sync r view).left s.opened (s.anew needed) m ends;
           anew = λ e. absurd cc;
         }
     by after calls (Err reply) run ends =
@@ -475,7 +429,7 @@ stands-rules d client mode = record {
   empty = λ p r s plain q. record { stands = record { opened = s.opened; in_step = s.in_step }; hands_out = tt };
   idles = λ p r s plain is. record { stands = record { opened = s.opened; in_step = s.in_step }; hands_out = tt };
   syncs = λ p r s needed. stands-renewed d client p r s needed;
-  makes = λ p r event left s handing sync is. record { stands = record { opened = s.opened; in_step = λ e. in-step-left d p r left (s.in_step e) }; hands_out = tt };
+  makes = λ p r event left s handing sync is. record { stands = record { opened = s.opened; in_step = λ e. in-step-moved d p p r r.phase left (s.in_step e) refl }; hands_out = tt };
   made_all = λ p r s handing sync is. record { stands = record { opened = s.opened; in_step = λ e. in-step-plain d p r (s.in_step (not_needed r.phase Handing handing refl)) }; hands_out = tt };
   goes_on = λ p r s handing is. record {
     same = s.same;
@@ -514,23 +468,20 @@ open-opens past client h = omega (arith, h)
 
 -- a call that is no use of the client leaves what it did
 pub met-unused : (d : Description) (client : ℕ) (past after : List Step) (call : Call) → client < opens past → IsMet d client past after call → is_use_of client call.step ≡ false → calls_since d after client ≡ calls_since d past client
-met-unused d client past after call h m unused = ap (λ (p : List Step). calls_since d p client) m.entered ∙ by (is_accepted call.answer.reply)
-  where
-    before : List Step
-    before = m.others ++ past
-
-    by : (b : Bool) → (let p : List Step = if b then call.step ∷ before else before in calls_since d p client ≡ calls_since d past client)
-    by true = quiet-step d before call.step client (opens-steps past m.others client h) unused ∙ quiet-steps d past m.others client h m.quiet
-    by false = quiet-steps d past m.others client h m.quiet
+met-unused d client past after call h m unused =
+    let before : List Step = m.others ++ past in
+    let quiet : calls_since d before client ≡ calls_since d past client = quiet-steps d past m.others client h m.quiet in
+    ap (λ (p : List Step). calls_since d p client) m.entered
+    ∙ cond_both (is_accepted call.answer.reply) _ _ (λ (p : List Step). calls_since d p client ≡ calls_since d past client)
+    (λ _. quiet-step d before call.step client (opens-steps past m.others client h) unused ∙ quiet) (λ _. quiet)
 
 -- what a start leaves once its queries ended
 pub stands-queried : (d : Description) (client ring : ℕ) (past after : List Step) (r : Reading) (asked : Result View Reply) (calls : List Call) → client < opens past → calls_since d past client ≡ [] → IsMadeAnew d client r.view → AreMet d client past after calls → EndsWith (ask_each (queries d client) r.view) calls asked
     → IsOpenInStep d after (after_queries client ring r asked).1
 stands-queried d client ring past after r (Ok view) calls opened none anew m h =
-    let a : IsAsked d client past after (queries d client) r.view calls view = asks d client past after (queries d client) r.view calls view opened (asks-queries d client) m h in
     record {
       opened = opens-met d client past after calls opened m;
-      in_step = λ needed. in-step-anew d after client calls r.view view Plain [] (a.since ∙ ap (λ (cs : List Call). cs ++ calls) none) a.steps a.accepted (AreMet-answered d client past after calls m) a.view_is anew;
+      in_step = λ needed. in-step-anew d client past after r.view view calls Plain [] opened none anew m h;
     }
 stands-queried d client ring past after r (Err reply) calls opened none anew m h =
     record { opened = opens-met d client past after calls opened m; in_step = λ needed. absurd (true≢false needed) }

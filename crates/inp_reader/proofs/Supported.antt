@@ -1,5 +1,5 @@
 -- A client takes no event that its device cannot have.
-use Rattle.std.proofs.Common.{◌≡◌, inl, inr, ℕ, zero, suc, nat_eq, nat_lt, nat_le, min, ℤ, pos, Bool, true, false, ◌&&◌, ◌||◌, not, List, [], ◌∷◌, ◌++◌, length, map, filter, take, refl, sym, ap, subst, ◌∙◌, arith, if◌then◌else◌, Option, Some, None}
+use Rattle.std.proofs.Common.{◌≡◌, inl, inr, ℕ, suc, nat_eq, nat_lt, nat_le, min, ℤ, pos, Bool, true, false, ◌&&◌, ◌||◌, not, List, [], ◌∷◌, ◌++◌, length, map, filter, take, refl, sym, ap, subst, ◌∙◌, arith, if◌then◌else◌, Option, Some, None}
 use Rattle.std.specs.Prelude.{int_lt, is_some, option_to_list, option_map}
 use Rattle.std.specs.Ordering.{int_eq}
 use Rattle.std.specs.List.{All}
@@ -38,15 +38,8 @@ neither : (b : Bool) → (not b && b) ≡ false
 neither true = refl
 neither false = refl
 
-no-slot : (v : ℤ) → (not (int_lt v (pos 0)) && int_lt v (pos 0)) ≡ false
-no-slot v = neither (int_lt v (pos 0))
-
 is_slot-none : (d : Description) (v : ℤ) → d.slots ≡ 0 → is_slot d v ≡ false
-is_slot-none d v h = ap (λ (n : ℕ). not (int_lt v (pos 0)) && int_lt v (pos n)) h ∙ no-slot v
-
-both_zero : (b : Bool) (x y : ℤ) → x ≡ pos 0 → y ≡ pos 0 → (if b then x else y) ≡ pos 0
-both_zero true x y h k = h
-both_zero false x y h k = k
+is_slot-none d v h = ap (λ (n : ℕ). not (int_lt v (pos 0)) && int_lt v (pos n)) h ∙ neither (int_lt v (pos 0))
 
 never_staged : (b c : Bool) (x y : ℤ) → c ≡ false → y ≡ pos 0 → (if b && c then x else y) ≡ pos 0
 never_staged true true x y h k = absurd (true≢false h)
@@ -63,7 +56,7 @@ announced-none : (d : Description) (r : List RawItem) → d.slots ≡ 0 → anno
 unfolding announced
 announced-none d [] h = refl
 announced-none d (Described code axis ∷ r) h = announced-none d r h
-announced-none d (Occurred e ∷ r) h = both_zero (passes_slot_value d r e) (staged d r) (announced d r) (staged-none d r h) (announced-none d r h)
+announced-none d (Occurred e ∷ r) h = cond_both (passes_slot_value d r e) _ _ (λ (z : ℤ). z ≡ pos 0) (λ _. staged-none d r h) (λ _. announced-none d r h)
 
 announces-none : (d : Description) (r : List RawItem) (e : Event) → d.slots ≡ 0 → announces d r e ≡ false
 announces-none d r e h =
@@ -72,11 +65,7 @@ announces-none d r e h =
     ∙ elim (passes_slot_value d r e) as (λ b. (b && false) ≡ false) [ true ↦ refl | false ↦ refl ]
 
 has_slots : (d : Description) → (d.slots ≡ 0 → ⊥) → nat_lt 0 d.slots ≡ true
-has_slots d h = some (d.slots) h
-  where
-    some : (n : ℕ) → (n ≡ 0 → ⊥) → nat_lt 0 n ≡ true
-    some zero k = absurd (k refl)
-    some (suc n) k = lt-ltb 0 (suc n) (omega arith)
+has_slots d h = lt-ltb 0 d.slots (omega (arith, h))
 
 announcement-of : (d : Description) (r : List RawItem) (e : Event) → All (IsOf d) (announcement d r e)
 announcement-of d r e =
@@ -132,13 +121,8 @@ passed-of d r e =
 
 -- Frames
 
-if-nil : {X : Type 0} (P : X → Type 0) (b : Bool) (xs : List X) → All P xs → All P (if b then [] else xs)
-if-nil P true xs h = All-nil P
-if-nil P false xs h = h
-
-if-some : {X : Type 0} (P : X → Type 0) (b : Bool) (xs : List X) → All P xs → All P (if b then xs else [])
-if-some P true xs h = h
-if-some P false xs h = All-nil P
+one-of : {X : Type 0} (P : X → Type 0) (b : Bool) (xs ys : List X) → All P xs → All P ys → All P (if b then xs else ys)
+one-of P b xs ys h k = cond_both b xs ys (All P) (λ _. h) (λ _. k)
 
 pending-of : (d : Description) (r : List RawItem) → All (IsOf d) (pending d r)
 unfolding pending
@@ -147,7 +131,8 @@ pending-of d (Described code axis ∷ r) = pending-of d r
 pending-of d (Occurred e ∷ r) =
     let batch : List Event = pending d r ++ passed d r e in
     let all : All (IsOf d) batch = All-append (IsOf d) (pending d r) (passed d r e) (pending-of d r) (passed-of d r e) in
-    if-nil (IsOf d) (is_report e) (if nat_le d.hint (length batch) then [] else batch) (if-nil (IsOf d) (nat_le d.hint (length batch)) batch all)
+    one-of (IsOf d) (is_report e) [] (if nat_le d.hint (length batch) then [] else batch) (All-nil (IsOf d))
+    (one-of (IsOf d) (nat_le d.hint (length batch)) [] batch (All-nil (IsOf d)) all)
 
 abbrev AllSome : Description → Option (List Event) → Type 0
 AllSome d None = Unit {0}
@@ -195,22 +180,19 @@ frames-of d past x = All-map (IsFrameOf d) (frame_of past x) (cuts_of_step d pas
 abbrev IsEntryOf : Description → Entry → Type 0
 IsEntryOf d e = is_event_of d (event_of e) ≡ true
 
-kept-of : (d : Description) (e : Event) (rest : List Event) (here : Bool) → IsOf d e → All (IsOf d) rest → All (IsOf d) (if here then e ∷ rest else rest)
-kept-of d e rest true h k = All-cons (IsOf d) e rest h k
-kept-of d e rest false h k = k
-
 -- so are those that are left, whatever is eaten
 left_from-of : (d : Description) (eats : ℕ → Bool) (k : ℕ) (es : List Event) → All (IsOf d) es → All (IsOf d) (left_from eats k es)
 left_from-of d eats k [] h = All-nil (IsOf d)
 left_from-of d eats k (e ∷ es) h =
-    kept-of d e (left_from eats (suc k) es) (is_left eats k e) (All-head (IsOf d) e es h) (left_from-of d eats (suc k) es (All-tail (IsOf d) e es h))
+    (let rest : All (IsOf d) (left_from eats (suc k) es) = left_from-of d eats (suc k) es (All-tail (IsOf d) e es h) in
+    one-of (IsOf d) (is_left eats k e) (e ∷ left_from eats (suc k) es) (left_from eats (suc k) es) (All-cons (IsOf d) e _ (All-head (IsOf d) e es h) rest) rest)
 
 entries_of-of : (d : Description) (client : ℕ) (f : Frame) → IsFrameOf d f → All (IsEntryOf d) (entries_of d client f)
 entries_of-of d client f h =
     let all : List Event = left (eaten d) f in
     let some : List Event = filter (admits f.before client) all in
-    if-some (IsEntryOf d) (is_offered f.before client) (map (entry d client f) some)
-    (All-map (IsEntryOf d) (entry d client f) some (All-filter (admits f.before client) (IsOf d) all (left_from-of d (eaten d f) 0 f.cut.events h)))
+    one-of (IsEntryOf d) (is_offered f.before client) (map (entry d client f) some) []
+    (All-map (IsEntryOf d) (entry d client f) some (All-filter (admits f.before client) (IsOf d) all (left_from-of d (eaten d f) 0 f.cut.events h))) (All-nil (IsEntryOf d))
 
 entries-of : (d : Description) (client : ℕ) (fs : List Frame) → All (IsFrameOf d) fs → All (IsEntryOf d) (entries d client fs)
 entries-of d client [] h = All-nil (IsEntryOf d)
@@ -246,10 +228,6 @@ left_by_call-of d past (Discard client) q h = All-drop (IsEntryOf d) (visible ev
 left_by_call-of d past (ToClock client clock now) q h = clock_changed-of d (is_same_clock (clock_of past client) clock) past clock now q h
 left_by_call-of d past x q h = flush_for-of d (query_of x) q h
 
-one-of : {X : Type 0} (P : X → Type 0) (b : Bool) (xs ys : List X) → All P xs → All P ys → All P (if b then xs else ys)
-one-of P true xs ys h k = h
-one-of P false xs ys h k = k
-
 queue-of : (d : Description) (past : List Step) (client : ℕ) → All (IsEntryOf d) (queue d past client)
 unfolding queue_with
 queue-of d [] client = All-nil (IsEntryOf d)
@@ -267,7 +245,8 @@ IsTakenOf d t = is_event_of d t.event ≡ true
 taken_by-of : (d : Description) (past : List Step) (client : ℕ) (x : Step) → All (IsEntryOf d) (taken_by d past client x)
 taken_by-of d past client (Read reader count) =
     let q : List Entry = queue d past client in
-    if-some (IsEntryOf d) (nat_eq reader client) (take (min count (visible event_of q)) q) (All-take (IsEntryOf d) (min count (visible event_of q)) q (queue-of d past client))
+    one-of (IsEntryOf d) (nat_eq reader client) (take (min count (visible event_of q)) q) []
+    (All-take (IsEntryOf d) (min count (visible event_of q)) q (queue-of d past client)) (All-nil (IsEntryOf d))
 taken_by-of d past client _ = All-nil (IsEntryOf d)
 
 accepted-of : (d : Description) (past : List Step) (x : Step) → All (IsTakenOf d) (accepted d past x).events

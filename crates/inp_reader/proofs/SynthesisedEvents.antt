@@ -1,10 +1,10 @@
 -- The synthesised events, index by index.
 use Rattle.std.proofs.Common.{◌≡◌, ℕ, zero, suc, ◌+◌, ◌-◌, ◌<◌, ◌≤◌, ℤ, pos, Bool, true, false, cond, if◌then◌else◌, List, [], ◌∷◌, ◌++◌, length, map, take, drop, refl, sym, ap, ◌∙◌, arith, append-nil, append_assoc, zero-add, ◌||◌, Some, get_or, length-drop, length-append}
 use Rattle.std.specs.List.{slice_get, range_with_len, filter, list_any}
-use Rattle.std.proofs.lemmas.List.{map-append, take_more, get_or-drop, take-append-le}
+use Rattle.std.proofs.lemmas.Bool.{or_right}
+use Rattle.std.proofs.lemmas.List.{map-append, take_more, get_or-drop, take_at, drop_at}
 use Rattle.std.proofs.lemmas.List.Folds.{list_any-append}
 use Rattle.std.proofs.lemmas.Option.{get_or_from_slice_get}
-use Rattle.std.proofs.Math.Seq.{take-length, drop-append_seam}
 use Rattle.inp_model.specs.Event.{slot_event}
 use Rattle.inp_recon.proofs.Folds.{view_after_events-append}
 use Rattle.std.proofs.lemmas.List.Elements.{filter-append}
@@ -122,10 +122,6 @@ any-none_more test first code from h k =
     ∙ ap (λ (i : ℕ). test i || false) f
     ∙ ap (λ (b : Bool). b || false) k
 
-or_true : (b rest : Bool) → (b || (true || rest)) ≡ true
-or_true true rest = refl
-or_true false rest = refl
-
 pub any-there : (test : ℕ → Bool) (first n code : ℕ) → first ≤ code → code < first + n → test code ≡ true → list_any test (range_with_len first n) ≡ true
 any-there test first n code from h t =
     let k : ℕ = code - first in
@@ -137,7 +133,7 @@ any-there test first n code from h t =
     ∙ list_any-append test (range_with_len first k) (range_with_len (first + k) (suc m))
     ∙ ap (λ (i : ℕ). list_any test (range_with_len first k) || list_any test (range_with_len i (suc m))) f
     ∙ ap (λ (b : Bool). list_any test (range_with_len first k) || (b || list_any test (range_with_len (code + 1) m))) t
-    ∙ or_true (list_any test (range_with_len first k)) (list_any test (range_with_len (code + 1) m))
+    ∙ or_right (list_any test (range_with_len first k)) true refl
 
 -- The same numbers, counted from another one on
 
@@ -205,12 +201,6 @@ report_follows : (list : List Event) → (more : List Event) × (with_report lis
 report_follows [] = ([], refl)
 report_follows (e ∷ es) = (report ∷ [], refl)
 
-take-front : (front behind : List Event) (n : ℕ) → n ≡ length front → take n (front ++ behind) ≡ front
-take-front front behind n h = take-append-le n front behind (omega (arith, h)) ∙ ap (λ (k : ℕ). take k front) h ∙ take-length front
-
-drop-front : (front behind : List Event) (n : ℕ) → n ≡ length front → drop n (front ++ behind) ≡ behind
-drop-front front behind n h = ap (λ (k : ℕ). drop k (front ++ behind)) h ∙ drop-append_seam front behind
-
 pub record IsFilled (old new old1 old2 : View) (l0 l1 l2 l3 l4 l5 : List Event) (ended start first end : ℕ) : Type 0 where
   pub none : l0 ≡ []
   pub lifted : l1 ≡ l0 ++ lifts old new
@@ -234,18 +224,18 @@ first_group old new old1 old2 l0 l1 l2 l3 l4 l5 ended start first end w =
     let n : ended - 0 ≡ length l1 = omega (arith, w.is_ended) in
     w.applied
     ∙ ap (λ (xs : List Event). view_after_events old (take (ended - 0) xs)) whole
-    ∙ ap (λ (xs : List Event). view_after_events old xs) (take-front l1 (more.0 ++ class_changes old new) (ended - 0) n ∙ is)
+    ∙ ap (λ (xs : List Event). view_after_events old xs) (take_at l1 (more.0 ++ class_changes old new) (ended - 0) (sym n) ∙ is)
 
 -- and then the changes of the slots
 second_group : (old new old1 old2 : View) (l0 l1 l2 l3 l4 l5 : List Event) (ended start first end : ℕ) → IsFilled old new old1 old2 l0 l1 l2 l3 l4 l5 ended start first end → old2 ≡ view_after_events old1 (cell_changes old1 new)
 second_group old new old1 old2 l0 l1 l2 l3 l4 l5 ended start first end w =
     let cells : List Event = cell_changes old1 new in
-    let rest : drop first l4 ≡ cells = ap (λ (xs : List Event). drop first xs) w.cells ∙ drop-front l3 cells first w.is_first in
+    let rest : drop first l4 ≡ cells = ap (λ (xs : List Event). drop first xs) w.cells ∙ drop_at l3 cells first (sym w.is_first) in
     let n : end - first ≡ length cells = omega (arith, w.is_end, w.is_first, ap length w.cells, length-append l3 cells) in
     w.applied_again
     ∙ ap (λ (xs : List Event). view_after_events old1 (take (end - first) xs)) rest
     ∙ ap (λ (xs : List Event). view_after_events old1 (take (end - first) xs)) (sym (append-nil cells))
-    ∙ ap (λ (xs : List Event). view_after_events old1 xs) (take-front cells [] (end - first) n)
+    ∙ ap (λ (xs : List Event). view_after_events old1 xs) (take_at cells [] (end - first) (sym n))
 
 pub group_behind : (old new old1 old2 : View) (l0 l1 l2 l3 l4 l5 : List Event) (ended start first end : ℕ) → IsFilled old new old1 old2 l0 l1 l2 l3 l4 l5 ended start first end → l5 ≡ l2 ++ (class_changes old new ++ slot_changes (view_after_events old (lifts old new)) new)
 group_behind old new old1 old2 l0 l1 l2 l3 l4 l5 ended start first end w =

@@ -1,7 +1,7 @@
 -- The views that a reader keeps: no event and no answer sets an axis whose values belong to slots.
 use Rattle.std.proofs.Common.{◌≡◌, ◌≢◌, ℕ, ◌*◌, ◌≤◌, ℤ, pos, Bool, true, false, cond, not, ◌&&◌, leb, ltb, eqb, List, [], length, set, refl, sym, ap, ◌∙◌, arith, inl, inr, Option, Some, None, subst}
 use Rattle.std.proofs.lemmas.List.{get_or-set_other, get_or-replicate}
-use Rattle.std.proofs.lemmas.Bool.{and_parts, and_from, le-leb, not-true, true≢false}
+use Rattle.std.proofs.lemmas.Bool.{cond_both, and_parts, and_from, le-leb, not-true, true≢false}
 use Rattle.inp_model.specs.declared.event.TheConstants.{EV_ABS}
 use Rattle.inp_model.specs.declared.event.Event.{Event}
 use Rattle.inp_model.specs.declared.step.Step.{Step}
@@ -29,7 +29,7 @@ multi_touch : (code : ℕ) → 47 ≤ code → code ≤ 61 → is_multi_touch_co
 multi_touch code from to = and_from (leb 47 code) (leb code 61) (le-leb 47 code from) (le-leb code 61 to)
 
 -- an axis of another code stays
-other-stays : (axes : List ℤ) (code other : ℕ) (x : ℤ) → code ≢ other → value_at (with_value_at 64 axes other x) code ≡ value_at axes code
+pub other-stays : (axes : List ℤ) (code other : ℕ) (x : ℤ) → code ≢ other → value_at (with_value_at 64 axes other x) code ≡ value_at axes code
 other-stays axes code other x h =
     let there : value_at (set axes other x) code ≡ value_at axes code = get_or-set_other axes other code x (pos 0) h in
     elim (ltb other 64) as (λ b. value_at (cond b (set axes other x) axes) code ≡ value_at axes code) [ true ↦ there | false ↦ refl ]
@@ -47,11 +47,9 @@ axis-event axes code e false h t = refl
 
 -- after an answer
 axis-reply : (axes : List ℤ) (code asked : ℕ) (reply : Reply) → is_multi_touch_code code ≡ true → value_at (axes_after_reply asked reply axes) code ≡ value_at axes code
-axis-reply axes code asked (Axis at info) h = axis_told axes code asked info.value (is_multi_touch_code asked) h refl
-  where
-    axis_told : (axes : List ℤ) (code asked : ℕ) (x : ℤ) (b : Bool) → is_multi_touch_code code ≡ true → is_multi_touch_code asked ≡ b → value_at (cond b axes (with_value_at 64 axes asked x)) code ≡ value_at axes code
-    axis_told axes code asked x true h m = refl
-    axis_told axes code asked x false h m = other-stays axes code asked x (apart code asked h m)
+axis-reply axes code asked (Axis at info) h =
+    cond_both (is_multi_touch_code asked) _ _ (λ (xs : List ℤ). value_at xs code ≡ value_at axes code)
+    (λ _. refl) (λ m. other-stays axes code asked info.value (apart code asked h m))
 axis-reply axes code asked _ h = refl
 
 axis-answer : (axes : List ℤ) (code : ℕ) (x : Step) (reply : Reply) → is_multi_touch_code code ≡ true → value_at (axes_after_answer x reply axes) code ≡ value_at axes code
