@@ -1,12 +1,12 @@
 -- Words of text: ASCII, and text.
-use Rattle.std.proofs.Common.{◌≡◌, ℕ, ◌<◌, ◌≤◌, Bor, Bool, true, false, cond, length, List, [], ◌∷◌, filter, refl, arith}
+use Rattle.std.proofs.Common.{◌≡◌, ℕ, ◌<◌, ◌≤◌, Bor, Bool, true, false, cond, length, List, [], ◌∷◌, refl, arith}
 use Rattle.std.specs.List.{list_all, slice_split, onto_first}
 use Rattle.std.specs.Str.{IsUtf8}
 use Rattle.std.proofs.lemmas.Str.{IsUtf8-from_ascii}
 use Rattle.std.proofs.lemmas.Bool.Decides.{nat_tests}
 use Rattle.std.proofs.lemmas.List.Elements.{All-filter}
 use Rattle.std.proofs.lemmas.List.Sums.{AllPass-from_list_all, list_all-from_AllPass}
-use Rattle.std.proofs.lemmas.Bool.{and_parts, and_from}
+use Rattle.std.proofs.lemmas.Bool.{and_parts}
 use Rattle.inp_words.specs.Line.{is_text, is_text_byte, is_blank, is_word, words_of, AreText}
 use Rattle.inp_codes.specs.ByNumber.{texts}
 use Rattle.inp_words.proofs.NameWords.{bytes_are_ascii}
