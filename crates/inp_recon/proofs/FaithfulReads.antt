@@ -2,7 +2,11 @@
 use Rattle.std.proofs.Common.{◌≡◌, ◌<◌, ◌≤◌, ℕ, zero, suc, ◌+◌, ◌/◌, ◌%◌, ℤ, pos, Bool, true, false, ◌&&◌, ◌||◌, not, if◌then◌else◌, nat_eq, nat_lt, nat_le, min, List, [], ◌∷◌, length, map, take, get_or, refl, sym, ap, subst, ◌∙◌, arith, Option, Some, None, inl, inr}
 use Rattle.std.specs.Prelude.{slice_get}
 use Rattle.std.specs.List.{list_all, range_with_len}
-use Rattle.std.proofs.lemmas.Bool.{eq-eqb, ne_eqb, lt-ltb, le-leb, cases_lt, cases_order, and_from, not-true, and_right, not-false}
+use Rattle.std.proofs.Math.Bool.{and-true}
+use Rattle.std.proofs.lemmas.List.Elements.{All-get_or}
+use Rattle.std.proofs.lemmas.List.FromFn.{get_or-range_with_len, length-range_with_len}
+use Rattle.std.proofs.lemmas.List.Sums.{AllPass-from_list_all}
+use Rattle.std.proofs.lemmas.Bool.{eq-eqb, ne_eqb, lt-ltb, le-leb, cases_lt, and_from, not-true, and_right, not-false}
 use Rattle.std.proofs.lemmas.List.{get_or_past, ext_get_or}
 use Rattle.inp_model.specs.declared.event.TheConstants.{EV_KEY, EV_ABS, EV_SW, EV_LED, KEY_MAX, SW_MAX, LED_MAX, ABS_MAX}
 use Rattle.inp_model.specs.declared.multi_touch.TheConstants.{ABS_MT_TOUCH_MAJOR, ABS_MT_TOOL_Y}
@@ -52,16 +56,12 @@ none_first : (b : Bool) (x : Reply) (rest : Option Reply) → (if b then Some x 
 none_first true x rest h = let bad : Some x ≡ None = h in absurd cc
 none_first false x rest h = (refl, h)
 
-and-false : (b : Bool) → (b && true) ≡ false → b ≡ false
-and-false true h = h
-and-false false h = refl
-
 -- its client is open and not revoked
 pub receives-read : (eats : Eats) (d : Description) (past : List Step) (client count : ℕ) → refused_with eats d past (Read client count) ≡ None → Receives past client
 receives-read eats d past client count h =
     let first = none_first (not (is_open past client)) _ _ h in
     let second = none_first (is_revoked past client && true) _ _ first.1 in
-    record { is_there = not-false _ first.0; unrevoked = and-false _ second.0 }
+    record { is_there = not-false _ first.0; unrevoked = sym (and-true _) ∙ second.0 }
 
 pub taken-read : (eats : Eats) (d : Description) (past : List Step) (client count : ℕ) → taken_by_with eats d past client (Read client count) ≡ take (min count (visible event_of (queue_with eats d past client))) (queue_with eats d past client)
 taken-read eats d past client count =
@@ -214,16 +214,6 @@ flag-read eats d past client count kind skips on flags_count part flags c receiv
 
 -- ---- axes
 
-all_within : (p : ℕ → Bool) (a n k : ℕ) → list_all p (range_with_len a n) ≡ true → a ≤ k → k < a + n → p k ≡ true
-all_within p a zero k h low high = absurd (omega arith)
-all_within p a (suc n) k h low high = elim (cases_order k a) [
-  | inl same ↦ ap p same ∙ and-left (p a) _ h
-  | inr other ↦ elim other [
-    | inl below ↦ absurd (omega arith)
-    | inr above ↦ all_within p (a + 1) n k (and-right (p a) _ h) (omega arith) (omega arith)
-  ]
-]
-
 -- a supported axis is one of the first 64
 axis-within : (d : Description) → IsDescription d → (code : ℕ) → has_axis d code ≡ true → code < 64
 axis-within d described code has = elim (cases_lt code 64) [
@@ -245,9 +235,14 @@ axis-read eats d past client count described receives j f report followed code h
     let v : View = client_view_with eats d past client in
     let taken : List Entry = take (suc j) (taken_by_with eats d past client (Read client count)) in
     let all = all-asked eats d past client taken followed.synchronised in
+    let axes : List ℕ = range_with_len 0 64 in
+    let here : get_or axes code 0 ≡ code = get_or-range_with_len 0 64 code 0 within ∙ omega arith in
+    let where_has : ℕ → Bool = λ c. has_asked_where (has_axis d c) (OneAxis c) past client in
+    let each = AllPass-from_list_all where_has axes all.axes in
     let asked : has_asked (OneAxis code) past client ≡ true =
     asked_where (has_axis d code) (has_asked (OneAxis code) past client) has
-    (all_within (λ c. has_asked_where (has_axis d c) (OneAxis c) past client) 0 (ABS_MAX + 1) code all.axes (omega arith) (omega arith)) in
+    (ap where_has (sym here)
+    ∙ All-get_or (λ c. where_has c ≡ true) axes code 0 (omega (arith, length-range_with_len 0 64)) each) in
     axis-after_events eats d client code has within v (map event_of taken) (client_view_with-sized eats d past client)
     ∙ read-says eats d past client count (axis_after code) (λ r. axis_value d r code) (get_or v.axes code (pos 0))
     (axis-stands eats d client code has within past receives all.before asked) j f report followed

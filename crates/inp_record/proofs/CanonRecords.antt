@@ -1,5 +1,6 @@
 -- The canonical items of a record of accepted lines are accepted, and the record is theirs again.
 use Rattle.std.proofs.Common.{◌≡◌, ℕ, Bool, true, false, ◌&&◌, ◌||◌, nat_eq, nat_lt, is_some, List, [], ◌∷◌, ◌++◌, length, map, Option, Some, None, refl, sym, ap, ◌∙◌, subst, arith, append-nil}
+use Rattle.std.proofs.Math.Bool.{and-false}
 use Rattle.std.proofs.lemmas.Bool.{not-false}
 use Rattle.inp_model.specs.declared.filter.Filter as filter
 use Rattle.inp_model.specs.Description.{Description}
@@ -67,18 +68,11 @@ pub record IsSound (c : Context) : Type 0 where
   pub slots : has_too_many_slots c (Slots c.builder.slots) ≡ false
   pub filters : are_early c.version c.builder.filters ≡ false
 
-few_none : (version : ℕ) → (nat_eq version 1 && false) ≡ false
-few_none version = by_version (nat_eq version 1)
-  where
-    by_version : (is : Bool) → (is && false) ≡ false
-    by_version true = refl
-    by_version false = refl
-
 slots_after : (c : Context) (i : Item) → IsAccepted c i → IsSound c → has_too_many_slots (after i c) (Slots (after i c).builder.slots) ≡ false
 slots_after c (Header version) a s =
     let P : Context → Type 0 = λ x. (nat_eq version 1 && nat_lt SLOTS_OF_VERSION_1 x.builder.slots) ≡ false in
-    subst P (sym (s.first (not-false (is_first_place c.place) a.in_place))) (few_none version)
-slots_after c (Device requested name) a s = few_none c.version
+    subst P (sym (s.first (not-false (is_first_place c.place) a.in_place))) (and-false (nat_eq version 1))
+slots_after c (Device requested name) a s = and-false (nat_eq c.version 1)
 slots_after c (Slots count) a s = a.few_slots
 slots_after c (Code kind code) a s = ap (λ (n : ℕ). nat_eq c.version 1 && nat_lt SLOTS_OF_VERSION_1 n) (code_slots (with_kind c.builder kind) kind code) ∙ s.slots
 slots_after c i a s = s.slots

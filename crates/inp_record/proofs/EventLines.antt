@@ -6,7 +6,6 @@ use Rattle.inp_actors.specs.declared.role.Role.TheVariants as roles
 use Rattle.inp_record.specs.declared.cause.Cause.TheVariants.{BadHeader}
 use Rattle.inp_record.specs.declared.context.Context.{Context}
 use Rattle.inp_record.specs.declared.keyword.Keyword as keyword
-use Rattle.inp_record.specs.declared.keyword.Keyword.TheVariants as keywords
 use Rattle.inp_record.specs.declared.verb.Verb as verb
 use Rattle.inp_record.specs.declared.verb.Verb.TheVariants as verbs
 use Rattle.inp_record.specs.Keyword.{keyword_of}

@@ -1,11 +1,11 @@
 -- What all pasts keep that lines can have.
-use Rattle.std.proofs.Common.{◌≡◌, ℕ, zero, suc, ◌+◌, ◌<◌, ◌≤◌, ◌^◌, Bool, true, false, ◌||◌, not, is_some, if◌then◌else◌, ◌*◌, nat_le, List, [], ◌∷◌, ◌++◌, length, replicate, Option, Some, None, Ok, refl, sym, ap, ◌∙◌, subst, arith, length-append, ◌⊎◌, inl, inr}
+use Rattle.std.proofs.Common.{◌≡◌, ℕ, ◌+◌, ◌<◌, ◌≤◌, ◌^◌, Bool, true, false, ◌||◌, not, is_some, if◌then◌else◌, ◌*◌, nat_le, List, [], ◌∷◌, ◌++◌, length, replicate, Option, Some, None, Ok, refl, sym, ap, ◌∙◌, subst, arith, length-append, ◌⊎◌, inl, inr}
 use Rattle.std.specs.Prelude.{slice_get}
 use Rattle.std.specs.List.{range_with_len}
 use Rattle.std.proofs.lemmas.Bool.Decides.{nat_tests}
 use Rattle.std.proofs.lemmas.Grind.{flat_map-append}
-use Rattle.std.proofs.lemmas.List.{append-nil}
-use Rattle.std.proofs.lemmas.Option.{slice_get_within}
+use Rattle.std.proofs.lemmas.List.{append-nil, length-replicate}
+use Rattle.std.proofs.lemmas.Option.{slice_get_within, get_or_from_slice_get}
 use Rattle.inp_model.specs.declared.stamped.Stamped.{Stamped}
 use Rattle.inp_model.specs.Description.{Description}
 use Rattle.inp_actors.specs.declared.actor_text.ActorText.{ActorText}
@@ -19,9 +19,11 @@ use Rattle.inp_actors.specs.declared.role.Role.TheVariants as roles
 use Rattle.inp_actors.specs.Command.{is_command_of, is_in_range, is_source, is_owner, is_reading, stream_of}
 use Rattle.inp_actors.specs.Record.{streams_of, IsRecord}
 use Rattle.inp_model.specs.Injection.{AreInTime}
+use Rattle.inp_model.proofs.Descriptions.{get_or-replicate_same}
+use Rattle.inp_model.proofs.Injection.{range-append}
 use Rattle.inp_record.specs.declared.item.Item as item
 use Rattle.inp_record.specs.declared.item.Item.TheVariants.{Header, Device, Actor, Action}
-use Rattle.std.proofs.lemmas.Bool.{not-false}
+use Rattle.std.proofs.lemmas.Bool.{not-false, or_left}
 use Rattle.inp_record.specs.declared.context.Context.{Context}
 use Rattle.inp_record.specs.declared.context.TheConstants.{DEVICES_MAX, SOURCES_MAX, READERS_MAX, OWNERS_MAX, STREAMS_MAX}
 use Rattle.inp_record.specs.declared.place.Place.{Place}
@@ -56,13 +58,6 @@ begun_room c requested name room h =
       boottime = omega arith;
     }
 
-range_on : (a n m : ℕ) → range_with_len a (n + m) ≡ range_with_len a n ++ range_with_len (a + n) m
-range_on a zero m = let z : 0 + m ≡ m = omega arith in let w : a + 0 ≡ a = omega arith in rw (z, w) refl
-range_on a (suc n) m =
-    let next : suc n + m ≡ suc (n + m) = omega arith in
-    let same : a + 1 + n ≡ a + suc n = omega arith in
-    rw (next, range_on (a + 1) n m, same) refl
-
 -- an owner stands where an actor may, under a device made by requests
 pub owner_parts : (a b : Bool) → (not a || not b) ≡ false → (a ≡ true) × (b ≡ true)
 owner_parts true true e = (refl, refl)
@@ -96,10 +91,6 @@ pub record IsGood (c : Context) : Type 0 where
   pub named : (is_describing c.place || is_naming c.place) ≡ true → is_some c.name ≡ true
   pub actors : AreGoodActors c.name c.requested c.devices c.actors c.sources c.readers c.owners
   pub lines : AreGoodLines c.actors c.lines c.streams
-
-or_left : (a b : Bool) → a ≡ true → (a || b) ≡ true
-or_left true b h = refl
-or_left false b h = absurd (cc h)
 
 -- a device
 
@@ -257,7 +248,7 @@ action_added c actor does a good =
             ∙ ap (λ (l : List ℕ). l ++ stream_of does) old.numbered
             ∙ ap (λ (l : List ℕ). range_with_len 0 c.streams ++ l) fit.stream
             ∙ ap (λ (k : ℕ). range_with_len 0 c.streams ++ range_with_len k (streams_in does)) (omega arith)
-            ∙ sym (range_on 0 c.streams (streams_in does));
+            ∙ sym (range-append 0 c.streams (streams_in does));
         few = grind (arith, nat_tests, a.few);
       };
     }
@@ -309,15 +300,6 @@ few_lines [] = omega arith
 few_lines (Action actor does ∷ past) = omega (arith, length-append (context_of past).lines (record { actor = actor; command = does } ∷ []), few_lines past)
 few_lines (i ∷ past) = let h = few_lines past in omega (arith, h)
 
-empty_get : (n i : ℕ) (x : List Stamped) → slice_get (replicate n []) i ≡ Some x → AreInTime x
-empty_get zero i x h = absurd (cc h)
-empty_get (suc n) zero x h = let e : [] ≡ x = cc h in let P : List Stamped → Type 0 = AreInTime in subst P e (λ i s g. absurd (cc g))
-empty_get (suc n) (suc i) x h = empty_get n i x h
-
-empty_length : (n : ℕ) → length (replicate {A = List Stamped} n []) ≡ n
-empty_length zero = refl
-empty_length (suc n) = omega (arith, empty_length n)
-
 -- what lines mean is a record
 pub IsRecord-read : (lines : List (List ℕ)) (past : Past) → length lines < 2 ^ 32 → behind_lines 1 lines [] ≡ Ok past → IsRecord (record_of_past past)
 IsRecord-read lines past h e =
@@ -326,7 +308,7 @@ IsRecord-read lines past h e =
     let g = good past is.0 in
     let actors : AreGoodActors c.name c.requested c.devices c.actors c.sources c.readers c.owners = g.actors in
     let ls : AreGoodLines c.actors c.lines c.streams = g.lines in
-    let few = empty_length c.streams in
+    let few : length (replicate {A = List Stamped} c.streams []) ≡ c.streams = length-replicate c.streams [] in
     let count : length (devices_of c) ≡ length c.devices + (if is_some c.name then 1 else 0) = closed_length c.devices c.name c.requested (built c.builder) in
     let most : length c.actors ≤ 137 * length (devices_of c) + 0 = begun_all (length c.actors) (length c.devices) (length (devices_of c)) (c.sources + c.readers + c.owners) (is_some c.name) actors.all actors.latest count in
     record {
@@ -338,7 +320,9 @@ IsRecord-read lines past h e =
       commands = λ i l x k at. (ls.commands i l x k at).0;
       ranges = λ i l x k at. (ls.commands i l x k at).1;
       numbered = rw few ls.numbered;
-      in_time = λ i x k. empty_get c.streams i x k;
+      in_time = λ i x k.
+          let is : [] ≡ x = sym (get_or-replicate_same c.streams i []) ∙ get_or_from_slice_get _ i x [] k in
+          subst AreInTime is (λ j s g. absurd (cc g));
       few_devices = omega (arith, count, actors.few_devices);
       few_actors = omega (arith, most, count, actors.few_devices);
       few_lines = omega (arith, few_lines past, is.1);

@@ -1,7 +1,7 @@
 -- Commands as rows of their table, written and read again.
 use Rattle.std.proofs.Common.{◌≡◌, ℕ, ◌≤◌, true, nat_le, List, ◌∷◌, length, Some, refl, arith, Bool, false, ◌&&◌, if◌then◌else◌, nat_eq, [], map, Option, None, bytes_eq, IfSome, sym, subst, ◌-◌, codes, Ok, ap, ◌∙◌}
 use Rattle.std.specs.List.{list_all, range_with_len}
-use Rattle.std.proofs.lemmas.Bool.{and_from}
+use Rattle.std.proofs.lemmas.Bool.{and_from, le-leb}
 use Rattle.std.proofs.lemmas.Bool.Decides.{nat_tests}
 use Rattle.inp_model.specs.declared.stamped.TheConstants.{MOMENT_MAX}
 use Rattle.inp_actors.specs.declared.command.TheConstants.{READ_MAX}
@@ -79,24 +79,21 @@ unfolding command_row
 row_stream stream r verbs.Stream vs = refl
 row_stream stream r v vs = refl
 
-at_most : (n most : ℕ) → n ≤ most → nat_le n most ≡ true
-at_most n most h = grind (arith, nat_tests)
-
 count_of : (r : role.Role) (n : ℕ) → n ≤ count_max r → is_count_of r n ≡ true
 count_of roles.Joy n h = refl
-count_of roles.Source n h = at_most n READ_MAX h
-count_of r n h = at_most n READ_MAX h
+count_of roles.Source n h = le-leb n READ_MAX h
+count_of r n h = le-leb n READ_MAX h
 
 -- values that fields can say are in the ranges of the command
 pub row_range : (P : List ℕ → Type 0) (stream : ℕ) (r : role.Role) (v : verb.Verb) (vs : Values (command_row stream r v).fields) → FitsFields P (command_row stream r v).fields vs → is_in_range r (row_command (command_row stream r v) vs) ≡ true
 unfolding command_row
-row_range P stream r verbs.Event vs h = at_most vs.0 MOMENT_MAX h.0
-row_range P stream r verbs.Tick vs h = at_most vs.0 MOMENT_MAX h.0
-row_range P stream r verbs.Inhibit vs h = at_most vs.0 MOMENT_MAX h.0
-row_range P stream r verbs.Clock vs h = at_most vs.1.0 MOMENT_MAX h.1.0
-row_range P stream r verbs.Write vs h = at_most vs.0 MOMENT_MAX h.0
+row_range P stream r verbs.Event vs h = le-leb vs.0 MOMENT_MAX h.0
+row_range P stream r verbs.Tick vs h = le-leb vs.0 MOMENT_MAX h.0
+row_range P stream r verbs.Inhibit vs h = le-leb vs.0 MOMENT_MAX h.0
+row_range P stream r verbs.Clock vs h = le-leb vs.1.0 MOMENT_MAX h.1.0
+row_range P stream r verbs.Write vs h = le-leb vs.0 MOMENT_MAX h.0
 row_range P stream r verbs.Read vs h = count_of r vs.0 h.0
-row_range P stream r verbs.Feedback vs h = and_from (nat_le 1 vs.0) (nat_le vs.0 READ_MAX) (at_most 1 vs.0 h.0.0) (at_most vs.0 READ_MAX h.0.1)
+row_range P stream r verbs.Feedback vs h = and_from (nat_le 1 vs.0) (nat_le vs.0 READ_MAX) (le-leb 1 vs.0 h.0.0) (le-leb vs.0 READ_MAX h.0.1)
 row_range P stream r v vs h = refl
 
 pub row_read : (stream : ℕ) (r : role.Role) (v : verb.Verb) (ws : List (List ℕ)) → (command_row stream r v).read ws ≡ made command.Command (command_row stream r v).fields 0 3 ws (command_row stream r v).make

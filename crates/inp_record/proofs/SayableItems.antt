@@ -1,10 +1,13 @@
 -- What lines mean can be said again: each item by the words that it was read from.
-use Rattle.std.proofs.Common.{◌≡◌, ◌<◌, ◌+◌, ◌-◌, ℕ, zero, suc, Bool, true, false, if◌then◌else◌, nat_le, cond, List, [], ◌∷◌, length, filter, Option, Some, None, bytes_eq, Ok, refl, sym, ap, subst, arith, ◌⊎◌, inl, inr}
+use Rattle.std.proofs.Common.{◌≡◌, ◌<◌, ◌+◌, ◌-◌, ℕ, suc, Bool, true, false, if◌then◌else◌, nat_le, List, [], ◌∷◌, length, Option, Some, None, bytes_eq, Ok, refl, sym, ap, subst, arith, ◌⊎◌, inl, inr}
 use Rattle.std.specs.Prelude.{slice_get}
 use Rattle.inp_actors.specs.declared.command.Command as command
 use Rattle.std.specs.List.{list_all, slice_split}
 use Rattle.std.proofs.lemmas.Bool.Decides.{nat_tests}
-use Rattle.std.proofs.lemmas.Bool.{and_parts, and_from}
+use Rattle.std.proofs.lemmas.List.Elements.{filter_passes}
+use Rattle.std.proofs.lemmas.List.Sums.{list_all-from_AllPass}
+use Rattle.inp_caps.proofs.Filters.{list_all-get}
+use Rattle.std.proofs.lemmas.Bool.{and_from}
 use Rattle.std.proofs.lemmas.Slice.Eq.{bytes_eq-Decides}
 use Rattle.inp_model.specs.declared.limits.TheConstants.{BOUNCE_MAX}
 use Rattle.inp_model.specs.declared.filter.Filter.TheVariants as filters
@@ -35,33 +38,21 @@ text_visible b h k = grind (arith, nat_tests)
 abbrev pub are_words : List (List ℕ) → Bool
 are_words ws = list_all is_word ws
 
-filter_words : (ws : List (List ℕ)) → are_words (filter is_word ws) ≡ true
-filter_words [] = refl
-filter_words (w ∷ ws) = by_word (is_word w) refl (filter_words ws)
-  where
-    by_word : (is : Bool) → is_word w ≡ is → are_words (filter is_word ws) ≡ true → are_words (cond is (w ∷ filter is_word ws) (filter is_word ws)) ≡ true
-    by_word true h more = and_from (is_word w) (are_words (filter is_word ws)) h more
-    by_word false h more = more
-
 pub record ArePlain (ws : List (List ℕ)) : Type 0 where
   pub words : are_words ws ≡ true
   pub visible : are_visible ws ≡ true
 
 pub line_plain : (line : List ℕ) → is_text line ≡ true → ArePlain (words_of line)
 line_plain line h = record {
-  words = filter_words (slice_split is_blank line);
+  words = list_all-from_AllPass is_word (words_of line) (filter_passes is_word (slice_split is_blank line));
   visible = words_all is_text_byte is_visible text_visible line h;
 }
 
 plain_at : (ws : List (List ℕ)) (i : ℕ) → ArePlain ws → i < length ws → IsPlainWord (word i ws)
-plain_at [] i p h = absurd (omega arith)
-plain_at (w ∷ ws) zero p h = record {
-  some = (and_parts (is_word w) (are_words ws) p.words).0;
-  visible = (and_parts (list_all is_visible w) (are_visible ws) p.visible).0;
+plain_at ws i p h = record {
+  some = list_all-get is_word ws i [] h p.words;
+  visible = list_all-get (λ w. list_all is_visible w) ws i [] h p.visible;
 }
-plain_at (w ∷ ws) (suc i) p h =
-    let more : ArePlain ws = record { words = (and_parts (is_word w) (are_words ws) p.words).1; visible = (and_parts (list_all is_visible w) (are_visible ws) p.visible).1 } in
-    plain_at ws i more (omega arith)
 
 -- actions
 

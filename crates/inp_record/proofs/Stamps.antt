@@ -6,7 +6,7 @@ use Rattle.std.proofs.lemmas.List.{append-nil, take_rest}
 use Rattle.std.proofs.Math.Nat.{add-div_right, div-le_self}
 use Rattle.std.proofs.lemmas.Bool.Decides.{nat_tests}
 use Rattle.std.proofs.lemmas.List.Folds.{list_all-append}
-use Rattle.std.proofs.lemmas.Bool.{and_parts}
+use Rattle.std.proofs.lemmas.Bool.{and_parts, or_parts}
 use Rattle.inp_model.specs.declared.event.Event.{Event}
 use Rattle.inp_model.specs.declared.stamped.Stamped.{Stamped}
 use Rattle.inp_model.specs.declared.stamped.TheConstants.{MOMENT_MAX}
@@ -25,15 +25,11 @@ not_refused true bad v w e = absurd (cc e)
 not_refused false true v w e = absurd (cc e)
 not_refused false false v w e = (refl, refl, cc)
 
-second_false : (a b : Bool) → (a || b) ≡ false → b ≡ false
-second_false true b h = absurd (cc h)
-second_false false b h = h
-
 -- what is read has the length of a record and a moment within its limit
 pub decoded_is : (t : ℕ) (bytes : List ℕ) (p : Event × ℕ) → decoded t bytes ≡ Ok p → (record_len t ≤ length bytes) × (p.1 ≤ MOMENT_MAX)
 decoded_is t bytes p e =
     let h = not_refused (nat_lt (length bytes) (record_len t)) (nat_le 1000000 (microseconds_of t bytes) || nat_lt MOMENT_MAX (moment_in t bytes)) (event_in (drop (2 * t) bytes), moment_in t bytes) p e in
-    let late : nat_lt MOMENT_MAX (moment_in t bytes) ≡ false = second_false (nat_le 1000000 (microseconds_of t bytes)) (nat_lt MOMENT_MAX (moment_in t bytes)) h.1 in
+    let late : nat_lt MOMENT_MAX (moment_in t bytes) ≡ false = (or_parts (nat_le 1000000 (microseconds_of t bytes)) (nat_lt MOMENT_MAX (moment_in t bytes)) h.1).1 in
     let same : moment_in t bytes ≡ p.1 = ap (λ (q : Event × ℕ). q.1) h.2 in
     within_is (length bytes) (record_len t) p.1 h.0 (rw same at late)
   where

@@ -1,10 +1,12 @@
 -- Words of text: ASCII, and text.
-use Rattle.std.proofs.Common.{◌≡◌, ℕ, ◌<◌, ◌≤◌, Bor, Bool, true, false, cond, length, List, [], ◌∷◌, filter, refl, arith}
+use Rattle.std.proofs.Common.{◌≡◌, ℕ, ◌<◌, ◌≤◌, Bor, Bool, true, false, cond, length, List, [], ◌∷◌, refl, arith}
 use Rattle.std.specs.List.{list_all, slice_split, onto_first}
 use Rattle.std.specs.Str.{IsUtf8}
 use Rattle.std.proofs.lemmas.Str.{IsUtf8-from_ascii}
 use Rattle.std.proofs.lemmas.Bool.Decides.{nat_tests}
-use Rattle.std.proofs.lemmas.Bool.{and_parts, and_from}
+use Rattle.std.proofs.lemmas.List.Elements.{All-filter}
+use Rattle.std.proofs.lemmas.List.Sums.{AllPass-from_list_all, list_all-from_AllPass}
+use Rattle.std.proofs.lemmas.Bool.{and_parts}
 use Rattle.inp_words.specs.Line.{is_text, is_text_byte, is_blank, is_word, words_of, AreText}
 use Rattle.inp_codes.specs.ByNumber.{texts}
 use Rattle.inp_words.proofs.NameWords.{bytes_are_ascii}
@@ -14,16 +16,6 @@ byte_is_ascii b h = grind (arith, nat_tests)
 
 pub IsUtf8-from_text : (word : List ℕ) → is_text word ≡ true → IsUtf8 word
 IsUtf8-from_text word h = IsUtf8-from_ascii word (bytes_are_ascii is_text_byte byte_is_ascii word h)
-
-kept_all : (test : List ℕ → Bool) (ws : List (List ℕ)) → list_all test ws ≡ true → list_all test (filter is_word ws) ≡ true
-kept_all test [] h = refl
-kept_all test (w ∷ ws) h =
-    let parts = and_parts (test w) (list_all test ws) h in
-    by_word (is_word w) parts.0 (kept_all test ws parts.1)
-  where
-    by_word : (is : Bool) → test w ≡ true → list_all test (filter is_word ws) ≡ true → list_all test (cond is (w ∷ filter is_word ws) (filter is_word ws)) ≡ true
-    by_word true k more = and_from (test w) (list_all test (filter is_word ws)) k more
-    by_word false k more = more
 
 -- the words of a line have what its bytes have that are no blanks
 module _ (p q : ℕ → Bool) (fits : (b : ℕ) → p b ≡ true → is_blank b ≡ false → q b ≡ true) where
@@ -42,7 +34,9 @@ module _ (p q : ℕ → Bool) (fits : (b : ℕ) → p b ≡ true → is_blank b 
       by_blank false k t more = onto_all b (slice_split is_blank line) (fits b t k) more
 
   pub words_all : (line : List ℕ) → list_all p line ≡ true → list_all (λ w. list_all q w) (words_of line) ≡ true
-  words_all line h = kept_all (λ w. list_all q w) (slice_split is_blank line) (pieces_all line h)
+  words_all line h =
+      let all = AllPass-from_list_all (λ w. list_all q w) (slice_split is_blank line) (pieces_all line h) in
+      list_all-from_AllPass (λ w. list_all q w) (words_of line) (All-filter is_word (λ w. list_all q w ≡ true) (slice_split is_blank line) all)
 
 -- the words of a line of text are text
 pub words_are_text : (line : List ℕ) → is_text line ≡ true → AreText (words_of line)
