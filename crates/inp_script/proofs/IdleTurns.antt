@@ -102,12 +102,14 @@ IdlesGoing n g = (g.agains ≤ n) × IdlesOf n g.job
 
 idles-turn : (n before : ℕ) (wait : Option Waiting) (left : Option ℕ) (next : Next) (j : Job) → IdlesOf n j → ((at ends : ℕ) → next ≡ Again at ends → suc before ≤ n) → OfTurn IdlesOf IdlesGoing n (turn_after wait left before next j)
 idles-turn n before wait left next j i one =
-    turn-cases IdlesOf IdlesGoing n wait left before next j (λ k l h. (omega arith, h)) (λ at ends e. (one at ends e, i))
+    turn-cases IdlesOf IdlesGoing n wait left before next j (λ k l h. (omega arith, h))
+    (λ at ends e. (one at ends e, i))
     (λ at ends idle e enough turns place is.
     let most : idle ≤ suc before = grind (arith, nat_tests) in
     let same : idle ≡ turns = (let k : Some (Idle idle at) ≡ Some (Idle turns place) = is in cc) in
     omega (arith, most, same, one at ends e))
-    (λ at e turns place is. (let k : Some (FullHistory at) ≡ Some (Idle turns place) = is in absurd cc)) (as_before next)
+    (λ at e turns place is. (let k : Some (FullHistory at) ≡ Some (Idle turns place) = is in absurd cc))
+    (as_before next)
   where
     as_before : (k : Next) → AfterNext IdlesOf n k j
     as_before (Again at ends) = (i, i)

@@ -107,7 +107,8 @@ shows-asks d h p Q so = record {
 refused-picture : (d : Description) (j : Joying) (r : Reading) (reply : Reply) → (joying_after_start d (with_reading j r) (start_stop_of reply)).picture ≡ j.picture
 refused-picture d j r (StepRefused at why) =
     cond_both (is_needed r.phase) _ _ (λ (x : Joying). x.picture ≡ j.picture) (λ _. refl) (λ _. refl)
-refused-picture d j r _ = cond_both (is_needed r.phase) _ _ (λ (x : Joying). x.picture ≡ j.picture) (λ _. refl) (λ _. refl)
+refused-picture d j r _ =
+    cond_both (is_needed r.phase) _ _ (λ (x : Joying). x.picture ≡ j.picture) (λ _. refl) (λ _. refl)
 
 asked-picture : (d : Description) (j : Joying) (client ring : ℕ) (result : Result View Reply) → (joy_started d j (after_queries client ring j.reading result)).1.picture ≡ asked_picture j.picture result
 asked-picture d j client ring (Ok view) = refl
@@ -335,7 +336,8 @@ unfolding joy_fold
 taken-shown d s [] = refl
 taken-shown d s (taken ∷ events) = taken-shown d s events
 
-close_entry : (d : Description) (p : PictureView) (client : ℕ) (reply : Reply) → joy_fold d (shown p) (call_sight (ToClose client) reply ++ again_sight reply) ≡ shown p
+close_entry : (d : Description) (p : PictureView) (client : ℕ) (reply : Reply)
+    → joy_fold d (shown p) (call_sight (ToClose client) reply ++ again_sight reply) ≡ shown p
 unfolding joy_fold
 close_entry d p client (NothingVisible at n) = refl
 close_entry d p client reply = refl
@@ -348,7 +350,9 @@ IsShownAt d s j = IsShown d j
 joy-shown : (d : Description) (h : List Step) (command : Command) → is_command_of Joy command ≡ true → JoyRules (Placed d h) (IsShownAt d) d command
 joy-shown d h command of_role = record {
   starts = λ s j fold. job-ends-meet (Placed d h) (IsShownAt d) s (start_joystick d j) (λ t calls k run ends. start_joystick-shows d h j k calls (run-placed d h s t calls run) ends fold);
-  reads = λ s j most fold. turns-meet (Placed d h) (IsShownAt d) d s j most (λ t calls answer run ends. of_turns t j most calls answer (run-placed d h s t calls run) ends fold);
+  reads = λ s j most fold.
+      turns-meet (Placed d h) (IsShownAt d) d s j most
+      (λ t calls answer run ends. of_turns t j most calls answer (run-placed d h s t calls run) ends fold);
   calls = λ one s t j x a is fold by. of_call command of_role one j x a is fold;
 }
   where
@@ -356,7 +360,9 @@ joy-shown d h command of_role = record {
     of_read t (Again at n) j fold = again-shown d j at n fold
     of_read t _ j fold = fold
 
-    of_turns : (t : Unit {0}) (j : Job) (most : ℕ) (calls : List Call) (answer : JoyAnswer) → ArePlaced d h calls → EndsWith (turns d most 0 (joying_of j)) calls (Some answer) → IsShown d j → AfterRead (IsShownAt d) t answer.read (after_joy_answer j answer (j.sight ++ noted_sight calls))
+    of_turns : (t : Unit {0}) (j : Job) (most : ℕ) (calls : List Call) (answer : JoyAnswer) → ArePlaced d h calls
+        → EndsWith (turns d most 0 (joying_of j)) calls (Some answer) → IsShown d j
+        → AfterRead (IsShownAt d) t answer.read (after_joy_answer j answer (j.sight ++ noted_sight calls))
     of_turns t j most calls answer placed ends fold =
         let out : List Sight = record_sight answer.record_out in
         of_read t answer.read (after_joy_answer j answer (j.sight ++ noted_sight calls))

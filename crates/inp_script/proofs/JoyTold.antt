@@ -68,12 +68,18 @@ joy-told old d command = record {
       (λ t calls k run ends.
       let is : Starts d j k calls = starts d j k calls ends in
       told-after old j.sight k.sight s calls t (run-listed s t calls run) i (tells-noted calls j.sight k.sight (ap (λ (x : Job). x.sight) is.is)));
-  reads = λ s j most i. turns-meet Listed (TellsOf old) d s j most (λ t calls answer run ends. of_turns s t j most calls answer i (run-listed s t calls run) ends);
+  reads = λ s j most i.
+      turns-meet Listed (TellsOf old) d s j most
+      (λ t calls answer run ends. of_turns s t j most calls answer i (run-listed s t calls run) ends);
   calls = λ one s t j x a is i by. told-after old j.sight (j.sight ++ sight_of_call x a.reply a.events) s (record { step = x; answer = a } ∷ []) t by i (tells-call x (record { step = x; answer = a }) j.sight refl);
 }
   where
-    of_turns : (s t : List Call) (j : Job) (most : ℕ) (calls : List Call) (answer : JoyAnswer) → TellsOf old s j → t ≡ s ++ calls → EndsWith (turns d most 0 (joying_of j)) calls (Some answer) → AfterRead (TellsOf old) t answer.read (after_joy_answer j answer (j.sight ++ noted_sight calls))
-    of_turns s t j most calls answer i is ends = of_read answer.read answer.record_out refl (turns-said d most 0 (joying_of j) calls answer ends) (turns-last d most 0 (joying_of j) calls answer ends)
+    of_turns : (s t : List Call) (j : Job) (most : ℕ) (calls : List Call) (answer : JoyAnswer) → TellsOf old s j
+        → t ≡ s ++ calls → EndsWith (turns d most 0 (joying_of j)) calls (Some answer)
+        → AfterRead (TellsOf old) t answer.read (after_joy_answer j answer (j.sight ++ noted_sight calls))
+    of_turns s t j most calls answer i is ends =
+        of_read answer.read answer.record_out refl (turns-said d most 0 (joying_of j) calls answer ends)
+        (turns-last d most 0 (joying_of j) calls answer ends)
       where
         sight : List Sight
         sight = j.sight ++ noted_sight calls

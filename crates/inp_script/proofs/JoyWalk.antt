@@ -38,12 +38,19 @@ OfReach I s (Some (handed_out j)) = I s j
 OfReach I s (Some (line_ends j)) = I s j
 
 -- where nothing is to show of a read that had no answer
-pub turns-meet : {S : Type 0} (R : S → Step → Answer → S → Type 0) (I : S → Job → Type 0) (d : Description) (s : S) (j : Job) (most : ℕ)
-    → ((t : S) (calls : List Call) (answer : JoyAnswer) → Runs R s calls t → EndsWith (turns d most 0 (joying_of j)) calls (Some answer) → AfterRead I t answer.read (after_joy_answer j answer (j.sight ++ noted_sight calls)))
-    → Meets Any R (λ (t : S) (o : Option JoyAnswer × List Sight). AfterTurns I j t o.0 o.1) s (noted (turns d most 0 (joying_of j)) j.sight)
-turns-meet {S} R I d s j most each = noted-ends-meet R (λ (t : S) (o : Option JoyAnswer × List Sight). AfterTurns I j t o.0 o.1) s j.sight (turns d most 0 (joying_of j)) by
+pub turns-meet : {S : Type 0} (R : S → Step → Answer → S → Type 0) (I : S → Job → Type 0) (d : Description) (s : S)
+    (j : Job) (most : ℕ)
+    → ((t : S) (calls : List Call) (answer : JoyAnswer) → Runs R s calls t
+    → EndsWith (turns d most 0 (joying_of j)) calls (Some answer)
+    → AfterRead I t answer.read (after_joy_answer j answer (j.sight ++ noted_sight calls)))
+    → Meets Any R (λ (t : S) (o : Option JoyAnswer × List Sight). AfterTurns I j t o.0 o.1) s
+    (noted (turns d most 0 (joying_of j)) j.sight)
+turns-meet {S} R I d s j most each =
+    noted-ends-meet R (λ (t : S) (o : Option JoyAnswer × List Sight). AfterTurns I j t o.0 o.1) s j.sight
+    (turns d most 0 (joying_of j)) by
   where
-    by : (t : S) (calls : List Call) (o : Option JoyAnswer) → Runs R s calls t → EndsWith (turns d most 0 (joying_of j)) calls o → AfterTurns I j t o (j.sight ++ noted_sight calls)
+    by : (t : S) (calls : List Call) (o : Option JoyAnswer) → Runs R s calls t
+        → EndsWith (turns d most 0 (joying_of j)) calls o → AfterTurns I j t o (j.sight ++ noted_sight calls)
     by t calls None run ends = tt
     by t calls (Some answer) run ends = each t calls answer run ends
 

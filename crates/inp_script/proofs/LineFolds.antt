@@ -99,18 +99,23 @@ after-fold d h (Again at ends) j fold =
     (none, folds-on d h (first_view d) j (AgainSight at ends ∷ []) none)
 after-fold d h next j fold = bare d h (first_view d) j fold
 
-round-fold : (d : Description) (h : List Step) (s : Unit {0}) (wait : Option Waiting) (skips : Bool) (g : Going) → IsFolded Client d h g.job → Meets Any (Placed d h) (GoesOnFolded Client d h) s (next_round d wait skips g)
+round-fold : (d : Description) (h : List Step) (s : Unit {0}) (wait : Option Waiting) (skips : Bool) (g : Going)
+    → IsFolded Client d h g.job
+    → Meets Any (Placed d h) (GoesOnFolded Client d h) s (next_round d wait skips g)
 unfolding next_round
 round-fold d h s wait skips g fold =
     let mode : Mode = mode_of skips g.job.reading.phase in
-    let Q : Unit {0} → (Next × Reading) × List Sight → Type 0 = λ t o. GoesOnFolded Client d h t (after_next wait g o) in
-    meets-then Any (Placed d h) Q (GoesOnFolded Client d h) s (noted (next_talk d mode g.job.reading) g.job.sight) (λ o. finish (after_next wait g o))
-    (noted-ends-meet (Placed d h) Q s g.job.sight (next_talk d mode g.job.reading) (λ t calls o run ends.
+    let talk : Talk (Next × Reading) = next_talk d mode g.job.reading in
+    let G : Unit {0} → Turn → Type 0 = GoesOnFolded Client d h in
+    let Q : Unit {0} → (Next × Reading) × List Sight → Type 0 = λ t o. G t (after_next wait g o) in
+    meets-then Any (Placed d h) Q G s (noted talk g.job.sight) (λ o. finish (after_next wait g o))
+    (noted-ends-meet (Placed d h) Q s g.job.sight talk (λ t calls o run ends.
     let sight : List Sight = g.job.sight ++ noted_sight calls in
     let entries : List Sight = entries_of_next o.0 in
     turn-of (OfRole Client d h) (λ u k stop i. i) t wait g.left g.agains o.0 (read_so g.job o.1 sight)
     (after-fold d h o.0 (read_so g.job o.1 sight)
-    (ap (λ (es : List Sight). client_fold d h (settled (first_view d)) es) (append_assoc g.job.sight (noted_sight calls) entries)
+    (ap (λ (es : List Sight). client_fold d h (settled (first_view d)) es)
+    (append_assoc g.job.sight (noted_sight calls) entries)
     ∙ folds-on d h (first_view d) g.job (noted_sight calls ++ entries) fold
     ∙ next-folds d h mode g.job.reading o.1 o.0 calls (run-placed d h s t calls run) ends))))
     (λ t o k. k)

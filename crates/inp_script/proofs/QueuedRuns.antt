@@ -56,13 +56,15 @@ after-event wait left agains j t q =
     (λ (o : Next × Reading). turn_after wait left agains o.0 (record j { reading = o.1 }) ≡ handed (one_less left) (record j { reading = o.1; sight = j.sight ++ Took t ∷ [] }))
     (λ lost. refl) (λ kept. refl)
 
-event-rounds : (d : Description) (wait : Option Waiting) (skips : Bool) (left : Option ℕ) (agains n : ℕ) (j : Job) (t : Taken) (q : List Taken) → j.reading.phase ≡ Plain → j.reading.queue ≡ t ∷ q
+event-rounds : (d : Description) (wait : Option Waiting) (skips : Bool) (left : Option ℕ) (agains n : ℕ) (j : Job)
+    (t : Taken) (q : List Taken) → j.reading.phase ≡ Plain → j.reading.queue ≡ t ∷ q
     → rounds d wait skips (suc n) (record { job = j; left = left; agains = agains }) ≡ on_turn (rounds d wait skips n) (handed (one_less left) (with_event j t q))
 unfolding rounds next_round
 event-rounds d wait skips left agains n j t q plain queue =
     let g : Going = record { job = j; left = left; agains = agains } in
     let next : (Next × Reading) × List Sight → Talk Turn = λ o. finish (after_next wait g o) in
-    ap (λ (talk : Talk (Next × Reading)). and_then (and_then (noted talk j.sight) next) (on_turn (rounds d wait skips n))) (next-handed d skips j.reading t q plain queue)
+    ap (λ (talk : Talk (Next × Reading)). and_then (and_then (noted talk j.sight) next) (on_turn (rounds d wait skips n)))
+    (next-handed d skips j.reading t q plain queue)
     ∙ ap (λ (turn : Turn). on_turn (rounds d wait skips n) turn) (after-event wait left agains j t q)
 
 -- The events of a run, one after another
@@ -197,19 +199,21 @@ first-rounds : (d : Description) (wait : Option Waiting) (skips : Bool) (n most 
 unfolding first_run
 first-rounds d wait skips n (suc most) (t ∷ q) left agains j plain queue fits some =
     from-event d wait skips n most t q left agains j plain queue (λ k p e. run-rounds d wait skips n most q (one_less left) k p e (fits-one most left fits))
-first-rounds d wait skips n most q left agains j plain queue fits some = absurd (let bad : 1 ≤ 0 = some in omega (arith, bad))
+first-rounds d wait skips n most q left agains j plain queue fits some =
+    absurd (let bad : 1 ≤ 0 = some in omega (arith, bad))
 
 is-plain : (phase : Phase) → is_plain_phase phase ≡ true → phase ≡ Plain
 is-plain Plain h = refl
 is-plain phase h = absurd cc
 
-queued-rounds : (d : Description) (wait : Option Waiting) (skips : Bool) (n most : ℕ) (left : Option ℕ) (agains : ℕ) (j : Job) → FitsOne most left → 1 ≤ length (queued_run most j.reading)
+queued-rounds : (d : Description) (wait : Option Waiting) (skips : Bool) (n most : ℕ) (left : Option ℕ) (agains : ℕ)
+    (j : Job) → FitsOne most left → 1 ≤ length (queued_run most j.reading)
     → Takes d wait skips n left j (queued_run most j.reading) (rounds d wait skips (length (queued_run most j.reading) + n) (record { job = j; left = left; agains = agains }))
 queued-rounds d wait skips n most left agains j fits =
     let here : Going = record { job = j; left = left; agains = agains } in
     cond_both (is_plain_phase j.reading.phase) (first_run most j.reading.queue) []
-    (λ (ts : List Taken). 1 ≤ length ts → Takes d wait skips n left j ts (rounds d wait skips (length ts + n) here))
-    (λ plain. first-rounds d wait skips n most j.reading.queue left agains j (is-plain j.reading.phase plain) refl fits)
+    (λ ts. 1 ≤ length ts → Takes d wait skips n left j ts (rounds d wait skips (length ts + n) here))
+    (λ plain. first-rounds d wait skips n most _ left agains j (is-plain j.reading.phase plain) refl fits)
     (λ other some. absurd (omega (arith, some)))
 
 pub advanced-run : (told : EvdevView) (d : Description) (wait : Option Waiting) (skips : Bool) (left : Option ℕ) (agains : ℕ) (old new : Job) (turn : KeptTurn) → HandsRun left old turn new
