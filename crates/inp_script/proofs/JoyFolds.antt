@@ -360,8 +360,8 @@ joy-shown d h command of_role = record {
     of_read t (Again at n) j fold = again-shown d j at n fold
     of_read t _ j fold = fold
 
-    of_turns : (t : Unit {0}) (j : Job) (most : ℕ) (calls : List Call) (answer : JoyAnswer) → ArePlaced d h calls
-        → EndsWith (turns d most 0 (joying_of j)) calls (Some answer) → IsShown d j
+    of_turns : (t : Unit {0}) (j : Job) (most : ℕ) (calls : List Call) (answer : JoyAnswer)
+        → ArePlaced d h calls → EndsWith (turns d most 0 (joying_of j)) calls (Some answer) → IsShown d j
         → AfterRead (IsShownAt d) t answer.read (after_joy_answer j answer (j.sight ++ noted_sight calls))
     of_turns t j most calls answer placed ends fold =
         let out : List Sight = record_sight answer.record_out in

@@ -72,7 +72,8 @@ answer-bytes : (go_on : Job → Talk (Option Reach)) (read : JoyRead) (out : Opt
 answer-bytes go_on HandedOut None k sight stop bytes before said is = absurd said
 answer-bytes go_on HandedOut (Some r) k sight stop bytes before said is = ap (λ (bs : List ℕ). finish (Some (handed_out (joy_job k (record { sight = sight ++ Record bs ∷ []; stop = stop }))))) (sym is)
 answer-bytes go_on read None k sight stop bytes before said is =
-    ap (λ (es : List Sight). after_joy_read go_on read (joy_job k (record { sight = es; stop = stop }))) (append-nil sight)
+    ap (λ (es : List Sight). after_joy_read go_on read (joy_job k (record { sight = es; stop = stop })))
+    (append-nil sight)
 answer-bytes go_on read (Some r) k sight stop bytes before said is = absurd said
 
 -- a read with so many turns or more, as its line notes it

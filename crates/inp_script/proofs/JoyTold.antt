@@ -74,8 +74,8 @@ joy-told old d command = record {
   calls = λ one s t j x a is i by. told-after old j.sight (j.sight ++ sight_of_call x a.reply a.events) s (record { step = x; answer = a } ∷ []) t by i (tells-call x (record { step = x; answer = a }) j.sight refl);
 }
   where
-    of_turns : (s t : List Call) (j : Job) (most : ℕ) (calls : List Call) (answer : JoyAnswer) → TellsOf old s j
-        → t ≡ s ++ calls → EndsWith (turns d most 0 (joying_of j)) calls (Some answer)
+    of_turns : (s t : List Call) (j : Job) (most : ℕ) (calls : List Call) (answer : JoyAnswer)
+        → TellsOf old s j → t ≡ s ++ calls → EndsWith (turns d most 0 (joying_of j)) calls (Some answer)
         → AfterRead (TellsOf old) t answer.read (after_joy_answer j answer (j.sight ++ noted_sight calls))
     of_turns s t j most calls answer i is ends =
         of_read answer.read answer.record_out refl (turns-said d most 0 (joying_of j) calls answer ends)

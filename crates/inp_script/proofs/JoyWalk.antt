@@ -38,8 +38,8 @@ OfReach I s (Some (handed_out j)) = I s j
 OfReach I s (Some (line_ends j)) = I s j
 
 -- where nothing is to show of a read that had no answer
-pub turns-meet : {S : Type 0} (R : S → Step → Answer → S → Type 0) (I : S → Job → Type 0) (d : Description) (s : S)
-    (j : Job) (most : ℕ)
+pub turns-meet : {S : Type 0} (R : S → Step → Answer → S → Type 0) (I : S → Job → Type 0) (d : Description)
+    (s : S) (j : Job) (most : ℕ)
     → ((t : S) (calls : List Call) (answer : JoyAnswer) → Runs R s calls t
     → EndsWith (turns d most 0 (joying_of j)) calls (Some answer)
     → AfterRead I t answer.read (after_joy_answer j answer (j.sight ++ noted_sight calls)))

@@ -99,8 +99,8 @@ after-fold d h (Again at ends) j fold =
     (none, folds-on d h (first_view d) j (AgainSight at ends ∷ []) none)
 after-fold d h next j fold = bare d h (first_view d) j fold
 
-round-fold : (d : Description) (h : List Step) (s : Unit {0}) (wait : Option Waiting) (skips : Bool) (g : Going)
-    → IsFolded Client d h g.job
+round-fold : (d : Description) (h : List Step) (s : Unit {0}) (wait : Option Waiting) (skips : Bool)
+    (g : Going) → IsFolded Client d h g.job
     → Meets Any (Placed d h) (GoesOnFolded Client d h) s (next_round d wait skips g)
 unfolding next_round
 round-fold d h s wait skips g fold =

@@ -48,8 +48,8 @@ note-meets R Q s sight (finish a) h = h
 note-meets R Q s sight (ask x rest) h = (tt, λ u a by. note-meets R Q u.0 u.1 (rest a) (h.1 u.0 a by.0))
 
 -- by the calls that it makes, and what is noted of them
-pub noted-ends-meet : {S A : Type 0} (R : S → Step → Answer → S → Type 0) (Q : S → A × List Sight → Type 0) (s : S)
-    (sight : List Sight) (talk : Talk A)
+pub noted-ends-meet : {S A : Type 0} (R : S → Step → Answer → S → Type 0) (Q : S → A × List Sight → Type 0)
+    (s : S) (sight : List Sight) (talk : Talk A)
     → ((t : S) (calls : List Call) (a : A) → Runs R s calls t → EndsWith talk calls a
     → Q t (a, sight ++ noted_sight calls)) → Meets Any R Q s (noted talk sight)
 noted-ends-meet R Q s sight talk each = ends-meet R Q s (noted talk sight) (λ t calls o run ends.
@@ -164,8 +164,9 @@ round-meets {S} R I G d s wait skips g h =
     let Q : S → (Next × Reading) × List Sight → Type 0 = λ t o. OfTurn I G t (after_next wait g o) in
     meets-then Any R Q (OfTurn I G) s (noted talk g.job.sight) (λ o. finish (after_next wait g o)) (meets-noted R Q s g.job.sight talk h) (λ t o k. k)
 
-handed-cases : {S : Type 0} (I : S → Job → Type 0) (G : S → Going → Type 0) (s : S) (left : Option ℕ) (k : Job)
-    → G s (record { job = k; left = one_less left; agains = 0 }) → I s k → OfTurn I G s (handed (one_less left) k)
+handed-cases : {S : Type 0} (I : S → Job → Type 0) (G : S → Going → Type 0) (s : S) (left : Option ℕ)
+    (k : Job) → G s (record { job = k; left = one_less left; agains = 0 }) → I s k
+    → OfTurn I G s (handed (one_less left) k)
 handed-cases I G s left k anew i = cond_both (is_done (one_less left)) _ _ (OfTurn I G s) (λ _. i) (λ _. anew)
 
 -- what a turn leaves, by the ways in which a line goes on or stops
@@ -177,26 +178,30 @@ pub turn-cases : {S : Type 0} (I : S → Job → Type 0) (G : S → Going → Ty
     → I s (with_stop (with_sight j (AgainSight at ends)) (Idle idle at)))
     → ((at : ℕ) → next ≡ Full at → I s (with_stop j (FullStop at)))
     → AfterNext I s next j → OfTurn I G s (turn_after wait left agains next j)
-turn-cases I G s wait left agains (Success taken) j anew more idles full i = handed-cases I G s left _ (anew _ _ i) i
-turn-cases I G s wait left agains (Dropped taken) j anew more idles full i = handed-cases I G s left _ (anew _ _ i) i
-turn-cases I G s wait left agains (Sync event) j anew more idles full i = handed-cases I G s left _ (anew _ _ i) i
+turn-cases I G s wait left agains (Success taken) j anew more idles full i =
+    handed-cases I G s left _ (anew _ _ i) i
+turn-cases I G s wait left agains (Dropped taken) j anew more idles full i =
+    handed-cases I G s left _ (anew _ _ i) i
+turn-cases I G s wait left agains (Sync event) j anew more idles full i =
+    handed-cases I G s left _ (anew _ _ i) i
 turn-cases I G s wait left agains Synced j anew more idles full i = anew j left i
 turn-cases {S} I G s wait left agains (Again at ends) j anew more idles full i = by (patience wait ends)
   where
     by : (patient : Option ℕ) → OfTurn I G s (after_again patient left (suc agains) at ends j)
     by None = i.1
     by (Some idle) =
-        cond_both (nat_le idle (suc agains)) _ _ (OfTurn I G s) (λ most. idles at ends idle refl most) (λ _. more at ends refl)
+        cond_both (nat_le idle (suc agains)) _ _ (OfTurn I G s) (λ most. idles at ends idle refl most)
+        (λ _. more at ends refl)
 turn-cases I G s wait left agains (Full at) j anew more idles full i = full at refl
 turn-cases I G s wait left agains next j anew more idles full i = i
 
 -- where it is known of the job alone
 pub turn-of : {S : Type 0} (I : S → Job → Type 0) → ((s : S) (j : Job) (stop : Stop) → I s j → I s (with_stop j stop)) → (s : S) (wait : Option Waiting) (left : Option ℕ) (agains : ℕ) (next : Next) (j : Job) → AfterNext I s next j → OfTurn I (OfGoing I) s (turn_after wait left agains next j)
 turn-of I stops s wait left agains next j h =
-    let of_this : (n : Next) → next ≡ n → AfterNext I s n j = λ n e. subst (λ (x : Next). AfterNext I s x j) e h in
-    turn-cases I (OfGoing I) s wait left agains next j (λ k l i. i) (λ at ends e. (of_this (Again at ends) e).0)
-    (λ at ends idle e most. stops s _ (Idle idle at) (of_this (Again at ends) e).1)
-    (λ at e. stops s j (FullStop at) (of_this (Full at) e)) h
+    let this : (n : Next) → next ≡ n → AfterNext I s n j = λ n e. subst (λ (x : Next). AfterNext I s x j) e h in
+    turn-cases I (OfGoing I) s wait left agains next j (λ k l i. i) (λ at ends e. (this (Again at ends) e).0)
+    (λ at ends idle e most. stops s _ (Idle idle at) (this (Again at ends) e).1)
+    (λ at e. stops s j (FullStop at) (this (Full at) e)) h
 
 pub rounds-meets : {S : Type 0} (R : S → Step → Answer → S → Type 0) (I : S → Job → Type 0) (G : S → Going → Type 0) (d : Description) (wait : Option Waiting) (skips : Bool)
     → ((s : S) (g : Going) → G s g → Meets Any R (OfTurn I G) s (next_round d wait skips g)) → (n : ℕ) (s : S) (g : Going) → G s g → Meets Any R (OfJob I) s (rounds d wait skips n g)

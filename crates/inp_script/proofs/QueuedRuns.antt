@@ -56,16 +56,17 @@ after-event wait left agains j t q =
     (λ (o : Next × Reading). turn_after wait left agains o.0 (record j { reading = o.1 }) ≡ handed (one_less left) (record j { reading = o.1; sight = j.sight ++ Took t ∷ [] }))
     (λ lost. refl) (λ kept. refl)
 
-event-rounds : (d : Description) (wait : Option Waiting) (skips : Bool) (left : Option ℕ) (agains n : ℕ) (j : Job)
-    (t : Taken) (q : List Taken) → j.reading.phase ≡ Plain → j.reading.queue ≡ t ∷ q
+event-rounds : (d : Description) (wait : Option Waiting) (skips : Bool) (left : Option ℕ) (agains n : ℕ)
+    (j : Job) (t : Taken) (q : List Taken) → j.reading.phase ≡ Plain → j.reading.queue ≡ t ∷ q
     → rounds d wait skips (suc n) (record { job = j; left = left; agains = agains }) ≡ on_turn (rounds d wait skips n) (handed (one_less left) (with_event j t q))
 unfolding rounds next_round
 event-rounds d wait skips left agains n j t q plain queue =
     let g : Going = record { job = j; left = left; agains = agains } in
     let next : (Next × Reading) × List Sight → Talk Turn = λ o. finish (after_next wait g o) in
-    ap (λ (talk : Talk (Next × Reading)). and_then (and_then (noted talk j.sight) next) (on_turn (rounds d wait skips n)))
+    let go_on : Turn → Talk (Option Job) = on_turn (rounds d wait skips n) in
+    ap (λ (talk : Talk (Next × Reading)). and_then (and_then (noted talk j.sight) next) go_on)
     (next-handed d skips j.reading t q plain queue)
-    ∙ ap (λ (turn : Turn). on_turn (rounds d wait skips n) turn) (after-event wait left agains j t q)
+    ∙ ap go_on (after-event wait left agains j t q)
 
 -- The events of a run, one after another
 
@@ -206,8 +207,8 @@ is-plain : (phase : Phase) → is_plain_phase phase ≡ true → phase ≡ Plain
 is-plain Plain h = refl
 is-plain phase h = absurd cc
 
-queued-rounds : (d : Description) (wait : Option Waiting) (skips : Bool) (n most : ℕ) (left : Option ℕ) (agains : ℕ)
-    (j : Job) → FitsOne most left → 1 ≤ length (queued_run most j.reading)
+queued-rounds : (d : Description) (wait : Option Waiting) (skips : Bool) (n most : ℕ) (left : Option ℕ)
+    (agains : ℕ) (j : Job) → FitsOne most left → 1 ≤ length (queued_run most j.reading)
     → Takes d wait skips n left j (queued_run most j.reading) (rounds d wait skips (length (queued_run most j.reading) + n) (record { job = j; left = left; agains = agains }))
 queued-rounds d wait skips n most left agains j fits =
     let here : Going = record { job = j; left = left; agains = agains } in

@@ -48,8 +48,9 @@ again-waits None wait left agains at ends j k progress idle h = absurd cc
 again-waits (Some n) wait left agains at ends j k progress idle h =
     let here : Going = record { job = j; left = left; agains = agains } in
     (cond_both (nat_le n agains) _ _
-    (λ x. x ≡ goes_on (going progress k) → (progress.agains ≡ agains) × (agains < idle_of wait)) (λ _ is. absurd cc)
-    (λ more is. (same_agains here (going progress k) is, (let same = idle n refl in grind (arith, nat_tests))))) h
+    (λ x. x ≡ goes_on (going progress k) → (progress.agains ≡ agains) × (agains < idle_of wait))
+    (λ _ is. absurd cc)
+    (λ more is. (same_agains here (going progress k) is, let same = idle n refl in grind (arith, nat_tests)))) h
 
 patience-idle : (wait : Option Waiting) (ends n : ℕ) → patience wait ends ≡ Some n → n ≡ idle_of wait
 patience-idle None ends n h = absurd cc
