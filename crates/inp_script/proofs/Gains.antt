@@ -38,19 +38,13 @@ left_out-places kept (call ∷ calls) (inr out) = left_out-places kept calls out
 places_in-append : (sight more : List Sight) → places_in (sight ++ more) ≡ places_in sight ++ places_in more
 places_in-append [] more = refl
 places_in-append (Called x reply ∷ sight) more = ap (λ (ps : List ℕ). own_after reply [] ++ ps) (places_in-append sight more) ∙ sym (append_assoc (own_after reply []) (places_in sight) (places_in more))
-places_in-append (Took taken ∷ sight) more = places_in-append sight more
-places_in-append (Made event ∷ sight) more = places_in-append sight more
-places_in-append (Again at ends ∷ sight) more = places_in-append sight more
-places_in-append (HandedOut bytes ∷ sight) more = places_in-append sight more
+places_in-append (entry ∷ sight) more = places_in-append sight more
 
 -- events have none
 places_in-entries : (sight : List Sight) → places_in (filter is_call_entry sight) ≡ places_in sight
 places_in-entries [] = refl
 places_in-entries (Called x reply ∷ sight) = ap (λ (ps : List ℕ). own_after reply [] ++ ps) (places_in-entries sight)
-places_in-entries (Took taken ∷ sight) = places_in-entries sight
-places_in-entries (Made event ∷ sight) = places_in-entries sight
-places_in-entries (Again at ends ∷ sight) = places_in-entries sight
-places_in-entries (HandedOut bytes ∷ sight) = places_in-entries sight
+places_in-entries (entry ∷ sight) = places_in-entries sight
 
 again_sight-places : (reply : Reply) → places_in (again_sight reply) ≡ []
 again_sight-places (NothingVisible at ends) = refl

@@ -34,7 +34,7 @@ use Rattle.inp_reader.specs.declared.mode.Mode.{Mode}
 use Rattle.inp_reader.proofs.Meets.{Any, Runs, meets-ends, meets-always, meets-weaker}
 use Rattle.inp_reader.proofs.NextWalk.{sync-meets, Renewed, NextRules, next-meets, stop-cases}
 use Rattle.inp_script.specs.Joystick.{joystick_talk}
-use Rattle.inp_script.proofs.LineWalk.{NotedBy, OfJob, OfTurn, read_so, LineRules, start_job-meets, round-meets, line-meets}
+use Rattle.inp_script.proofs.LineWalk.{NotedBy, OfJob, OfTurn, AfterNext, read_so, LineRules, start_job-meets, round-meets, turn-cases, line-meets}
 use Rattle.inp_script.proofs.JoyStops.{IsNotIdle, NotIdle, none-not_idle, reply-not_idle, started-not_idle, joy-stops}
 use Rattle.inp_script.proofs.JoyWalk.{joystick-meets}
 
@@ -101,31 +101,19 @@ abbrev IdlesGoing : ℕ → Going → Type 0
 IdlesGoing n g = (g.agains ≤ n) × IdlesOf n g.job
 
 idles-turn : (n before : ℕ) (wait : Option Waiting) (left : Option ℕ) (next : Next) (j : Job) → IdlesOf n j → ((at ends : ℕ) → next ≡ Again at ends → suc before ≤ n) → OfTurn IdlesOf IdlesGoing n (turn_after wait left before next j)
-idles-turn n before wait left next j i one = by next (λ at ends e. one at ends e)
+idles-turn n before wait left next j i one =
+    turn-cases IdlesOf IdlesGoing n wait left before next j (λ k l h. (omega arith, h))
+    (λ at ends e. (one at ends e, i))
+    (λ at ends idle e enough turns place is.
+    let most : idle ≤ suc before = grind (arith, nat_tests) in
+    let same : idle ≡ turns = (let k : Some (Idle idle at) ≡ Some (Idle turns place) = is in cc) in
+    omega (arith, most, same, one at ends e))
+    (λ at e turns place is. (let k : Some (FullHistory at) ≡ Some (Idle turns place) = is in absurd cc))
+    (as_before next)
   where
-    handed-idles : (left : Option ℕ) (k : Job) → IdlesOf n k → OfTurn IdlesOf IdlesGoing n (handed left k)
-    handed-idles left k h = cond_both (is_done left) _ _ (OfTurn IdlesOf IdlesGoing n) (λ _. h) (λ _. (omega arith, h))
-
-    again-idles : (patient : Option ℕ) (at ends : ℕ) → suc before ≤ n → OfTurn IdlesOf IdlesGoing n (after_again patient left (suc before) at ends j)
-    again-idles None at ends h = i
-    again-idles (Some idle) at ends h = by_flag (nat_le idle (suc before)) refl
-      where
-        by_flag : (b : Bool) → nat_le idle (suc before) ≡ b → OfTurn IdlesOf IdlesGoing n (if b then ends_with (with_stop (with_sight j (AgainSight at ends)) (Idle idle at)) else goes_on (record { job = j; left = left; agains = suc before }))
-        by_flag true enough = λ turns place e.
-            (let most : idle ≤ suc before = grind (arith, nat_tests) in
-            let same : idle ≡ turns = (let k : Some (Idle idle at) ≡ Some (Idle turns place) = e in cc) in
-            omega (arith, most, same, h))
-        by_flag false enough = (h, i)
-
-    by : (k : Next) → ((at ends : ℕ) → k ≡ Again at ends → suc before ≤ n) → OfTurn IdlesOf IdlesGoing n (turn_after wait left before k j)
-    by (Success taken) h = handed-idles (one_less left) (with_sight j (Took taken)) i
-    by (Dropped taken) h = handed-idles (one_less left) (with_sight j (Took taken)) i
-    by (Sync event) h = handed-idles (one_less left) (with_sight j (Made event)) i
-    by Synced h = (omega arith, i)
-    by (Again at ends) h = again-idles (patience wait ends) at ends (h at ends refl)
-    by NoDevice h = i
-    by Closed h = i
-    by (Full at) h = λ turns place e. (let k : Some (FullHistory at) ≡ Some (Idle turns place) = e in absurd cc)
+    as_before : (k : Next) → AfterNext IdlesOf n k j
+    as_before (Again at ends) = (i, i)
+    as_before _ = i
 
 -- A `next`: the count does not fall, and it rises where that answers Again.
 

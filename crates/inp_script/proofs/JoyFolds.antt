@@ -50,7 +50,7 @@ use Rattle.inp_reader.proofs.AgainCounts.{IsNoRead, no_read-queries, not_again}
 use Rattle.inp_script.proofs.ClientFolds.{placed-left, placed-right}
 use Rattle.inp_script.proofs.Folds.{Placed, placed-run, run-placed, ArePlaced}
 use Rattle.inp_script.proofs.LineWalk.{OfJob, job-ends-meet}
-use Rattle.inp_script.proofs.JoyWalk.{AfterRead, AfterTurns, is_joy_call, JoyRules, joystick-meets}
+use Rattle.inp_script.proofs.JoyWalk.{AfterRead, turns-meet, is_joy_call, JoyRules, joystick-meets}
 use Rattle.inp_script.proofs.JoyTold.{starts}
 use Rattle.inp_reader.proofs.Calls.{finished, split-and_then}
 use Rattle.inp_script.proofs.Told.{noted-back, noted_sight, noted_sight-append}
@@ -107,11 +107,8 @@ shows-asks d h p Q so = record {
 refused-picture : (d : Description) (j : Joying) (r : Reading) (reply : Reply) → (joying_after_start d (with_reading j r) (start_stop_of reply)).picture ≡ j.picture
 refused-picture d j r (StepRefused at why) =
     cond_both (is_needed r.phase) _ _ (λ (x : Joying). x.picture ≡ j.picture) (λ _. refl) (λ _. refl)
-refused-picture d j r _ = by_flag (is_needed r.phase)
-  where
-    by_flag : (b : Bool) → (if b then without_startup d (with_reading j r) else with_reading j r).picture ≡ j.picture
-    by_flag true = refl
-    by_flag false = refl
+refused-picture d j r _ =
+    cond_both (is_needed r.phase) _ _ (λ (x : Joying). x.picture ≡ j.picture) (λ _. refl) (λ _. refl)
 
 asked-picture : (d : Description) (j : Joying) (client ring : ℕ) (result : Result View Reply) → (joy_started d j (after_queries client ring j.reading result)).1.picture ≡ asked_picture j.picture result
 asked-picture d j client ring (Ok view) = refl
@@ -244,16 +241,6 @@ after_next-shows d j next = stop-shows d j (joy_read_of next)
 
 -- the calls of a read tell nothing of the picture
 
-abbrev ShownBy : Description → Showing → Step → Answer → Showing → Type 0
-ShownBy d s x a t = t ≡ joy_fold d s (call_sight x a.reply)
-
-shown_by-run : (d : Description) (s : Showing) (calls : List Call) → Runs (ShownBy d) s calls (joy_fold d s (noted_sight calls))
-unfolding Runs joy_fold
-shown_by-run d s [] = refl
-shown_by-run d s (call ∷ calls) =
-    let entry : List Sight = call_sight call.step call.answer.reply in
-    (joy_fold d s entry, refl, subst (λ (t : Showing). Runs (ShownBy d) (joy_fold d s entry) calls t) (sym (joy_fold-append d s entry (noted_sight calls))) (shown_by-run d (joy_fold d s entry) calls))
-
 read_once : (d : Description) (p : PictureView) (client count : ℕ) (reply : Reply) → joy_fold d (shown p) (call_sight (ToRead client count) reply) ≡ shown p
 unfolding joy_fold
 read_once d p client count reply = cond_both (is_again reply) _ _ (λ x. joy_fold d (shown p) x ≡ shown p) (λ _. refl) (λ _. refl)
@@ -261,8 +248,8 @@ read_once d p client count reply = cond_both (is_again reply) _ _ (λ x. joy_fol
 abbrev IsStill : PictureView → Showing → Reading → Type 0
 IsStill p s r = (s ≡ shown p) × (is_needed r.phase ≡ false)
 
-still-rules : (d : Description) (p : PictureView) → NextRules Any (ShownBy d) (IsStill p) (λ (s : Showing) (o : Next × Reading). s ≡ shown p) d Normal
-still-rules d p = record {
+still-rules : (d : Description) (h : List Step) (p : PictureView) → NextRules Any (ShownAt d h) (IsStill p) (λ (s : Showing) (o : Next × Reading). s ≡ shown p) d Normal
+still-rules d h p = record {
   asks_read = λ s r i. tt;
   reads = λ s t r a i plain none by is. (after_read s t r a i.0 by, i.1);
   stops = λ s t r a i plain none by is. after_read s t r a i.0 by;
@@ -276,13 +263,13 @@ still-rules d p = record {
   goes_on = λ s r i is mode. (i.0, refl);
 }
   where
-    after_read : (s t : Showing) (r : Reading) (a : Answer) → s ≡ shown p → ShownBy d s (ToRead r.client 64) a t → t ≡ shown p
-    after_read s t r a is by = by ∙ ap (λ (k : Showing). joy_fold d k (call_sight (ToRead r.client 64) a.reply)) is ∙ read_once d p r.client 64 a.reply
+    after_read : (s t : Showing) (r : Reading) (a : Answer) → s ≡ shown p → ShownAt d h s (ToRead r.client 64) a t → t ≡ shown p
+    after_read s t r a is by = by.1 ∙ ap (λ (k : Showing). joy_fold d k (call_sight (ToRead r.client 64) a.reply)) is ∙ read_once d p r.client 64 a.reply
 
-next-tells_nothing : (d : Description) (p : PictureView) (r : Reading) (calls : List Call) (o : Next × Reading) (more : List Sight) → is_needed r.phase ≡ false → EndsWith (next_talk d Normal r) calls o → joy_fold d (shown p) (noted_sight calls ++ more) ≡ joy_fold d (shown p) more
-next-tells_nothing d p r calls o more plain ends =
+next-tells_nothing : (d : Description) (h : List Step) (p : PictureView) (r : Reading) (calls : List Call) (o : Next × Reading) (more : List Sight) → is_needed r.phase ≡ false → ArePlaced d h calls → EndsWith (next_talk d Normal r) calls o → joy_fold d (shown p) (noted_sight calls ++ more) ≡ joy_fold d (shown p) more
+next-tells_nothing d h p r calls o more plain placed ends =
     joy_fold-append d (shown p) (noted_sight calls) more
-    ∙ ap (λ (s : Showing). joy_fold d s more) (next-ends Any (ShownBy d) (IsStill p) (λ (s : Showing) (q : Next × Reading). s ≡ shown p) d Normal (still-rules d p) (shown p) (joy_fold d (shown p) (noted_sight calls)) r calls o (refl, plain) (shown_by-run d (shown p) calls) ends)
+    ∙ ap (λ (s : Showing). joy_fold d s more) (next-ends Any (ShownAt d h) (IsStill p) (λ (s : Showing) (q : Next × Reading). s ≡ shown p) d Normal (still-rules d h p) (shown p) (joy_fold d (shown p) (noted_sight calls)) r calls o (refl, plain) (shown-run d h (shown p) calls placed) ends)
 
 turn-shows : (d : Description) (h : List Step) (j : Joying) (calls : List Call) (t : JoyTurn) → ArePlaced d h calls → TurnCase d j calls t → Shows d j.picture (noted_sight calls) t
 turn-shows d h j calls t placed (of_startup r at none is) =
@@ -295,10 +282,10 @@ turn-shows d h j calls t placed (of_loss first second taken r plain whole ends s
     ap (λ (cs : List Call). joy_fold d (shown j.picture) (noted_sight cs ++ out)) whole
     ∙ ap (λ (es : List Sight). joy_fold d (shown j.picture) (es ++ out)) (noted_sight-append first second)
     ∙ ap (λ (es : List Sight). joy_fold d (shown j.picture) es) (append_assoc (noted_sight first) (noted_sight second) out)
-    ∙ next-tells_nothing d j.picture j.reading first (Dropped taken, r) (noted_sight second ++ out) plain ends
+    ∙ next-tells_nothing d h j.picture j.reading first (Dropped taken, r) (noted_sight second ++ out) plain (placed-left d h first second both) ends
     ∙ synchronises-shows d h (with_reading j r) second t (lost-needed d j.reading r first taken plain ends) (placed-right d h first second both) s
 turn-shows d h j calls t placed (of_next next r plain ends is) =
-    next-tells_nothing d j.picture j.reading calls (next, r) (record_sight (out_of t)) plain ends
+    next-tells_nothing d h j.picture j.reading calls (next, r) (record_sight (out_of t)) plain placed ends
     ∙ turn-same d j.picture [] (joying_after_next d (with_reading j r) next) t is (after_next-shows d (with_reading j r) next)
 
 -- a turn that goes on
@@ -349,22 +336,11 @@ unfolding joy_fold
 taken-shown d s [] = refl
 taken-shown d s (taken ∷ events) = taken-shown d s events
 
-close_entry : (d : Description) (p : PictureView) (client : ℕ) (reply : Reply) (events : List Taken) → joy_fold d (shown p) (sight_of_call (ToClose client) reply events) ≡ shown p
+close_entry : (d : Description) (p : PictureView) (client : ℕ) (reply : Reply)
+    → joy_fold d (shown p) (call_sight (ToClose client) reply ++ again_sight reply) ≡ shown p
 unfolding joy_fold
-close_entry d p client reply events =
-    let front : List Sight = call_sight (ToClose client) reply ++ again_sight reply in
-    joy_fold-append d (shown p) front (map taken_sight events)
-    ∙ ap (λ (s : Showing). joy_fold d s (map taken_sight events))
-    (joy_fold-append d (shown p) (call_sight (ToClose client) reply) (again_sight reply) ∙ ap (λ (s : Showing). joy_fold d s (again_sight reply)) (by_flag (is_again reply)) ∙ again reply)
-    ∙ taken-shown d (shown p) events
-  where
-    by_flag : (b : Bool) → joy_fold d (shown p) (if b then [] else Called (ToClose client) reply ∷ []) ≡ shown p
-    by_flag true = refl
-    by_flag false = refl
-
-    again : (r : Reply) → joy_fold d (shown p) (again_sight r) ≡ shown p
-    again (NothingVisible at n) = refl
-    again _ = refl
+close_entry d p client (NothingVisible at n) = refl
+close_entry d p client reply = refl
 
 -- a joystick's line
 
@@ -375,10 +351,8 @@ joy-shown : (d : Description) (h : List Step) (command : Command) → is_command
 joy-shown d h command of_role = record {
   starts = λ s j fold. job-ends-meet (Placed d h) (IsShownAt d) s (start_joystick d j) (λ t calls k run ends. start_joystick-shows d h j k calls (run-placed d h s t calls run) ends fold);
   reads = λ s j most fold.
-      ends-meet (Placed d h) (λ (t : Unit {0}) (o : Option JoyAnswer × List Sight). AfterTurns (IsShownAt d) j t o.0 o.1) s (noted (turns d most 0 (joying_of j)) j.sight)
-      (λ t calls o run ends.
-      let b = noted-back (turns d most 0 (joying_of j)) j.sight calls o ends in
-      of_turns t j most calls o.0 o.1 (run-placed d h s t calls run) b.0 b.1 fold);
+      turns-meet (Placed d h) (IsShownAt d) d s j most
+      (λ t calls answer run ends. of_turns t j most calls answer (run-placed d h s t calls run) ends fold);
   calls = λ one s t j x a is fold by. of_call command of_role one j x a is fold;
 }
   where
@@ -386,21 +360,25 @@ joy-shown d h command of_role = record {
     of_read t (Again at n) j fold = again-shown d j at n fold
     of_read t _ j fold = fold
 
-    of_turns : (t : Unit {0}) (j : Job) (most : ℕ) (calls : List Call) (o : Option JoyAnswer) (sight : List Sight) → ArePlaced d h calls → EndsWith (turns d most 0 (joying_of j)) calls o → sight ≡ j.sight ++ noted_sight calls → IsShown d j → AfterTurns (IsShownAt d) j t o sight
-    of_turns t j most calls None sight placed ends seen fold = tt
-    of_turns t j most calls (Some answer) sight placed ends seen fold =
+    of_turns : (t : Unit {0}) (j : Job) (most : ℕ) (calls : List Call) (answer : JoyAnswer)
+        → ArePlaced d h calls → EndsWith (turns d most 0 (joying_of j)) calls (Some answer) → IsShown d j
+        → AfterRead (IsShownAt d) t answer.read (after_joy_answer j answer (j.sight ++ noted_sight calls))
+    of_turns t j most calls answer placed ends fold =
         let out : List Sight = record_sight answer.record_out in
-        of_read t answer.read (after_joy_answer j answer sight)
-        (ap (λ (es : List Sight). joy_fold d blank_shown (es ++ out)) seen
-        ∙ ap (λ (es : List Sight). joy_fold d blank_shown es) (append_assoc j.sight (noted_sight calls) out)
+        of_read t answer.read (after_joy_answer j answer (j.sight ++ noted_sight calls))
+        (ap (λ (es : List Sight). joy_fold d blank_shown es) (append_assoc j.sight (noted_sight calls) out)
         ∙ shows-on d j (noted_sight calls ++ out) fold
         ∙ turns-shows d h most 0 (joying_of j) calls answer ends placed)
 
     of_call : (c : Command) → is_command_of Joy c ≡ true → is_joy_call c ≡ true → (j : Job) (x : Step) (a : Answer) → step_of j.reading.client c ≡ Some x → IsShown d j → IsShown d (after_call j x a)
     of_call Close joy one j x a is fold =
         let close : ToClose j.reading.client ≡ x = cc in
+        let front : List Sight = call_sight (ToClose j.reading.client) a.reply ++ again_sight a.reply in
         subst (λ (y : Step). IsShown d (after_call j y a)) close
-        (shows-on d j (sight_of_call (ToClose j.reading.client) a.reply a.events) fold ∙ close_entry d j.stick.picture j.reading.client a.reply a.events)
+        (shows-on d j (sight_of_call (ToClose j.reading.client) a.reply a.events) fold
+        ∙ joy_fold-append d (shown j.stick.picture) front (map taken_sight a.events)
+        ∙ taken-shown d (joy_fold d (shown j.stick.picture) front) a.events
+        ∙ close_entry d j.stick.picture j.reading.client a.reply)
     of_call c joy one j x a is fold = absurd cc
 
 pub joystick-folds : (d : Description) (h : List Step) (n : ℕ) (command : Command) (j k : Job) (calls : List Call) → is_command_of Joy command ≡ true → ArePlaced d h calls → EndsWith (joystick_talk d n command j) calls (Some k) → IsShown d j → IsShown d k

@@ -71,18 +71,10 @@ answer-bytes : (go_on : Job → Talk (Option Reach)) (read : JoyRead) (out : Opt
     → after_joy_read go_on read (joy_job k (record { sight = sight ++ record_sight out; stop = stop })) ≡ after_bytes go_on read bytes (joy_job k (record { sight = sight; stop = stop }))
 answer-bytes go_on HandedOut None k sight stop bytes before said is = absurd said
 answer-bytes go_on HandedOut (Some r) k sight stop bytes before said is = ap (λ (bs : List ℕ). finish (Some (handed_out (joy_job k (record { sight = sight ++ Record bs ∷ []; stop = stop }))))) (sym is)
-answer-bytes go_on (Frame place) None k sight stop bytes before said is = ap (λ (es : List Sight). after_joy_read go_on (Frame place) (joy_job k (record { sight = es; stop = stop }))) (append-nil sight)
-answer-bytes go_on (Again at ends) None k sight stop bytes before said is = ap (λ (es : List Sight). after_joy_read go_on (Again at ends) (joy_job k (record { sight = es; stop = stop }))) (append-nil sight)
-answer-bytes go_on NoDevice None k sight stop bytes before said is = ap (λ (es : List Sight). after_joy_read go_on NoDevice (joy_job k (record { sight = es; stop = stop }))) (append-nil sight)
-answer-bytes go_on Closed None k sight stop bytes before said is = ap (λ (es : List Sight). after_joy_read go_on Closed (joy_job k (record { sight = es; stop = stop }))) (append-nil sight)
-answer-bytes go_on (Full at) None k sight stop bytes before said is = ap (λ (es : List Sight). after_joy_read go_on (Full at) (joy_job k (record { sight = es; stop = stop }))) (append-nil sight)
-answer-bytes go_on More None k sight stop bytes before said is = ap (λ (es : List Sight). after_joy_read go_on More (joy_job k (record { sight = es; stop = stop }))) (append-nil sight)
-answer-bytes go_on (Frame place) (Some r) k sight stop bytes before said is = absurd said
-answer-bytes go_on (Again at ends) (Some r) k sight stop bytes before said is = absurd said
-answer-bytes go_on NoDevice (Some r) k sight stop bytes before said is = absurd said
-answer-bytes go_on Closed (Some r) k sight stop bytes before said is = absurd said
-answer-bytes go_on (Full at) (Some r) k sight stop bytes before said is = absurd said
-answer-bytes go_on More (Some r) k sight stop bytes before said is = absurd said
+answer-bytes go_on read None k sight stop bytes before said is =
+    ap (λ (es : List Sight). after_joy_read go_on read (joy_job k (record { sight = es; stop = stop })))
+    (append-nil sight)
+answer-bytes go_on read (Some r) k sight stop bytes before said is = absurd said
 
 -- a read with so many turns or more, as its line notes it
 read-holds : (before after : EvdevView) (d : Description) (old new : Joying) (notes : Notes) (made : List CallMade) (read : JoyRead) (out bytes : List ℕ) (most : ℕ) → (is : IsJoyRead before after d old new made read out bytes) → is.count ≤ most
@@ -140,13 +132,9 @@ goes-differ : (j k : Job) (reach : Reach) → ((go_on : Job → Talk (Option Rea
 goes-differ j k reach same = let e : finish (Some reach) ≡ finish None = same (λ l. finish None) in cc
 
 read-on-less : (read : JoyRead) (bytes : List ℕ) (j k : Job) (after before : ℕ) → ((go_on : Job → Talk (Option Reach)) → after_bytes go_on read bytes j ≡ go_on k) → IsReadLess read after before → after < before
-read-on-less HandedOut bytes j k after before goes less = absurd (goes-differ j k (handed_out (with_sight j (Record bytes))) goes)
 read-on-less (Frame place) bytes j k after before goes less = less
-read-on-less (Again at ends) bytes j k after before goes less = absurd (goes-differ j k (line_ends (with_sight j (NothingVisible at ends))) goes)
-read-on-less NoDevice bytes j k after before goes less = absurd (goes-differ j k (line_ends j) goes)
-read-on-less Closed bytes j k after before goes less = absurd (goes-differ j k (line_ends j) goes)
-read-on-less (Full at) bytes j k after before goes less = absurd (goes-differ j k (line_ends (with_stop j (FullHistory at))) goes)
 read-on-less More bytes j k after before goes less = less
+read-on-less read bytes j k after before goes less = absurd (goes-differ j k _ goes)
 
 pub read-less : (read : JoyRead) (bytes : List ℕ) (left_by : AfterRead) (mid final : Notes) (k : Joying) (after before : ℕ) → ((go_on : Job → Talk (Option Reach)) (l : Joying) → after_bytes go_on read bytes (joy_job l mid) ≡ then_reads go_on left_by (joy_job l final)) → IsReadLess read after before
     → LeavesLess left_by after before

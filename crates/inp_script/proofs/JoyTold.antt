@@ -18,7 +18,7 @@ use Rattle.inp_script.specs.Joystick.{after_joy_start, start_joystick, record_si
 use Rattle.inp_script.specs.Sight.{sight_of_call, noted, start_lacks_memory, stop_after_start}
 use Rattle.inp_reader.proofs.Meets.{ends-meet, Listed, run-listed}
 use Rattle.inp_script.proofs.LineWalk.{job-ends-meet}
-use Rattle.inp_script.proofs.JoyWalk.{AfterRead, AfterTurns, JoyRules}
+use Rattle.inp_script.proofs.JoyWalk.{AfterRead, JoyRules, turns-meet}
 use Rattle.inp_script.proofs.JoyLast.{LastIsAgain, turns-last}
 use Rattle.inp_reader.proofs.Calls.{finished, split-and_then}
 use Rattle.inp_script.proofs.Told.{Tells, tells-then, tells-event, tells-noted, tells-again, tells-call, noted-back, noted_sight, memory_there}
@@ -69,24 +69,27 @@ joy-told old d command = record {
       let is : Starts d j k calls = starts d j k calls ends in
       told-after old j.sight k.sight s calls t (run-listed s t calls run) i (tells-noted calls j.sight k.sight (ap (λ (x : Job). x.sight) is.is)));
   reads = λ s j most i.
-      ends-meet Listed (λ (t : List Call) (o : Option JoyAnswer × List Sight). AfterTurns (TellsOf old) j t o.0 o.1) s (noted (turns d most 0 (joying_of j)) j.sight)
-      (λ t calls o run ends.
-      let b = noted-back (turns d most 0 (joying_of j)) j.sight calls o ends in
-      of_turns s t j most calls o.0 o.1 i (run-listed s t calls run) b.0 b.1);
+      turns-meet Listed (TellsOf old) d s j most
+      (λ t calls answer run ends. of_turns s t j most calls answer i (run-listed s t calls run) ends);
   calls = λ one s t j x a is i by. told-after old j.sight (j.sight ++ sight_of_call x a.reply a.events) s (record { step = x; answer = a } ∷ []) t by i (tells-call x (record { step = x; answer = a }) j.sight refl);
 }
   where
-    of_turns : (s t : List Call) (j : Job) (most : ℕ) (calls : List Call) (o : Option JoyAnswer) (sight : List Sight) → TellsOf old s j → t ≡ s ++ calls → EndsWith (turns d most 0 (joying_of j)) calls o → sight ≡ j.sight ++ noted_sight calls → AfterTurns (TellsOf old) j t o sight
-    of_turns s t j most calls None sight i is ends seen = tt
-    of_turns s t j most calls (Some answer) sight i is ends seen =
-        of_read answer.read answer.record_out refl (turns-said d most 0 (joying_of j) calls answer ends) (turns-last d most 0 (joying_of j) calls answer ends)
+    of_turns : (s t : List Call) (j : Job) (most : ℕ) (calls : List Call) (answer : JoyAnswer)
+        → TellsOf old s j → t ≡ s ++ calls → EndsWith (turns d most 0 (joying_of j)) calls (Some answer)
+        → AfterRead (TellsOf old) t answer.read (after_joy_answer j answer (j.sight ++ noted_sight calls))
+    of_turns s t j most calls answer i is ends =
+        of_read answer.read answer.record_out refl (turns-said d most 0 (joying_of j) calls answer ends)
+        (turns-last d most 0 (joying_of j) calls answer ends)
       where
+        sight : List Sight
+        sight = j.sight ++ noted_sight calls
+
         here : Job
         here = after_joy_answer j answer sight
 
         of_read : (read : JoyRead) (out : Option JoyRecord) → here.sight ≡ sight ++ record_sight out → HandsOutAsSaid read out → LastIsAgain calls read → AfterRead (TellsOf old) t read here
         of_read (Again at ends) (Some r) e said last = absurd said
         of_read (Again at ends) None e said last =
-            told-after old j.sight (here.sight ++ NothingVisible at ends ∷ []) s calls t is i (tells-again calls last.front last.last j.sight here.sight at ends last.whole last.replied (e ∙ append-nil sight ∙ seen))
+            told-after old j.sight (here.sight ++ NothingVisible at ends ∷ []) s calls t is i (tells-again calls last.front last.last j.sight here.sight at ends last.whole last.replied (e ∙ append-nil sight))
         of_read read out e said last =
-            told-after old j.sight here.sight s calls t is i (subst (λ (es : List Sight). Tells calls j.sight es) (sym e) (read-told calls j.sight sight out seen))
+            told-after old j.sight here.sight s calls t is i (subst (λ (es : List Sight). Tells calls j.sight es) (sym e) (read-told calls j.sight sight out refl))

@@ -1,5 +1,5 @@
 -- What a joystick does at a line, walked once: what has to be shown of a start, of a read and of a single call, for `Meets` of the whole.
-use Rattle.std.proofs.Common.{◌≡◌, ℕ, zero, suc, Bool, true, false, List, refl, Option, Some, None}
+use Rattle.std.proofs.Common.{◌≡◌, ℕ, zero, suc, Bool, true, false, List, ◌++◌, refl, Option, Some, None}
 use Rattle.inp_model.specs.declared.step.Step.{Step}
 use Rattle.inp_model.specs.Description.{Description}
 use Rattle.inp_model.specs.Reply.{Answer}
@@ -8,7 +8,9 @@ use Rattle.inp_actors.specs.declared.command.Command.TheVariants.{Open, Read}
 use Rattle.inp_joy.specs.declared.joy_read.JoyRead.{JoyRead}
 use Rattle.inp_joy.specs.declared.joy_read.JoyRead.TheVariants.{Frame, Again, Full, More}
 use Rattle.inp_joy.specs.Joy.{JoyAnswer, turns}
-use Rattle.inp_reader.proofs.Meets.{Meets, Any, meets-then}
+use Rattle.inp_reader.proofs.Meets.{Meets, Any, Runs, meets-then}
+use Rattle.inp_reader.specs.Talk.{EndsWith}
+use Rattle.inp_model.specs.Run.{Call}
 use Rattle.inp_script.specs.declared.sight.Sight.{Sight}
 use Rattle.inp_script.specs.declared.sight.Sight.TheVariants.{Again as NothingVisible}
 use Rattle.inp_script.specs.declared.stop.Stop.TheVariants.{Full as FullHistory}
@@ -17,7 +19,8 @@ use Rattle.inp_script.specs.Job.{Job, joying_of}
 use Rattle.inp_script.specs.Joystick.{Reach, handed_out, line_ends, start_joystick, after_joy_answer, after_joy_read, after_turns, read_on, on_reach, read_records, joystick_talk}
 use Rattle.inp_script.specs.Line.{step_of, after_call}
 use Rattle.inp_script.specs.Sight.{noted}
-use Rattle.inp_script.proofs.LineWalk.{OfJob, call_if-meets}
+use Rattle.inp_script.proofs.LineWalk.{OfJob, call_if-meets, noted-ends-meet}
+use Rattle.inp_script.proofs.Told.{noted_sight}
 
 -- of a job behind an answer of its client, with what the answer adds
 abbrev pub AfterRead : {S : Type 0} → (S → Job → Type 0) → S → JoyRead → Job → Type 0
@@ -33,6 +36,23 @@ abbrev OfReach : {S : Type 0} → (S → Job → Type 0) → S → Option Reach 
 OfReach I s None = Unit {0}
 OfReach I s (Some (handed_out j)) = I s j
 OfReach I s (Some (line_ends j)) = I s j
+
+-- where nothing is to show of a read that had no answer
+pub turns-meet : {S : Type 0} (R : S → Step → Answer → S → Type 0) (I : S → Job → Type 0) (d : Description)
+    (s : S) (j : Job) (most : ℕ)
+    → ((t : S) (calls : List Call) (answer : JoyAnswer) → Runs R s calls t
+    → EndsWith (turns d most 0 (joying_of j)) calls (Some answer)
+    → AfterRead I t answer.read (after_joy_answer j answer (j.sight ++ noted_sight calls)))
+    → Meets Any R (λ (t : S) (o : Option JoyAnswer × List Sight). AfterTurns I j t o.0 o.1) s
+    (noted (turns d most 0 (joying_of j)) j.sight)
+turns-meet {S} R I d s j most each =
+    noted-ends-meet R (λ (t : S) (o : Option JoyAnswer × List Sight). AfterTurns I j t o.0 o.1) s j.sight
+    (turns d most 0 (joying_of j)) by
+  where
+    by : (t : S) (calls : List Call) (o : Option JoyAnswer) → Runs R s calls t
+        → EndsWith (turns d most 0 (joying_of j)) calls o → AfterTurns I j t o (j.sight ++ noted_sight calls)
+    by t calls None run ends = tt
+    by t calls (Some answer) run ends = each t calls answer run ends
 
 -- a joystick's command that is a call, and no more
 abbrev pub is_joy_call : Command → Bool

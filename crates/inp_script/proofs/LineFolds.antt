@@ -43,9 +43,9 @@ use Rattle.inp_script.proofs.LineTold.{memory_there}
 use Rattle.inp_script.proofs.Replies.{is_answer_has}
 use Rattle.inp_model.proofs.Leaves.{BeginsWith-trans, HasPlace-longer, seen-kept}
 use Rattle.inp_script.proofs.Told.{noted-back, noted_sight}
-use Rattle.inp_reader.proofs.Meets.{Meets, Any, AnyAnswer, meets-ends, ends-meet, any-run}
+use Rattle.inp_reader.proofs.Meets.{Meets, Any, AnyAnswer, meets-ends, meets-then, any-run}
 use Rattle.inp_script.specs.Joystick.{joystick_talk}
-use Rattle.inp_script.proofs.LineWalk.{job-ends-meet, OfJob, OfTurn, OfGoing, AfterNext, read_so, is_one_call, LineRules, turn-of, line-meets, end-meets}
+use Rattle.inp_script.proofs.LineWalk.{job-ends-meet, noted-ends-meet, OfJob, OfTurn, OfGoing, AfterNext, read_so, is_one_call, LineRules, turn-of, line-meets, end-meets}
 
 -- calls on an evdev have their places in each history that begins with what was seen
 pub are_placed : (d : Description) (a b : EvdevView) (h : List Step) (calls : List Call) → a.description ≡ d → BeginsWith b.seen h → AreCalls a b calls → ArePlaced d h calls
@@ -99,25 +99,26 @@ after-fold d h (Again at ends) j fold =
     (none, folds-on d h (first_view d) j (AgainSight at ends ∷ []) none)
 after-fold d h next j fold = bare d h (first_view d) j fold
 
-round-fold : (d : Description) (h : List Step) (wait : Option Waiting) (skips : Bool) (g : Going) (turn : Turn) (calls : List Call) → ArePlaced d h calls → EndsWith (next_round d wait skips g) calls turn → IsFolded Client d h g.job → GoesOnFolded Client d h tt turn
+round-fold : (d : Description) (h : List Step) (s : Unit {0}) (wait : Option Waiting) (skips : Bool)
+    (g : Going) → IsFolded Client d h g.job
+    → Meets Any (Placed d h) (GoesOnFolded Client d h) s (next_round d wait skips g)
 unfolding next_round
-round-fold d h wait skips g turn calls placed ends fold =
-    let v : View = first_view d in
+round-fold d h s wait skips g fold =
     let mode : Mode = mode_of skips g.job.reading.phase in
-    let next : (Next × Reading) × List Sight → Talk Turn = λ o. finish (after_next wait g o) in
-    let p = split-and_then (noted (next_talk d mode g.job.reading) g.job.sight) next calls turn ends in
-    let f = finished (after_next wait g p.between) turn p.later p.later_ends in
-    let b = noted-back (next_talk d mode g.job.reading) g.job.sight p.first p.between p.first_ends in
-    let first : ArePlaced d h p.first = placed-left d h p.first p.later (subst (λ (cs : List Call). ArePlaced d h cs) p.calls_are placed) in
-    let j : Job = read_so g.job p.between.0.1 p.between.1 in
-    let entries : List Sight = entries_of_next p.between.0.0 in
-    let told : client_fold d h (settled v) (j.sight ++ entries) ≡ settled j.reading.view =
-    ap (λ (es : List Sight). client_fold d h (settled v) (es ++ entries)) b.1
-    ∙ ap (λ (es : List Sight). client_fold d h (settled v) es) (append_assoc g.job.sight (noted_sight p.first) entries)
-    ∙ folds-on d h v g.job (noted_sight p.first ++ entries) fold
-    ∙ next-folds d h mode g.job.reading p.between.0.1 p.between.0.0 p.first first b.0 in
-    subst (GoesOnFolded Client d h tt) f.1
-    (turn-of (OfRole Client d h) (λ s k stop i. i) tt wait g.left g.agains p.between.0.0 j (after-fold d h p.between.0.0 j told))
+    let talk : Talk (Next × Reading) = next_talk d mode g.job.reading in
+    let G : Unit {0} → Turn → Type 0 = GoesOnFolded Client d h in
+    let Q : Unit {0} → (Next × Reading) × List Sight → Type 0 = λ t o. G t (after_next wait g o) in
+    meets-then Any (Placed d h) Q G s (noted talk g.job.sight) (λ o. finish (after_next wait g o))
+    (noted-ends-meet (Placed d h) Q s g.job.sight talk (λ t calls o run ends.
+    let sight : List Sight = g.job.sight ++ noted_sight calls in
+    let entries : List Sight = entries_of_next o.0 in
+    turn-of (OfRole Client d h) (λ u k stop i. i) t wait g.left g.agains o.0 (read_so g.job o.1 sight)
+    (after-fold d h o.0 (read_so g.job o.1 sight)
+    (ap (λ (es : List Sight). client_fold d h (settled (first_view d)) es)
+    (append_assoc g.job.sight (noted_sight calls) entries)
+    ∙ folds-on d h (first_view d) g.job (noted_sight calls ++ entries) fold
+    ∙ next-folds d h mode g.job.reading o.1 o.0 calls (run-placed d h s t calls run) ends))))
+    (λ t o k. k)
 
 -- Single calls of clients, which ask for nothing and read nothing
 
@@ -132,18 +133,8 @@ no_events d past x given silent is =
 
 silent-entry : (d : Description) (h : List Step) (v : View) (x : Step) (reply : Reply) → IsSilent d x → client_fold d h (settled v) (call_sight x reply ++ again_sight reply) ≡ settled v
 unfolding client_fold
-silent-entry d h v x reply silent =
-    client_fold-append d h (settled v) (call_sight x reply) (again_sight reply)
-    ∙ ap (λ (f : Folding). client_fold d h f (again_sight reply)) (by_flag (is_again reply))
-    ∙ no_entry reply
-  where
-    by_flag : (b : Bool) → client_fold d h (settled v) (if b then [] else Called x reply ∷ []) ≡ settled v
-    by_flag true = refl
-    by_flag false = silent.alone v reply
-
-    no_entry : (r : Reply) → client_fold d h (settled v) (again_sight r) ≡ settled v
-    no_entry (Nothing at n) = refl
-    no_entry _ = refl
+silent-entry d h v x (Nothing at n) silent = refl
+silent-entry d h v x reply silent = silent.alone v reply
 
 pub silent-fold : (d : Description) (h : List Step) (v : View) (j : Job) (x : Step) (a : Answer) → IsSilent d x → HasPlace d h (record { step = x; answer = a }) → IsClientFold d h v j → IsClientFold d h v (after_call j x a)
 silent-fold d h v j x a silent placed fold =
@@ -192,9 +183,8 @@ fold-rules role d h command wait of_role = record {
   starts = λ e s j fold. each_end role Client d h s j (start_job d j) e (λ k calls. start_job-folds d h (first_view d) j k calls) fold;
   begins = λ e s j left fold. fold;
   rounds = λ e s waits skips g none fold.
-      ends-meet (Placed d h) (GoesOnFolded role d h) s (next_round d waits skips g) (λ t calls turn run ends.
-      subst (λ (q : Role). GoesOnFolded q d h t turn) (sym e)
-      (round-fold d h waits skips g turn calls (run-placed d h s t calls run) ends (subst (λ (q : Role). IsFolded q d h g.job) e fold)));
+      subst (λ (q : Role). Meets Any (Placed d h) (GoesOnFolded q d h) s (next_round d waits skips g)) (sym e)
+      (round-fold d h s waits skips g (subst (λ (q : Role). IsFolded q d h g.job) e fold));
   forces = λ e s j fold. at_role role Client d h j (forced j) e (λ f. f) fold;
   joys = λ e s j n none fold.
       each_end role Joy d h s j (joystick_talk d n command j) e (λ k calls. joystick-folds d h n command j k calls (of_this Joy e)) fold;
@@ -227,10 +217,7 @@ end-folds b role d old new calls source ends =
 first_folded : (role : Role) (d : Description) (h : List Step) → IsFolded role d h (first_job role d)
 unfolding client_fold tap_fold joy_fold
 first_folded Source d h = refl
-first_folded Client d h = refl
-first_folded Tap d h = refl
-first_folded Joy d h = refl
-first_folded Owner d h = refl
+first_folded _ d h = refl
 
 pub is_folded-first : (role : Role) (d : Description) (h : List Step) (j : Job) → j ≡ first_job role d → IsFolded role d h j
 is_folded-first role d h j same = subst (λ (y : Job). IsFolded role d h y) (sym same) (first_folded role d h)

@@ -1,5 +1,5 @@
 -- The talks of lines, walked once: what has to be shown of one call, of a start and of a `next`, for `Meets` of a whole line.
-use Rattle.std.proofs.Common.{◌≡◌, ℕ, zero, suc, Bool, true, false, if◌then◌else◌, List, [], ◌∷◌, ◌++◌, refl, Option, Some, None, nat_le}
+use Rattle.std.proofs.Common.{◌≡◌, ℕ, zero, suc, Bool, true, false, if◌then◌else◌, List, [], ◌∷◌, ◌++◌, refl, sym, subst, Option, Some, None, nat_le}
 use Rattle.std.proofs.lemmas.Bool.{cond_both}
 use Rattle.inp_model.specs.declared.stamped.Stamped.{Stamped}
 use Rattle.inp_model.specs.declared.step.Step.{Step}
@@ -29,6 +29,7 @@ use Rattle.inp_script.specs.Joystick.{joystick_talk}
 use Rattle.inp_script.specs.Line.{step_of, after_call, call_if, stream_talk, stream_numbered, source_talk, end_talk, after_tap_call, tap_call_if}
 use Rattle.inp_script.specs.Sight.{noted, call_sight, lacks_memory, start_lacks_memory}
 use Rattle.inp_model.specs.Run.{Call}
+use Rattle.inp_script.proofs.Told.{noted-back, noted_sight}
 
 -- ---- a talk whose calls are noted
 
@@ -45,6 +46,15 @@ meets-noted R Q s sight (ask x rest) h = (tt, λ t answer allowed. meets-noted R
 pub note-meets : {S A : Type 0} (R : S → Step → Answer → S → Type 0) (Q : S → A → Type 0) (s : S) (sight : List Sight) (talk : Talk A) → Meets Any R Q s talk → Meets Any (NotedBy R) (λ (u : S × List Sight) (a : A). Q u.0 a) (s, sight) talk
 note-meets R Q s sight (finish a) h = h
 note-meets R Q s sight (ask x rest) h = (tt, λ u a by. note-meets R Q u.0 u.1 (rest a) (h.1 u.0 a by.0))
+
+-- by the calls that it makes, and what is noted of them
+pub noted-ends-meet : {S A : Type 0} (R : S → Step → Answer → S → Type 0) (Q : S → A × List Sight → Type 0)
+    (s : S) (sight : List Sight) (talk : Talk A)
+    → ((t : S) (calls : List Call) (a : A) → Runs R s calls t → EndsWith talk calls a
+    → Q t (a, sight ++ noted_sight calls)) → Meets Any R Q s (noted talk sight)
+noted-ends-meet R Q s sight talk each = ends-meet R Q s (noted talk sight) (λ t calls o run ends.
+    let b = noted-back talk sight calls o ends in
+    subst (λ (es : List Sight). Q t (o.0, es)) (sym b.1) (each t calls o.0 run b.0))
 
 -- ---- what is known of a job
 
@@ -73,11 +83,8 @@ abbrev pub AfterNext : {S : Type 0} → (S → Job → Type 0) → S → Next �
 AfterNext I s (Success taken) j = I s (with_sight j (Took taken))
 AfterNext I s (Dropped taken) j = I s (with_sight j (Took taken))
 AfterNext I s (Sync event) j = I s (with_sight j (Made event))
-AfterNext I s Synced j = I s j
 AfterNext I s (Again at ends) j = I s j × I s (with_sight j (AgainSight at ends))
-AfterNext I s NoDevice j = I s j
-AfterNext I s Closed j = I s j
-AfterNext I s (Full at) j = I s j
+AfterNext I s _ j = I s j
 
 abbrev pub read_so : Job → Reading → List Sight → Job
 read_so j r sight = record j { reading = r; sight = sight }
@@ -111,11 +118,11 @@ call_if-meets R I j (Some x) calls s i = (tt, λ t a allowed. calls s t x a refl
 
 pub tap-meets : {S : Type 0} (R : S → Step → Answer → S → Type 0) (I : S → Job → Type 0) → ((u v : S) (k : Job) (y : Step) (b : Answer) → I u k → R u y b v → I v (after_tap_call k y b)) → (s : S) (j : Job) (o : Option Step) → I s j → Meets Any R (OfJob I) s (tap_call_if j o)
 tap-meets R I calls s j None i = i
-tap-meets {S} R I calls s j (Some x) i = (tt, λ t a allowed. by (lacks_memory a.reply) t (after_tap_call j x a) (calls s t j x a i allowed))
-  where
-    by : (lacks : Bool) (t : S) (k : Job) → I t k → OfJob I t (if lacks then None else Some k)
-    by true t k h = tt
-    by false t k h = h
+tap-meets R I calls s j (Some x) i = (
+  tt,
+  λ t a allowed.
+      cond_both (lacks_memory a.reply) _ _ (OfJob I t) (λ _. tt) (λ _. calls s t j x a i allowed),
+)
 
 stream-meets : {S : Type 0} (R : S → Step → Answer → S → Type 0) (I : S → Job → Type 0) → ((u v : S) (k : Job) (y : Step) (b : Answer) → I u k → R u y b v → I v (after_call k y b)) → (stream : List Stamped) (s : S) (j : Job) → I s j → Meets Any R (OfJob I) s (stream_talk stream j)
 unfolding stream_talk
@@ -146,11 +153,7 @@ unfolding start_job
 start_job-meets {S} R I d s j h =
     let Q : S → (Started × Reading) × List Sight → Type 0 = λ t o. I t (job_after_start o.0.0 o.0.1 o.1) in
     meets-then Any R Q (OfJob I) s (noted (start_talk d j.reading) j.sight) (λ o. finish (start_ends o)) (meets-noted R Q s j.sight (start_talk d j.reading) h)
-    (λ t o k. by (start_lacks_memory o.0.0) t (job_after_start o.0.0 o.0.1 o.1) k)
-  where
-    by : (lacks : Bool) (t : S) (k : Job) → I t k → OfJob I t (if lacks then None else Some k)
-    by true t k h = tt
-    by false t k h = h
+    (λ t o k. cond_both (start_lacks_memory o.0.0) _ _ (OfJob I t) (λ _. tt) (λ _. k))
 
 -- a round, by what `next` leaves
 pub round-meets : {S : Type 0} (R : S → Step → Answer → S → Type 0) (I : S → Job → Type 0) (G : S → Going → Type 0) (d : Description) (s : S) (wait : Option Waiting) (skips : Bool) (g : Going)
@@ -161,27 +164,44 @@ round-meets {S} R I G d s wait skips g h =
     let Q : S → (Next × Reading) × List Sight → Type 0 = λ t o. OfTurn I G t (after_next wait g o) in
     meets-then Any R Q (OfTurn I G) s (noted talk g.job.sight) (λ o. finish (after_next wait g o)) (meets-noted R Q s g.job.sight talk h) (λ t o k. k)
 
--- what a turn leaves, where it is known of the job alone
-pub turn-of : {S : Type 0} (I : S → Job → Type 0) → ((s : S) (j : Job) (stop : Stop) → I s j → I s (with_stop j stop)) → (s : S) (wait : Option Waiting) (left : Option ℕ) (agains : ℕ) (next : Next) (j : Job) → AfterNext I s next j → OfTurn I (OfGoing I) s (turn_after wait left agains next j)
-turn-of {S} I stops s wait left agains next j h = by next h
+handed-cases : {S : Type 0} (I : S → Job → Type 0) (G : S → Going → Type 0) (s : S) (left : Option ℕ)
+    (k : Job) → G s (record { job = k; left = one_less left; agains = 0 }) → I s k
+    → OfTurn I G s (handed (one_less left) k)
+handed-cases I G s left k anew i = cond_both (is_done (one_less left)) _ _ (OfTurn I G s) (λ _. i) (λ _. anew)
+
+-- what a turn leaves, by the ways in which a line goes on or stops
+pub turn-cases : {S : Type 0} (I : S → Job → Type 0) (G : S → Going → Type 0) (s : S) (wait : Option Waiting)
+    (left : Option ℕ) (agains : ℕ) (next : Next) (j : Job)
+    → ((k : Job) (l : Option ℕ) → I s k → G s (record { job = k; left = l; agains = 0 }))
+    → ((at ends : ℕ) → next ≡ Again at ends → G s (record { job = j; left = left; agains = suc agains }))
+    → ((at ends idle : ℕ) → next ≡ Again at ends → nat_le idle (suc agains) ≡ true
+    → I s (with_stop (with_sight j (AgainSight at ends)) (Idle idle at)))
+    → ((at : ℕ) → next ≡ Full at → I s (with_stop j (FullStop at)))
+    → AfterNext I s next j → OfTurn I G s (turn_after wait left agains next j)
+turn-cases I G s wait left agains (Success taken) j anew more idles full i =
+    handed-cases I G s left _ (anew _ _ i) i
+turn-cases I G s wait left agains (Dropped taken) j anew more idles full i =
+    handed-cases I G s left _ (anew _ _ i) i
+turn-cases I G s wait left agains (Sync event) j anew more idles full i =
+    handed-cases I G s left _ (anew _ _ i) i
+turn-cases I G s wait left agains Synced j anew more idles full i = anew j left i
+turn-cases {S} I G s wait left agains (Again at ends) j anew more idles full i = by (patience wait ends)
   where
-    handed-of : (left : Option ℕ) (k : Job) → I s k → OfTurn I (OfGoing I) s (handed left k)
-    handed-of left k i = cond_both (is_done left) _ _ (OfTurn I (OfGoing I) s) (λ _. i) (λ _. i)
+    by : (patient : Option ℕ) → OfTurn I G s (after_again patient left (suc agains) at ends j)
+    by None = i.1
+    by (Some idle) =
+        cond_both (nat_le idle (suc agains)) _ _ (OfTurn I G s) (λ most. idles at ends idle refl most)
+        (λ _. more at ends refl)
+turn-cases I G s wait left agains (Full at) j anew more idles full i = full at refl
+turn-cases I G s wait left agains next j anew more idles full i = i
 
-    again-of : (patient : Option ℕ) (more at ends : ℕ) → I s j → I s (with_sight j (AgainSight at ends)) → OfTurn I (OfGoing I) s (after_again patient left more at ends j)
-    again-of None more at ends i k = k
-    again-of (Some idle) more at ends i k =
-        cond_both (nat_le idle more) _ _ (OfTurn I (OfGoing I) s) (λ _. stops s (with_sight j (AgainSight at ends)) (Idle idle at) k) (λ _. i)
-
-    by : (n : Next) → AfterNext I s n j → OfTurn I (OfGoing I) s (turn_after wait left agains n j)
-    by (Success taken) i = handed-of (one_less left) (with_sight j (Took taken)) i
-    by (Dropped taken) i = handed-of (one_less left) (with_sight j (Took taken)) i
-    by (Sync event) i = handed-of (one_less left) (with_sight j (Made event)) i
-    by Synced i = i
-    by (Again at ends) i = again-of (patience wait ends) (suc agains) at ends i.0 i.1
-    by NoDevice i = i
-    by Closed i = i
-    by (Full at) i = stops s j (FullStop at) i
+-- where it is known of the job alone
+pub turn-of : {S : Type 0} (I : S → Job → Type 0) → ((s : S) (j : Job) (stop : Stop) → I s j → I s (with_stop j stop)) → (s : S) (wait : Option Waiting) (left : Option ℕ) (agains : ℕ) (next : Next) (j : Job) → AfterNext I s next j → OfTurn I (OfGoing I) s (turn_after wait left agains next j)
+turn-of I stops s wait left agains next j h =
+    let this : (n : Next) → next ≡ n → AfterNext I s n j = λ n e. subst (λ (x : Next). AfterNext I s x j) e h in
+    turn-cases I (OfGoing I) s wait left agains next j (λ k l i. i) (λ at ends e. (this (Again at ends) e).0)
+    (λ at ends idle e most. stops s _ (Idle idle at) (this (Again at ends) e).1)
+    (λ at e. stops s j (FullStop at) (this (Full at) e)) h
 
 pub rounds-meets : {S : Type 0} (R : S → Step → Answer → S → Type 0) (I : S → Job → Type 0) (G : S → Going → Type 0) (d : Description) (wait : Option Waiting) (skips : Bool)
     → ((s : S) (g : Going) → G s g → Meets Any R (OfTurn I G) s (next_round d wait skips g)) → (n : ℕ) (s : S) (g : Going) → G s g → Meets Any R (OfJob I) s (rounds d wait skips n g)

@@ -1,6 +1,6 @@
 -- A run of events that a reader has read is as many rounds of its line.
 use Rattle.std.proofs.Common.{◌≡◌, ◌≤◌, ◌<◌, ℕ, zero, suc, ◌+◌, ◌-◌, Bool, true, false, ◌||◌, nat_eq, List, [], ◌∷◌, ◌++◌, length, map, drop, if◌then◌else◌, Option, Some, None, refl, sym, ap, subst, ◌∙◌, arith, append_assoc, append-nil, length-append}
-use Rattle.std.proofs.lemmas.Bool.{cond_both}
+use Rattle.std.proofs.lemmas.Bool.{cond_both, cond-true, cond-false}
 use Rattle.std.proofs.lemmas.Bool.Decides.{nat_tests}
 use Rattle.inp_model.specs.declared.event.Event.{Event}
 use Rattle.inp_model.specs.declared.taken.Taken.{Taken}
@@ -56,19 +56,17 @@ after-event wait left agains j t q =
     (λ (o : Next × Reading). turn_after wait left agains o.0 (record j { reading = o.1 }) ≡ handed (one_less left) (record j { reading = o.1; sight = j.sight ++ Took t ∷ [] }))
     (λ lost. refl) (λ kept. refl)
 
-event-round : (d : Description) (wait : Option Waiting) (skips : Bool) (left : Option ℕ) (agains : ℕ) (j : Job) (t : Taken) (q : List Taken) → j.reading.phase ≡ Plain → j.reading.queue ≡ t ∷ q
-    → next_round d wait skips (record { job = j; left = left; agains = agains }) ≡ finish (handed (one_less left) (with_event j t q))
-unfolding next_round
-event-round d wait skips left agains j t q plain queue =
-    let g : Going = record { job = j; left = left; agains = agains } in
-    ap (λ (talk : Talk (Next × Reading)). and_then (noted talk j.sight) (λ (o : (Next × Reading) × List Sight). finish (after_next wait g o))) (next-handed d skips j.reading t q plain queue)
-    ∙ ap (λ (turn : Turn). finish turn) (after-event wait left agains j t q)
-
-event-rounds : (d : Description) (wait : Option Waiting) (skips : Bool) (left : Option ℕ) (agains n : ℕ) (j : Job) (t : Taken) (q : List Taken) → j.reading.phase ≡ Plain → j.reading.queue ≡ t ∷ q
+event-rounds : (d : Description) (wait : Option Waiting) (skips : Bool) (left : Option ℕ) (agains n : ℕ)
+    (j : Job) (t : Taken) (q : List Taken) → j.reading.phase ≡ Plain → j.reading.queue ≡ t ∷ q
     → rounds d wait skips (suc n) (record { job = j; left = left; agains = agains }) ≡ on_turn (rounds d wait skips n) (handed (one_less left) (with_event j t q))
-unfolding rounds
+unfolding rounds next_round
 event-rounds d wait skips left agains n j t q plain queue =
-    ap (λ (talk : Talk Turn). and_then talk (on_turn (rounds d wait skips n))) (event-round d wait skips left agains j t q plain queue)
+    let g : Going = record { job = j; left = left; agains = agains } in
+    let next : (Next × Reading) × List Sight → Talk Turn = λ o. finish (after_next wait g o) in
+    let go_on : Turn → Talk (Option Job) = on_turn (rounds d wait skips n) in
+    ap (λ (talk : Talk (Next × Reading)). and_then (and_then (noted talk j.sight) next) go_on)
+    (next-handed d skips j.reading t q plain queue)
+    ∙ ap go_on (after-event wait left agains j t q)
 
 -- The events of a run, one after another
 
@@ -90,14 +88,10 @@ left-more count None = refl
 left-more count (Some n) = ap (λ (m : ℕ). Some m) (let same : (n - 1) - count ≡ n - suc count = omega arith in same)
 
 hand-kept : (r : Reading) (t : Taken) (q : List Taken) → is_dropped t.event ≡ false → hand_out_event r t q ≡ (Success t, record r { queue = q; view = view_after_event r.view t.event })
-hand-kept r t q kept =
-    let view = view_after_event r.view t.event in
-    ap (λ (b : Bool). if b then (Dropped t, record r { queue = q; view = view; phase = Needed }) else (Success t, record r { queue = q; view = view })) kept
+hand-kept r t q kept = cond-false (is_dropped t.event) _ _ kept
 
 hand-lost : (r : Reading) (t : Taken) (q : List Taken) → is_dropped t.event ≡ true → hand_out_event r t q ≡ (Dropped t, record r { queue = q; view = view_after_event r.view t.event; phase = Needed })
-hand-lost r t q lost =
-    let view = view_after_event r.view t.event in
-    ap (λ (b : Bool). if b then (Dropped t, record r { queue = q; view = view; phase = Needed }) else (Success t, record r { queue = q; view = view })) lost
+hand-lost r t q lost = cond-true (is_dropped t.event) _ _ lost
 
 -- a reader after a run, by whether its first event tells of a loss
 abbrev run_with : Reading → List Taken → Taken → List Taken → Bool → Reading
@@ -204,21 +198,24 @@ fits-most (Some n) = omega arith
 first-rounds : (d : Description) (wait : Option Waiting) (skips : Bool) (n most : ℕ) (q : List Taken) (left : Option ℕ) (agains : ℕ) (j : Job) → j.reading.phase ≡ Plain → j.reading.queue ≡ q → FitsOne most left → 1 ≤ length (first_run most q)
     → Takes d wait skips n left j (first_run most q) (rounds d wait skips (length (first_run most q) + n) (record { job = j; left = left; agains = agains }))
 unfolding first_run
-first-rounds d wait skips n zero q left agains j plain queue fits some = absurd (let bad : 1 ≤ 0 = some in omega (arith, bad))
-first-rounds d wait skips n (suc most) [] left agains j plain queue fits some = absurd (let bad : 1 ≤ 0 = some in omega (arith, bad))
 first-rounds d wait skips n (suc most) (t ∷ q) left agains j plain queue fits some =
     from-event d wait skips n most t q left agains j plain queue (λ k p e. run-rounds d wait skips n most q (one_less left) k p e (fits-one most left fits))
+first-rounds d wait skips n most q left agains j plain queue fits some =
+    absurd (let bad : 1 ≤ 0 = some in omega (arith, bad))
 
-queued-rounds : (d : Description) (wait : Option Waiting) (skips : Bool) (n most : ℕ) (left : Option ℕ) (agains : ℕ) (j : Job) (phase : Phase) → j.reading.phase ≡ phase → FitsOne most left → 1 ≤ length (queued_run most j.reading)
+is-plain : (phase : Phase) → is_plain_phase phase ≡ true → phase ≡ Plain
+is-plain Plain h = refl
+is-plain phase h = absurd cc
+
+queued-rounds : (d : Description) (wait : Option Waiting) (skips : Bool) (n most : ℕ) (left : Option ℕ)
+    (agains : ℕ) (j : Job) → FitsOne most left → 1 ≤ length (queued_run most j.reading)
     → Takes d wait skips n left j (queued_run most j.reading) (rounds d wait skips (length (queued_run most j.reading) + n) (record { job = j; left = left; agains = agains }))
-queued-rounds d wait skips n most left agains j Plain is fits some =
-    let run : queued_run most j.reading ≡ first_run most j.reading.queue = ap (λ (p : Phase). if is_plain_phase p then first_run most j.reading.queue else []) is in
-    subst (λ (ts : List Taken). Takes d wait skips n left j ts (rounds d wait skips (length ts + n) (record { job = j; left = left; agains = agains }))) (sym run)
-    (first-rounds d wait skips n most j.reading.queue left agains j is refl fits (omega (arith, some, ap length run)))
-queued-rounds d wait skips n most left agains j Needed is fits some =
-    absurd (let none : queued_run most j.reading ≡ [] = ap (λ (p : Phase). if is_plain_phase p then first_run most j.reading.queue else []) is in omega (arith, some, ap length none))
-queued-rounds d wait skips n most left agains j Handing is fits some =
-    absurd (let none : queued_run most j.reading ≡ [] = ap (λ (p : Phase). if is_plain_phase p then first_run most j.reading.queue else []) is in omega (arith, some, ap length none))
+queued-rounds d wait skips n most left agains j fits =
+    let here : Going = record { job = j; left = left; agains = agains } in
+    cond_both (is_plain_phase j.reading.phase) (first_run most j.reading.queue) []
+    (λ ts. 1 ≤ length ts → Takes d wait skips n left j ts (rounds d wait skips (length ts + n) here))
+    (λ plain. first-rounds d wait skips n most _ left agains j (is-plain j.reading.phase plain) refl fits)
+    (λ other some. absurd (omega (arith, some)))
 
 pub advanced-run : (told : EvdevView) (d : Description) (wait : Option Waiting) (skips : Bool) (left : Option ℕ) (agains : ℕ) (old new : Job) (turn : KeptTurn) → HandsRun left old turn new
     → IsAdvanced told told d wait skips (record { job = old; left = left; agains = agains }) (turn_of turn new)
@@ -231,7 +228,7 @@ advanced-run told d wait skips left agains old new turn h =
       calls = [];
       leads = λ n m e.
           ap (λ (k : ℕ). rounds d wait skips k here) e
-          ∙ queued-rounds d wait skips n (most_of left) left agains old old.reading.phase refl (fits-most left) h.some
+          ∙ queued-rounds d wait skips n (most_of left) left agains old (fits-most left) h.some
           ∙ ap (λ (j : Job). on_turn (rounds d wait skips n) (handed (less_by (length run) left) j)) (sym h.taken)
           ∙ ap (λ (t : Turn). on_turn (rounds d wait skips n) t) h.goes;
       are_calls = refl;

@@ -14,13 +14,8 @@ use Rattle.inp_script.specs.KeptSight.{sight_in, IsWithin}
 
 same-entry : (whole : List Sight) (sight : Sight) (kept : KeptSight) → IsWithin whole kept
     → sight_in (whole ++ sight ∷ []) kept ≡ sight_in whole kept
-same-entry whole sight (KeptTook event) h = refl
-same-entry whole sight (Injected event now at) h = refl
-same-entry whole sight (Read client most at count) h = refl
-same-entry whole sight (KeptMade event) h = refl
-same-entry whole sight (KeptAgain at ends) h = refl
-same-entry whole sight (KeptRecord bytes) h = refl
 same-entry whole sight (Whole index) h = get_or_append_left whole (sight ∷ []) (Again 0 0) index h
+same-entry whole sight kept h = refl
 
 -- the entries before it say the same
 same-entries : (whole : List Sight) (sight : Sight) (kept : List KeptSight) → All (IsWithin whole) kept

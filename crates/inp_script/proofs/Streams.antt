@@ -50,13 +50,7 @@ abbrev go_on : Bool → List Stamped → Job → Talk (Option Job)
 go_on all later j = if all then stream_talk later j else finish (Some j)
 
 one_less : (n count : ℕ) → 1 ≤ count → nat_le n (count - 1) ≡ nat_le (suc n) count
-one_less n count h = by_both (nat_le n (count - 1)) (nat_le (suc n) count) refl refl
-  where
-    by_both : (a b : Bool) → nat_le n (count - 1) ≡ a → nat_le (suc n) count ≡ b → a ≡ b
-    by_both true true p q = refl
-    by_both false false p q = refl
-    by_both true false p q = let l : n ≤ count - 1 = grind (arith, nat_tests, p) in let m : count < suc n = grind (arith, nat_tests, q) in absurd (omega (arith, l, m, h))
-    by_both false true p q = let l : count - 1 < n = grind (arith, nat_tests, p) in let m : suc n ≤ count = grind (arith, nat_tests, q) in absurd (omega (arith, l, m, h))
+one_less n count h = grind (arith, nat_tests, h)
 
 too_few : (n count : ℕ) → count ≡ 0 → nat_le (suc n) count ≡ false
 too_few n count h = grind (arith, nat_tests, h)

@@ -65,11 +65,8 @@ no_calls_taken [] = refl
 no_calls_taken (taken ∷ events) = no_calls_taken events
 
 pub call_kept : (x : Step) (reply : Reply) → filter is_call_entry (call_sight x reply) ≡ call_sight x reply
-call_kept x reply = by_flag (is_again reply)
-  where
-    by_flag : (b : Bool) → filter is_call_entry (if b then [] else Called x reply ∷ []) ≡ (if b then [] else Called x reply ∷ [])
-    by_flag true = refl
-    by_flag false = refl
+call_kept x (NothingVisible at ends) = refl
+call_kept x reply = refl
 
 pub again_kept : (reply : Reply) → filter is_call_entry (again_sight reply) ≡ again_sight reply
 again_kept (NothingVisible at ends) = refl

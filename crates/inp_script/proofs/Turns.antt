@@ -22,11 +22,8 @@ use Rattle.inp_script.specs.Job.{Job}
 -- a line never asks its reader for nothing
 pub mode_of-busy : (skips : Bool) (phase : Phase) → is_idle (mode_of skips phase) phase ≡ false
 mode_of-busy true Plain = refl
-mode_of-busy true Needed = refl
-mode_of-busy true Handing = refl
 mode_of-busy false Plain = refl
-mode_of-busy false Needed = refl
-mode_of-busy false Handing = refl
+mode_of-busy _ _ = refl
 
 total-less : (wait : Option Waiting) (after before agains : ℕ) → after < before → total_effort wait after 0 < total_effort wait before agains
 total-less wait after before agains h =
@@ -48,11 +45,12 @@ handed-anew left j k progress h =
 -- one that goes on after an answer Again may wait once more
 again-waits : (patient : Option ℕ) (wait : Option Waiting) (left : Option ℕ) (agains at ends : ℕ) (j k : Job) (progress : Progress) → ((n : ℕ) → patient ≡ Some n → n ≡ idle_of wait) → after_again patient left agains at ends j ≡ goes_on (going progress k) → (progress.agains ≡ agains) × (agains < idle_of wait)
 again-waits None wait left agains at ends j k progress idle h = absurd cc
-again-waits (Some n) wait left agains at ends j k progress idle h = by_flag (with_stop (with_sight j (Nothing at ends)) (Idle n at)) (nat_le n agains) refl h
-  where
-    by_flag : (stopped : Job) (b : Bool) → nat_le n agains ≡ b → (if b then ends_with stopped else goes_on (record { job = j; left = left; agains = agains })) ≡ goes_on (going progress k) → (progress.agains ≡ agains) × (agains < idle_of wait)
-    by_flag stopped true e is = absurd cc
-    by_flag stopped false e is = (same_agains (record { job = j; left = left; agains = agains }) (going progress k) is, (let same = idle n refl in grind (arith, nat_tests)))
+again-waits (Some n) wait left agains at ends j k progress idle h =
+    let here : Going = record { job = j; left = left; agains = agains } in
+    (cond_both (nat_le n agains) _ _
+    (λ x. x ≡ goes_on (going progress k) → (progress.agains ≡ agains) × (agains < idle_of wait))
+    (λ _ is. absurd cc)
+    (λ more is. (same_agains here (going progress k) is, let same = idle n refl in grind (arith, nat_tests)))) h
 
 patience-idle : (wait : Option Waiting) (ends n : ℕ) → patience wait ends ≡ Some n → n ≡ idle_of wait
 patience-idle None ends n h = absurd cc
@@ -70,9 +68,7 @@ goes_on-less wait left agains Synced j k progress after before h less = less_ane
 goes_on-less wait left agains (Again at ends) j k progress after before h less =
     let w = again-waits (patience wait ends) wait left (suc agains) at ends j k progress (patience-idle wait ends) h in
     omega (arith, total-again wait after before agains less w.1, ap (λ (n : ℕ). total_effort wait after n) w.0)
-goes_on-less wait left agains NoDevice j k progress after before h less = absurd cc
-goes_on-less wait left agains Closed j k progress after before h less = absurd cc
-goes_on-less wait left agains (Full at) j k progress after before h less = absurd cc
+goes_on-less wait left agains next j k progress after before h less = absurd cc
 
 pub turn-shrinks : (wait : Option Waiting) (left : Option ℕ) (agains : ℕ) (next : Next) (j k : Job) (turn : KeptTurn) (after before : ℕ) → turn_after wait left agains next j ≡ turn_of turn k → IsLess next after before → Shrinks wait (total_effort wait before agains) after turn
 turn-shrinks wait left agains next j k Ends after before h less = tt
