@@ -213,21 +213,27 @@ record OthersStand (d : Description) (r : List RawItem) (s : Values) (e : Event)
 
 others_stand : (d : Description) (r : List RawItem) (s : Values) (e : Event) → StateStandsFor d r s → OthersStand d r s e
 others_stand d r s e h = record {
-  keys = unless (nat_eq e.kind EV_KEY) (KeysStand d (Occurred e ∷ r) s.keys) (λ n k. h.keys k ∙ sym (key_down-stays d r e k (off_kind d EV_KEY k e n)));
+  keys = unless (nat_eq e.kind EV_KEY) (KeysStand d (Occurred e ∷ r) s.keys)
+      (λ n k. h.keys k ∙ sym (key_down-stays d r e k (off_kind d EV_KEY k e n)));
   switches = bits EV_SW s.switches h.switches;
   leds = bits EV_LED s.leds h.leds;
   sounds = bits EV_SND s.sounds h.sounds;
-  axes = unless (nat_eq e.kind EV_ABS) (AxesStand d (Occurred e ∷ r) s.axes) (λ n k b. h.axes k b ∙ sym (axis_value-stays d r e k (off_kind d EV_ABS k e n)));
+  axes = unless (nat_eq e.kind EV_ABS) (AxesStand d (Occurred e ∷ r) s.axes)
+      (λ n k b. h.axes k b ∙ sym (axis_value-stays d r e k (off_kind d EV_ABS k e n)));
   infos = infos_kept d r s e h.infos;
-  delay = unless (nat_eq e.kind EV_REP) (s.delay ≡ repeat_setting d (Occurred e ∷ r) REP_DELAY) (λ n. h.delay ∙ setting REP_DELAY n);
-  period = unless (nat_eq e.kind EV_REP) (s.period ≡ repeat_setting d (Occurred e ∷ r) REP_PERIOD) (λ n. h.period ∙ setting REP_PERIOD n);
+  delay = setting REP_DELAY s.delay h.delay;
+  period = setting REP_PERIOD s.period h.period;
 }
   where
-    bits : (kind : ℕ) (bits : List Bool) → BitsStand d r kind bits → Unless (nat_eq e.kind kind) (BitsStand d (Occurred e ∷ r) kind bits)
-    bits kind xs stand = unless (nat_eq e.kind kind) (BitsStand d (Occurred e ∷ r) kind xs) (λ n k. stand k ∙ sym (turned_on-stays d r e kind k (off_kind d kind k e n)))
+    bits : (kind : ℕ) (xs : List Bool) → BitsStand d r kind xs
+        → Unless (nat_eq e.kind kind) (BitsStand d (Occurred e ∷ r) kind xs)
+    bits kind xs stand = unless (nat_eq e.kind kind) (BitsStand d (Occurred e ∷ r) kind xs)
+        (λ n k. stand k ∙ sym (turned_on-stays d r e kind k (off_kind d kind k e n)))
 
-    setting : (code : ℕ) → nat_eq e.kind EV_REP ≡ false → repeat_setting d r code ≡ repeat_setting d (Occurred e ∷ r) code
-    setting code n = sym (repeat_setting-stays d r e code (off_kind d EV_REP code e n))
+    setting : (code : ℕ) (x : ℤ) → x ≡ repeat_setting d r code
+        → Unless (nat_eq e.kind EV_REP) (x ≡ repeat_setting d (Occurred e ∷ r) code)
+    setting code x stands = unless (nat_eq e.kind EV_REP) (x ≡ repeat_setting d (Occurred e ∷ r) code)
+        (λ n. stands ∙ sym (repeat_setting-stays d r e code (off_kind d EV_REP code e n)))
 
 pub StateStandsFor-key : (d : Description) (r : List RawItem) (s : Values) (code : ℕ) (value : ℤ) → supports d EV_KEY code ≡ true → code < length s.keys → StateStandsFor d r s → StateStandsFor d (Occurred (event EV_KEY code value) ∷ r) (record s { keys = if is_repeat (event EV_KEY code value) then s.keys else set s.keys code (is_set (event EV_KEY code value)) })
 StateStandsFor-key d r s code value u l h =
