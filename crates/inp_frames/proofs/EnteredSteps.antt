@@ -38,22 +38,10 @@ entered d past x items takes new to_old to_new e s f t i = record {
 
 -- the timer and the flag are no part of it
 StandsAfter-timer : (d : Description) (r : List RawItem) (core : CoreValues) (t : Timer) → StandsAfter d r core → StandsAfter d r (record core { timer = t })
-StandsAfter-timer d r core t s = record {
-  made = record { hint = s.made.hint; slots = s.made.slots };
-  state = s.state;
-  slots = s.slots;
-  at_frame = s.at_frame;
-  batch = s.batch;
-}
+StandsAfter-timer d r core t s = assumption
 
 StandsAfter-flag : (d : Description) (r : List RawItem) (core : CoreValues) (flag : Bool) → StandsAfter d r core → StandsAfter d r (record core { inhibited = flag })
-StandsAfter-flag d r core flag s = record {
-  made = record { hint = s.made.hint; slots = s.made.slots };
-  state = s.state;
-  slots = s.slots;
-  at_frame = s.at_frame;
-  batch = s.batch;
-}
+StandsAfter-flag d r core flag s = assumption
 
 -- ---- an event that is injected or written, and an inhibition
 

@@ -25,41 +25,18 @@ makes_no_events Uninhibit = false
 makes_no_events (SetAxis client code i) = false
 makes_no_events _ = true
 
-pub raw-none : (d : Description) (past : List Step) (x : Step) → makes_no_events x ≡ true → raw d (x ∷ past) ≡ raw d past
-unfolding raw raw_and_timer
-raw-none d past (Inject e now) h = absurd (cc h)
-raw-none d past (Write client e now) h = absurd (cc h)
-raw-none d past (Tick now) h = absurd (cc h)
-raw-none d past (Inhibit now) h = absurd (cc h)
-raw-none d past Uninhibit h = absurd (cc h)
-raw-none d past (SetAxis client code i) h = absurd (cc h)
-raw-none d past _ h = refl
-
-timer-none : (d : Description) (past : List Step) (x : Step) → makes_no_events x ≡ true → timer d (x ∷ past) ≡ timer d past
-unfolding timer raw_and_timer cuts
-timer-none d past (Inject e now) h = absurd (cc h)
-timer-none d past (Write client e now) h = absurd (cc h)
-timer-none d past (Tick now) h = absurd (cc h)
-timer-none d past (Inhibit now) h = absurd (cc h)
-timer-none d past Uninhibit h = absurd (cc h)
-timer-none d past (SetAxis client code i) h = absurd (cc h)
-timer-none d past _ h = either (repeats_keys d) (raw_and_timer d past).timer
-
-is_inhibited-none : (past : List Step) (x : Step) → makes_no_events x ≡ true → is_inhibited (x ∷ past) ≡ is_inhibited past
-unfolding is_inhibited
-is_inhibited-none past (Inject e now) h = absurd (cc h)
-is_inhibited-none past (Write client e now) h = absurd (cc h)
-is_inhibited-none past (Tick now) h = absurd (cc h)
-is_inhibited-none past (Inhibit now) h = absurd (cc h)
-is_inhibited-none past Uninhibit h = absurd (cc h)
-is_inhibited-none past (SetAxis client code i) h = absurd (cc h)
-is_inhibited-none past _ h = refl
-
 pub CoreStandsFor-keeps : (d : Description) (past : List Step) (x : Step) (core : CoreValues) → makes_no_events x ≡ true → CoreStandsFor d past core → CoreStandsFor d (x ∷ past) core
-CoreStandsFor-keeps d past x core h k = record {
-  raw_events = subst (λ (r : List RawItem). StandsAfter d r core) (sym (raw-none d past x h)) k.raw_events;
-  timer = k.timer ∙ sym (timer-none d past x h);
-  inhibited = k.inhibited ∙ sym (is_inhibited-none past x h);
+unfolding raw timer raw_and_timer cuts is_inhibited
+CoreStandsFor-keeps d past (Inject e now) core h k = absurd (cc h)
+CoreStandsFor-keeps d past (Write client e now) core h k = absurd (cc h)
+CoreStandsFor-keeps d past (Tick now) core h k = absurd (cc h)
+CoreStandsFor-keeps d past (Inhibit now) core h k = absurd (cc h)
+CoreStandsFor-keeps d past Uninhibit core h k = absurd (cc h)
+CoreStandsFor-keeps d past (SetAxis client code i) core h k = absurd (cc h)
+CoreStandsFor-keeps d past _ core h k = record {
+  raw_events = k.raw_events;
+  timer = k.timer ∙ sym (either (repeats_keys d) (raw_and_timer d past).timer);
+  inhibited = k.inhibited;
 }
 
 pub CoreStandsFor-uninhibit : (d : Description) (past : List Step) (core : CoreValues) → CoreStandsFor d past core → CoreStandsFor d (Uninhibit ∷ past) (record core { inhibited = false })
@@ -73,13 +50,8 @@ CoreStandsFor-uninhibit d past core k = record {
 -- what waits, the slots and the slot of the last frame stay, and the state is as it is described
 StandsAfter-described : (d : Description) (r : List RawItem) (core : CoreValues) (code : ℕ) (i : AxisInfo) (state : Values) → StateStandsFor d (Described code i ∷ r) state → StandsAfter d r core → StandsAfter d (Described code i ∷ r) (record core { state = state })
 unfolding pending at_frame
-StandsAfter-described d r core code i state new h = record {
-  made = record { hint = h.made.hint; slots = h.made.slots };
-  state = new;
-  slots = SlotsStandFor-described d r core.slots code i h.slots;
-  at_frame = h.at_frame;
-  batch = h.batch;
-}
+StandsAfter-described d r core code i state new h =
+    assumption (new, SlotsStandFor-described d r core.slots code i h.slots, h)
 
 raw-described : (d : Description) (past : List Step) (client code : ℕ) (i : AxisInfo) → raw d (SetAxis client code i ∷ past) ≡ Described code i ∷ raw d past
 unfolding raw raw_and_timer

@@ -182,103 +182,97 @@ pub StateStandsFor-stateless : (d : Description) (r : List RawItem) (s : Values)
 StateStandsFor-stateless d r s e key sw led snd abs rep h =
     StateStandsFor-still d r s e (λ k. off_kind d EV_KEY k e key) (λ k. off_kind d EV_SW k e sw) (λ k. off_kind d EV_LED k e led) (λ k. off_kind d EV_SND k e snd) (λ k. off_kind d EV_ABS k e abs) (λ k. off_kind d EV_REP k e rep) h
 
+-- what is kept of the other types stands after an event
+
+abbrev KeysStand : Description → List RawItem → List Bool → Type 0
+KeysStand d r keys = (k : ℕ) → get_or keys k false ≡ key_down d r k
+
+abbrev BitsStand : Description → List RawItem → ℕ → List Bool → Type 0
+BitsStand d r kind bits = (k : ℕ) → get_or bits k false ≡ turned_on d r kind k
+
+abbrev AxesStand : Description → List RawItem → List ℤ → Type 0
+AxesStand d r axes = (k : ℕ) → k ≤ ABS_MAX → get_or axes k (pos 0) ≡ axis_value d r k
+
+abbrev Unless : Bool → Type 0 → Type 0
+Unless true P = Unit {0}
+Unless false P = P
+
+unless : (b : Bool) (P : Type 0) → (b ≡ false → P) → Unless b P
+unless true P h = tt
+unless false P h = h refl
+
+record OthersStand (d : Description) (r : List RawItem) (s : Values) (e : Event) : Type 0 where
+  keys : Unless (nat_eq e.kind EV_KEY) (KeysStand d (Occurred e ∷ r) s.keys)
+  switches : Unless (nat_eq e.kind EV_SW) (BitsStand d (Occurred e ∷ r) EV_SW s.switches)
+  leds : Unless (nat_eq e.kind EV_LED) (BitsStand d (Occurred e ∷ r) EV_LED s.leds)
+  sounds : Unless (nat_eq e.kind EV_SND) (BitsStand d (Occurred e ∷ r) EV_SND s.sounds)
+  axes : Unless (nat_eq e.kind EV_ABS) (AxesStand d (Occurred e ∷ r) s.axes)
+  infos : (k : ℕ) → k ≤ ABS_MAX → get_or s.infos k no_info ≡ axis_info d (Occurred e ∷ r) k
+  delay : Unless (nat_eq e.kind EV_REP) (s.delay ≡ repeat_setting d (Occurred e ∷ r) REP_DELAY)
+  period : Unless (nat_eq e.kind EV_REP) (s.period ≡ repeat_setting d (Occurred e ∷ r) REP_PERIOD)
+
+others_stand : (d : Description) (r : List RawItem) (s : Values) (e : Event) → StateStandsFor d r s → OthersStand d r s e
+others_stand d r s e h = record {
+  keys = unless (nat_eq e.kind EV_KEY) (KeysStand d (Occurred e ∷ r) s.keys)
+      (λ n k. h.keys k ∙ sym (key_down-stays d r e k (off_kind d EV_KEY k e n)));
+  switches = bits EV_SW s.switches h.switches;
+  leds = bits EV_LED s.leds h.leds;
+  sounds = bits EV_SND s.sounds h.sounds;
+  axes = unless (nat_eq e.kind EV_ABS) (AxesStand d (Occurred e ∷ r) s.axes)
+      (λ n k b. h.axes k b ∙ sym (axis_value-stays d r e k (off_kind d EV_ABS k e n)));
+  infos = infos_kept d r s e h.infos;
+  delay = setting REP_DELAY s.delay h.delay;
+  period = setting REP_PERIOD s.period h.period;
+}
+  where
+    bits : (kind : ℕ) (xs : List Bool) → BitsStand d r kind xs
+        → Unless (nat_eq e.kind kind) (BitsStand d (Occurred e ∷ r) kind xs)
+    bits kind xs stand = unless (nat_eq e.kind kind) (BitsStand d (Occurred e ∷ r) kind xs)
+        (λ n k. stand k ∙ sym (turned_on-stays d r e kind k (off_kind d kind k e n)))
+
+    setting : (code : ℕ) (x : ℤ) → x ≡ repeat_setting d r code
+        → Unless (nat_eq e.kind EV_REP) (x ≡ repeat_setting d (Occurred e ∷ r) code)
+    setting code x stands = unless (nat_eq e.kind EV_REP) (x ≡ repeat_setting d (Occurred e ∷ r) code)
+        (λ n. stands ∙ sym (repeat_setting-stays d r e code (off_kind d EV_REP code e n)))
+
 pub StateStandsFor-key : (d : Description) (r : List RawItem) (s : Values) (code : ℕ) (value : ℤ) → supports d EV_KEY code ≡ true → code < length s.keys → StateStandsFor d r s → StateStandsFor d (Occurred (event EV_KEY code value) ∷ r) (record s { keys = if is_repeat (event EV_KEY code value) then s.keys else set s.keys code (is_set (event EV_KEY code value)) })
 StateStandsFor-key d r s code value u l h =
-    let e : Event = event EV_KEY code value in
-    record {
-      keys = keys_after d r s.keys code value h.keys u l;
-      switches = λ k. h.switches k ∙ sym (turned_on-stays d r e EV_SW k (off_kind d EV_SW k e refl));
-      leds = λ k. h.leds k ∙ sym (turned_on-stays d r e EV_LED k (off_kind d EV_LED k e refl));
-      sounds = λ k. h.sounds k ∙ sym (turned_on-stays d r e EV_SND k (off_kind d EV_SND k e refl));
-      axes = λ k b. h.axes k b ∙ sym (axis_value-stays d r e k (off_kind d EV_ABS k e refl));
-      infos = infos_kept d r s e h.infos;
-      delay = h.delay ∙ sym (repeat_setting-stays d r e REP_DELAY (off_kind d EV_REP REP_DELAY e refl));
-      period = h.period ∙ sym (repeat_setting-stays d r e REP_PERIOD (off_kind d EV_REP REP_PERIOD e refl));
-    }
+    let others = others_stand d r s (event EV_KEY code value) h in
+    assumption (keys_after d r s.keys code value h.keys u l, others)
 
 pub StateStandsFor-switch : (d : Description) (r : List RawItem) (s : Values) (code : ℕ) (value : ℤ) → supports d EV_SW code ≡ true → code < length s.switches → StateStandsFor d r s → StateStandsFor d (Occurred (event EV_SW code value) ∷ r) (record s { switches = set s.switches code (is_set (event EV_SW code value)) })
 StateStandsFor-switch d r s code value u l h =
-    let e : Event = event EV_SW code value in
-    record {
-      keys = λ k. h.keys k ∙ sym (key_down-stays d r e k (off_kind d EV_KEY k e refl));
-      switches = bits_after d r s.switches EV_SW code value h.switches u l;
-      leds = λ k. h.leds k ∙ sym (turned_on-stays d r e EV_LED k (off_kind d EV_LED k e refl));
-      sounds = λ k. h.sounds k ∙ sym (turned_on-stays d r e EV_SND k (off_kind d EV_SND k e refl));
-      axes = λ k b. h.axes k b ∙ sym (axis_value-stays d r e k (off_kind d EV_ABS k e refl));
-      infos = infos_kept d r s e h.infos;
-      delay = h.delay ∙ sym (repeat_setting-stays d r e REP_DELAY (off_kind d EV_REP REP_DELAY e refl));
-      period = h.period ∙ sym (repeat_setting-stays d r e REP_PERIOD (off_kind d EV_REP REP_PERIOD e refl));
-    }
+    let others = others_stand d r s (event EV_SW code value) h in
+    assumption (bits_after d r s.switches EV_SW code value h.switches u l, others)
 
 pub StateStandsFor-led : (d : Description) (r : List RawItem) (s : Values) (code : ℕ) (value : ℤ) → supports d EV_LED code ≡ true → code < length s.leds → StateStandsFor d r s → StateStandsFor d (Occurred (event EV_LED code value) ∷ r) (record s { leds = set s.leds code (is_set (event EV_LED code value)) })
 StateStandsFor-led d r s code value u l h =
-    let e : Event = event EV_LED code value in
-    record {
-      keys = λ k. h.keys k ∙ sym (key_down-stays d r e k (off_kind d EV_KEY k e refl));
-      switches = λ k. h.switches k ∙ sym (turned_on-stays d r e EV_SW k (off_kind d EV_SW k e refl));
-      leds = bits_after d r s.leds EV_LED code value h.leds u l;
-      sounds = λ k. h.sounds k ∙ sym (turned_on-stays d r e EV_SND k (off_kind d EV_SND k e refl));
-      axes = λ k b. h.axes k b ∙ sym (axis_value-stays d r e k (off_kind d EV_ABS k e refl));
-      infos = infos_kept d r s e h.infos;
-      delay = h.delay ∙ sym (repeat_setting-stays d r e REP_DELAY (off_kind d EV_REP REP_DELAY e refl));
-      period = h.period ∙ sym (repeat_setting-stays d r e REP_PERIOD (off_kind d EV_REP REP_PERIOD e refl));
-    }
+    let others = others_stand d r s (event EV_LED code value) h in
+    assumption (bits_after d r s.leds EV_LED code value h.leds u l, others)
 
 pub StateStandsFor-sound : (d : Description) (r : List RawItem) (s : Values) (code : ℕ) (value : ℤ) → supports d EV_SND code ≡ true → code < length s.sounds → StateStandsFor d r s → StateStandsFor d (Occurred (event EV_SND code value) ∷ r) (record s { sounds = set s.sounds code (is_set (event EV_SND code value)) })
 StateStandsFor-sound d r s code value u l h =
-    let e : Event = event EV_SND code value in
-    record {
-      keys = λ k. h.keys k ∙ sym (key_down-stays d r e k (off_kind d EV_KEY k e refl));
-      switches = λ k. h.switches k ∙ sym (turned_on-stays d r e EV_SW k (off_kind d EV_SW k e refl));
-      leds = λ k. h.leds k ∙ sym (turned_on-stays d r e EV_LED k (off_kind d EV_LED k e refl));
-      sounds = bits_after d r s.sounds EV_SND code value h.sounds u l;
-      axes = λ k b. h.axes k b ∙ sym (axis_value-stays d r e k (off_kind d EV_ABS k e refl));
-      infos = infos_kept d r s e h.infos;
-      delay = h.delay ∙ sym (repeat_setting-stays d r e REP_DELAY (off_kind d EV_REP REP_DELAY e refl));
-      period = h.period ∙ sym (repeat_setting-stays d r e REP_PERIOD (off_kind d EV_REP REP_PERIOD e refl));
-    }
+    let others = others_stand d r s (event EV_SND code value) h in
+    assumption (bits_after d r s.sounds EV_SND code value h.sounds u l, others)
 
 pub StateStandsFor-axis : (d : Description) (r : List RawItem) (s : Values) (code : ℕ) (value : ℤ) → supports d EV_ABS code ≡ true → is_multi_touch (event EV_ABS code value) ≡ false → code ≤ ABS_MAX → code < length s.axes → StateStandsFor d r s → StateStandsFor d (Occurred (event EV_ABS code value) ∷ r) (record s { axes = set s.axes code (defuzz value (get_or s.axes code (pos 0)) (axis_info d r code).fuzz) })
 StateStandsFor-axis d r s code value u m w l h =
-    let e : Event = event EV_ABS code value in
-    record {
-      keys = λ k. h.keys k ∙ sym (key_down-stays d r e k (off_kind d EV_KEY k e refl));
-      switches = λ k. h.switches k ∙ sym (turned_on-stays d r e EV_SW k (off_kind d EV_SW k e refl));
-      leds = λ k. h.leds k ∙ sym (turned_on-stays d r e EV_LED k (off_kind d EV_LED k e refl));
-      sounds = λ k. h.sounds k ∙ sym (turned_on-stays d r e EV_SND k (off_kind d EV_SND k e refl));
-      axes = axes_after d r s.axes code value h.axes u m w l;
-      infos = infos_kept d r s e h.infos;
-      delay = h.delay ∙ sym (repeat_setting-stays d r e REP_DELAY (off_kind d EV_REP REP_DELAY e refl));
-      period = h.period ∙ sym (repeat_setting-stays d r e REP_PERIOD (off_kind d EV_REP REP_PERIOD e refl));
-    }
+    let others = others_stand d r s (event EV_ABS code value) h in
+    assumption (axes_after d r s.axes code value h.axes u m w l, others)
 
 pub StateStandsFor-delay : (d : Description) (r : List RawItem) (s : Values) (value : ℤ) → supports d EV_REP REP_DELAY ≡ true → StateStandsFor d r s → StateStandsFor d (Occurred (event EV_REP REP_DELAY value) ∷ r) (record s { delay = if is_negative (event EV_REP REP_DELAY value) then s.delay else value })
 StateStandsFor-delay d r s value u h =
     let e : Event = event EV_REP REP_DELAY value in
-    record {
-      keys = λ k. h.keys k ∙ sym (key_down-stays d r e k (off_kind d EV_KEY k e refl));
-      switches = λ k. h.switches k ∙ sym (turned_on-stays d r e EV_SW k (off_kind d EV_SW k e refl));
-      leds = λ k. h.leds k ∙ sym (turned_on-stays d r e EV_LED k (off_kind d EV_LED k e refl));
-      sounds = λ k. h.sounds k ∙ sym (turned_on-stays d r e EV_SND k (off_kind d EV_SND k e refl));
-      axes = λ k b. h.axes k b ∙ sym (axis_value-stays d r e k (off_kind d EV_ABS k e refl));
-      infos = infos_kept d r s e h.infos;
-      delay = setting_after d r s.delay REP_DELAY value h.delay u;
-      period = h.period ∙ sym (repeat_setting-stays d r e REP_PERIOD (off_code d EV_REP REP_PERIOD e (λ x. absurd (omega arith))));
-    }
+    let others = others_stand d r s e h in
+    let period = h.period ∙ sym (repeat_setting-stays d r e REP_PERIOD (off_code d EV_REP REP_PERIOD e (λ x. absurd (omega arith)))) in
+    assumption (setting_after d r s.delay REP_DELAY value h.delay u, period, others)
 
 pub StateStandsFor-period : (d : Description) (r : List RawItem) (s : Values) (value : ℤ) → supports d EV_REP REP_PERIOD ≡ true → StateStandsFor d r s → StateStandsFor d (Occurred (event EV_REP REP_PERIOD value) ∷ r) (record s { period = if is_negative (event EV_REP REP_PERIOD value) then s.period else value })
 StateStandsFor-period d r s value u h =
     let e : Event = event EV_REP REP_PERIOD value in
-    record {
-      keys = λ k. h.keys k ∙ sym (key_down-stays d r e k (off_kind d EV_KEY k e refl));
-      switches = λ k. h.switches k ∙ sym (turned_on-stays d r e EV_SW k (off_kind d EV_SW k e refl));
-      leds = λ k. h.leds k ∙ sym (turned_on-stays d r e EV_LED k (off_kind d EV_LED k e refl));
-      sounds = λ k. h.sounds k ∙ sym (turned_on-stays d r e EV_SND k (off_kind d EV_SND k e refl));
-      axes = λ k b. h.axes k b ∙ sym (axis_value-stays d r e k (off_kind d EV_ABS k e refl));
-      infos = infos_kept d r s e h.infos;
-      delay = h.delay ∙ sym (repeat_setting-stays d r e REP_DELAY (off_code d EV_REP REP_DELAY e (λ x. absurd (omega arith))));
-      period = setting_after d r s.period REP_PERIOD value h.period u;
-    }
+    let others = others_stand d r s e h in
+    let delay = h.delay ∙ sym (repeat_setting-stays d r e REP_DELAY (off_code d EV_REP REP_DELAY e (λ x. absurd (omega arith)))) in
+    assumption (setting_after d r s.period REP_PERIOD value h.period u, delay, others)
 
 -- ---- a multi-touch event, which belongs to the slots
 

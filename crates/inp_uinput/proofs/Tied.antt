@@ -40,29 +40,15 @@ numbers-events events kept new h = ap call_numbers h ∙ ap feedback_numbers (ca
 pub owned_called : (before after : UdevView) (x : Step) (reply : Reply) (out new_out : List Taken) (cells new_cells : List ℤ)
     → IsEvdevCall (evdev_view (device_of before)) (evdev_view (device_of after)) x reply out new_out cells new_cells → call_numbers after.kept ≡ call_numbers before.kept
     → IsEvdevCall (owned_view before) (owned_view after) x reply out new_out cells new_cells
-owned_called before after x reply out new_out cells new_cells h tie =
-    let c : IsCall (evdev_view (device_of before)) (evdev_view (device_of after)) h.call = h.is_call in
-    record {
-      call = h.call;
-      step = h.step;
-      replied = h.replied;
-      out_written = h.out_written;
-      cells_written = h.cells_written;
-      is_call = record {
-        description = c.description;
-        tie = ap Some tie;
-        seen = c.seen;
-        fresh = c.fresh;
-        long = c.long;
-        placed = c.placed;
-        own = c.own;
-        agains = c.agains;
-        turns = c.turns;
-        rises = c.rises;
-        history = c.history;
-      };
-      turns = h.turns;
-    }
+owned_called before after x reply out new_out cells new_cells h tie = record {
+  call = h.call;
+  step = h.step;
+  replied = h.replied;
+  out_written = h.out_written;
+  cells_written = h.cells_written;
+  is_call = assumption (ap Some tie, h.is_call);
+  turns = h.turns;
+}
 
 pub owned_injected : (before after : UdevView) (events : List Stamped) (injected : Injected) → IsInjectAll (evdev_view (device_of before)) (evdev_view (device_of after)) events injected
     → call_numbers after.kept ≡ call_numbers before.kept → IsInjectAll (owned_view before) (owned_view after) events injected
@@ -87,19 +73,7 @@ abbrev untied : EvdevView → EvdevView
 untied v = record v { tie = None }
 
 untied-call : (before after : EvdevView) (call : Call) → IsCall before after call → IsCall (untied before) (untied after) call
-untied-call before after call c = record {
-  description = c.description;
-  tie = refl;
-  seen = c.seen;
-  fresh = c.fresh;
-  long = c.long;
-  placed = c.placed;
-  own = c.own;
-  agains = c.agains;
-  turns = c.turns;
-  rises = c.rises;
-  history = c.history;
-}
+untied-call before after call c = assumption
 
 untied-all : (before after : EvdevView) (calls : List Call) → AreCalls before after calls → AreCalls (untied before) (untied after) calls
 unfolding AreCalls

@@ -18,8 +18,8 @@ use Rattle.inp_uinput.proofs.Waiting.{queue_within}
 use Rattle.inp_uinput.proofs.Udevs.{at_limit, full_answer, full_taken, full_kept, below_limit, some_answer, some_written, some_kept, calls_pushed, beside_fed}
 use Rattle.inp_uinput.proofs.udev.Udev.feedback.Goals as goal
 
-pub returns-then-len-log-clause-answer : goal.returns-then-len-log-clause-answer
-returns-then-len-log-clause-answer c =
+pub returns-then-len-log : goal.returns-then-len-log
+returns-then-len-log c =
     let d = c.self.inside.device.description in
     let past = c.self.inside.device.past in
     let calls = reverse c.self.inside.feedbacks.items in
@@ -27,28 +27,13 @@ returns-then-len-log-clause-answer c =
     let limit : d.log_limit ≤ length calls = omega (arith, length-reverse c.self.inside.feedbacks.items, c.log.ensures.log, ap (λ (d : Description). d.log_limit) c.caps.ensures.description) in
     let full : is_full_of_feedback d (kept_of past calls) ≡ true = at_limit d past calls room limit in
     let place : length c.history.result.now ≡ length past = ap length c.history.ensures.history ∙ length-reverse past in
-    ap (λ at. Full at) place ∙ full_answer d past calls room full ∙ ap (λ (u : UdevView). fed u.description u.kept room) c.self.view_is
-
-pub returns-then-len-log-clause-written : goal.returns-then-len-log-clause-written
-returns-then-len-log-clause-written c =
-    let d = c.self.inside.device.description in
-    let past = c.self.inside.device.past in
-    let calls = reverse c.self.inside.feedbacks.items in
-    let room = length c.args.out.now in
-    let limit : d.log_limit ≤ length calls = omega (arith, length-reverse c.self.inside.feedbacks.items, c.log.ensures.log, ap (λ (d : Description). d.log_limit) c.caps.ensures.description) in
-    let full : is_full_of_feedback d (kept_of past calls) ≡ true = at_limit d past calls room limit in
-    ap (λ es. written es c.args.out.now) (sym (full_taken d past calls room full)) ∙ ap (λ (u : UdevView). written (taken_by_feedback u.description u.kept room) c.args.out.now) c.self.view_is
-
-pub returns-then-len-log-clause-kept : goal.returns-then-len-log-clause-kept
-returns-then-len-log-clause-kept c =
-    let d = c.self.inside.device.description in
-    let past = c.self.inside.device.past in
-    let calls = reverse c.self.inside.feedbacks.items in
-    let room = length c.args.out.now in
-    let limit : d.log_limit ≤ length calls = omega (arith, length-reverse c.self.inside.feedbacks.items, c.log.ensures.log, ap (λ (d : Description). d.log_limit) c.caps.ensures.description) in
-    let full : is_full_of_feedback d (kept_of past calls) ≡ true = at_limit d past calls room limit in
-    sym c.self.view_is ∙ ap (λ (kept : List UEntry). record { description = d; kept = kept; agains = c.self.inside.device.agains }) (full_kept d past calls room full)
-    ∙ ap (λ (u : UdevView). record u { kept = kept_after_feedback u.description u.kept room }) c.self.view_is
+    record {
+      answer = ap (λ at. Full at) place ∙ full_answer d past calls room full ∙ ap (λ (u : UdevView). fed u.description u.kept room) c.self.view_is;
+      written = ap (λ es. written es c.args.out.now) (sym (full_taken d past calls room full))
+          ∙ ap (λ (u : UdevView). written (taken_by_feedback u.description u.kept room) c.args.out.now) c.self.view_is;
+      kept = sym c.self.view_is ∙ ap (λ (kept : List UEntry). record { description = d; kept = kept; agains = c.self.inside.device.agains }) (full_kept d past calls room full)
+          ∙ ap (λ (u : UdevView). record u { kept = kept_after_feedback u.description u.kept room }) c.self.view_is;
+    }
 
 pub overflow_cast-count : goal.overflow_cast-count
 overflow_cast-count c =
@@ -66,9 +51,7 @@ invariant_of-self c =
     let d = c.self.inside.device.description in
     let past = c.self.inside.device.past in
     let calls = reverse c.self.inside.feedbacks.items in
-    let room = length c.args.out.now in
     let below : length calls < d.log_limit = omega (arith, length-reverse c.self.inside.feedbacks.items, c.log.ensures.log, ap (λ (d : Description). d.log_limit) c.caps.ensures.description) in
-    let some : is_full_of_feedback d (kept_of past calls) ≡ false = below_limit d past calls room below in
     let place : length c.history.result.now ≡ length past = ap length c.history.ensures.history ∙ length-reverse past in
     let call : FeedbackCall = record { at = length c.history.result.now; count = c.take-count.result } in
     let pushed : c.push.new.self.items ≡ c.self.inside.feedbacks.items ++ call ∷ [] = c.push.ensures.items ∙ ap (λ r. if is_ok r then c.self.inside.feedbacks.items ++ call ∷ [] else c.self.inside.feedbacks.items) c.unwrap.ensures in
@@ -80,34 +63,8 @@ invariant_of-self c =
     (subst (λ (calls : List FeedbackCall). IsKeptBeside d past calls (vec_capacity c.push.new.self) (record old { waiting = buffer (drop c.take-count.result old.waiting.items) old.waiting.capacity })) turned
     (beside_fed d past calls call (vec_capacity c.self.inside.feedbacks) (vec_capacity c.push.new.self) old c.self.invariant place below c.push.ensures.capacity))
 
-pub returns-clause-answer : goal.returns-clause-answer
-returns-clause-answer c =
-    let d = c.self.inside.device.description in
-    let past = c.self.inside.device.past in
-    let calls = reverse c.self.inside.feedbacks.items in
-    let room = length c.args.out.now in
-    let below : length calls < d.log_limit = omega (arith, length-reverse c.self.inside.feedbacks.items, c.log.ensures.log, ap (λ (d : Description). d.log_limit) c.caps.ensures.description) in
-    let some : is_full_of_feedback d (kept_of past calls) ≡ false = below_limit d past calls room below in
-    let place : length c.history.result.now ≡ length past = ap length c.history.ensures.history ∙ length-reverse past in
-    let waits : c.deref_mut.result.now.waiting ≡ buffer (feedback_queue d (kept_of past calls)) FEEDBACK_MAX = ap (λ (o : Outputs). o.waiting) c.deref_mut.ensures.value ∙ c.self.invariant.waiting in
-    let count : c.take-count.result ≡ min room (length (feedback_queue d (kept_of past calls))) = c.take-count.ensures.count ∙ ap (λ (w : Buffer Event). min room (length w.items)) waits in
-    ap (λ at. Took at c.take-count.result) place ∙ some_answer d past calls room c.take-count.result some count ∙ ap (λ (u : UdevView). fed u.description u.kept room) c.self.view_is
-
-pub returns-clause-written : goal.returns-clause-written
-returns-clause-written c =
-    let d = c.self.inside.device.description in
-    let past = c.self.inside.device.past in
-    let calls = reverse c.self.inside.feedbacks.items in
-    let room = length c.args.out.now in
-    let below : length calls < d.log_limit = omega (arith, length-reverse c.self.inside.feedbacks.items, c.log.ensures.log, ap (λ (d : Description). d.log_limit) c.caps.ensures.description) in
-    let some : is_full_of_feedback d (kept_of past calls) ≡ false = below_limit d past calls room below in
-    let waits : c.deref_mut.result.now.waiting ≡ buffer (feedback_queue d (kept_of past calls)) FEEDBACK_MAX = ap (λ (o : Outputs). o.waiting) c.deref_mut.ensures.value ∙ c.self.invariant.waiting in
-    let count : c.take-count.result ≡ min room (length (feedback_queue d (kept_of past calls))) = c.take-count.ensures.count ∙ ap (λ (w : Buffer Event). min room (length w.items)) waits in
-    c.take-count.ensures.written ∙ ap (λ (w : Buffer Event). take c.take-count.result w.items ++ drop c.take-count.result c.args.out.now) waits
-    ∙ some_written d past calls room c.take-count.result c.args.out.now some count ∙ ap (λ (u : UdevView). written (taken_by_feedback u.description u.kept room) c.args.out.now) c.self.view_is
-
-pub returns-clause-kept : goal.returns-clause-kept
-returns-clause-kept c =
+pub returns : goal.returns
+returns c =
     let d = c.self.inside.device.description in
     let past = c.self.inside.device.past in
     let calls = reverse c.self.inside.feedbacks.items in
@@ -120,6 +77,12 @@ returns-clause-kept c =
     let call : FeedbackCall = record { at = length c.history.result.now; count = c.take-count.result } in
     let pushed : c.push.new.self.items ≡ c.self.inside.feedbacks.items ++ call ∷ [] = c.push.ensures.items ∙ ap (λ r. if is_ok r then c.self.inside.feedbacks.items ++ call ∷ [] else c.self.inside.feedbacks.items) c.unwrap.ensures in
     let turned : call ∷ calls ≡ reverse c.push.new.self.items = calls_pushed c.self.inside.feedbacks.items call ∙ ap reverse (sym pushed) in
-    ap (λ (calls : List FeedbackCall). record { description = d; kept = kept_of past calls; agains = c.self.inside.device.agains }) (sym turned)
-    ∙ ap (λ (kept : List UEntry). record { description = d; kept = kept; agains = c.self.inside.device.agains }) (some_kept d past calls room call some place count)
-    ∙ ap (λ (u : UdevView). record u { kept = kept_after_feedback u.description u.kept room }) c.self.view_is
+    record {
+      answer = ap (λ at. Took at c.take-count.result) place ∙ some_answer d past calls room c.take-count.result some count ∙ ap (λ (u : UdevView). fed u.description u.kept room) c.self.view_is;
+      written = c.take-count.ensures.written ∙ ap (λ (w : Buffer Event). take c.take-count.result w.items ++ drop c.take-count.result c.args.out.now) waits
+          ∙ some_written d past calls room c.take-count.result c.args.out.now some count
+          ∙ ap (λ (u : UdevView). written (taken_by_feedback u.description u.kept room) c.args.out.now) c.self.view_is;
+      kept = ap (λ (calls : List FeedbackCall). record { description = d; kept = kept_of past calls; agains = c.self.inside.device.agains }) (sym turned)
+          ∙ ap (λ (kept : List UEntry). record { description = d; kept = kept; agains = c.self.inside.device.agains }) (some_kept d past calls room call some place count)
+          ∙ ap (λ (u : UdevView). record u { kept = kept_after_feedback u.description u.kept room }) c.self.view_is;
+    }
