@@ -12,7 +12,7 @@ use Rattle.inp_model.specs.Run.{Call}
 use Rattle.inp_model.specs.Leaves.{AreCalls, places_of}
 use Rattle.inp_model.proofs.Leaves.{own-grown}
 use Rattle.inp_script.specs.declared.sight.Sight.{Sight}
-use Rattle.inp_script.specs.declared.sight.Sight.TheVariants.{Call as Called, Took, Made, Again, Record as HandedOut}
+use Rattle.inp_script.specs.declared.sight.Sight.TheVariants.{Call as Called}
 use Rattle.inp_script.specs.DoneLine.{Holds, DoesLine}
 use Rattle.inp_script.specs.Job.{Job, ActorView}
 use Rattle.inp_script.specs.Legal.{sight_of_calls, is_call_entry, places_in, IsLegalSight, LeavesOut, GainsPlaces}

@@ -21,7 +21,7 @@ use Rattle.inp_joy.specs.declared.joy_read.JoyRead.{JoyRead}
 use Rattle.inp_joy.specs.declared.joy_read.JoyRead.TheVariants.{Again}
 use Rattle.inp_joy.specs.declared.joy_record.JoyRecord.{JoyRecord}
 use Rattle.inp_joy.specs.JoyRecord.{bytes_of_record}
-use Rattle.inp_joy.specs.Joy.{Joying, JoyAnswer, JoyTurn, gives, goes_on, hand_out_record, next_in_startup, joy_read_of, joy_record_of, record_or_on, stop_or_on, joying_after_next, joying_after_sync, turn_talk, turns, with_reading, with_startup, without_startup, joying_after_start, joy_started, joy_start}
+use Rattle.inp_joy.specs.Joy.{Joying, JoyAnswer, JoyTurn, gives, goes_on, hand_out_record, next_in_startup, joy_read_of, joy_record_of, record_or_on, stop_or_on, joying_after_next, joying_after_sync, turn_talk, turns, with_reading, with_startup, joying_after_start, joy_started, joy_start}
 use Rattle.inp_joy.specs.Picture.{PictureView, blank_picture, picture_after}
 use Rattle.inp_joy.proofs.Nexts.{lost-needed}
 use Rattle.inp_joy.proofs.Records.{FitsBytes, record-back, startup-fits, FitsIf, event-fits}
@@ -42,9 +42,9 @@ use Rattle.inp_script.specs.Job.{Job, joying_of}
 use Rattle.inp_script.specs.Joystick.{start_joystick, record_sight, after_joy_answer, joystick_talk}
 use Rattle.inp_script.specs.JoyFold.{Showing, shown, asking, blank_shown, asked_on, after_joy_call, after_joy_entry, joy_fold}
 use Rattle.inp_script.specs.Line.{after_call, step_of}
-use Rattle.inp_script.specs.Sight.{call_sight, again_sight, taken_sight, sight_of_call, noted}
+use Rattle.inp_script.specs.Sight.{call_sight, again_sight, taken_sight, sight_of_call}
 use Rattle.inp_recon.proofs.Each.{Each}
-use Rattle.inp_reader.proofs.Meets.{Any, Runs, meets-ends, ends-meet}
+use Rattle.inp_reader.proofs.Meets.{Any, Runs, meets-ends}
 use Rattle.inp_reader.proofs.NextWalk.{AskRules, asked-meets, sync-by_parts, Queried, start-meets, Handed, needed-meets, NextRules, next-ends, stop-cases}
 use Rattle.inp_reader.proofs.AgainCounts.{IsNoRead, no_read-queries, not_again}
 use Rattle.inp_script.proofs.ClientFolds.{placed-left, placed-right}
@@ -53,7 +53,7 @@ use Rattle.inp_script.proofs.LineWalk.{OfJob, job-ends-meet}
 use Rattle.inp_script.proofs.JoyWalk.{AfterRead, turns-meet, is_joy_call, JoyRules, joystick-meets}
 use Rattle.inp_script.proofs.JoyTold.{starts}
 use Rattle.inp_reader.proofs.Calls.{finished, split-and_then}
-use Rattle.inp_script.proofs.Told.{noted-back, noted_sight, noted_sight-append}
+use Rattle.inp_script.proofs.Told.{noted_sight, noted_sight-append}
 
 pub joy_fold-append : (d : Description) (s : Showing) (sight more : List Sight) → joy_fold d s (sight ++ more) ≡ joy_fold d (joy_fold d s sight) more
 unfolding joy_fold

@@ -5,7 +5,7 @@ use Rattle.inp_model.specs.Evdev.{EvdevView}
 use Rattle.inp_model.specs.Leaves.{AreCalls}
 use Rattle.inp_model.proofs.Leaves.{AreCalls-append, description-kept}
 use Rattle.inp_joy.specs.declared.joy_read.JoyRead.{JoyRead}
-use Rattle.inp_joy.specs.declared.joy_read.JoyRead.TheVariants.{Record as HandedOut, Frame, Again, NoDevice, Closed, Full, More}
+use Rattle.inp_joy.specs.declared.joy_read.JoyRead.TheVariants.{Record as HandedOut, Frame, More}
 use Rattle.inp_joy.specs.declared.joy_record.JoyRecord.{JoyRecord}
 use Rattle.inp_joy.specs.Joy.{Joying, JoyAnswer, turns}
 use Rattle.inp_joy.specs.Reads.{IsJoyRead, IsReadLess, bytes_after}
@@ -19,10 +19,8 @@ use Rattle.inp_script.specs.declared.role.joystick.AfterRead.{AfterRead}
 use Rattle.inp_script.specs.declared.role.joystick.AfterRead.TheVariants.{Hands, GoesOn, Ends}
 use Rattle.inp_script.specs.declared.notes.Notes.{Notes}
 use Rattle.inp_script.specs.declared.sight.Sight.{Sight}
-use Rattle.inp_script.specs.declared.sight.Sight.TheVariants.{Again as NothingVisible, Record}
+use Rattle.inp_script.specs.declared.sight.Sight.TheVariants.{Record}
 use Rattle.inp_script.specs.declared.stop.Stop.{Stop}
-use Rattle.inp_script.specs.declared.stop.Stop.TheVariants.{Full as FullHistory}
-use Rattle.inp_script.specs.Client.{with_sight, with_stop}
 use Rattle.inp_script.specs.DoneLine.{Holds, Begins}
 use Rattle.inp_script.specs.Job.{Job}
 use Rattle.inp_script.specs.Joystick.{Reach, handed_out, line_ends, record_sight, after_joy_read, after_turns, read_on, on_reach, read_records}

@@ -16,7 +16,7 @@ use Rattle.inp_script.specs.declared.sight.Sight.TheVariants.{Again as NothingVi
 use Rattle.inp_script.specs.Job.{Job, joying_of, with_joying}
 use Rattle.inp_script.specs.Joystick.{after_joy_start, start_joystick, record_sight, after_joy_answer}
 use Rattle.inp_script.specs.Sight.{sight_of_call, noted, start_lacks_memory, stop_after_start}
-use Rattle.inp_reader.proofs.Meets.{ends-meet, Listed, run-listed}
+use Rattle.inp_reader.proofs.Meets.{Listed, run-listed}
 use Rattle.inp_script.proofs.LineWalk.{job-ends-meet}
 use Rattle.inp_script.proofs.JoyWalk.{AfterRead, JoyRules, turns-meet}
 use Rattle.inp_script.proofs.JoyLast.{LastIsAgain, turns-last}

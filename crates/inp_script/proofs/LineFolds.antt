@@ -1,19 +1,19 @@
 -- Each line keeps that a job's view is the fold of its sight.
-use Rattle.std.proofs.Common.{◌≡◌, ℕ, Bool, true, false, if◌then◌else◌, List, [], ◌∷◌, ◌++◌, map, refl, sym, ap, subst, ◌∙◌, Option, Some, None, append-nil, append_assoc}
+use Rattle.std.proofs.Common.{◌≡◌, ℕ, Bool, true, List, [], ◌∷◌, ◌++◌, map, refl, sym, ap, subst, ◌∙◌, Option, Some, None, append-nil, append_assoc}
 use Rattle.inp_model.specs.declared.stamped.Stamped.{Stamped}
 use Rattle.inp_model.specs.declared.taken.Taken.{Taken}
 use Rattle.inp_model.specs.declared.step.Step.{Step}
 use Rattle.inp_model.specs.declared.reply.Reply.{Reply}
 use Rattle.inp_model.specs.declared.reply.Reply.TheVariants.{Again as Nothing}
 use Rattle.inp_model.specs.Description.{Description}
-use Rattle.inp_model.specs.Evdev.{EvdevView, BeginsWith, is_again}
+use Rattle.inp_model.specs.Evdev.{EvdevView, BeginsWith}
 use Rattle.inp_model.specs.Past.{past_at}
 use Rattle.inp_model.specs.Reply.{Answer, accepted, IsAnswer}
 use Rattle.inp_model.specs.Run.{Call, HasPlace, place_of}
 use Rattle.inp_actors.specs.declared.command.Command.{Command}
 use Rattle.inp_actors.specs.declared.command.Command.TheVariants.{Close, Grab, Ungrab, Revoke, Mask, Clock, Write, SetAxis}
 use Rattle.inp_actors.specs.declared.role.Role.{Role}
-use Rattle.inp_actors.specs.declared.role.Role.TheVariants.{Source, Client, Tap, Joy, Owner}
+use Rattle.inp_actors.specs.declared.role.Role.TheVariants.{Source, Client, Tap, Joy}
 use Rattle.inp_actors.specs.Command.{is_command_of}
 use Rattle.inp_actors.specs.Record.{RecordView}
 use Rattle.inp_recon.specs.declared.view.View.{View}
@@ -26,7 +26,7 @@ use Rattle.inp_reader.specs.Reader.{Reading, start_talk, next_talk}
 use Rattle.inp_model.specs.Leaves.{AreCalls}
 use Rattle.inp_reader.specs.Talk.{Talk, finish, EndsWith}
 use Rattle.inp_script.specs.declared.sight.Sight.{Sight}
-use Rattle.inp_script.specs.declared.sight.Sight.TheVariants.{Call as Called, Again as AgainSight}
+use Rattle.inp_script.specs.declared.sight.Sight.TheVariants.{Again as AgainSight}
 use Rattle.inp_script.specs.declared.waiting.Waiting.{Waiting}
 use Rattle.inp_script.specs.Client.{Going, Turn, start_job, start_ends, job_after_start, after_next, mode_of, next_round, forced}
 use Rattle.inp_script.specs.DoneLine.{line_talk, DoesLine}

@@ -1,5 +1,5 @@
 -- The talks of lines, walked once: what has to be shown of one call, of a start and of a `next`, for `Meets` of a whole line.
-use Rattle.std.proofs.Common.{◌≡◌, ℕ, zero, suc, Bool, true, false, if◌then◌else◌, List, [], ◌∷◌, ◌++◌, refl, sym, subst, Option, Some, None, nat_le}
+use Rattle.std.proofs.Common.{◌≡◌, ℕ, zero, suc, Bool, true, false, List, [], ◌∷◌, ◌++◌, refl, sym, subst, Option, Some, None, nat_le}
 use Rattle.std.proofs.lemmas.Bool.{cond_both}
 use Rattle.inp_model.specs.declared.stamped.Stamped.{Stamped}
 use Rattle.inp_model.specs.declared.step.Step.{Step}
@@ -11,7 +11,7 @@ use Rattle.inp_actors.specs.declared.command.Command.TheVariants.{Stream, Stream
 use Rattle.inp_actors.specs.declared.role.Role.{Role}
 use Rattle.inp_actors.specs.declared.role.Role.TheVariants.{Source, Client, Tap, Joy, Owner}
 use Rattle.inp_reader.specs.declared.next.Next.{Next}
-use Rattle.inp_reader.specs.declared.next.Next.TheVariants.{Success, Dropped, Sync, Again, Synced, NoDevice, Closed, Full}
+use Rattle.inp_reader.specs.declared.next.Next.TheVariants.{Success, Dropped, Sync, Again, Synced, Full}
 use Rattle.inp_reader.specs.declared.started.Started.{Started}
 use Rattle.inp_reader.specs.declared.reader.TheConstants.{NO_CLIENT}
 use Rattle.inp_reader.specs.Reader.{Reading, start_talk, next_talk}
@@ -198,7 +198,8 @@ turn-cases I G s wait left agains next j anew more idles full i = i
 -- where it is known of the job alone
 pub turn-of : {S : Type 0} (I : S → Job → Type 0) → ((s : S) (j : Job) (stop : Stop) → I s j → I s (with_stop j stop)) → (s : S) (wait : Option Waiting) (left : Option ℕ) (agains : ℕ) (next : Next) (j : Job) → AfterNext I s next j → OfTurn I (OfGoing I) s (turn_after wait left agains next j)
 turn-of I stops s wait left agains next j h =
-    let this : (n : Next) → next ≡ n → AfterNext I s n j = λ n e. subst (λ (x : Next). AfterNext I s x j) e h in
+    let this : (n : Next) → next ≡ n → AfterNext I s n j =
+    λ n e. subst (λ (x : Next). AfterNext I s x j) e h in
     turn-cases I (OfGoing I) s wait left agains next j (λ k l i. i) (λ at ends e. (this (Again at ends) e).0)
     (λ at ends idle e most. stops s _ (Idle idle at) (this (Again at ends) e).1)
     (λ at e. stops s j (FullStop at) (this (Full at) e)) h

@@ -14,7 +14,7 @@ use Rattle.inp_reader.specs.declared.mode.Mode.TheVariants.{Normal}
 use Rattle.inp_reader.specs.declared.next.Next.{Next}
 use Rattle.inp_reader.specs.declared.next.Next.TheVariants.{Success, Dropped}
 use Rattle.inp_reader.specs.declared.phase.Phase.{Phase}
-use Rattle.inp_reader.specs.declared.phase.Phase.TheVariants.{Plain, Needed, Handing}
+use Rattle.inp_reader.specs.declared.phase.Phase.TheVariants.{Plain, Needed}
 use Rattle.inp_reader.specs.Reader.{Reading, first_run, queued_run, after_run, has_loss, hand_out_event, next_talk, is_plain_phase}
 use Rattle.inp_reader.specs.Effort.{effort, held_back}
 use Rattle.inp_reader.specs.Talk.{Talk, finish, and_then, LeadsTo}

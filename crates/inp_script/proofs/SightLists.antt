@@ -5,7 +5,7 @@ use Rattle.std.specs.List.{All}
 use Rattle.std.proofs.lemmas.List.{get_or_append_left, get_or_push, map_push}
 use Rattle.std.proofs.lemmas.List.Elements.{All-push}
 use Rattle.inp_script.specs.declared.kept_sight.KeptSight.{KeptSight}
-use Rattle.inp_script.specs.declared.kept_sight.KeptSight.TheVariants.{Took as KeptTook, Injected, Read, Made as KeptMade, Again as KeptAgain, Record as KeptRecord, Whole}
+use Rattle.inp_script.specs.declared.kept_sight.KeptSight.TheVariants.{Whole}
 use Rattle.inp_script.specs.declared.sight.Sight.{Sight}
 use Rattle.inp_script.specs.declared.sight.Sight.TheVariants.{Again}
 use Rattle.inp_script.specs.KeptSight.{sight_in, IsWithin}

@@ -1,19 +1,18 @@
 -- A line that hands out events, round by round: each round that goes on leaves less to do.
-use Rattle.std.proofs.Common.{◌≡◌, ℕ, suc, ◌+◌, ◌<◌, ◌≤◌, Bool, true, false, if◌then◌else◌, nat_le, nat_lt, Option, Some, None, refl, sym, ap, arith}
+use Rattle.std.proofs.Common.{◌≡◌, ℕ, suc, ◌+◌, ◌<◌, ◌≤◌, Bool, true, false, nat_le, nat_lt, Option, Some, None, refl, sym, ap, arith}
 use Rattle.std.proofs.lemmas.Bool.Decides.{nat_tests}
 use Rattle.std.proofs.Math.Nat.{mul-le-mul_right}
 use Rattle.std.proofs.lemmas.Bool.{cond_both}
 use Rattle.inp_reader.specs.declared.next.Next.{Next}
-use Rattle.inp_reader.specs.declared.next.Next.TheVariants.{Success, Dropped, Sync, Again, Synced, NoDevice, Closed, Full}
+use Rattle.inp_reader.specs.declared.next.Next.TheVariants.{Success, Dropped, Sync, Again, Synced}
 use Rattle.inp_script.specs.declared.role.client.Progress.{Progress}
 use Rattle.inp_script.specs.declared.role.client.Turn.{Turn as KeptTurn}
 use Rattle.inp_script.specs.declared.role.client.Turn.TheVariants.{GoesOn, Ends}
-use Rattle.inp_script.specs.declared.sight.Sight.TheVariants.{Took, Made, Again as Nothing}
-use Rattle.inp_script.specs.declared.stop.Stop.TheVariants.{Idle}
+use Rattle.inp_script.specs.declared.sight.Sight.TheVariants.{Took, Made}
 use Rattle.inp_script.specs.declared.waiting.Waiting.{Waiting}
-use Rattle.inp_script.specs.Client.{Going, goes_on, ends_with, handed, one_less, is_done, patience, after_again, turn_after, with_sight, with_stop, mode_of}
+use Rattle.inp_script.specs.Client.{Going, goes_on, handed, one_less, is_done, patience, after_again, turn_after, with_sight, mode_of}
 use Rattle.inp_reader.specs.declared.phase.Phase.{Phase}
-use Rattle.inp_reader.specs.declared.phase.Phase.TheVariants.{Plain, Needed, Handing}
+use Rattle.inp_reader.specs.declared.phase.Phase.TheVariants.{Plain}
 use Rattle.inp_reader.specs.Effort.{IsLess, is_idle}
 use Rattle.inp_script.specs.Effort.{idle_of, total_effort, Shrinks}
 use Rattle.inp_script.specs.Progress.{going, turn_of}
@@ -50,7 +49,8 @@ again-waits (Some n) wait left agains at ends j k progress idle h =
     (cond_both (nat_le n agains) _ _
     (λ x. x ≡ goes_on (going progress k) → (progress.agains ≡ agains) × (agains < idle_of wait))
     (λ _ is. absurd cc)
-    (λ more is. (same_agains here (going progress k) is, let same = idle n refl in grind (arith, nat_tests)))) h
+    (λ more is.
+    (same_agains here (going progress k) is, let same = idle n refl in grind (arith, nat_tests)))) h
 
 patience-idle : (wait : Option Waiting) (ends n : ℕ) → patience wait ends ≡ Some n → n ≡ idle_of wait
 patience-idle None ends n h = absurd cc
