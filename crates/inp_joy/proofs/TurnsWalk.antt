@@ -66,10 +66,10 @@ turn-meets {S} P R I N Q d rules s k i = by_record (slice_get (startup d k.readi
     syncs : (t : S) (here : Joying) → I t here.reading → Meets P R (OfTurn I Q) t (sync_turn d here)
     syncs t here j =
         meets-then P R N (OfTurn I Q) t (next_talk d Synchronising here.reading)
-            (λ o. finish (joying_after_sync here o))
+        (λ o. finish (joying_after_sync here o))
         (rules.nexts t Synchronising here.reading j)
         (λ u o h. of_stop u (with_reading here o.1) (with_startup o.1) (joy_read_of o.0)
-            (λ read is. rules.stops u o.0 o.1 read h is) (λ is. rules.continues u o.0 o.1 h is))
+        (λ read is. rules.stops u o.0 o.1 read h is) (λ is. rules.continues u o.0 o.1 h is))
 
     of_record : (t : S) (here : Joying) (out : Option JoyRecord) → I t here.reading
         → OfTurn I Q t (record_or_on here out)
@@ -81,10 +81,10 @@ turn-meets {S} P R I N Q d rules s k i = by_record (slice_get (startup d k.readi
     of_next t (Success taken) r h =
         let j : I t r = rules.continues t (Success taken) r h refl in
         cond_both (is_report taken.event) _ _ (OfTurn I Q t) (λ _. rules.frames t r taken.place j)
-            (λ _. of_record t (with_reading k r) (joy_record_of d k.picture taken) j)
+        (λ _. of_record t (with_reading k r) (joy_record_of d k.picture taken) j)
     of_next t next r h =
         of_stop t (with_reading k r) (with_reading k r) (joy_read_of next)
-            (λ read is. rules.stops t next r read h is) (λ is. rules.continues t next r h is)
+        (λ read is. rules.stops t next r read h is) (λ is. rules.continues t next r h is)
 
     normal : (t : S) (next : Next) (r : Reading) → N t (next, r)
         → Meets P R (OfTurn I Q) t (after_normal d k (next, r))
@@ -96,7 +96,7 @@ turn-meets {S} P R I N Q d rules s k i = by_record (slice_get (startup d k.readi
     by_record None =
         cond_both (is_needed k.reading.phase) _ _ (Meets P R (OfTurn I Q) s) (λ _. syncs s k i)
         (λ _. meets-then P R N (OfTurn I Q) s (next_talk d Normal k.reading) (after_normal d k)
-            (rules.nexts s Normal k.reading i) (λ t o h. normal t o.0 o.1 h))
+        (rules.nexts s Normal k.reading i) (λ t o h. normal t o.0 o.1 h))
 
 pub turns-meets : {S : Type 0} (P : S → Step → Type 0) (R : S → Step → Answer → S → Type 0) (I : S → Reading → Type 0)
     (N : S → Next × Reading → Type 0) (Q : S → JoyRead → Reading → Type 0) (d : Description)
@@ -105,7 +105,7 @@ unfolding turns
 turns-meets P R I N Q d rules zero n s k i = tt
 turns-meets {S} P R I N Q d rules (suc most) n s k i =
     meets-then P R (λ (t : S) (o : ℕ × JoyTurn). OfTurn I Q t o.1) (OfAnswer Q) s
-        (with_count (turn_talk d k) n) (λ o. after_turn d (turns d most) o.0 o.1)
+    (with_count (turn_talk d k) n) (λ o. after_turn d (turns d most) o.0 o.1)
     (counted-meets P R (OfTurn I Q) s (turn_talk d k) n (turn-meets P R I N Q d rules s k i))
     (λ t o h. by t o.0 o.1 (λ m here j. turns-meets P R I N Q d rules most m t here j) h)
   where
@@ -115,7 +115,7 @@ turns-meets {S} P R I N Q d rules (suc most) n s k i =
     by t m (gives answer) more h = h
     by t m (goes_on here) more h =
         cond_both (is_long d here m) _ _ (Meets P R (OfAnswer Q) t) (λ _. rules.longs t here.reading h)
-            (λ _. more m here h)
+        (λ _. more m here h)
 
 -- ---- the steps alone
 
@@ -130,9 +130,9 @@ pub turns-ask : (P : Step → Type 0) (d : Description)
     → (most n : ℕ) (k : Joying) → Asks P (turns d most n k)
 turns-ask P d nexts most n k =
     meets-asks P (turns d most n k)
-        (meets-weaker Of AnyAnswer (OfAnswer Answered) (λ s o. Unit {0}) tt (turns d most n k)
+    (meets-weaker Of AnyAnswer (OfAnswer Answered) (λ s o. Unit {0}) tt (turns d most n k)
     (turns-meets Of AnyAnswer (λ s r. Unit {0}) (λ s o. Unit {0}) Answered d rules most n tt k tt)
-        (λ s o h. tt))
+    (λ s o h. tt))
   where
     Of : Unit {0} → Step → Type 0
     Of s x = P x

@@ -169,10 +169,10 @@ kept-read d s j most h =
     let Q : List Sight → Option JoyAnswer × List Sight → Type 0 = λ t o. AfterTurns (KeptAt d) j t o.0 o.1 in
     meets-noted (EntriesBy d) Q s j.sight (turns d most 0 (joying_of j))
     (meets-weaker Any (NotedBy (EntriesBy d)) (OfAnswer (LeavesRead d))
-        (λ (u : Both) (o : Option JoyAnswer). AfterTurns (KeptAt d) j u.0 o u.1) (s, j.sight)
-        (turns d most 0 (joying_of j))
-        (turns-meets Any (NotedBy (EntriesBy d)) (IsSizedReader d) (LeavesNext d) (LeavesRead d) d
-        (turn-rules d) most 0 (s, j.sight) (joying_of j) h) (λ u o k. of_turns u o k))
+    (λ (u : Both) (o : Option JoyAnswer). AfterTurns (KeptAt d) j u.0 o u.1) (s, j.sight)
+    (turns d most 0 (joying_of j))
+    (turns-meets Any (NotedBy (EntriesBy d)) (IsSizedReader d) (LeavesNext d) (LeavesRead d) d
+    (turn-rules d) most 0 (s, j.sight) (joying_of j) h) (λ u o k. of_turns u o k))
   where
     of_read : (es : List Sight) (read : JoyRead) (here : Job) → IsSizedFor d.slots here.reading.view → filter is_call_entry here.sight ++ again_of_read read ≡ es → AfterRead (KeptAt d) es read here
     of_read es (NothingToRead at ends) here sized told = (sized, filter-append is_call_entry here.sight (AgainSight at ends ∷ []) ∙ told)
@@ -195,11 +195,11 @@ start_joystick-meets {S} R I d s j h =
     let joins : Started × Reading → Talk (Started × Joying) = λ o. finish (joy_started d (joying_of j) o) in
     let talk : Talk (Started × Joying) = and_then (start_talk d j.reading) joins in
     let N : S → (Started × Joying) × List Sight → Type 0 = λ t o. I t
-        (record (with_joying j o.0.1) { sight = o.1; stop = stop_after_start o.0.0 }) in
+    (record (with_joying j o.0.1) { sight = o.1; stop = stop_after_start o.0.0 }) in
     meets-then Any R N (OfJob I) s (noted talk j.sight) (λ o. finish (after_joy_start j o))
     (meets-noted R N s j.sight talk
     (meets-then Any (NotedBy R) Left (λ (u : S × List Sight) (o : Started × Joying). N u.0 (o, u.1))
-        (s, j.sight) (start_talk d j.reading) joins h (λ u o left. of_start u o.0 o.1 left)))
+    (s, j.sight) (start_talk d j.reading) joins h (λ u o left. of_start u o.0 o.1 left)))
     (λ t o k. cond_both (start_lacks_memory o.0.0) _ _ (OfJob I t) (λ _. tt) (λ _. k))
   where
     Left : S × List Sight → Started × Reading → Type 0
@@ -211,16 +211,16 @@ start_joystick-meets {S} R I d s j h =
     of_start u (Opened client ring) r left = left _
     of_start u (Refused at why) r left =
         cond_both (is_needed r.phase) _ _
-            (λ (k : Joying). I u.0
-            (record (with_joying j k) { sight = u.1; stop = stop_after_start (Refused at why) }))
-            (λ _. left _) (λ _. left _)
+        (λ (k : Joying). I u.0
+        (record (with_joying j k) { sight = u.1; stop = stop_after_start (Refused at why) }))
+        (λ _. left _) (λ _. left _)
 
 kept-joy_start : (d : Description) (s : List Sight) (j : Job) → KeptAt d s j → Meets Any (EntriesBy d) (OfJob (KeptAt d)) s (start_joystick d j)
 kept-joy_start d s j h =
     start_joystick-meets (EntriesBy d) (KeptAt d) d s j
     (meets-weaker Any (NotedBy (EntriesBy d)) (AtBoth (IsStarted d))
-        (λ (u : Both) (o : Started × Reading). (stick : Stick) → KeptAt d u.0
-        (record (job_after_start o.0 o.1 u.1) { stick = stick }))
+    (λ (u : Both) (o : Started × Reading). (stick : Stick) → KeptAt d u.0
+    (record (job_after_start o.0 o.1 u.1) { stick = stick }))
     (s, j.sight) (start_talk d j.reading) (answers-start d j.reading (s, j.sight) h.0 h.1) (λ u o k stick. k))
 
 -- Lines

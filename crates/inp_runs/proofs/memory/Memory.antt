@@ -105,9 +105,9 @@ no_open-opened : (d : Description) (r : Reading) (at client ring : ℕ)
     → NoOpen (after_open d r (Opened at client ring))
 no_open-opened d r at client ring =
     asks-then opens_none (ask_each (queries d client) r.view)
-        (λ asked. finish (after_queries client ring r asked))
+    (λ asked. finish (after_queries client ring r asked))
     (asks-each opens_none (queries d client) r.view
-        (each-query d client opens_none (no_open-queries d client))) (λ asked. tt)
+    (each-query d client opens_none (no_open-queries d client))) (λ asked. tt)
 
 noted-gives_up : {A : Type 0} (talk : Talk A) (sight : List Sight) (ends : A × List Sight → Option Job)
     → NoOpen talk
@@ -174,7 +174,7 @@ no_open-read_on d most zero j = tt
 no_open-read_on d most (suc n) j =
     asks-then opens_none (noted (turns d most 0 (joying_of j)) j.sight) (λ o. after_turns (read_on d most n) j o.0 o.1)
     (no_open-noted (turns d most 0 (joying_of j)) j.sight
-        (turns-ask opens_none d (no_open-next d) most 0 (joying_of j)))
+    (turns-ask opens_none d (no_open-next d) most 0 (joying_of j)))
     (λ o. by_answer o.0 o.1 (no_open-read_on d most n))
   where
     by_read : (read : JoyRead) (here : Job) → NoOpen (read_on d most n here) → NoOpen (after_joy_read (read_on d most n) read here)
@@ -205,9 +205,9 @@ gives_up-joy_start d j = ((λ e n. refl), λ answer. by_reply answer.reply (j.si
     by_reply (Opened at client ring) sight =
         let opened : Talk (Started × Reading) = after_open d j.reading (Opened at client ring) in
         let joins : Started × Reading → Talk (Started × Joying) = λ o. finish (joy_started d (joying_of j) o)
-            in
+        in
         noted-gives_up (and_then opened joins) sight (after_joy_start j)
-            (asks-then opens_none opened joins (no_open-opened d j.reading at client ring) (λ o. tt))
+        (asks-then opens_none opened joins (no_open-opened d j.reading at client ring) (λ o. tt))
     by_reply _ sight = tt
 
 joystick-gives_up : (d : Description) (n : ℕ) (command : Command) (j : Job) → GivesUp (joystick_talk d n command j)

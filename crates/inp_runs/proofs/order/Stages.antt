@@ -184,9 +184,9 @@ each-past : (r : RecordView) (rounds : ℕ) (stage now : Stage) (line : Line) (u
     → (i : ℕ) (past : List Step) → slice_get now.pasts i ≡ Some past → P i past
 each-past r rounds stage now line u P new old i past is_past = elim
     (past-behind r rounds stage now line u i past is_past) [
-  | inl behind ↦ subst (P i) (sym behind.1) (subst (λ (k : ℕ). P k u.after) (sym behind.0) new)
-  | inr behind ↦ old i past behind.1
-]
+      | inl behind ↦ subst (P i) (sym behind.1) (subst (λ (k : ℕ). P k u.after) (sym behind.0) new)
+      | inr behind ↦ old i past behind.1
+    ]
 
 replaced_sum : (sum_now old sum_before new from to : ℕ) → sum_now + old ≡ sum_before + new → sum_before ≡ from → new + from ≡ old + to → sum_now ≡ to
 replaced_sum sum_now old sum_before new from to h k l = omega arith
@@ -244,18 +244,18 @@ stage-more r rounds lines stage now line s u =
     let d : Description = description_at r u.text.device in
     let exact : AreExact d u.past u.after u.calls =
     subst (λ (e : Description). AreExact e u.past u.after u.calls)
-        (its_actor r rounds lines stage now line s u).description u.exact in
+    (its_actor r rounds lines stage now line s u).description u.exact in
     record {
       numbers = ap (λ (xs : List ActorView). map number xs) u.actors ∙ map-set_same number stage.actors u.actor.actor u.actor (record u.actor { job = u.job; owning = u.owning }) at refl ∙ s.numbers;
       devices = ap (λ (ps : List (List Step)). length ps) u.pasts ∙ length-set stage.pasts u.text.device u.after ∙ s.devices;
       actors = actors-more r rounds lines stage now line s u;
       within =
           each-past r rounds stage now line u
-              (λ (i : ℕ) (past : List Step). length past ≤ (description_at r i).log_limit)
+          (λ (i : ℕ) (past : List Step). length past ≤ (description_at r i).log_limit)
           (exact-within d u.past u.after u.calls exact (s.within u.text.device u.past u.is_past)) s.within;
       history =
           each-past r rounds stage now line u
-              (λ (i : ℕ) (past : List Step). IsHistory (description_at r i) past)
+          (λ (i : ℕ) (past : List Step). IsHistory (description_at r i) past)
           (exact-history d u.past u.after u.calls exact (s.history u.text.device u.past u.is_past)) s.history;
       once = once-more r rounds lines stage now line s u;
     }

@@ -89,14 +89,14 @@ module _ (P : List Sight → Taken → Type 0) (d : Description) (h : List Step)
       at_each-append P [] j.sight (told ++ map taken_sight a.events) s
       (at_each-append P j.sight told (map taken_sight a.events)
       (at_each-append P j.sight (call_sight x a.reply) (again_sight a.reply)
-          (at_each-call P j.sight x a.reply) (at_each-again P (j.sight ++ call_sight x a.reply) a.reply))
+      (at_each-call P j.sight x a.reply) (at_each-again P (j.sight ++ call_sight x a.reply) a.reply))
       (subst (λ (ts : List Taken). AtEach P (j.sight ++ told) (map taken_sight ts)) (sym none) tt))
 
   source-call : (least : ℕ) (j : Job) (call : Call) (calls : List Call) → is_read call.step ≡ false → AreToCome d h Q least (call ∷ calls) → AtEach P [] j.sight → AtEach P [] (after_call j call.step call.answer).sight
   source-call least j call calls unread_step c s =
       call-eventless j call.step call.answer
-          (unread d (past_at h (place_of call.answer.reply)) call.step call.answer unread_step
-          c.legal.1.exact) s
+      (unread d (past_at h (place_of call.answer.reply)) call.step call.answer unread_step
+      c.legal.1.exact) s
 
   source-same : (j k : Job) (calls : List Call) → EndsWith (finish (Some j)) calls (Some k) → AtEach P [] j.sight → AtEach P [] k.sight
   source-same j k calls ends s =
@@ -149,14 +149,14 @@ module _ (P : List Sight → Taken → Type 0) (d : Description) (h : List Step)
     reads = λ u j most s.
         let talk : Talk (Option JoyAnswer) = turns d most 0 (joying_of j) in
         ends-meet (Placed d h)
-            (λ (t : Unit {0}) (o : Option JoyAnswer × List Sight). AfterTurns HasEach j t o.0 o.1) u
-            (noted talk j.sight)
+        (λ (t : Unit {0}) (o : Option JoyAnswer × List Sight). AfterTurns HasEach j t o.0 o.1) u
+        (noted talk j.sight)
         (λ t calls o run ends. of_turns j o.0 o.1
-            (subst (AtEach P []) (sym (noted-back talk j.sight calls o ends).1) (noted-each j calls s)));
+        (subst (AtEach P []) (sym (noted-back talk j.sight calls o ends).1) (noted-each j calls s)));
     calls = λ one u v j x a is s by.
         call-eventless j x a
-            (unread d (past_at h (place_of a.reply)) x a
-            (subst IsUnread is (of_call command one of_role j.reading.client)) by.exact) s;
+        (unread d (past_at h (place_of a.reply)) x a
+        (subst IsUnread is (of_call command one of_role j.reading.client)) by.exact) s;
   }
     where
       of_call : (c : Command) → is_joy_call c ≡ true → is_command_of Joy c ≡ true → (client : ℕ)
