@@ -123,6 +123,25 @@ class Inputplay(TreeCase):
         status, _, lines = self.run_tree("bin/inputplay", "--unproved", "missing.rec")
         self.assertEqual((2, ["inputplay: missing.rec: no such file"]), (status, lines))
 
+    def test_unproved_by_the_second_program(self):
+        """Where it is there it plays a record, also beside a built program and with no toolchain on the path."""
+        shutil.copytree(TOP / "bench" / "model", self.tree / "bench" / "model", ignore=shutil.ignore_patterns("__pycache__"))
+        self.built()
+        example = TOP / "examples" / "stuck_key.rec"
+        report = example.with_suffix(".report").read_text()
+        self.assertEqual((0, report, []), self.run_tree("bin/inputplay", "--unproved", str(example)))
+        full = TOP / "tests" / "records" / "owner_alone_is_full.rec"
+        self.assertEqual((6, full.with_suffix(".report").read_text(), []), self.run_tree("bin/inputplay", "--unproved", str(full)))
+        status, written, _ = self.run_tree("bin/inputplay", "--unproved", "--history", str(example))
+        self.assertEqual((0, True), (status, written != report and set(report.splitlines()) <= set(written.splitlines())))
+        (self.folder / "x.rec").write_text("inputrecord 1\nrubbish\n")
+        refused = (1, "inputplay: line 2: bad-line\n", [])
+        self.assertEqual(refused, self.run_tree("bin/inputplay", "--unproved", "x.rec"))
+        self.assertEqual([], self.asked_for())
+        # with other words the toolchain plays
+        self.run_tree("bin/inputplay", "--unproved", "--threads", "x.rec")
+        self.assertEqual([f"inp_main: try --data x.rec={self.folder}/x.rec -- --threads ./x.rec"], self.asked_for())
+
     def test_help(self):
         status, written, _ = self.run_tree("bin/inputplay", "--help")
         self.assertEqual(0, status)

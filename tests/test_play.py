@@ -264,6 +264,25 @@ class Words(PlayCase):
                 text, said = started.communicate(timeout=20)
                 self.assertEqual((130, "", f"{tool}: stopped"), (started.returncode, text, said.splitlines()[-1]))
 
+    def test_the_second_program(self):
+        """In a copy of the tools with the second program beside them, with no toolchain on the path."""
+        for part in ("tools", "bench/model"):
+            shutil.copytree(TOP / part, self.folder / part, ignore=shutil.ignore_patterns("__pycache__"))
+        commands = self.folder / "commands"
+        commands.mkdir()
+        (commands / "python3").symlink_to(shutil.which("python3"))
+        env = {"PATH": str(commands), "PYTHONDONTWRITEBYTECODE": "1"}
+        records = {EXAMPLES / "views.rec": 0, TOP / "tests" / "records" / "owner_alone_is_full.rec": 6}
+        for record, status in records.items():
+            with self.subTest(record.name):
+                done = subprocess.run([self.folder / "tools" / "play", record], env=env, capture_output=True, text=True)
+                said = ["play: played by the second program (bench/model), in Python, without proof"]
+                self.assertEqual((status, said), (done.returncode, done.stderr.splitlines()))
+                self.assertEqual(record.with_suffix(".report").read_text(), done.stdout)
+        done = subprocess.run([self.folder / "tools" / "stuck", EXAMPLES / "stuck_key.rec"], env=env, capture_output=True, text=True)
+        self.assertEqual((0, ""), (done.returncode, done.stderr))
+        self.assertIn("KEY_LEFTCTRL: down for it, up on the device", done.stdout)
+
     def test_neither_program_nor_toolchain(self):
         """In a copy of the tools alone, with no toolchain on the path."""
         shutil.copytree(TOOLS, self.folder / "tools", ignore=shutil.ignore_patterns("__pycache__"))

@@ -1,9 +1,9 @@
 """Finds the program that plays records, and runs it.
 
 The built program is used where there is one: the one that the environment variable INPUTPLAY names, or
-crates/inp_main/out/inp_main of this repository. Else the toolchain's `rt try` plays the record without
-proof. It runs the program in a folder of its own, so it is handed the record and the file of each `stream`
-line by name.
+crates/inp_main/out/inp_main of this repository. Else the second program plays, which is in Python
+(bench/model). Where the tools stand without it the toolchain's `rt try` plays, without proof. It runs the
+program in a folder of its own, so it is handed the record and the file of each `stream` line by name.
 
 The program writes its report and its one-line messages to the same output, and they are told apart by how
 they begin. The toolchain has statuses of its own: whether a status is the program's is told by the last line
@@ -14,6 +14,7 @@ import os
 import re
 import shutil
 import subprocess
+import sys
 import tempfile
 
 from desk.command import Wrong
@@ -23,6 +24,7 @@ from desk.recordfile import stream_names
 REPOSITORY = os.path.dirname(os.path.dirname(os.path.dirname(os.path.abspath(__file__))))
 BUILT = os.path.join(REPOSITORY, "crates", "inp_main", "out", "inp_main")
 SOURCE = os.path.join(REPOSITORY, "crates", "inp_main")
+SECOND = os.path.join(REPOSITORY, "bench", "model", "outcome.py")
 
 # The statuses with which a report was written.
 PLAYED = (0, 6)
@@ -40,10 +42,10 @@ TOO_LONG = re.compile(r"more than \d+ bytes|the limit on each|standard output")
 
 
 class Player:
-    """How a record is played: by which program, and whether that is the toolchain."""
+    """How a record is played: by which program, and whether that is the second one or the toolchain."""
 
     def __init__(self):
-        self.by_toolchain = False
+        self.by_second = self.by_toolchain = False
         named = os.environ.get("INPUTPLAY")
         self.name = named or os.path.relpath(BUILT, REPOSITORY)
         self.program = os.path.abspath(named) if named else BUILT
@@ -51,18 +53,29 @@ class Player:
             return
         if named:
             raise Wrong(f"INPUTPLAY names {named}, which is no program")
+        if has_second():
+            self.take_second()
+            return
         if shutil.which("rt") is None:
             raise Wrong("there is no built program (crates/inp_main/out/inp_main) and no toolchain (rt)")
         self.by_toolchain = True
+
+    def take_second(self):
+        """Has the second program play."""
+        self.by_second, self.program, self.name = True, SECOND, "the second program (bench/model)"
 
     def is_told(self):
         """What is said of the way in which a record is played."""
         if self.by_toolchain:
             return "played by the toolchain without proof (rt try); this takes one to three minutes"
+        if self.by_second:
+            return f"played by {self.name}, in Python, without proof"
         return f"played by {self.name}"
 
     def command(self, path, folder, flags):
         """The words of the command, and the folder in which it runs."""
+        if self.by_second:
+            return [sys.executable, "-B", self.program, *flags, os.path.abspath(path)], folder
         if not self.by_toolchain:
             return [self.program, *flags, os.path.abspath(path)], folder
         name = os.path.basename(path)
@@ -133,6 +146,11 @@ class Player:
         status = self.status(process)
         self.check_begin(written[:64], path)
         return status, written.decode("ascii", "replace")
+
+
+def has_second():
+    """Is the second program there?"""
+    return os.path.isfile(SECOND)
 
 
 def has_devices(path):
