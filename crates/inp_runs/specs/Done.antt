@@ -44,7 +44,7 @@ pub record IsDeviceDone (idle : Option ℕ) (r : RecordView) (i : ℕ) (d : Desc
   pub each : (k : ℕ) (a : ActorView) (text : ActorText) → slice_get actors k ≡ Some a → slice_get r.actors a.actor ≡ Some text → HasFollowed r d (wait_of idle r i) history text.role a
   pub once : (place : ℕ) → place < length history → sum_by (calls_at place) actors ≡ 1
 
--- All that is promised of what came of the device of this number.
+-- All that is promised of the result of the device of this number.
 pub record IsRunAsPromised (idle : Option ℕ) (r : RecordView) (i : ℕ) (device : DeviceText) (done : DeviceEnds) : Type 0 where
   pub run_of : IsRunOf r.actors i device (ended_run done)
   pub joys_of : joy_actors (joys_among done.ends) ≡ joysticks_of r.actors i
@@ -53,7 +53,7 @@ pub record IsRunAsPromised (idle : Option ℕ) (r : RecordView) (i : ℕ) (devic
   pub owners : (k : ℕ) (owner : OwnerView) → slice_get (owners_among done.ends) k ≡ Some owner
       → IsOwner device.caps done.history (rooms_of (lines_by owner.actor r.lines)) owner
 
--- what comes of a device whose actors did all their lines is promised
+-- the result of a device whose actors did all their lines is promised
 abbrev pub DevicesDoneArePromised : Type 0
 DevicesDoneArePromised =
     (idle : Option ℕ) (r : RecordView) (i : ℕ) (device : DeviceText) (history : List Step) (actors : List ActorView)

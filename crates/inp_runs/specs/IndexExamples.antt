@@ -38,7 +38,7 @@ TellsEqualEventsApart =
     × (index_in_history d history (take 7 (two_reads t)) ≡ Some (length (took d (past_at history 9) 2) + 0))
     × (index_in_history d history (two_reads t) ≡ Some (length (took d (past_at history 9) 2) + 1))
 
--- a read that was refused is none, and behind a second open the job has read nothing as its new client
+-- a read that was refused is none, and after a second open the job has read nothing as its new client
 abbrev pub CountsAcceptedReadsOfItsClient : Type 0
 CountsAcceptedReadsOfItsClient =
     (t : Taken)

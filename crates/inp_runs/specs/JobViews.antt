@@ -48,10 +48,10 @@ is_read_as client _ = false
 pub record LastRead : Type 0 where
   -- the place of the read
   pub place : ℕ
-  -- how many events the sight took behind it
+  -- how many events the sight took after it
   pub events : ℕ
 
--- an accepted read as this client is the last one so far, and an event more was taken behind it at each Took
+-- an accepted read as this client is the last one so far, and an event more was taken after it at each Took
 abbrev pub read_after_entry : ℕ → Option LastRead → Sight → Option LastRead
 read_after_entry client last (Call x reply) =
     if is_read_as client x && is_accepted reply then Some (record { place = place_of reply; events = 0 }) else last
@@ -68,8 +68,8 @@ read_after_sight client last (entry ∷ sight) = read_after_sight client (read_a
 abbrev pub last_read : List Sight → Option LastRead
 last_read sight = read_after_sight (reads_as sight) None sight
 
--- Which event of a client a job took last: so many events had the client taken before this read, and of those behind it
--- all but the last one were handed to the job before.
+-- Which event of a client a job took last: so many events had the client taken before this read, and of those
+-- after it all but the last one were handed to the job before.
 abbrev pub index_behind : Description → List Step → ℕ → LastRead → ℕ
 index_behind d history client read = length (took d (past_at history read.place) client) + (read.events - 1)
 

@@ -28,13 +28,14 @@ HasFed d (Feedback count ∷ kept) (room ∷ rooms) o =
     × (Feedback count ∷ kept ≡ kept_after_feedback d kept room)
     × (o ≡ after_feedback (fed d kept room) (taken_by_feedback d kept room) before)
 
--- A call was refused, since as many are kept as the limit says, and the owner stopped. Only steps were kept behind it.
+-- A call was refused, since as many are kept as the limit says, and the owner stopped. Only steps were kept
+-- after it.
 pub record IsRefusedAtLimit (d : Description) (kept : List UEntry) (rooms done : List ℕ) (before last : Owning) : Type 0 where
   pub room : ℕ
-  -- the lines behind it were not done
+  -- the lines after it were not done
   pub left : List ℕ
   pub is_next : rooms ≡ reverse done ++ room ∷ left
-  -- the steps that came behind it, newest first, and what was kept when it was made
+  -- the steps that came after it, newest first, and what was kept when it was made
   pub later : List Step
   pub found : List UEntry
   pub split : kept ≡ map Made later ++ found
@@ -57,7 +58,7 @@ pub record HasOwned (d : Description) (history : List Step) (rooms : List ℕ) (
   pub fed : HasFed d kept done before
   pub ends : EndsFed d kept rooms done before last
 
--- What came of an owner.
+-- The result of an owner.
 pub record IsOwner (d : Description) (history : List Step) (rooms : List ℕ) (owner : OwnerView) : Type 0 where
   pub last : Owning
   pub owned : HasOwned d history rooms last

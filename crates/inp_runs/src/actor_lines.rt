@@ -26,9 +26,9 @@ const LINES_MAX: usize = 16;
 /// line is looked at. Where a [`Waiting`] is given the lines may wait, and a source that did not stop says at the end that
 /// it is done, by the step `End`.
 ///
-/// `NoMemory` comes where there is none for what the actor saw or was told, or for a client that it opened. No line was
-/// begun then after the one in which memory ran out, or after those that were done together with it. Whatever the answer,
-/// all that was done with the device is calls, one after another (`left`).
+/// `NoMemory` comes where memory is short for what the actor saw or was told, or for a client that it opened. No line
+/// was begun then after the one in which memory ran out, or after those that were done together with it. Whatever the
+/// answer, all that was done with the device is calls, one after another (`left`).
 pub fn do_lines<D: Evdev + Feeds>(
     actor: &mut Actor,
     dev: &mut D,
@@ -58,7 +58,7 @@ pub fn do_lines<D: Evdev + Feeds>(
     end_lines(actor, dev, rec, number, wait)
 }
 
-// Does the line that comes next, and where it injects an event, those behind it too that inject one. Says how many lines
+// Does the line that comes next, and where it injects an event, those after it too that inject one. Says how many lines
 // were done.
 fn do_some<D: Evdev + Feeds>(
     actor: &mut Actor,

@@ -19,7 +19,7 @@ abbrev pub most_of : Option ℕ → ℕ
 most_of None = 4294967295
 most_of (Some n) = max n 1
 
--- how many are left behind so many more
+-- how many are left after so many more
 abbrev pub less_by : ℕ → Option ℕ → Option ℕ
 less_by count None = None
 less_by count (Some n) = Some (n - count)

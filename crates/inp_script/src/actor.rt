@@ -55,7 +55,7 @@ impl Model for Actor {
 impl Actor {
     /// The actor of this number of the record, which has seen nothing.
     ///
-    /// It takes all memory that its calls need, but for what it will see. `NoMemory` comes where there is none.
+    /// It takes all memory that its calls need, but for what it will see. `NoMemory` comes where memory is short.
     pub fn new(alloc: Global, rec: &Record, actor: u32) -> Result<Actor, NoMemory>
         requires actor { actor < length rec.now.actors }
         ensures number { IfOk result (λ new. new.actor ≡ actor) }
@@ -92,7 +92,8 @@ impl Actor {
     /// Where a [`Waiting`] is given, a `follow` goes on while nothing is visible, until all sources of the device are done,
     /// or until so many reads in a row found nothing that the actor stops with `Stop::Idle`. No other line waits.
     ///
-    /// `NoMemory` comes where there is none for what the actor saw, and where an `open` was refused for want of memory.
+    /// `NoMemory` comes where memory is short for what the actor saw, and where an `open` was refused for want of
+    /// memory.
     ///
     /// Whatever the answer, the calls that were made are the first ones of what the line asks for, each by the answers
     /// before it (`begun`). After `Ok` they are all of it (`done`). After `NoMemory` no further call was made: how many
@@ -136,9 +137,9 @@ impl Actor {
     /// feedback call of its line, with room for so many events, but for no more than ever wait, which are 15, and notes the
     /// answer and the events. Any other actor makes the calls of [`line`](Actor::line).
     ///
-    /// After `Full` an owner has stopped. `NoMemory` comes where there is none for what the actor saw or was told, and
-    /// where an `open` was refused for want of memory. Whatever the answer, the calls that were made are the first ones of
-    /// what the line asks for (`begun`). After `Ok` they are all of it (`done`).
+    /// After `Full` an owner has stopped. `NoMemory` comes where memory is short for what the actor saw or was told,
+    /// and where an `open` was refused for want of memory. Whatever the answer, the calls that were made are the first
+    /// ones of what the line asks for (`begun`). After `Ok` they are all of it (`done`).
     pub fn act<D: Evdev + Feeds>(
         &mut self,
         dev: &mut D,
@@ -169,9 +170,9 @@ impl Actor {
     /// Injects events as a source, each at its own moment, or does nothing where it has stopped. It is what lines do that
     /// inject these events one after another, by one call for a thousand of them.
     ///
-    /// The first event for which the log limit leaves no room is refused and stops the source, and no event behind it is
-    /// injected. `NoMemory` comes where there is none for what the actor saw. Whatever the answer, the calls that were made
-    /// are the first ones of what is asked for (`begun`). After `Ok` they are all of it (`done`).
+    /// The first event for which the log limit leaves no room is refused and stops the source, and no event after it is
+    /// injected. `NoMemory` comes where memory is short for what the actor saw. Whatever the answer, the calls that
+    /// were made are the first ones of what is asked for (`begun`). After `Ok` they are all of it (`done`).
     pub fn inject_all<E: Evdev>(&mut self, dev: &mut E, events: &[Stamped]) -> Result<(), NoMemory>
         requires source { self.old.role ≡ Source }
         requires moments { AreInTime events.now }
@@ -190,8 +191,8 @@ impl Actor {
 
     /// Makes the step `End`, by which a source says that it is done, or does nothing where the actor has stopped.
     ///
-    /// `NoMemory` comes where there is none for what the actor saw. No other call was made then either (`begun`), and what
-    /// was done with the evdev is calls, as after [`line`](Actor::line).
+    /// `NoMemory` comes where memory is short for what the actor saw. No other call was made then either (`begun`), and
+    /// what was done with the evdev is calls, as after [`line`](Actor::line).
     pub fn end<E: Evdev>(&mut self, dev: &mut E) -> Result<(), NoMemory>
         requires source { self.old.role ≡ Source }
         requires device { (E.told dev.old).description ≡ self.old.description }
@@ -215,7 +216,7 @@ impl Actor {
         Ok(())
     }
 
-    /// What came of the job. An actor that did not stop has finished. It takes no memory.
+    /// The result of the job. An actor that did not stop has finished. It takes no memory.
     pub fn finish(self) -> Ended
         ensures ended { result ≡ ended_as self.role self }
         ensures cells { HasDeviceSlots self.description result }

@@ -1,4 +1,4 @@
-//! An evdev, or what answers feedback calls, behind a gate.
+//! An evdev, or what answers feedback calls, after a gate.
 ghost use Rattle.std.specs.Prelude.{◌≡◌, ◌≤◌, ◌+◌, ◌-◌, ◌^◌, length, min, take};
 ghost use Rattle.inp_model.specs.declared.stamped.TheConstants.{MOMENT_MAX};
 ghost use Rattle.inp_model.specs.Step.{moment_of};
