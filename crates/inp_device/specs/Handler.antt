@@ -15,8 +15,8 @@ pub record IsFreshHandler (d : Description) (h : Handler) : Type 0 where
   pub clients : h.clients ≡ record { list = []; rings = [] }
   pub filters : FiltersStandFor d.filters [] h.filters.kept
 
--- What is offered of a frame: what filters let through, behind what the first one was given before, or all of it while a
--- client holds the grab.
+-- What is offered of a frame: what filters let through, after what the first one was given before, or all of
+-- it while a client holds the grab.
 abbrev pub offered_of : Option ℕ → List Filter → ℕ → List Timed → List Event → List Event
 offered_of None fs now given events = let_through fs now given events
 offered_of (Some client) fs now given events = events

@@ -91,7 +91,7 @@ impl EventList {
         }
     }
 
-    // Adds the report behind the events from an index on, if there are any.
+    // Adds the report after the events from an index on, if there are any.
     fn push_report(&mut self, start: usize)
         requires { length self.old.events < self.old.room }
         ensures room { self.new.room ≡ self.old.room }

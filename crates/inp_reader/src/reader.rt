@@ -59,8 +59,8 @@ impl Model for Reader {
 impl Reader {
     /// A reader for devices of this description. It has no client yet: its client is `NO_CLIENT`, its phase Plain.
     ///
-    /// It takes all memory that it will need: about 10 kB, 8 bytes for each key, LED, switch and axis of such a device, and
-    /// 310 bytes a slot. `NoMemory` comes where there is none.
+    /// It takes all memory that it will need: about 10 kB, 8 bytes for each key, LED, switch and axis of such a device,
+    /// and 310 bytes a slot. `NoMemory` comes where memory is short.
     pub fn new(alloc: Global, caps: &Caps) -> Result<Reader, NoMemory>
         ensures description { IfOk result (λ reader. reader.description ≡ caps.now) }
         ensures reading { IfOk result (λ reader. reader.reading ≡ record {
@@ -119,7 +119,7 @@ impl Reader {
             → IsAlone (E.told dev.old) (E.told dev.new) self.new.reading.client self.new.made
             → Stands (E.told dev.new) self.new }
 
-        // What stands after a refusal: of the open itself, or of a query behind it.
+        // What stands after a refusal: of the open itself, or of a query after it.
         ensures open_refused { client_opened self.new.made ≡ None
             → self.new.reading ≡ self.old.reading }
         ensures query_refused { has_opened result ≡ false
@@ -184,9 +184,9 @@ impl Reader {
         self.session.next(dev, &self.caps, mode)
     }
 
-    /// The events that [`next`](Reader::next) in Normal mode would hand out one after another without a call of the device:
-    /// in phase Plain those that were read and not handed out, at most so many, and none behind a SYN_DROPPED; in another
-    /// phase none.
+    /// The events that [`next`](Reader::next) in Normal mode would hand out one after another without a call of the
+    /// device: in phase Plain those that were read and not handed out, at most so many, and none after a SYN_DROPPED;
+    /// in another phase none.
     pub fn queued(&self, most: u32) -> &[Taken]
         ensures run { result.now ≡ queued_run most self.now.reading }
     {

@@ -53,12 +53,12 @@ pub record IsReadable (r : Reads) (file : List ℕ) (recorded : RecordView) : Ty
   pub stamps : HoldEvents (stream_files parsed.lines) contents streams
   pub whole : recorded ≡ record parsed { streams = streams }
 
--- what came of a record, as the end has it
+-- the result of a record, as the end has it
 abbrev pub played_by : End → Played
 played_by end = record { runs = end.runs; joys = end.joys; owners = end.owners }
 
--- The text that tells what came of this record was written whole. The status is 6 where a job stopped since a history was
--- full, or an owner since its calls were as many as may be kept, and else 0.
+-- The text that tells the result of this record was written whole. The status is 6 where a job stopped since
+-- a history was full, or an owner since its calls were as many as may be kept, and else 0.
 pub record IsTold (w : Writes) (idle : Option ℕ) (recorded : RecordView) (text : Played → List ℕ) (end : End) : Type 0 where
   pub came : CameOf idle recorded (played_by end)
   pub status : end.status ≡ played_status (played_by end)

@@ -66,10 +66,10 @@ pub record IsNoRecord (words : Arguments) (r : Reads) (refused : Refused) (text 
 abbrev pub IsOutOfMemory : Reads → Type 0
 IsOutOfMemory r = (r.after ≡ r.before) ⊎ RanOut r
 
--- What came of a record: each job's replies are the one-thread device's at their places in one history, its sight follows
--- its lines, and each place of the history is in one sight, where joysticks' jobs are jobs too; and what each owner was told
--- is what its feedback calls took of what was sent to its device. On one thread the lines were done in file order besides
--- (both of `inp_runs`).
+-- The result of a record: each job's replies are the one-thread device's at their places in one history, its
+-- sight follows its lines, and each place of the history is in one sight, where joysticks' jobs are jobs too;
+-- and what each owner was told is what its feedback calls took of what was sent to its device. On one thread
+-- the lines were done in file order besides (both of `inp_runs`).
 pub record CameOf (idle : Option ℕ) (recorded : RecordView) (played : Played) : Type 0 where
   pub promised : ArePromised idle recorded played
   pub in_order : idle ≡ None → IsPlay recorded played

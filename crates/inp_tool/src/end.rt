@@ -12,11 +12,11 @@ pub struct End {
     pub status: u8,
     /// With status 1 the line that is refused, and why; else nothing.
     pub refused: Option<Refused>,
-    /// With status 0 and 6, and with 4 where the text was a report or a summary, what came of the devices, where a record
-    /// was played; else nothing. What came of joysticks and of owners is none of these.
+    /// With status 0 and 6, and with 4 where the text was a report or a summary, the results of the devices, where a
+    /// record was played; else nothing. The results of joysticks and of owners is none of these.
     pub runs: Runs,
-    /// What came of the record's joysticks, with the same statuses.
+    /// The results of the record's joysticks, with the same statuses.
     pub joys: JoyRuns,
-    /// What came of the record's owners, with the same statuses.
+    /// The results of the record's owners, with the same statuses.
     pub owners: OwnerRuns,
 }

@@ -48,7 +48,7 @@ pub fn inputplay<R: Threads + Wait + Sync, I: Input, O: Sink, G: Gate>(
     out: &mut O,
     gate: &G,
 ) -> End
-    // The status, its cause, what was written, and what came of the record.
+    // The status, its cause, what was written, and the result of the record.
     ensures promise { Promise (map string_bytes words.now)
         (reads_of I.files I.given I.left I.faults input.old input.new)
         (writes_of O.written O.faults out.old out.new)
@@ -203,7 +203,7 @@ fn end_of(alloc: Global, found: Outcome) -> End
     }
 }
 
-/// The status of what came of a record.
+/// The status of the result of a record.
 fn played_status(played: &Played) -> u8
     ensures { result ≡ played_status played.now }
 {
