@@ -46,7 +46,7 @@ module _ {E : Type 0} where
   abbrev pub without_client : ℕ → List (ClientView E) → List (ClientView E)
   without_client number clients = filter (λ c. not (has_number number c)) clients
 
-  -- one client is opened: it stands behind those with lower numbers, and the others stay
+  -- one client is opened: it stands after those with lower numbers, and the others stay
   abbrev pub with_client : ClientView E → List (ClientView E) → List (ClientView E)
   with_client new [] = new ∷ []
   with_client new (c ∷ clients) = if nat_lt c.number new.number then c ∷ with_client new clients else new ∷ c ∷ clients

@@ -30,7 +30,7 @@ pub record AreShared (locations : List Location) (slab : Slab Member) (store : S
   pub stored : AreStored store (clients_in locations slab) (λ n. 0)
   pub none_idle : (n : ℕ) → IsIdle store n → ⊥
 
--- No report of a frame follows a report; where one is behind the frame, none stands first.
+-- No report of a frame follows a report; where one is after the frame, none stands first.
 abbrev pub are_reports_apart : Bool → List Event → Bool
 are_reports_apart behind [] = true
 are_reports_apart behind (e ∷ frame) = not (is_report e && behind) && are_reports_apart (is_report e) frame

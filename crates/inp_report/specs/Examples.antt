@@ -1,4 +1,4 @@
--- The texts of a few records and of what came of them, worked out by hand.
+-- The texts of a few records and of their results, worked out by hand.
 use Rattle.std.specs.Prelude.{◌≡◌, ℕ, pos, negsuc, true, false, List, [], ◌∷◌, ◌++◌, codes, flat_map, replicate}
 use Rattle.inp_model.specs.declared.event.Event.{Event}
 use Rattle.inp_model.specs.declared.axis_info.AxisInfo.{AxisInfo}
@@ -290,7 +290,7 @@ ShowsAnOwner =
     ∷ codes "stop finished"
     ∷ [])
 
--- where two calls are kept at most, the third one is refused behind two steps: it has no line
+-- where two calls are kept at most, the third one is refused after two steps: it has no line
 abbrev pub ShowsNoRefusedFeedback : Type 0
 ShowsNoRefusedFeedback =
     owner_report lamp_record (owner_of_lamp (

@@ -1,4 +1,4 @@
--- The whole report of a record and of what came of it (docs/FORMATS.md, "The whole report").
+-- The whole report of a record and of its result (docs/FORMATS.md, "The whole report").
 use Rattle.std.specs.Prelude.{ℕ, Bool, if◌then◌else◌, List, [], ◌++◌, length, codes, decimal, flat_map, slice_get, Option, Some, None}
 use Rattle.std.specs.List.{count_by, enumerate_from, zip}
 use Rattle.inp_model.specs.declared.step.Step.{Step}
@@ -68,6 +68,6 @@ run_text actors history played =
     device_line (played.0).name (length (played.1).history)
     ++ ((if history then history_text (played.1).history else []) ++ flat_map (job_text actors (played.0).caps) (played.1).jobs)
 
--- the devices in order, each with what came of it
+-- the devices in order, each with its result
 unfoldable pub report : RecordView → List Run → Bool → List ℕ
 report r runs history = flat_map (run_text r.actors history) (zip r.devices runs)

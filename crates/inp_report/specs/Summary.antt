@@ -1,4 +1,4 @@
--- The summary of a record that was generated, and of what came of it (docs/FORMATS.md, "The summary").
+-- The summary of a record that was generated, and of its result (docs/FORMATS.md, "The summary").
 use Rattle.std.specs.Prelude.{ℕ, ℤ, List, [], ◌++◌, length, codes, decimal, flat_map, slice_get, Option, Some, None}
 use Rattle.std.specs.List.{count_by, zip}
 use Rattle.std.specs.Fmt.{signed_decimal}

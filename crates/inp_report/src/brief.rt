@@ -18,7 +18,7 @@ use std::alloc::Global;
 /// The slot whose position a summary tells: the last one of a generated device (this project's choice).
 const TOLD_SLOT: u32 = 9;
 
-/// The summary of a generated record and of what came of it: the two numbers that it was generated from, the devices in
+/// The summary of a generated record and of its result: the two numbers that it was generated from, the devices in
 /// order, each with the number of its steps, and its actors with counts and with the position of slot 9.
 ///
 /// It tells any record, and is meant for the generated one, whose device has ten slots: of a device that has no slot 9 the
@@ -27,7 +27,7 @@ const TOLD_SLOT: u32 = 9;
 ///
 /// # Errors
 ///
-/// `NoMemory` where there is none for the text.
+/// `NoMemory` where memory is short for the text.
 pub fn summary(
     alloc: Global,
     number: u32,

@@ -39,12 +39,12 @@ pub record IsRing (ring : RingView) : Type 0 where
 abbrev pub HoldsAllButOne : RingView → Type 0
 HoldsAllButOne ring = length ring.numbers + 1 ≡ ring.places
 
--- Where a number is put, nothing enters the ring but the number itself, behind all that was there.
+-- Where a number is put, nothing enters the ring but the number itself, after all that was there.
 abbrev pub EntersAlone : ℕ → List ℕ → List ℕ → Type 0
 EntersAlone number old new = (new ≡ old) ⊎ (new ≡ old ++ number ∷ [])
 
--- The queue of a full ring was lost: SYN_DROPPED stands in its place, in a cell that no other ring holds, and behind it
--- these numbers.
+-- The queue of a full ring was lost: SYN_DROPPED stands in its place, in a cell that no other ring holds, and
+-- after it these numbers.
 pub record IsLost (behind : List ℕ) (store : StoreView) (old new : RingView) : Type 0 where
   pub full : HoldsAllButOne old
   pub loss : ℕ

@@ -77,7 +77,7 @@ impl Ring {
     /// SYN_REPORT, or nothing.
     ///
     /// Where all places but one are held, all events are lost: SYN_DROPPED stands in their place, in a cell of its own
-    /// with the moment and place of the event that did not fit, and that event behind it (evdev's client buffer). There
+    /// with the moment and place of the event that did not fit, and that event after it (evdev's client buffer). There
     /// must be room to spare for that cell. It takes the same time at any length but for a loss, and no memory.
     ///
     /// The number must have a cell with fewer than 64 holders, and not be in this ring.
