@@ -20,7 +20,8 @@ pub record IsRefusedText (text : List ℕ) (line cause : ℕ) : Type 0 where
   pub line_is : line ≡ refused.line
   pub cause_is : cause ≡ cause_number refused.cause
 
--- What a status other than OK says of a text, and what is told of a line. The two numbers behind are those before.
+-- What a status other than OK says of a text, and what is told of a line. The two numbers after are those
+-- before.
 pub record IsNoText (text : List ℕ) (old_line old_cause status line cause : ℕ) : Type 0 where
   pub not_ok : status ≢ OK
   pub not_number : status ≢ BAD_ARGUMENT

@@ -21,8 +21,8 @@ pub record IsPlayStatus (before : Option Kept) (status : ℕ) : Type 0 where
 abbrev pub has_history : ℕ → Bool
 has_history number = not (nat_eq number 0)
 
--- The text is the whole report of what comes of the record where its lines are done in file order, on one thread. Of that
--- holds all that is promised of runs.
+-- The text is the whole report of the result of the record where its lines are done in file order, on one
+-- thread. Of that holds all that is promised of runs.
 pub record IsReport (recorded : RecordView) (history : Bool) (text : List ℕ) : Type 0 where
   pub played : Played
   pub in_order : IsPlay recorded played

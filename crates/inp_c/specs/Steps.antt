@@ -32,7 +32,8 @@ pub record IsDeviceAnswer (old new : KeptDevice) (x : Step) (given : Answer) : T
   pub reader : new.reader ≡ old.reader
   pub joy : new.joy ≡ old.joy
 
--- The same, with C's arrays of events and of values, to whose fronts the answer is written; what is behind it stays.
+-- The same, with C's arrays of events and of values, to whose fronts the answer is written; what is after it
+-- stays.
 pub record IsKeptStep (old new : KeptDevice) (x : Step) (reply : Reply) (events new_events : List Taken) (cells new_cells : List ℤ) : Type 0 where
   pub given : Answer
   pub answered : IsDeviceAnswer old new x given

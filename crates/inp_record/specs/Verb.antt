@@ -31,7 +31,7 @@ pub record Row : Type 0 where
   pub word : List ℕ
   -- the actors that have it
   pub group : Group
-  -- what the words behind it are
+  -- what the words after it are
   pub fields : List Field
   -- the command that they make
   pub make : Makes command.Command fields

@@ -15,7 +15,7 @@ use std::alloc::Global;
 ///
 /// # Errors
 ///
-/// `NoMemory` where there is none for the text.
+/// `NoMemory` where memory is short for the text.
 #[tactic(auto, using(crate::proofs::RoundTrip::round_trips))]
 pub fn print(alloc: Global, rec: &Record) -> Result<Vec<u8>, NoMemory>
     ensures text { IfOk result (λ text. text.items ≡ record_text rec.now) }
