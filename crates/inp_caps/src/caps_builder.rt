@@ -141,7 +141,7 @@ impl CapsBuilder {
         self.add(Filter::Bounce { code, micros })
     }
 
-    // Adds a filter behind the others.
+    // Adds a filter after the others.
     fn add(&mut self, filter: Filter) -> Result<(), CapsRefused>
         ensures answer { result ≡ filter_answer self.old filter }
         ensures ok { OnOk result (self.new ≡ with_filter self.old filter) }

@@ -78,7 +78,7 @@ pub trait Input {
 ///
 /// - `Failed` exactly where the count of faults rose, or where no file has this name.
 /// - `TooLong` exactly where the input gave more than `INPUT_LIMIT` bytes; the file has more then.
-/// - `NoMemory` where there is none for the bytes.
+/// - `NoMemory` where memory is short for the bytes.
 pub fn read_all<I: Input>(alloc: Global, input: &mut I, name: &str) -> Result<Vec<u8>, ReadFault>
     ensures files_stay { I.files input.new ≡ I.files input.old }
     ensures stays_told { is_some (I.left input.new) ≡ is_some (I.left input.old) }

@@ -43,7 +43,7 @@ impl MemSink {
     ///
     /// # Errors
     ///
-    /// `NoMemory` where there is none for the room.
+    /// `NoMemory` where memory is short for the room.
     pub fn new(alloc: Global, room: usize, fails: Fails) -> Result<MemSink, NoMemory>
         ensures written { IfOk result (λ sink. sink.written ≡ []) }
         ensures room { IfOk result (λ sink. sink.room ≡ room) }
@@ -63,7 +63,7 @@ impl MemSink {
     ///
     /// # Errors
     ///
-    /// `NoMemory` where there is none for the room.
+    /// `NoMemory` where memory is short for the room.
     pub fn in_pieces(
         alloc: Global,
         room: usize,

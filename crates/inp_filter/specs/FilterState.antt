@@ -9,7 +9,7 @@ use Rattle.inp_filter.specs.declared.filter_state.FilterState.{FilterState}
 use Rattle.inp_filter.specs.declared.filter_state.FilterState.TheVariants.{Eat as EatState, Norepeat as NorepeatState, Chord as ChordState, Bounce as BounceState}
 use Rattle.inp_model.specs.Filter.{Timed, Given, Press, last_press, is_there_and, is_down, last_release, is_chorded, is_bounced, given_all, left_by}
 
--- of a key, whether a press is there behind the last event, and passes the test
+-- of a key, whether a press is there after the last event, and passes the test
 pub record IsHold (code : ℕ) (test : Press → Bool) (given : List Given) (hold : Hold) : Type 0 where
   pub code_is : hold.code ≡ code
   pub eaten : hold.is_eaten ≡ is_there_and test (last_press code given)

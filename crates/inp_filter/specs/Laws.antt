@@ -24,7 +24,7 @@ LeavesOneAfterAnother =
     (f : Filter) (fs : List Filter) (moment : ℕ) (given : List Timed) (es : List Event)
     → let_through (f ∷ fs) moment given es ≡ let_through fs moment (left_by f given) (let_through (f ∷ []) moment given es)
 
--- the last press of a key was eaten, and no release of the key stands behind it
+-- the last press of a key was eaten, and no release of the key stands after it
 unfoldable pub has_eaten_press : ℕ → List Given → Bool
 has_eaten_press code [] = false
 has_eaten_press code (g ∷ before) =

@@ -84,7 +84,7 @@ impl Core {
     /// one (the kernel's `input_event`).
     ///
     /// A report ends the frame, unless it is alone. So does an event that leaves as many events as the hint; a report
-    /// with the value 1 is put behind it. The moment of the frame is `now`, in microseconds, at most `MOMENT_MAX`. A key
+    /// with the value 1 is put after it. The moment of the frame is `now`, in microseconds, at most `MOMENT_MAX`. A key
     /// that is pressed in the frame arms the timer of the autorepeat, and one that is released disarms it. While the
     /// device is inhibited the event is ignored.
     pub fn inject<F: Frames>(&mut self, caps: &Caps, event: Event, now: u64, to: &mut F)

@@ -192,7 +192,7 @@ record_or_turn d j (Some r) = finish (gives (hand_out_record (next_in_startup j)
 abbrev pub turn_talk : Description → Joying → Talk JoyTurn
 turn_talk d j = record_or_turn d j (slice_get (startup d j.reading.view) j.handed)
 
--- a talk, with how many of its steps were accepted behind so many before
+-- a talk, with how many of its steps were accepted after so many before
 abbrev pub with_count : {A : Type 0} → Talk A → ℕ → Talk (ℕ × A)
 with_count (finish a) n = finish (n, a)
 with_count (ask x rest) n = ask x (λ answer. with_count (rest answer) (if is_accepted answer.reply then n + 1 else n))

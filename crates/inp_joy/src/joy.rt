@@ -51,7 +51,7 @@ impl Joy {
     /// A joystick client for devices of this description. It has no client yet: its client is `NO_CLIENT`, no record of a
     /// startup is left, and its picture is blank.
     ///
-    /// It takes all memory that it will need. `NoMemory` comes where there is none.
+    /// It takes all memory that it will need. `NoMemory` comes where memory is short.
     pub fn new(alloc: Global, caps: &Caps) -> Result<Joy, NoMemory>
         ensures description { IfOk result (λ joy. joy.description ≡ caps.now) }
         ensures joying { IfOk result (λ joy. joy.joying ≡ record {

@@ -43,7 +43,7 @@ pub record Press : Type 0 where
   pub moment : ℕ
   pub before : List Given
 
--- the last press of a key, if no release of the key stands behind it
+-- the last press of a key, if no release of the key stands after it
 unfoldable pub last_press : ℕ → List Given → Option Press
 last_press code [] = None
 last_press code (g ∷ before) =
@@ -52,8 +52,8 @@ last_press code (g ∷ before) =
     else if is_on_key code g.event && is_release g.event then None
     else earlier
 
--- The press of an event on a key, behind what the filter was given before: the event itself where it is one, else the
--- last press, if no release stands between.
+-- The press of an event on a key, after what the filter was given before: the event itself where it is one,
+-- else the last press, if no release stands between.
 abbrev pub press_of : ℕ → Timed → List Given → Option Press
 press_of code x before =
     if is_press x.event then Some (record { moment = x.moment; before = before }) else last_press code before
@@ -82,8 +82,8 @@ last_release code (g ∷ before) =
     let earlier = last_release code before in
     if is_on_key code g.event && (is_release g.event && not g.eaten) then Some g.moment else earlier
 
--- A moment is that of a release or less than so many microseconds behind it. Where moments fall it may be before the
--- release, and is not soon then.
+-- A moment is that of a release or less than so many microseconds after it. Where moments fall it may be
+-- before the release, and is not soon then.
 abbrev pub is_soon : ℕ → Option ℕ → ℕ → Bool
 is_soon micros None moment = false
 is_soon micros (Some release) moment = nat_le release moment && nat_lt moment (release + micros)
@@ -96,7 +96,7 @@ is_chorded first press = is_down first press.before
 abbrev pub is_bounced : ℕ → ℕ → Press → Bool
 is_bounced code micros press = is_soon micros (last_release code press.before) press.moment
 
--- whether a filter eats an event, behind what it was given before
+-- whether a filter eats an event, after what it was given before
 abbrev pub eats : Filter → Timed → List Given → Bool
 eats (Eat kind code) x before = nat_eq x.event.kind kind && nat_eq x.event.code code
 eats Norepeat x before = nat_eq x.event.kind EV_KEY && is_repeat x.event
@@ -121,8 +121,8 @@ left_by f (x ∷ before) =
     let rest = left_by f before in
     if eats f x (given_all f before) then rest else x ∷ rest
 
--- One of the filters in a row eats the event, behind the events that the first one was given before. Each filter is
--- given what the one before it did not eat.
+-- One of the filters in a row eats the event, after the events that the first one was given before. Each
+-- filter is given what the one before it did not eat.
 unfoldable pub is_eaten : List Filter → Timed → List Timed → Bool
 is_eaten [] x before = false
 is_eaten (f ∷ fs) x before = eats f x (given_all f before) || is_eaten fs x (left_by f before)

@@ -39,9 +39,9 @@ module _ {E : Type 0} (made : E → Option Step) where
     pub share : after.share ≡ before.share
     pub base : after.base ≡ before.base
 
-  -- what the caller of a shared device sees, by the view of its pass: the steps among the entries. The tie is the share,
-  -- which shared value it is, behind the count of the numbers that name it, and the places of the pass's own entries that
-  -- are no steps.
+  -- what the caller of a shared device sees, by the view of its pass: the steps among the entries. The tie is
+  -- the share, which shared value it is, after the count of the numbers that name it, and the places of the
+  -- pass's own entries that are no steps.
   abbrev pub told_of : Description → List ℕ → PassView Description E → ℕ → EvdevView
   told_of d name v agains = record {
     description = d;

@@ -153,9 +153,9 @@ impl<S: Served> PortOf<S> {
         reply
     }
 
-    /// Takes the turn once, injects events under it, each at its own moment, and gives the turn back. As many are entered as
-    /// the log limit leaves room for, one behind another, and their places are then the pass's own. The pass has then seen
-    /// all that was entered before them, and them. The turn is taken also for no events.
+    /// Takes the turn once, injects events under it, each at its own moment, and gives the turn back. As many are
+    /// entered as the log limit leaves room for, one after another, and their places are then the pass's own. The pass
+    /// has then seen all that was entered before them, and them. The turn is taken also for no events.
     ///
     /// It waits for the turn, and nothing says that it gets it. Others wait for it while the events are injected, whose cost
     /// grows with their number alone. It takes no memory.

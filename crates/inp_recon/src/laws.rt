@@ -11,7 +11,7 @@ ghost use Rattle.inp_recon.specs.Faithful.{AreFaithful, AreReadsFaithful};
 /// - Since its last open or discard it asked for all that the device has and a view keeps: keys, switches, LEDs, each
 ///   axis outside 0x2f to 0x3d, and the slots.
 /// - It took no `SYN_DROPPED` since, up to event i.
-/// - The step that ended the frame came behind the last of these queries.
+/// - The step that ended the frame came after the last of these queries.
 /// - Since the open or discard, up to this frame, no frame was passed while another client held the grab, and each key,
 ///   switch, LED or axis event was left for the clients and admitted by the client's masks.
 /// - Up to this frame no axis was described anew since the last frame before the open or discard.

@@ -36,7 +36,7 @@ impl View {
     /// The view of a client that has seen nothing of a device with this description: no key is down, no switch and no
     /// LED is on, axes and the current slot are 0, and no slot has a contact (this project's choice).
     ///
-    /// It takes the memory for all slots. `NoMemory` comes where there is none.
+    /// It takes the memory for all slots. `NoMemory` comes where memory is short.
     #[tactic(auto, unfolding(crate::specs::View::first_view))]
     pub fn new(alloc: Global, caps: &Caps) -> Result<View, NoMemory>
         ensures view { IfOk result (λ view. view ≡ first_view caps.now) }

@@ -46,7 +46,7 @@ impl Model for Slots {
 impl Slots {
     /// So many slots, 1 to 256 or 0 for none: no contact in any of them, slot 0 staged and announced.
     ///
-    /// It takes the memory for all slots. `NoMemory` comes where there is none.
+    /// It takes the memory for all slots. `NoMemory` comes where memory is short.
     pub fn new(alloc: Global, count: u32) -> Result<Slots, NoMemory>
         requires range { count ≤ SLOTS_MAX }
         ensures fresh { IfOk result (λ slots. (d : Description) → d.slots ≡ count

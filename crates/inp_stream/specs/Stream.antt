@@ -31,7 +31,7 @@ microseconds_of time_len bytes = little_number time_len (drop time_len bytes)
 abbrev pub moment_in : ℕ → List ℕ → ℕ
 moment_in time_len bytes = seconds_of time_len bytes * SECOND + microseconds_of time_len bytes
 
--- the event that bytes behind the time are
+-- the event that bytes after the time are
 abbrev pub event_in : List ℕ → Event
 event_in bytes = record {
   kind = little_number 2 bytes;
@@ -52,7 +52,7 @@ pub record IsEvent (event : Event) : Type 0 where
   pub code : event.code < 2 ^ 16
   pub value : FitsSigned w32 event.value
 
--- what was written is read again, whatever stands behind it; the moment is so many microseconds at most
+-- what was written is read again, whatever stands after it; the moment is so many microseconds at most
 abbrev pub IsReadAgain : ℕ → ℕ → Type 0
 IsReadAgain time_len most =
     (event : Event) (time : ℕ) (rest : List ℕ)

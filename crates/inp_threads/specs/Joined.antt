@@ -30,7 +30,7 @@ pub record AreJoined (workers : List Worker) (before after : PassView Descriptio
   pub more : IsPrefix before.seen after.seen
   pub seen : SawAll workers after.seen
 
--- what comes of the workers' actors
+-- the results of the workers' actors
 abbrev pub ends_of_workers : List Worker → List Ended
 ends_of_workers workers = map (λ (w : Worker). ended_of w.actor) workers
 

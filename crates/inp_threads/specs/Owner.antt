@@ -30,8 +30,8 @@ pub record IsFedTurn (d : Description) (before : PassView Description UEntry) (r
 abbrev pub IsFedBy : {K : Ghosts UdevView Description UEntry} → PortOf UdevView UEntry → PortOf UdevView UEntry → Pass UdevView Description UEntry K → Pass UdevView Description UEntry K → ℕ → Fed → List Event → Type 0
 IsFedBy port now before after room answer events = (now ≡ port) × IsFedTurn (description_of port) (view_of before) room answer events (view_of after)
 
--- A feedback call stands behind this kept list, newest first, and is the next one of an owner whose calls so far stand at
--- the places `earlier`, had the rooms `done` and told it this much.
+-- A feedback call stands after this kept list, newest first, and is the next one of an owner whose calls so
+-- far stand at the places `earlier`, had the rooms `done` and told it this much.
 pub record IsNextCall (d : Description) (kept : List UEntry) (count : ℕ) (earlier done : List ℕ) (before : Owning) (own rooms : List ℕ) (o : Owning) : Type 0 where
   pub room : ℕ
   pub place : own ≡ earlier ++ length kept ∷ []

@@ -14,7 +14,7 @@ use std::sync::Wait;
 use std::thread;
 use std::thread::Threads;
 
-/// What comes of a record whose sources, clients, taps, joysticks and owners do their lines on a thread each.
+/// The result of a record whose sources, clients, taps, joysticks and owners do their lines on a thread each.
 ///
 /// `idle` is how long a line `follow` waits: after so many answers in a row that nothing is visible the job stops as idle,
 /// unless all sources of its device are done before, which ends the line. It must be at least 1.
@@ -64,7 +64,7 @@ fn no_outcomes(alloc: Global, count: usize) -> Result<Vec<Option<DeviceEnds>>, N
     Ok(outcomes)
 }
 
-// What came of the devices, where each outcome has come.
+// The results of the devices, where each outcome has come.
 fn collect(alloc: Global, outcomes: Vec<Option<DeviceEnds>>) -> Result<Vec<DeviceEnds>, NoMemory>
     ensures devices { IfOk result (λ devices. map Some devices.items ≡ outcomes.items) }
 {

@@ -30,7 +30,7 @@ pub trait FeedbackPort {
     /// Takes the turn, makes one feedback call and gives the turn back. The call is answered, and the buffer written, as
     /// [`Udev::feedback`] does it for what is kept when the turn is taken.
     ///
-    /// The pass has then seen all that was kept before the call, and behind it the call where the answer is `Took`. The
+    /// The pass has then seen all that was kept before the call, and after it the call where the answer is `Took`. The
     /// place of that entry is then the pass's own. Where the answer is `Full` nothing is entered.
     ///
     /// It waits for the turn, and nothing says that it gets it. It takes no memory.

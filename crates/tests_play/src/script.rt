@@ -78,7 +78,7 @@ fn end<E: Evdev>(dev: &mut E, is_step: bool) {
     }
 }
 
-// It fails where a gate is passed behind a call, or twice.
+// It fails where a gate is passed after a call, or twice.
 #[test]
 fn a_gate_is_passed_once_before_each_call(rt: HostRuntime) -> Result<(), Fail> {
     let gate = NotingGate {

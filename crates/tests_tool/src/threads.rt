@@ -134,8 +134,8 @@ const FOLLOWS: &[Hold] = &[
     (3, 1, 2, 5),
 ];
 
-// It fails where two jobs share a thread, where one device is played after another, where each job tells the number 0 or
-// one that is too high, and where the gate is passed behind a call or twice.
+// It fails where two jobs share a thread, where one device is played after another, where each job tells the number 0
+// or one that is too high, and where the gate is passed after a call or twice.
 #[test]
 fn jobs_of_two_devices_run_side_by_side(rt: HostRuntime) -> Result<(), Fail> {
     let gate = Meeting::new(4, FOLLOWS);
@@ -153,8 +153,8 @@ fn jobs_of_two_devices_run_side_by_side(rt: HostRuntime) -> Result<(), Fail> {
 /// that call has been made.
 const RINGS: &[Hold] = &[(1, 0, 0, 2), (0, 1, 1, 2)];
 
-// It fails where an owner tells another number, and where it passes the gate behind a call, since its first call then takes
-// nothing, or twice. Its second call is made before the source's end or after it.
+// It fails where an owner tells another number, and where it passes the gate after a call, since its first call then
+// takes nothing, or twice. Its second call is made before the source's end or after it.
 #[test]
 fn an_owner_passes_the_gate_before_each_call(rt: HostRuntime) -> Result<(), Fail> {
     let gate = Meeting::new(2, RINGS);

@@ -60,7 +60,7 @@ tablet = record touchpad { keys = desk.keys }
 abbrev pub pressed : List Step
 pressed = inject (key (pos 1)) ∷ inject key_b ∷ inject (id (pos 5)) ∷ inject report ∷ []
 
--- An inhibition releases contacts and keys behind what waits in the batch; then all is ignored until it ends.
+-- An inhibition releases contacts and keys after what waits in the batch; then all is ignored until it ends.
 abbrev pub InhibitsADevice : Type 0
 InhibitsADevice =
     GivesOn tablet (pressed ++ Open ∷ inject (x (pos 9)) ∷ Inhibit 70 ∷ []) (Read 0 16)
