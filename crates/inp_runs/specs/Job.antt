@@ -50,8 +50,8 @@ last_talk None role j = finish (Some j)
 last_talk (Some waiting) Source j = end_talk j.stop j
 last_talk (Some waiting) role j = finish (Some j)
 
--- What an actor does at its lines, one after another, each in at most so many rounds, and when they are done. Where nobody
--- waits a line ends at the first answer Again.
+-- What an actor does at its lines, one after another, each in at most so many rounds, and when they are done.
+-- Where nobody waits a line ends at the first answer Again.
 unfoldable pub lines_talk : Role → Description → List (List Stamped) → Option Waiting → ℕ → List Line → Job → Talk (Option Job)
 lines_talk role d streams wait rounds [] j = last_talk wait role j
 lines_talk role d streams wait rounds (line ∷ lines) j =
@@ -67,12 +67,13 @@ pub record TellsAllBut (calls : List model.Call) (sight : List Sight) : Type 0 w
   pub part : LeavesOut kept calls
   pub entries : sight_of_calls kept ≡ filter is_call_entry sight
 
--- The calls are those that the sight tells of. Where lines wait it leaves out the answers Again that they waited through.
+-- The calls are those that the sight tells of. Where lines wait it leaves out the answers Again that they
+-- waited through.
 abbrev pub AreTold : Option Waiting → List model.Call → List Sight → Type 0
 AreTold None calls sight = sight_of_calls calls ≡ filter is_call_entry sight
 AreTold (Some waiting) calls sight = TellsAllBut calls sight
 
--- The result of a job: its calls are a legal run of the device's history, none of them lacked memory, and its
+-- The result of a job. Its calls are a legal run of the device's history, and none of them lacked memory. Its
 -- sight and its view are what its lines and the answers to these calls make.
 pub record IsJob (r : RecordView) (d : Description) (wait : Option Waiting) (history : List Step) (role : Role) (job : JobView) : Type 0 where
   pub calls : List model.Call
@@ -121,9 +122,9 @@ entries_at place jobs = sum_by (λ (job : JobView). count_by (is_entry_at place)
 abbrev pub joy_entries_at : ℕ → List JoyJobView → ℕ
 joy_entries_at place joys = sum_by (λ (joy : JoyJobView). count_by (is_entry_at place) joy.sight) joys
 
--- The result of a device: one history within the limit; each of its jobs follows its lines on that history;
--- and each place of the history is the place of exactly one accepted call of exactly one job. The jobs are
--- the device's, with those of its joysticks.
+-- The result of a device. It has one history within the limit, and each of its jobs follows its lines on that
+-- history. Each place of the history is the place of exactly one accepted call of exactly one job. The jobs
+-- are the device's, with those of its joysticks.
 pub record IsRun (r : RecordView) (d : Description) (wait : Option Waiting) (run : Run) (joy_jobs : List JoyJobView) : Type 0 where
   pub within : length run.history ≤ d.log_limit
   pub jobs : (i : ℕ) (job : JobView) (text : ActorText) → slice_get run.jobs i ≡ Some job → slice_get r.actors job.actor ≡ Some text → IsJob r d wait run.history text.role job
@@ -142,8 +143,8 @@ pub record IsRun (r : RecordView) (d : Description) (wait : Option Waiting) (run
 abbrev pub AreDescribed : RecordView → Type 0
 AreDescribed r = (i : ℕ) (device : DeviceText) → slice_get r.devices i ≡ Some device → IsDescription device.caps
 
--- How the lines of the device of this number wait: through so many answers Again in a row at most, and not once all sources
--- of the device are done. Without a number nobody waits.
+-- How the lines of the device of this number wait: through so many answers Again in a row at most, and not
+-- once all sources of the device are done. Without a number nobody waits.
 abbrev pub wait_of : Option ℕ → RecordView → ℕ → Option Waiting
 wait_of None r device = None
 wait_of (Some idle) r device = Some (record { idle = idle; sources = source_count r device })
@@ -163,8 +164,8 @@ pub record ArePromised (idle : Option ℕ) (r : RecordView) (played : Played) : 
   pub owners : (k : ℕ) (owner : OwnerView) (text : ActorText) (device : DeviceText) (run : Run) → slice_get played.owners k ≡ Some owner → slice_get r.actors owner.actor ≡ Some text
       → slice_get r.devices text.device ≡ Some device → slice_get played.runs text.device ≡ Some run → IsOwner device.caps run.history (rooms_of (lines_by owner.actor r.lines)) owner
 
--- at each report that a job took, its view up to then is the device's state at the end of that report's frame, where its
--- client could follow the device up to there
+-- At each report that a job took, its view up to then is the device's state at the end of that report's
+-- frame. That is where its client could follow the device up to there.
 abbrev pub JobsShowTheDevice : Type 0
 JobsShowTheDevice =
     (r : RecordView) (d : Description) (wait : Option Waiting) (run : Run) (joys : List JoyJobView) (i k : ℕ) (job : JobView) (text : ActorText) (taken : Taken)

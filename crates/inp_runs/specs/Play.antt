@@ -122,11 +122,11 @@ runs_of r stage = map (run_of r stage) (enumerate_from 0 stage.pasts)
 unfoldable pub play : ℕ → RecordView → Option Played
 play rounds r = option_map (λ stage. played_of (runs_of r stage)) (after_lines r rounds (first_stage r) r.lines)
 
--- This comes of the record. How many rounds are tried makes no difference once they are enough.
+-- This is the result of the record. How many rounds are tried makes no difference once they are enough.
 pub record IsPlay (r : RecordView) (played : Played) : Type 0 where
   pub rounds : ℕ
   pub plays : play rounds r ≡ Some played
 
--- at most one outcome comes of a record
+-- a record has at most one result
 abbrev pub HasOnePlay : Type 0
 HasOnePlay = (r : RecordView) (played other : Played) → IsPlay r played → IsPlay r other → played ≡ other

@@ -1,4 +1,5 @@
--- Rounds of a line that hands out events: one by which a reader is asked, or as many as there are events that it has read.
+-- Rounds of a line that hands out events: one by which a reader is asked, or as many as there are events that
+-- it has read.
 use Rattle.std.specs.Prelude.{◌≡◌, ◌≤◌, ℕ, ◌+◌, ◌-◌, max, Bool, List, ◌++◌, length, map, Option, Some, None}
 use Rattle.inp_model.specs.declared.taken.Taken.{Taken}
 use Rattle.inp_model.specs.Description.{Description}

@@ -1,15 +1,15 @@
 //! Jobs: what an actor of a record does, line by line, over any evdev, and what it sees.
 //!
 //! This crate is for whoever plays a record. An [`Actor`] does the lines of a source, a tap, a client or a joystick,
-//! and keeps what it saw. That is each call with its reply, each event that it read or that its reader made, each
-//! record of a joystick that it handed out, and where nothing was visible. Or it is the owner of a device that is made
-//! by requests. Then it keeps what it was told: each answer to a feedback call, and each event that the call took. It
-//! depends on `inp_actors` for records, on `inp_reader` and `inp_recon` for readers and views, and on `inp_joy` for
-//! joystick clients. It also depends on `inp_feedback` for feedback calls, on `inp_edge` for gates, and on `inp_model`
-//! for steps, replies and `Evdev`.
+//! and keeps what it saw. That is each call with its reply, each event that it read or that its reader made, and each
+//! record of a joystick that it handed out. It also keeps where nothing was visible. Or it is the owner of a device
+//! that is made by requests. Then it keeps what it was told: each answer to a feedback call, and each event that the
+//! call took. It depends on `inp_actors` for records, on `inp_reader` and `inp_recon` for readers and views, and on
+//! `inp_joy` for joystick clients. It also depends on `inp_feedback` for feedback calls, on `inp_edge` for gates, and
+//! on `inp_model` for steps, replies and `Evdev`.
 //!
 //! Its contract: `specs/Line.antt`, `specs/Client.antt` and `specs/Joystick.antt` say what each command asks of an
-//! evdev, one step by the answers before it, and what the job is afterwards (a `Talk` of `inp_reader`).
+//! evdev, one step by the answers before it. They also say what the job is afterwards (a `Talk` of `inp_reader`).
 //! `specs/Sight.antt` says what enters the sight. [`Actor::line`] promises that the calls it made are those of that
 //! talk, in some number of rounds. The actor's job is the talk's result (`DoesLine`, `specs/DoneLine.antt`): what it
 //! saw, its client and its view, of a joystick its picture, and whether it stopped. An actor that has stopped does
