@@ -2,8 +2,8 @@
 //!
 //! This crate is for whoever plays steps on a device: `Device::new` makes a device of a description, and `Device::step`
 //! makes one step and answers it. It depends on `inp_model`, whose definitions say the exact answer to each step after
-//! each history. It also depends on `inp_caps` for the description, on `inp_frames` for the state and the frames (with
-//! `inp_state` and `inp_slots` for what queries answer), and on `inp_filter` for what filters leave of frames. The
+//! each history. It also depends on `inp_caps` for the description, and on `inp_frames` for the state and the frames,
+//! with `inp_state` and `inp_slots` for what queries answer. What filters leave of frames is of `inp_filter`. The
 //! clients are of `inp_client`, the grab of `inp_handles`, and the lists of codes of `inp_bits`.
 //!
 //! Its contract is for every description, every history and each of the 23 steps. The reply, what is written to the

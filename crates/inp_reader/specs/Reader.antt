@@ -35,7 +35,7 @@ pub record Reading : Type 0 where
   -- what the device is, as far as the reader has handed it out
   pub view : View
   pub phase : Phase
-  -- the synthesised events that it has not handed out; there are none unless the phase is Handing
+  -- the synthesised events that it has not handed out; in another phase than Handing the list is empty
   pub left : List Event
 
 -- what a reader is seen as

@@ -117,8 +117,8 @@ cell_changes old new = in_slots (changes_in old new) (where_below (slot_count ol
 abbrev pub slot_changes : View → View → List Event
 slot_changes old new = let events = cell_changes old new in events ++ to_slot (view_after_events old events).slot new.slot
 
--- The events that lead from the old view to the new one: the contacts that ended first, with a report after
--- them, and then all that still differs, with a report.
+-- The events that lead from the old view to the new one. The contacts that ended come first, with a report
+-- after them, and then all that still differs, with a report.
 unfoldable pub synth : View → View → List Event
 synth old new =
     let ended = lifts old new in

@@ -18,8 +18,8 @@ use inp_recon::View;
 use std::alloc::Global;
 use std::marker::Model;
 
-/// Events, in the order in which they are added, with room for a number of them that stays. A contract sees the list and
-/// the room.
+/// Events, in the order in which they are added, with room for a number of them that stays. A contract sees the list
+/// and the room.
 #[derive(Drop)]
 pub(crate) struct EventList {
     events: Vec<Event>,

@@ -102,8 +102,8 @@ losses at client =
     map (λ (e : Entry). e.taken.place)
     (filter (λ (e : Entry). is_dropped (event_of e)) (taken_by keyboard (past_till at) client (Read client 64)))
 
--- The promise speaks of a press after the client opened and asked for keys, and of the release that an inhibition makes,
--- since the desktop synchronised before it.
+-- The promise speaks of a press after the client opened and asked for keys, and of the release that an
+-- inhibition makes, since the desktop synchronised before it.
 abbrev pub FollowsTheKeys : Type 0
 FollowsTheKeys =
     Shows 7 0 1 true (KEY_A ∷ []) (KEY_A ∷ [])
