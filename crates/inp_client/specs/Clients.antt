@@ -6,8 +6,8 @@ use Rattle.inp_ring.specs.declared.cell.Cell.{Cell}
 use Rattle.inp_ring.specs.Ring.{times}
 use Rattle.inp_client.specs.Client.{ClientView}
 
--- The open clients, each with its queue of cells; and for each of them, in that order, the numbers of the cells that its
--- ring holds.
+-- The open clients, each with its queue of cells; and for each of them, in that order, the numbers of the
+-- cells that its ring holds.
 pub record ClientsView : Type 0 where
   pub list : List (ClientView Cell)
   pub rings : List (List ℕ)

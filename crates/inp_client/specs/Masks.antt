@@ -5,8 +5,8 @@ use Rattle.inp_model.specs.declared.event.TheConstants.{EV_SYN, EV_KEY, EV_REL, 
 use Rattle.inp_model.specs.declared.event.Event.{Event}
 use Rattle.inp_bits.specs.Bits.{word_bits}
 
--- The masks of a client: one of the types, and one of the codes of each of seven types. At k each says whether the bit k
--- is set. That of the keys has 768 bits, and each other one 64.
+-- The masks of a client: one of the types, and one of the codes of each of seven types. At k each says
+-- whether the bit k is set. That of the keys has 768 bits, and each other one 64.
 pub record MaskView : Type 0 where
   pub types : List Bool
   pub keys : List Bool

@@ -1,6 +1,6 @@
--- A frame is offered event by event: a cell for each, whose number comes into one ring after the other. A short frame
--- that each of its clients admits whole, with room for it, may go in one run (`FitsInOneRun`): a cell for each event
--- first, and then all their numbers into each ring.
+-- A frame is offered event by event: a cell for each, whose number comes into one ring after the other. A
+-- short frame that each of its clients admits whole, with room for it, may go in one run (`FitsInOneRun`).
+-- First comes a cell for each event, and then all their numbers enter each ring.
 use Rattle.std.specs.Prelude.{◌≡◌, ◌≤◌, ◌<◌, ◌+◌, ◌&&◌, ◌++◌, ℕ, Bool, true, not, if◌then◌else◌, nat_eq, nat_lt, List, [], ◌∷◌, length, map, count_by, get_or, All, Option, None}
 use Rattle.slab.specs.Slab.{Slab}
 use Rattle.inp_ring.specs.declared.cell.Cell.{Cell}
@@ -83,8 +83,8 @@ seen_at s locations slab i = client_in s (member_at locations slab i)
 abbrev pub ring_at : List Location → Slab Member → ℕ → List ℕ
 ring_at locations slab i = (member_at locations slab i).ring.events
 
--- The number of a cell was put into the rings of the first `count` clients, so far as they take it. `taken` of them have it,
--- and it is owed as many holders. The others are as before.
+-- The number of a cell was put into the rings of the first `count` clients, so far as they take it. `taken`
+-- of them have it, and it is owed as many holders. The others are as before.
 pub record IsEnteredTo (count : ℕ) (cell : Cell) (holder : Option ℕ) (number : ℕ) (locations : List Location) (before slab : Slab Member) (first store : StoreView) (taken : ℕ) : Type 0 where
   pub located : AreLocated locations slab
   pub stored : AreStored store (clients_in locations slab) (owing number taken)

@@ -16,8 +16,8 @@ use std::alloc::Global;
 /// The report of a record's joysticks, in the order of the record: what each did and saw, how its buttons and axes
 /// stand at the end, and why it stopped. It stands after what [`report`](crate::report) says of the devices.
 ///
-/// `joys` must be those of this record: one job for each joystick, in order. It takes time and memory in proportion to the
-/// text.
+/// `joys` must be those of this record: one job for each joystick, in order. It takes time and memory in proportion to
+/// the text.
 ///
 /// # Errors
 ///

@@ -16,7 +16,8 @@ use std::alloc::Global;
 /// stopped. It stands after what [`joy_report`](crate::joy_report) says of the joysticks. A call that was refused has
 /// no line.
 ///
-/// `owners` must be those of this record: one for each owner, in order. It takes time and memory in proportion to the text.
+/// `owners` must be those of this record: one for each owner, in order. It takes time and memory in proportion to the
+/// text.
 ///
 /// # Errors
 ///

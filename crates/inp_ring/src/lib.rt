@@ -17,10 +17,9 @@
 //! Two calls are for who puts a number in several rings. [`Ring::enter`] gives the number that is put no holder
 //! (`IsPutAtEnd`), and [`Ring::append_all`] looks at no store: their caller adds all holders at once.
 //!
-//! Where SYN_DROPPED is not the event that is put, it enters only at a ring with one place left, or by a change of
-//! clock on a queue that is not empty. It is in a cell of its own, which no other ring holds (`IsLost`). After it
-//! stands the number that was put. A flush keeps the very numbers whose events stay, and a read keeps the ones that it
-//! does not take.
+//! A SYN_DROPPED that is not itself put enters only at a ring with one place left, or by a change of clock on a queue
+//! that is not empty. It is in a cell of its own, which no other ring holds (`IsLost`). After it stands the number that
+//! was put. A flush keeps the very numbers whose events stay, and a read keeps the ones that it does not take.
 //!
 //! Memory is taken when a ring is made, and by [`Store::grow`], and never else. Putting an event and reading one take
 //! the same time at any length, but for a loss, which drops all events. A flush walks the queue once, in place. The
