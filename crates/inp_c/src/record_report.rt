@@ -12,8 +12,8 @@ use inp_record::Record;
 use inp_report::whole_report;
 use std::alloc::Global;
 
-/// Plays a record on one thread, and keeps its report as its text: with the devices' histories, unless `history` is 0. The
-/// record stays.
+/// Plays a record on one thread, and keeps its report as its text: with the devices' histories, unless `history` is 0.
+/// The record stays.
 #[unsafe(no_mangle)]
 pub extern "C" fn inputplay_record_play(
     alloc: Global,

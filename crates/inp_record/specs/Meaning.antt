@@ -38,8 +38,8 @@ is_text_of name (Some text) = bytes_eq text name
 abbrev pub has_device : Context → List ℕ → Bool
 has_device c name = is_text_of name c.name || list_any (λ d. bytes_eq d.name name) c.devices
 
--- a hint, a log limit, a number of slots, an offset or an axis that its device gave before; the name of a device or of an
--- actor that another one has
+-- A hint, a log limit, a number of slots, an offset or an axis that its device gave before. Or the name of a
+-- device or of an actor that another one has.
 abbrev pub is_twice : Context → Item → Bool
 is_twice c (Device requested name) = has_device c name
 is_twice c (Hint count) = c.given.hint
@@ -62,8 +62,8 @@ has_all c role =
     else if is_owner role then nat_le OWNERS_MAX c.owners
     else nat_le READERS_MAX c.readers
 
--- a ninth device, a ninth source of a device, a client, tap or joystick of a device that has 128 of them together, a
--- second owner of a device, a seventeenth stream
+-- A ninth device, a ninth source of a device, a second owner of a device, a seventeenth stream. Or a client,
+-- tap or joystick of a device that has 128 of them together.
 abbrev pub is_too_many : Context → Item → Bool
 is_too_many c (Device requested name) = nat_le DEVICES_MAX (device_count c)
 is_too_many c (Actor role name) = has_all c role
