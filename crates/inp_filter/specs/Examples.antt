@@ -1,4 +1,4 @@
--- Short frames behind filters, worked out by hand: what is left of each.
+-- What filters leave of short frames, worked out by hand.
 use Rattle.std.specs.Prelude.{◌≡◌, ℕ, ℤ, pos, List, [], ◌∷◌}
 use Rattle.inp_model.specs.declared.event.TheConstants.{EV_SYN, EV_KEY, EV_REL, SYN_REPORT, SYN_CONFIG, KEY_A}
 use Rattle.inp_model.specs.declared.event.Event.{Event}

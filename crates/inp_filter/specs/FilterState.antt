@@ -34,8 +34,8 @@ FilterStandsFor (Chord first second) given (ChordState chord) = IsChord first se
 FilterStandsFor (Bounce code micros) given (BounceState bounce) = IsBounce code micros given bounce
 FilterStandsFor f given state = ⊥
 
--- This is kept of filters in a row, the first of which was given these events, and each other one what the one before
--- it did not eat of those that it was given itself.
+-- This is kept of filters in a row, the first of which was given these events. Each other one was given what
+-- the one before it did not eat of those that it was given itself.
 unfoldable pub FiltersStandFor : List Filter → List Timed → List FilterState → Type 0
 FiltersStandFor [] given [] = Unit {0}
 FiltersStandFor [] given (state ∷ states) = ⊥

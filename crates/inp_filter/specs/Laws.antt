@@ -17,8 +17,8 @@ LeavesSyn =
 abbrev pub LeavesAllOfNone : Type 0
 LeavesAllOfNone = (moment : ℕ) (given : List Timed) (es : List Event) → let_through [] moment given es ≡ es
 
--- Filters in a row leave of a frame what the others leave of what the first one leaves of it, where they were given what
--- the first one left.
+-- Filters in a row leave of a frame what the others leave of what the first one leaves of it, where they were
+-- given what the first one left.
 abbrev pub LeavesOneAfterAnother : Type 0
 LeavesOneAfterAnother =
     (f : Filter) (fs : List Filter) (moment : ℕ) (given : List Timed) (es : List Event)

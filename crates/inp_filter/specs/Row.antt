@@ -1,4 +1,4 @@
--- What is left of frames behind filters in a row (docs/RULES.md, "Filters").
+-- What filters in a row leave of frames (docs/RULES.md, "Filters").
 use Rattle.std.specs.Prelude.{ℕ, Bool, ◌||◌, not, if◌then◌else◌, List, [], ◌∷◌}
 use Rattle.inp_model.specs.declared.event.Event.{Event}
 use Rattle.inp_model.specs.declared.filter.Filter.{Filter}

@@ -20,7 +20,7 @@ pending d (Occurred e ∷ r) =
     let batch = pending d r ++ passed d r e in
     if is_report e then [] else if nat_le d.hint (length batch) then [] else batch
 
--- The events of the frame that e ends after the items r, if it ends one: a report alone is no frame, and a
+-- The events of the frame that e ends after the items r, if it ends one. A report alone is no frame, and a
 -- full batch gets a report of its own.
 abbrev pub cut_events : Description → List RawItem → Event → Option (List Event)
 cut_events d r e =

@@ -1,5 +1,5 @@
--- What a filter eats of the events that it is given, and what filters in a row do (docs/RULES.md, "Filters"). No filter is
--- given an event of EV_SYN, which is never eaten.
+-- What a filter eats of the events that it is given, and what filters in a row do (docs/RULES.md, "Filters").
+-- No filter is given an event of EV_SYN, which is never eaten.
 use Rattle.std.specs.Prelude.{ℕ, ◌+◌, Bool, false, ◌&&◌, ◌||◌, not, if◌then◌else◌, nat_eq, nat_lt, nat_le, List, [], ◌∷◌, Option, Some, None}
 use Rattle.inp_model.specs.declared.event.TheConstants.{EV_SYN, EV_KEY}
 use Rattle.inp_model.specs.declared.event.Event.{Event}
@@ -52,8 +52,8 @@ last_press code (g ∷ before) =
     else if is_on_key code g.event && is_release g.event then None
     else earlier
 
--- The press of an event on a key, after what the filter was given before: the event itself where it is one,
--- else the last press, if no release stands between.
+-- The press of an event on a key, after what the filter was given before. It is the event itself where that
+-- is a press, else the last press, if no release stands between.
 abbrev pub press_of : ℕ → Timed → List Given → Option Press
 press_of code x before =
     if is_press x.event then Some (record { moment = x.moment; before = before }) else last_press code before
@@ -63,8 +63,8 @@ abbrev pub is_there_and : (Press → Bool) → Option Press → Bool
 is_there_and test None = false
 is_there_and test (Some press) = test press
 
--- An event on this key whose press is there and passes the test: so the holds of the key whose press passes it are eaten
--- whole, from the press over its autorepeats to the release.
+-- An event on this key whose press is there and passes the test. So the holds of the key whose press passes
+-- it are eaten whole, from the press over its autorepeats to the release.
 abbrev pub is_in_hold : ℕ → (Press → Bool) → Timed → List Given → Bool
 is_in_hold code test x before = is_on_key code x.event && is_there_and test (press_of code x before)
 

@@ -57,8 +57,8 @@ entered_call at stamped = record { step = inject_of stamped; answer = alone (Don
 abbrev pub full_call : ℕ → Stamped → Call
 full_call limit stamped = record { step = inject_of stamped; answer = alone (Refused limit LogFull) }
 
--- The calls that it is, after a history of length from: each event that is entered is a call with its place;
--- the first one for which there is no room is a call that is refused for the limit; and those after it are no
+-- The calls that it is, after a history of length from. Each event that is entered is a call with its place.
+-- The first one for which there is no room is a call that is refused for the limit, and those after it are no
 -- calls.
 abbrev pub calls_of : ℕ → ℕ → List Stamped → List Call
 calls_of limit from [] = []

@@ -6,13 +6,13 @@
 //! Its definitions are what a reader must believe. `Description` says what a device is, and which descriptions there
 //! are. A history is a list of accepted steps; `Step` reads one step, and `Past` what a history says of its clients.
 //! All else follows from the history and the description alone. First come the raw events and descriptions of axes
-//! (`Raw`), and the state by the last write (`State`: keys and the like, axes, and the slots of multi-touch devices,
-//! with `Defuzz` for axes and slots). Then come the events passed (`Passed`), the frames that they are cut into (`Cut`,
-//! `Frame`), and what filters leave of them (`Filter`, `Left`). Last come each client's queue (`Queue`) and the reply
-//! to the next step (`Reply`). `Run` says when a caller's calls are a legal run of a history. `Evdev` says what one
-//! call of whatever makes steps leaves of what its caller sees, with `Leaves` for several and `Injecting` for a call
-//! that injects many events. A call that injects many events is calls one by one, up to the first that the limit
-//! refuses (`injected_events_are_calls`).
+//! (`Raw`), and the state by the last write (`State`, with `Defuzz` for axes and slots). That is of keys and the like,
+//! of axes, and of the slots of multi-touch devices. Then come the events passed (`Passed`), the frames that they are
+//! cut into (`Cut`, `Frame`), and what filters leave of them (`Filter`, `Left`). Last come each client's queue
+//! (`Queue`) and the reply to the next step (`Reply`). `Run` says when a caller's calls are a legal run of a history.
+//! `Evdev` says what one call of whatever makes steps leaves of what its caller sees, with `Leaves` for several and
+//! `Injecting` for a call that injects many events. A call that injects many events is calls one by one, up to the
+//! first that the limit refuses (`injected_events_are_calls`).
 //!
 //! What the definitions compute on short histories is in `examples`, `query_examples`, `slot_examples`,
 //! `client_examples`, `repeat_examples` and `axis_examples`. Full rings, full batches, open batches, slots, queries,

@@ -1,5 +1,5 @@
--- Short histories worked out by hand: devices with filters (docs/RULES.md, "Filters"). What each filter eats of frames in a
--- row is worked out in the crate of filters.
+-- Short histories worked out by hand: devices with filters (docs/RULES.md, "Filters"). What each filter eats
+-- of frames in a row is worked out in the crate of filters.
 use Rattle.std.specs.Prelude.{◌^◌, ℕ, ℤ, ◌+◌, pos, List, [], ◌∷◌, ◌++◌, replicate}
 use Rattle.inp_model.specs.declared.event.TheConstants.{EV_KEY, KEY_A}
 use Rattle.inp_model.specs.declared.event.Event.{Event}
@@ -46,7 +46,8 @@ EatsABounce =
     (took 11 6
     (at 2 0 (key (pos 1)) ∷ at 2 0 report ∷ at 4 10000 (key (pos 0)) ∷ at 4 10000 report ∷ at 10 16000 (key (pos 1)) ∷ at 10 16000 report ∷ []))
 
--- The autorepeat goes on behind a filter that eats it. The reports of its frames would follow a report, so they are left out.
+-- The autorepeat goes on behind a filter that eats it. The reports of its frames would follow a report, so
+-- they are left out.
 abbrev pub EatsAutorepeats : Type 0
 EatsAutorepeats =
     GivesOn (behind (Norepeat ∷ [])) (Open ∷ frame (key (pos 1)) 0 ++ Tick 250000 ∷ Tick 283000 ∷ frame (key (pos 0)) 300000) (Read 0 16)

@@ -44,8 +44,8 @@ RepeatsOnce =
     × GivesOn desk (stroke (pos 1) 0 ++ no_period ++ Tick 250000 ∷ Open ∷ Tick 600000 ∷ []) (Read 0 16) (alone (Again 7 0))
     × GivesOn desk (no_period ++ stroke (pos 1) 0 ++ Open ∷ Tick 250000 ∷ []) (Read 0 16) (alone (Again 6 0))
 
--- A repeats while the press and the release of B wait in the batch: the report frames them, the timer is armed anew for
--- B, which is up, and A repeats no more.
+-- A repeats while the press and the release of B wait in the batch. The report frames them, the timer is
+-- armed anew for B, which is up, and A repeats no more.
 abbrev pub RepeatsTheLastKey : Type 0
 RepeatsTheLastKey =
     let waiting : List Step = stroke (pos 1) 0 ++ Inject key_b 1 ∷ Inject released_b 1 ∷ Tick 250000 ∷ [] in
