@@ -80,7 +80,8 @@ RefusesCounts =
     AskForNothing (codes "--make" ∷ codes "7" ∷ codes "--count" ∷ codes "0" ∷ []) × AskForNothing (codes "--make" ∷ codes "7" ∷ codes "--count" ∷ codes "10001" ∷ [])
     × AskForNothing (codes "--make" ∷ codes "7" ∷ codes "--count=" ∷ [])
 
--- a file with `--make` or `--count`, a count without a number, the history or threads of a record that is made, and neither
+-- a file with `--make` or `--count`, a count without a number, the history or threads of a record that is
+-- made, and neither
 abbrev pub RefusesMixtures : Type 0
 RefusesMixtures =
     AskForNothing (codes "--make" ∷ codes "7" ∷ codes "x" ∷ []) × AskForNothing (codes "--count" ∷ codes "5" ∷ codes "x" ∷ [])

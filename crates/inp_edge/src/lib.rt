@@ -38,8 +38,8 @@
 //!
 //! # What is not said
 //!
-//! No clause of the runtime says that the file which it opens is the one of that name on the disk, or that its reads
-//! give the bytes of that file. Nor does one say that what is written reaches the standard output. Tests over real
+//! No clause of the runtime says that the file which it opens is the one of that name on the disk. Nor does one say
+//! that its reads give the bytes of that file, or that what is written reaches the standard output. Tests over real
 //! files and over a printer of their own show that `FileInput` and `OutSink` read and write at all.
 #![tactic(auto)]
 

@@ -101,9 +101,8 @@ impl Sink for MemSink {
 
     ghost faults = { λ m. m.calls.faults };
 
-    /// Takes as many bytes as there are and as there is room for, or a piece of them where it takes
-    /// pieces. Fails exactly at a call that is to fail, and where no room is left, both of which raise
-    /// the count of faults.
+    /// Takes as many bytes as there are and as there is room for, or a piece of them where it takes pieces. Fails
+    /// exactly at a call that is to fail, and where no room is left, both of which raise the count of faults.
     fn write(&mut self, buf: &[u8]) -> Result<usize, Failed>
         requires bytes { 0 < length buf.now }
         ensures calls { self.new.calls

@@ -15,7 +15,8 @@ use std::thread::Threads;
 
 /// Calls `inputplay` with the words after the program's name, and ends with the status of its end.
 ///
-/// The arguments are those of the process, the program's name first. Where there are none there are no words.
+/// The arguments are those of the process, the program's name first. Where the process has no arguments there are no
+/// words.
 pub fn run<R: Threads + Wait + Sync, I: Input, O: Sink, G: Gate>(
     rt: &R,
     alloc: Global,

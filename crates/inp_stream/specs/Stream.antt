@@ -1,5 +1,5 @@
--- The bytes of an event and its moment (docs/FORMATS.md, "Event streams"). A record's seconds, and its microseconds, have
--- so many bytes: 8 on a 64-bit machine, 4 on a 32-bit one.
+-- The bytes of an event and its moment (docs/FORMATS.md, "Event streams"). A record's seconds, and its
+-- microseconds, have so many bytes: 8 on a 64-bit machine, 4 on a 32-bit one.
 use Rattle.std.specs.Prelude.{◌≡◌, ℕ, ◌+◌, ◌*◌, ◌/◌, ◌%◌, ◌^◌, ◌<◌, ◌≤◌, ◌||◌, if◌then◌else◌, nat_le, nat_lt, FitsSigned, List, ◌++◌, length, slice_index, take, drop, Result, Ok, Err}
 use Rattle.std.specs.Int.{w32, cast_signed, cast_unsigned}
 use Rattle.byteorder.specs.Endian.{little_bytes, little_number}
@@ -39,7 +39,7 @@ event_in bytes = record {
   value = cast_signed w32 (little_number 4 (drop 4 bytes));
 }
 
--- the event and the moment that bytes begin with, or why there is none
+-- the event and the moment that bytes begin with, or why they begin with no record
 abbrev pub decoded : ℕ → List ℕ → Result (Event × ℕ) StreamRefused
 decoded time_len bytes =
     if nat_lt (length bytes) (record_len time_len) then Err Short
