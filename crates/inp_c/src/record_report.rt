@@ -56,7 +56,7 @@ fn play_in(alloc: Global, kept: &mut Kept, history: u32, len: &mut usize) -> u32
     }
 }
 
-/// The report of the result of a record, which is played for it.
+/// The report of a record's result. The record is played for it.
 fn report_of(alloc: Global, recorded: &Record, history: bool) -> Result<Vec<u8>, NoMemory>
     ensures { IfOk result (λ text. IsReport recorded.now history text.items) }
 {

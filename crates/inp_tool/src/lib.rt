@@ -1,4 +1,4 @@
-//! The program's one call: from words and files to the report of the result of a record.
+//! The program's one call: from words and files to the report of a record's result.
 //!
 //! This crate is for the program and for tests: [`inputplay`] is the program's one call. It depends on `inp_edge`
 //! (input, sink and gate), `inp_args` (words), `inp_record` (a record's text and its streams), and `inp_make` (records

@@ -2,7 +2,7 @@
 //!
 //! With `--migrate` the program upgrades the record before it writes its text (`migration.rt`). Two laws stand beside
 //! [`upgrade`] as its clauses (`specs/Upgrade.antt`). The text of the upgraded record is read as that record again
-//! (`ReadsAgain`), and the result of its lines in file order is their results before (`PlaysAlike`).
+//! (`ReadsAgain`), and the result of its lines in file order is what it was before (`PlaysAlike`).
 ghost use Rattle.std.specs.Prelude.{◌≡◌};
 ghost use Rattle.inp_tool.specs.Upgrade.{upgraded, ReadsAgain, PlaysAlike};
 
