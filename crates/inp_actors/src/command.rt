@@ -108,7 +108,7 @@ pub enum Command {
     Skip {
         count: u32,
     },
-    /// A client is handed events until none is there.
+    /// A client is handed events until no event is there.
     Follow,
     /// A client's reader is to synchronise before the next event.
     Force,

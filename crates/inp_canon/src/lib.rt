@@ -9,7 +9,7 @@
 //! that a reader can be held against them. [`examples`] shows what they say of a few records. It has the whole text of
 //! a keyboard and of a device made by requests, and the axes that slots add. It also has codes without names, filters,
 //! actors of two devices, and each command. It takes time in proportion to the text, and for each device that of a look
-//! at each type and code; no clause says so.
+//! at each type and code. No clause says so.
 #![tactic(auto)]
 
 mod commands;

@@ -117,7 +117,7 @@ impl CapsBuilder {
 
     /// Adds a filter that eats the holds of the second key that start while the first one is down.
     ///
-    /// `BadCode` comes where one of them is no key from 1 to `KEY_MAX`, and where they are the same; the device need
+    /// `BadCode` comes where one of them is no key from 1 to `KEY_MAX`, and where they are the same. The device need
     /// not support them. Else `BadFilter` comes at a ninth filter.
     pub fn chord(&mut self, first: u16, second: u16) -> Result<(), CapsRefused>
         ensures answer { result ≡ filter_answer self.old (Chord first second) }

@@ -6,7 +6,7 @@
 //! lists of codes, and on `bitflags`.
 //!
 //! Its contract: a [`Caps`] is seen as a `Description` of `inp_model`, which keeps the ranges of `IsDescription`. Each
-//! call of the builder is refused exactly where its documentation says, and changes nothing then; each accepted call
+//! call of the builder is refused exactly where its documentation says, and changes nothing then. Each accepted call
 //! changes exactly what it names (`specs/Builder.antt`). Nothing here takes memory.
 #![tactic(auto)]
 

@@ -43,7 +43,7 @@ full_masks = record {
   sounds = replicate 64 true;
 }
 
--- the mask that goes by a type, none where the type has none
+-- the mask that goes by a type, if the type has one
 abbrev pub mask_of : MaskView → ℕ → List Bool
 mask_of m kind =
     if nat_eq kind EV_SYN then m.types

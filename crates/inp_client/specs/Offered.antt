@@ -53,7 +53,7 @@ pub record FitsInOneRun (locations : List Location) (slab : Slab Member) (store 
   pub takers_are : takers ≡ takers_in f.holder (clients_in locations slab)
   pub all : All (TakesFrame f.holder (length f.events.now)) (clients_in locations slab)
 
--- cells were added, each with so many holders, under numbers that had none
+-- cells were added, each with so many holders, under numbers that had no cell
 pub record AreAdded (old new : StoreView) (cells : List Cell) (count : ℕ) (numbers : List ℕ) : Type 0 where
   pub long : length numbers ≡ length cells
   pub fresh : (n : ℕ) → 1 ≤ times n numbers → held_under old n ≡ None

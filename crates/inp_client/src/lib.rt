@@ -19,7 +19,7 @@
 //! event, and for each client that loses its queue. An open, a mask and a revocation leave all numbers as they are.
 //! Reading, a flush and a close bring none, and a change of clock brings one at most.
 //!
-//! [`Clients::open`] asks of its number only that no open client has it, and puts the client in its place by number; it
+//! [`Clients::open`] asks of its number only that no open client has it, and puts the client in its place by number. It
 //! answers `TooMany` exactly where 64 are open. [`Clients::offer`] puts into each queue what its masks admit, under the
 //! grab of one client or of none, and [`Clients::take`] tells events on the client's clock.
 //!

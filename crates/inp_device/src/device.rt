@@ -86,7 +86,7 @@ impl Device {
     ///
     /// An accepted step is entered in the history, and its reply has its place there. After any other reply all is as
     /// before, but that answers `Again` are counted (the count stays at its type's end). What a `Read` takes is written
-    /// to the front of `out`, and what `GetSlots` and `SyncSlots` tell to the front of `cells`; the rest of both stays.
+    /// to the front of `out`, and what `GetSlots` and `SyncSlots` tell to the front of `cells`. The rest of both stays.
     /// A query of keys, switches, LEDs or sounds removes the client's queued events of its type, and `SyncSlots` those
     /// of the multi-touch axes.
     ///

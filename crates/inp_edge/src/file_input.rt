@@ -84,7 +84,7 @@ impl<R: Files> Input for FileInput<'_, R> {
         begin_once(|| fs::open(rt, name), &mut self.begun, &mut self.faults)
     }
 
-    /// Makes one read of the file begun, which stays begun. Where none is, nothing is left.
+    /// Makes one read of the file begun, which stays begun. Where no file is begun, nothing is left.
     fn read(&mut self, buf: &mut [u8]) -> Result<usize, Failed>
         requires room { 0 < length buf.old }
         ensures fits { IfOk result (λ n. n ≤ length buf.new) }

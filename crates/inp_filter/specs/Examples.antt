@@ -120,7 +120,7 @@ EatsABounce =
     (whole (A (pos 1)) ∷ whole (A (pos 0)) ∷ alone ∷ alone ∷ whole (A (pos 1)) ∷ [])
 
 -- The first press is left, also one after a repeat alone. A press in the time is eaten up to its last
--- microsecond, and one at its end is left; so is one at an earlier moment than the release.
+-- microsecond, and one at its end is left. So is one at an earlier moment than the release.
 abbrev pub EatsInTime : Type 0
 EatsInTime =
     Leave (Bounce KEY_A 5000 ∷ [])

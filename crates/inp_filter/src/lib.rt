@@ -17,11 +17,11 @@
 //!
 //! Which frames the filters are given is the caller's to choose. Those of a device while a client holds its grab are
 //! not meant for them (`Left` of `inp_model`). `proofs/LeftOfFrames.antt` shows that what is left of the frames of a
-//! past is what the filters let through. [`laws`] has what holds of all filters. [`laws::rows`]: each event of `EV_SYN`
-//! is left; where there is no filter all is; and filters in a row leave what the others leave of what the first one
-//! leaves. [`laws::holds`]: a chord and a bounce eat an autorepeat or a release exactly where the press before it was
-//! eaten. [`examples`] shows what the definitions leave of short frames. It has the ends of the time, moments that
-//! fall, presses of a key that is down, and two filters in both orders.
+//! past is what the filters let through. [`laws`] has what holds of all filters. [`laws::rows`] says that each event of
+//! `EV_SYN` is left, and where there is no filter all is. It says that filters in a row leave what the others leave of
+//! what the first one leaves. [`laws::holds`]: a chord and a bounce eat an autorepeat or a release exactly where the
+//! press before it was eaten. [`examples`] shows what the definitions leave of short frames. It has the ends of the
+//! time, moments that fall, presses of a key that is down, and two filters in both orders.
 #![tactic(auto)]
 
 mod bounce;

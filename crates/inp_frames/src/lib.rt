@@ -20,7 +20,7 @@
 //! The core makes raw events itself on two occasions. Both end their frame by `SYN_REPORT` with the value 1.
 //!
 //! *A tick* ([`Core::tick`]) lets the timer of the autorepeat fire, on a device with `EV_REP` and `EV_KEY`. A key that
-//! is pressed in a frame arms the timer, one delay after the frame; any key that is released in a frame disarms it. A
+//! is pressed in a frame arms the timer, one delay after the frame. Any key that is released in a frame disarms it. A
 //! tick at the moment for which the timer is armed, or later, repeats the key once and arms the timer again, one period
 //! after the tick:
 //!
@@ -49,7 +49,7 @@
 //! they are cut into, and how they arm the timer. A [`Core`] keeps no history; `CoreStandsFor` (`specs/Core.antt`) says
 //! for which histories it stands. A new one stands for the empty history, and after each call it stands for the history
 //! with one step more, for each history that it stood for. The frames that the step ends are the model's, and each is
-//! passed on once, in order; a step that ends no frame leaves the taker as it was (`IsEntered`).
+//! passed on once, in order. A step that ends no frame leaves the taker as it was (`IsEntered`).
 //! [`Core::is_for_device`] tells beforehand whether an event goes to the device itself. `proofs/KeptCore.antt` is for
 //! whoever keeps a core beside the clients of a device. A step that is not the core's ends no frame, and the core as it
 //! is stands for the history with that step. A raw event takes the same time whatever came before, and an inhibition

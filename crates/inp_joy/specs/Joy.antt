@@ -72,7 +72,7 @@ is_startup_over d j = nat_le (startup_len d) j.handed
 
 -- Starting
 
--- a startup begins where a client was opened; where its queries were refused in part none is left
+-- a startup begins where a client was opened; where its queries were refused in part no record is left
 abbrev pub joying_after_start : Description → Joying → Started → Joying
 joying_after_start d j (Opened client ring) = with_startup j.reading
 joying_after_start d j (Refused at why) = if is_needed j.reading.phase then without_startup d j else j

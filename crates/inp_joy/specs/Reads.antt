@@ -35,7 +35,7 @@ abbrev pub agains_after_read : JoyRead → ℕ → ℕ
 agains_after_read (Again at ends) n = if nat_lt n (2 ^ 64 - 1) then n + 1 else n
 agains_after_read _ n = n
 
--- A read that ended a frame, or that was long, leaves its reader less to do (a number, its effort); of the
+-- A read that ended a frame, or that was long, leaves its reader less to do (a number, its effort). Of the
 -- others nothing is said. By this a caller's loop over `read` that counts its records ends.
 abbrev pub IsReadLess : JoyRead → ℕ → ℕ → Type 0
 IsReadLess (Frame place) after before = after < before

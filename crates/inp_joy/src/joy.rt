@@ -85,7 +85,7 @@ impl Joy {
     /// Opens a client and asks for the whole state, as [`Reader::start`](inp_reader::Reader::start) does, and answers
     /// as it does. After `Opened` a startup begins: the next records tell how each button and axis stands. After a
     /// start that was refused in a query no record of a startup is left, and the next [`read`](Joy::read) synchronises
-    /// first; the picture stays. After one whose open was refused all is as before.
+    /// first. The picture stays. After one whose open was refused all is as before.
     ///
     /// Only the open may meet want of memory. What the calls leave, and where the client then stands, is as after the
     /// reader's start.

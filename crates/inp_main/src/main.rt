@@ -16,7 +16,7 @@ use std::{env, io};
 
 fn main(rt: HostRuntime) -> ExitCode {
     let alloc = rt.alloc();
-    // Arguments that can't be read are none, so that there are no words, and those are not accepted.
+    // Arguments that can't be read count as no words, and those are not accepted.
     let args = arguments(alloc, &rt).unwrap_or(Vec::new(alloc));
     let mut input = FileInput::new(&rt);
     let mut out = OutSink::new(&rt);

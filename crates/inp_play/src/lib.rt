@@ -10,7 +10,7 @@
 //! list of steps. Each device has one history, in which each job's replies, joysticks' too, are the one-thread device's
 //! at their places. Among its steps stand the feedback calls of the device's owner and no other ones, each answered
 //! from what was kept before it (`ArePromised` of `inp_runs`). A line `feedback` is done by its owner on its device and
-//! makes no step; any other line leaves the feedback calls as they are.
+//! makes no step. Any other line leaves the feedback calls as they are.
 #![tactic(auto)]
 
 mod gathered_runs;

@@ -113,7 +113,7 @@ impl<S: Served> PortOf<S> {
     }
 
     /// Takes the turn, makes one step and gives the turn back. The pass has then seen all that was entered before the
-    /// step, and the step where it was accepted; its place is then the pass's own.
+    /// step, and the step where it was accepted. Its place is then the pass's own.
     ///
     /// It waits for the turn, and nothing says that it gets it. Under the turn it makes the step and no more: what
     /// others wait for is one step of the device, whose cost does not grow with the history.

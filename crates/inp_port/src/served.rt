@@ -11,8 +11,8 @@ use inp_caps::Caps;
 use inp_model::{Injected, Reply, Stamped, Step, Taken};
 use inp_turn::Kept;
 
-/// A kept value that makes the steps of a device. It depends on the description of one, and the steps that it accepted
-/// are among its entries, in order; there may be entries that are no steps.
+/// A kept value that makes the steps of a device. It is made for the description of one, and the steps that it accepted
+/// are among its entries, in order. There may be entries that are no steps.
 pub trait Served: Kept<Base = Caps> {
     /// The step that an entry is, if it is one.
     ghost made: { Self.Entry → Option Step };

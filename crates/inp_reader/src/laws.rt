@@ -24,8 +24,9 @@ pub fn synthesis()
 /// a [`start`](crate::Reader::start) or a [`next`](crate::Reader::next) has one afterwards, so the laws of
 /// [`synthesis`] hold of any two of its views.
 ///
-/// Where a `next` in [`Sync`](crate::Mode::Sync) mode synchronises, synthesised events come from it and the later ones.
-/// They lead from the view that the reader had to the one that it has. Once `Synced` is answered none is left.
+/// Where a `next` in [`Sync`](crate::Mode::Sync) mode synchronises, it and the later ones hand out synthesised events.
+/// These lead from the view that the reader had to the one that it has. Once `Synced` is answered no such event is
+/// left.
 pub fn views()
     ensures new_view { NewViewIsKept }
     ensures one_device { KeptViewsAreOfOneDevice }

@@ -91,9 +91,9 @@ impl Reader {
         })
     }
 
-    /// Opens a client and asks for the whole state (libevdev's `libevdev_set_fd`). That is keys, LEDs and switches,
-    /// each where the device has the type; each axis outside 0x2f to 0x3d, ascending; and all slots, where there are
-    /// any.
+    /// Opens a client and asks for the whole state (libevdev's `libevdev_set_fd`). It asks for keys, LEDs and switches,
+    /// each where the device has the type. Then it asks for each axis outside 0x2f to 0x3d, ascending, and for all
+    /// slots, where the device has slots.
     ///
     /// | Answer | What it means | The reader then |
     /// |---|---|---|

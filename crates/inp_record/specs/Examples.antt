@@ -152,7 +152,7 @@ pub record RefusesDescriptions : Type 0 where
   pub axis_code : AreRefusedAt 3 (Caps BadCode) (device_lines ++ codes "axis 64 0 0 0 -1 0 0" ∷ [])
   pub axis : AreRefusedAt 3 (Caps BadAxis) (device_lines ++ codes "axis ABS_X 0 0 9 -1 0 0" ∷ [])
 
--- Filters that are none, that stand where they may not, or that no device has.
+-- Filter lines that name no filter, that stand where they may not, or that no device has.
 pub record RefusesFilters : Type 0 where
   pub version_1 : AreRefusedAt 3 BadLine (device_lines ++ codes "filter norepeat" ∷ [])
   pub alone : AreRefusedAt 3 BadLine (later_lines ++ codes "filter" ∷ [])

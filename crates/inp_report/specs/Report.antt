@@ -46,7 +46,8 @@ abbrev pub reading_text : Role → List ℕ → Description → JobView → List
 reading_text role name d job =
     actor_line role name ++ (flat_map sight_line job.sight ++ (view_text d job.view ++ stop_line job.stop))
 
--- an actor's part, by its role; a joystick and an owner have none under their device (JoyReport.antt, OwnerReport.antt)
+-- an actor's part, by its role; a joystick and an owner have no part under their device (JoyReport.antt,
+-- OwnerReport.antt)
 abbrev pub part_text : Role → List ℕ → Description → JobView → List ℕ
 part_text Source name d job = source_line name (count_by is_counted_call job.sight) job.stop
 part_text Client name d job = reading_text Client name d job

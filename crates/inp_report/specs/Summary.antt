@@ -46,7 +46,7 @@ abbrev pub counts_line : Role → List ℕ → JobView → List ℕ
 counts_line role name job =
     role_text role ++ (codes " " ++ (name ++ (codes " " ++ (counts_text job.sight ++ (codes " " ++ (position_text job.view.cells ++ LINE_FEED))))))
 
--- an actor's line, by its role; a joystick and an owner have none
+-- an actor's line, by its role; a joystick and an owner have no line
 abbrev pub brief_line : Role → List ℕ → JobView → List ℕ
 brief_line Source name job = calls_line name (count_by is_counted_call job.sight)
 brief_line Client name job = counts_line Client name job

@@ -86,7 +86,7 @@ unfoldable pub client_fold : Description → List Step → Folding → List Sigh
 client_fold d history f [] = f
 client_fold d history f (entry ∷ sight) = client_fold d history (after_client_entry d history f entry) sight
 
--- The view of a job is the fold of its whole sight, from the view that has seen nothing; of a joystick's job
+-- The view of a job is the fold of its whole sight, from the view that has seen nothing. Of a joystick's job
 -- its picture is. Sources and owners see nothing of the device.
 abbrev pub IsFolded : Role → Description → List Step → Job → Type 0
 IsFolded Source d history j = j.reading.view ≡ first_view d

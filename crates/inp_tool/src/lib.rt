@@ -27,11 +27,11 @@
 //!   alone decides, else those of the first stream that is at fault.
 //! - `HidesNoFault`: a fault of the input ends in status 3, or in 4 where that text is cut off, one of the sink in 4,
 //!   and neither in another. A file that is not there, and one that is too long, are told by the status too.
-//! - `IsComplete` (`specs/Complete.antt`): where no fault comes, a file that is there with its streams and is a record,
-//!   or numbers to make one of, lead to the whole report or summary. Else memory ran out. The status of a whole text is
-//!   6 exactly where a job stopped since a history was full, and else 0. A record that is made never fills a history:
-//!   it ends with status 0. A record that is to be migrated leads to its text in version 2 with status 0, or to want of
-//!   memory.
+//! - `IsComplete` (`specs/Complete.antt`): where no fault comes and memory does not run out, a file that is there with
+//!   its streams and is a record leads to the whole report. Numbers to make a record of lead to the whole summary. The
+//!   status of a whole text is 6 exactly where a job stopped since a history was full, and else 0. A record that is
+//!   made never fills a history: it ends with status 0. A record that is to be migrated leads to its text in version 2
+//!   with status 0, or to want of memory.
 //!
 //! [`examples::examples_of_views`] is about a record that was worked out by hand (`specs/Views.antt`). It shows at
 //! which of its reports the promise on views speaks, and what its clients' views and the device show there.

@@ -36,8 +36,8 @@ const WRITE_FAULT: u8 = 4;
 /// The words are those after the program's name, as `inp_args` reads them. The gate is called on threads alone, before
 /// each call that a job makes on its device. The statuses of `End` are tried in this order. First comes 2, where the
 /// words are not accepted; then 3 or 7 for FILE, and 1 for its lines. Then, stream by stream, in line order, come 3 or
-/// 7 for its file, and 1 for its bytes; and last 4, 6 and 0. 5 may come at any point before the text is complete. Each
-/// outcome but these last writes a line of its own, and 4 comes where that cannot be written whole.
+/// 7 for its file, and 1 for its bytes; and last 4, 6 and 0. The status 5 may come at any point before the text is
+/// complete. Each outcome but these last writes a line of its own, and 4 comes where that cannot be written whole.
 pub fn inputplay<R: Threads + Wait + Sync, I: Input, O: Sink, G: Gate>(
     rt: &R,
     alloc: Global,

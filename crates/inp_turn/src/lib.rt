@@ -20,12 +20,12 @@
 //! - The places of the entries that a pass added are its own. No place is own to two passes, and once `close` has its
 //!   pass each place that was added since `new` is that pass's own, once, and no other place is. The value that `close`
 //!   gives back has the base and the entries that the pass has seen.
-//! - The shares of all passes add up to 65,536, and each pass has one unit at least; so a pass with all of them is the
+//! - The shares of all passes add up to 65,536, and each pass has one unit at least. So a pass with all of them is the
 //!   last. A pass that is dropped takes its units with it, and the value then ends with its `Shared`.
 //! - A pass's turns rise by one with each `take`.
 //!
-//! The rule that the table keeps is `IsTurn` in `specs/Turn.antt`, and what each step tells is in `specs/Steps.antt`;
-//! that each step keeps the rule is shown in `proofs/KeptRule.antt`. Nothing says that a `take` returns, or who is
+//! The rule that the table keeps is `IsTurn` in `specs/Turn.antt`, and what each step tells is in `specs/Steps.antt`.
+//! That each step keeps the rule is shown in `proofs/KeptRule.antt`. Nothing says that a `take` returns, or who is
 //! served first.
 #![tactic(auto)]
 

@@ -83,7 +83,7 @@ impl<S: Kept> Shared<S> {
     /// had seen. The pass has then seen all of them, and its turns have risen by one.
     ///
     /// A try is one compare-exchange. After a try that finds the turn taken the thread rests, twice as long after each,
-    /// up to [`MOST_RESTS`] yields of the processor; then another try follows. Nothing says that one of them succeeds.
+    /// up to [`MOST_RESTS`] yields of the processor. Then another try follows. Nothing says that one of them succeeds.
     /// The value moves out, and nothing is copied.
     ///
     /// The pass must be one of this value, and have no turn yet: it would wait for itself.

@@ -20,7 +20,7 @@
 //! By a port ([`FeedbackPort::feedback`], `IsFeedbackTurn` of `specs/FeedbackTurn.antt`) one turn is taken. The call is
 //! answered, and the buffer written, as the device does it for what is kept then, which begins with all that the pass
 //! had seen. A call that is kept is the last entry that the pass has seen, and its place alone comes to be the pass's
-//! own; a refused one enters nothing. To the caller of a [`UClient`] it is no step (`IsFeedbackBy`). Its own steps
+//! own. A refused one enters nothing. To the caller of a [`UClient`] it is no step (`IsFeedbackBy`). Its own steps
 //! stay, the answer has the length of the history that it then sees, and its tie has the place of the call more. What
 //! `inp_port` says of a port of served values and of its client holds of [`UPort`] and [`UClient`].
 //!
@@ -30,7 +30,7 @@
 //! [`Udev::feedback`] does (`IsFeedbackOf` of `specs/OwnedFeeds.antt`).
 //!
 //! Of a [`Maker`], `setup` is refused exactly where the text is no name, and `bits` lends the builder of descriptions.
-//! `create` answers `NotSetUp` exactly where no setup was accepted; else it gives a device of the description that was
+//! `create` answers `NotSetUp` exactly where no setup was accepted. Else it gives a device of the description that was
 //! asked for, which keeps nothing yet, or memory ran out. A maker whose `create` was refused comes back as it was. Only
 //! [`Maker::create`], [`Udev::new`], [`Owned::new`], [`UPort::new`](inp_port::PortOf::new) and a step that opens a
 //! client take memory.
