@@ -37,7 +37,7 @@
 //!   events that it handed out make of a new view. It stands after a start that opened a client, and each later call
 //!   keeps it so, as long as nobody else uses its client.
 //! - `specs/TrueView.antt`: at each report that it hands out its view is then the device's state at the end of that
-//!   frame. That is where its client could follow the device up to there.
+//!   frame. This holds where its client could follow the device up to there.
 //!
 //! For the crates above there are lemmas of two calls, one after the other: what both leave (`leaves_made-then`,
 //! `proofs/LeftByCalls.antt`), and that nobody else used the client (`proofs/UseAlone.antt`).

@@ -28,8 +28,8 @@ const LOSS: Event = Event {
     value: 0,
 };
 
-/// The events that a client was offered and has not read, oldest first. It has the numbers of their cells, in a ring of
-/// 64 to 4,096 places that holds one number less than it has places.
+/// The events that a client was offered and has not read, oldest first. A ring has the numbers of their cells, in 64 to
+/// 4,096 places, and holds one number less than it has places.
 ///
 /// With a [`Store`], which the ring shares with others, its queue is the list of the cells. Each call keeps that each
 /// of its numbers has a cell with a holder. The events up to the last SYN_REPORT are visible: they may be read.

@@ -165,7 +165,7 @@ pub record ArePromised (idle : Option ℕ) (r : RecordView) (played : Played) : 
       → slice_get r.devices text.device ≡ Some device → slice_get played.runs text.device ≡ Some run → IsOwner device.caps run.history (rooms_of (lines_by owner.actor r.lines)) owner
 
 -- At each report that a job took, its view up to then is the device's state at the end of that report's
--- frame. That is where its client could follow the device up to there.
+-- frame. This holds where its client could follow the device up to there.
 abbrev pub JobsShowTheDevice : Type 0
 JobsShowTheDevice =
     (r : RecordView) (d : Description) (wait : Option Waiting) (run : Run) (joys : List JoyJobView) (i k : ℕ) (job : JobView) (text : ActorText) (taken : Taken)

@@ -24,8 +24,8 @@ pub fn all_as_promised()
     ensures promised { AllAsPromised }
 {}
 
-/// At each report that a job took, its view up to then is the device's state at the end of that report's frame. That is
-/// where its client could follow the device up to there. It does nothing: its contract is the point.
+/// At each report that a job took, its view up to then is the device's state at the end of that report's frame. This
+/// holds where its client could follow the device up to there. It does nothing: its contract is the point.
 pub fn jobs_show_the_device()
     ensures shown { JobsShowTheDevice }
 {}
