@@ -17,7 +17,7 @@ from pathlib import Path
 Key = namedtuple("Key", "crate path name")
 
 WORD = r"[^\W\dλ][\w'?!]*(?:-[^\W\dλ][\w'?!]*)*"
-# A name with what is read of it behind dots, as `line.command`.
+# A name with what is read of it after dots, as `line.command`.
 DOTTED = re.compile(rf"(?<![\w.◌']){WORD}(?:\.(?:{WORD}|\d+))*")
 # What says nothing of a line: texts, and a comment at its end.
 SILENT = re.compile(r'"(?:[^"\\]|\\.)*"|\s(?:--|//)\s.*$')
@@ -54,14 +54,14 @@ class Repository:
         self.top = Path(top)
         rows = (self.top / "crates.txt").read_text().splitlines()
         pairs = [row.split(":", 1) for row in rows if row.strip() and not row.startswith("#")]
-        # (a static library has this word behind its name)
+        # (a static library has this word after its name)
         deps = {name.split()[0]: text for name, text in pairs}
         self.deps = {crate: [dep for dep in text.split() if dep in deps] for crate, text in deps.items()}
         self.crates = self.in_order(self.deps, self.deps.__getitem__)
 
     @staticmethod
     def in_order(roots, below):
-        """All that is reached from the roots, each behind what is below it."""
+        """All that is reached from the roots, each after what is below it."""
         order, seen = [], set()
 
         def visit(one):
@@ -221,7 +221,7 @@ class Definitions(SourceFile):
             self.items[name].find_uses = partial(self.uses_of, self.items[name], rows)
 
     def uses_of(self, item, rows):
-        """The items whose names stand in the lines of one, but for what is read of something behind a dot."""
+        """The items whose names stand in the lines of one, but for what is read of something after a dot."""
         words = {dotted for row in rows for dotted in DOTTED.findall(SILENT.sub("", row))}
         return self.keys(item, words)
 

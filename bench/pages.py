@@ -2,7 +2,7 @@
 
 
 def marks(script):
-    """The lines before and behind what a script of bench/ writes."""
+    """The lines before and after what a script of bench/ writes."""
     return (
         f"<!-- what follows is written by bench/{script} --write -->",
         f"<!-- what was written by bench/{script} ends here -->",

@@ -107,7 +107,7 @@ def taken(report, name="reader"):
 
 
 def belief(report, name="reader"):
-    """What a client believes at the end: the lines behind its last calls."""
+    """What a client believes at the end: the lines after its last calls."""
     lines = part_of(report, name)
     first = next(i for i, line in enumerate(lines) if line.split()[0] in ("keys", "switches", "leds", "axes"))
     return lines[first:]

@@ -11,7 +11,7 @@ sys.path.insert(0, str(TOP / "bench"))
 
 from definitions import Key, Repository  # noqa: E402  (bench/ has to be on the path first)
 
-# A crate `low`, and a crate `high` that stands on it. What counts for `call` has `yes` in a comment beside it.
+# A crate `low`, and a crate `high` that depends on it. What counts for `call` has `yes` in a comment beside it.
 FILES = {
     "crates.txt": "# crates\nhigh: low clap\nlow:\n",
     "crates/low/src/lib.rt": "mod color;\nmod kept;\n",

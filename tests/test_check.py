@@ -9,7 +9,7 @@ from desk_cases import PROGRAM, TOOLS, TOP, DeskCase, needs_program
 
 EXAMPLES = TOP / "examples"
 
-# A grab hides a release, as in examples/stuck_key.rec; the desktop does not ask behind it.
+# A grab hides a release, as in examples/stuck_key.rec; the desktop asks nothing after it.
 STICKS = """inputrecord 1
 device kbd
 cap EV_KEY KEY_A

@@ -1,4 +1,4 @@
-"""What comes of a small record of each way that bench/clients makes, and what it says of wrong input."""
+"""The result of a small record of each way that bench/clients makes, and what it says of wrong input."""
 
 import subprocess
 

@@ -66,9 +66,9 @@ class Differences(CompareCase):
         self.assertIn("3 differences; --all writes them all", lines[0])
 
     def test_places(self):
-        # all places behind one are greater: the order is the same
+        # all places after one are greater: the order is the same
         self.are_alike(REPORT, shifted(REPORT, 8, 5))
-        # what the remapper did at place 10 comes behind what the desktop did at places 11 and 12
+        # what the remapper did at place 10 comes after what the desktop did at places 11 and 12
         other = REPORT.replace("call ungrab 1 reply done 10", "call ungrab 1 reply done 12")
         other = other.replace("discarded 11 0", "discarded 10 0").replace("bits 12\n", "bits 11\n").replace("again 11", "again 10")
         self.differ(REPORT, other, "remapper, entry 4: another order of places: a.report:22: call ungrab 1 reply done 10 | "

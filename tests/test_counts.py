@@ -8,7 +8,7 @@ from playing import TOP, FolderCase
 
 SCRIPT = TOP / "bench" / "counts"
 
-# Each line of code has the mark `code` behind it, and each for the prover `prover`; they are not written.
+# Each line of code has the mark `code` after it, and each for the prover `prover`; they are not written.
 FILES = {
     "crates.txt": "# a crate, and its tests\none:\ntests_one: one\n",
     "crates/one/src/lib.rt": """\

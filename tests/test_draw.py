@@ -338,7 +338,7 @@ class Pages(DrawCase):
 
 
 def many_events(lines_behind, actors=""):
-    """3,000 frames of two events, and what is done behind each; KEY_A is down from number 1001 to 1020."""
+    """3,000 frames of two events, and what is done after each; KEY_A is down from number 1001 to 1020."""
     lines = ["inputrecord 1\ndevice d\ncap EV_REL REL_X\ncap EV_KEY KEY_A"]
     lines += [f"source s\nclient c\n{actors}do c open"]
     for number in range(3000):

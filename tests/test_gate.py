@@ -15,7 +15,7 @@ from playing import TOP
 ALL_PASS = ("some line\n12 passed, 0 failed\n", 0)
 CHECKS_PASS = ("5 passed, 0 failed\n", 0)
 
-# What `rt ci` writes and its status, the same of `tests/run`, and what comes of both.
+# What `rt ci` writes and its status, the same of `tests/run`, and the result of both.
 GATES = [
     ("all pass", ALL_PASS, CHECKS_PASS, 0, "17 passed, 0 failed"),
     ("a remark behind it", ("12 passed, 0 failed (all)\n", 0), CHECKS_PASS, 0, "17 passed, 0 failed"),

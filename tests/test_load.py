@@ -73,7 +73,7 @@ stop finished
 """
 
 
-# The first lines of a record, and lines each of which is refused behind them, for a cause of its own.
+# The first lines of a record, and lines each of which is refused after them, for a cause of its own.
 BEGUN = b"inputrecord 1\ndevice keypad\ncap EV_KEY KEY_A\nsource finger\nclient c0\ndo c0 open\n"
 REFUSED = (
     b"do finger event 1 EV_KEY KEY_A \x7f",

@@ -41,7 +41,7 @@ GROUP_ROWS = re.compile(r"^# (.*)\n((?:[^#\n].*\n)+)", re.M)
 
 
 def given():
-    """What each module of definitions or proofs gives, and each type: a name -> the names behind its dot."""
+    """What each module of definitions or proofs gives, and each type: a name -> the names after its dot."""
     repository, names = Repository(TOP), {}
     for crate in repository.crates:
         for path in repository.paths(crate, "specs", "antt") + repository.paths(crate, "src", "rt"):
@@ -93,13 +93,13 @@ def promised(text):
 
 
 def dependencies():
-    """What each crate of crates.txt stands on, crates of the toolchain too."""
+    """What each crate of crates.txt depends on, crates of the toolchain too."""
     lines = [line.split(":") for line in (TOP / "crates.txt").read_text().splitlines() if ":" in line]
     return {head.split()[0]: below.split() for head, below in lines}
 
 
 def below(crate, stands_on):
-    """A crate, and all that it stands on."""
+    """A crate, and all that it depends on."""
     return {crate}.union(*(below(other, stands_on) for other in stands_on.get(crate, ())))
 
 

@@ -135,7 +135,7 @@ class RoundTrip(DeskCase):
 
 
     def test_what_a_terminal_shows_besides(self):
-        """A list of devices before a tool's first line, `^C` behind its last one, a fault that it met."""
+        """A list of devices before a tool's first line, `^C` after its last one, a fault that it met."""
         noise = "Available devices:\n/dev/input/event0:\tKeyboard\nSelect the device event number [0-1]: "
         for form, before, behind in (("evemu", noise, "^C\n"), ("evtest", noise, "^C\n$ \n"),
                                      ("libinput.yml", "", "^CError: Interrupted system call\n")):
@@ -286,7 +286,7 @@ class Events(DeskCase):
         self.assertEqual(events, taken(self.play(text)))
 
     def test_repeats_by_the_kernel_and_by_the_keyboard(self):
-        """evtest does not print a report's value: a repeat behind its scan code is the keyboard's own."""
+        """evtest does not print a report's value: a repeat after its scan code is the keyboard's own."""
         events = frames([(4, 4, 30), (1, 30, 1)])
         events += [(500, 1, 30, 2), (500, 0, 0, 1), (600, 17, 1, 0), (600, 1, 30, 2), (600, 0, 0, 1)]
         events += [(700, 4, 4, 30), (700, 1, 30, 2), (700, 0, 0, 0)]
@@ -347,7 +347,7 @@ class Losses(DeskCase):
         last = max(i for i, event in enumerate(captured) if event[1:3] == (0, 0))
         came = taken(self.play(text))
         self.assertEqual(captured[:place], came[:place])
-        # Each event behind the loss and its report is passed too; a frame before them sets what was lost.
+        # Each event after the loss and its report is passed too; a frame before them sets what was lost.
         behind = captured[place + 2 : last + 1]
         self.assertEqual(behind, came[-len(behind):])
         between = came[place:-len(behind)]
@@ -511,7 +511,7 @@ class TimedReaders(DeskCase):
                 self.assertEqual(list(seconds), self.seconds_of(self.record(*readers), name))
 
     def test_a_time_behind_the_end(self):
-        """What is due behind the last frame is done at the end, and all that was read is read before."""
+        """What is due after the last frame is done at the end, and all that was read is read before."""
         text = self.record("a:slow:revoke=100", "b:open=50")
         lines = [line for line in text.splitlines() if line.startswith("do a ")]
         self.assertEqual(["do a open", "do a follow", "do a revoke"], lines)
@@ -519,7 +519,7 @@ class TimedReaders(DeskCase):
         self.assertEqual("do b open", text.splitlines()[-3])
 
     def test_a_joystick(self):
-        """It opens in the midst, is handed a startup at once, and the rest behind each frame."""
+        """It opens in the midst, is handed a startup at once, and the rest after each frame."""
         header = HEADER + "  Event type 1 (EV_KEY)\n    Event code 288 (BTN_TRIGGER)\n"
         header += "  Event type 3 (EV_ABS)\n" + axis(0, 7, 0, 100)
         events = frames([(1, 288, 1)], [(3, 0, 9)], [(1, 288, 0)])

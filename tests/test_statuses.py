@@ -160,7 +160,7 @@ class Statuses(FolderCase):
         (self.folder / name).write_bytes(bytes_of_it)
 
     def sparse(self, name, size, front=b""):
-        """A file of so many bytes that takes no room on the disk: these, and zeros behind them."""
+        """A file of so many bytes that takes no room on the disk: these, and zeros after them."""
         with open(self.folder / name, "wb") as file:
             file.write(front)
             file.truncate(size)

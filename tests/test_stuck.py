@@ -53,7 +53,7 @@ def flood(count):
 
 
 def without_times(text):
-    """What a tool said, without the times behind places."""
+    """What a tool said, without the times after places."""
     return re.sub(r" \([0-9]+\.[0-9]+ s\)", "", text)
 
 
@@ -421,7 +421,7 @@ class Records(StuckCase):
                 state = [line[2:] for line in said[said.index("the device at the end") + 1 :]]
                 state = [line for line in state if "on the device itself" not in line]
                 played = subprocess.run([PROGRAM, record], cwd=EXAMPLES, capture_output=True, text=True)
-                # the parts of joysticks and owners stand behind all others
+                # the parts of joysticks and owners stand after all others
                 report = played.stdout.split("\njoy ")[0].split("\nowner ")[0]
                 parts = report.split("\nclient ")[1:]
                 parts = [part for behind in parts for part in behind.split("\ntap ")]

@@ -10,7 +10,7 @@ PROMPT = "    $ "
 
 
 def commands(text):
-    """The commands of a page, and of each the lines that it shows behind it."""
+    """The commands of a page, and of each the lines that it shows after it."""
     found = []
     for line in text.splitlines():
         if line.startswith(PROMPT):

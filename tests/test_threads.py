@@ -1,6 +1,6 @@
 """Records are played on threads, and each run is checked by the history that it printed.
 
-What comes of a record depends on the order in which the threads made their steps. So the printed history is played
+The result of a record depends on the order in which the threads made their steps. So the printed history is played
 on one thread by a second program (bench/model/replay.py), which has to give the same report, byte for byte.
 """
 

@@ -83,7 +83,7 @@ class Capture:
         """Gives each SYN_REPORT whose value the form does not tell the one that it must have had.
 
         The kernel writes 1 where it repeats a key itself, and where it cuts a frame since as many events as
-        it reckons with are there. It repeats keys of a device with EV_REP alone, and a repeat behind its
+        it reckons with are there. It repeats keys of a device with EV_REP alone, and a repeat after its
         scan code is the keyboard's own.
         """
         longest = max(len(frame.events) for frame in self.frames)

@@ -61,7 +61,7 @@ class Causes:
         return place, self.of_event(walk, thing, frame, point)
 
     def in_open_frame(self, thing, origin):
-        """The device's value changed behind the last frame: the events wait for a report."""
+        """The device's value changed after the last frame: the events wait for a report."""
         ended = self.state.frame_places[-1] if self.state.frames else -1
         described = self.last_description(thing, len(self.state.history))
         if described is not None and described > ended:

@@ -18,7 +18,7 @@ OF_A_VIEW = (AT_END, "agrees")
 
 
 class Outcome:
-    """What came of an expectation: whether it holds, and else at which place and time, and what came.
+    """The result of an expectation: whether it holds, and else at which place and time, and what came.
 
     `number` is the expectation's line in the record, or None for the status that is expected of each.
     """
@@ -77,7 +77,7 @@ class Played:
 
 
 def outcomes_of(path, player):
-    """What came of each expectation of a record."""
+    """The result of each expectation of a record."""
     played = Played(path, player)
     expectations = list(played.expectations)
     if all(each.kind != "status" for each in expectations):
@@ -123,7 +123,7 @@ def of_status(played, expectation):
 
 
 def full_text(report):
-    """Whose history was full, behind a status."""
+    """Whose history was full, after a status."""
     full = [part for part in report.parts.values() if "full" in part.ends.words]
     return f": {full[0].name} stopped, since the history was full at place {full[0].ends.words[-1]}" if full else ""
 

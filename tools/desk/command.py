@@ -85,7 +85,7 @@ def status_of(program, body):
 
 def ends(program, body):
     """Does what a command does, and ends in its status: 130 where it is stopped from the keyboard. Before and
-    behind that a stop ends the process at once."""
+    after that a stop ends the process at once."""
     progress.begin(program)
     try:
         stop_by(signal.default_int_handler)

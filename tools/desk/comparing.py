@@ -3,7 +3,7 @@
 Entries are paired so that as few as possible are left over. What is compared of them are the words but
 places, times and the numbers of clients. Places are compared by their order: where two entries of a device
 stand in one order in the first report and in the other in the second, they differ. So one event more in
-a capture is one difference, though each place behind it is another one. Times are compared by their
+a capture is one difference, though each place after it is another one. Times are compared by their
 distance: where it changes from one pair to the next, the times differ.
 """
 
@@ -68,7 +68,7 @@ def key_of(line):
         middle = words.index("reply")
         step, reply = words[1:middle], words[middle + 1 :]
         step = [step[0]] + step[2:] if step[0] in CLIENT_STEPS else step
-        # (how many were read is told by the events behind it)
+        # (how many were read is told by the events after it)
         reply = [reply[0]] + (reply[3:] if reply[0] == "opened" else [] if reply[0] == "took" else reply[2:])
         return ("call", *moment_left_out(step), "reply", *reply)
     if words[0] == "took":
@@ -157,7 +157,7 @@ def way_back(trace, at, other):
 
 def slid(pairs, one, other):
     """The pairs, moved where equal keys leave a choice: so that the places of a pair are as far apart as those of the
-    pair behind it, where they are not as far apart as those of the pair before it."""
+    pair after it, where they are not as far apart as those of the pair before it."""
     pairs = list(pairs)
     for start in range(len(pairs) - 1, -1, -1):
         behind = pairs[start + 1] if start + 1 < len(pairs) else (len(one), len(other))
@@ -176,7 +176,7 @@ def slid(pairs, one, other):
 
 
 def moved_pair(pair, behind):
-    """The pair that a pair becomes where what is left over behind it is left over before it; or None where nothing
+    """The pair that a pair becomes where what is left over after it is left over before it; or None where nothing
     is, or something in both lists."""
     if behind[0] == pair[0] + 1 and behind[1] > pair[1] + 1:
         return pair[0], behind[1] - 1
@@ -238,7 +238,7 @@ class Parts:
         return Difference(what, self.device, self.name, (one or other).number, *lines)
 
     def other_counts(self):
-        """Reads that took another number of events, where as many events are behind them."""
+        """Reads that took another number of events, where as many events are after them."""
         counts = [(read_count(one), read_count(other), one, other) for one, other in self.same]
         if self.others:
             return []

@@ -1,7 +1,7 @@
 """The device's own state, as the program itself tells it.
 
 A second record is made of the history of the first one, and played by the same program. It has the same
-device and all steps that a device's state comes of: what was injected and written, ticks and inhibitions,
+device and all steps that a device's state comes from: what was injected and written, ticks and inhibitions,
 and axes that were described anew, in order. Nobody else is there, so there is no grab and no mask; the
 filters are left out, since they keep events from clients and not from the device; and the log limit is the
 greatest one. Two clients watch:
@@ -12,7 +12,7 @@ each report is the device's state at that frame's end.
   synchronisation of slots, whose answer no report writes, and at the end.
 
 Where axes were described anew, a tap `axes` describes them, which no event tells, and asks for these axes
-behind each step. Where the device is made by requests, an owner `owner` asks behind each step that may send
+after each step. Where the device is made by requests, an owner `owner` asks after each step that may send
 it something, so it is told what each of them sent.
 
 Their own steps are taken out again: those of the source, and the descriptions, stand for those of the first
@@ -54,7 +54,7 @@ class Frame:
 
 
 class Changes:
-    """How a thing changed: the numbers of the frames, and the values behind them. Number -1 stands for the
+    """How a thing changed: the numbers of the frames, and the values after them. Number -1 stands for the
     start."""
 
     def __init__(self, value):
@@ -150,7 +150,7 @@ class DeviceState:
 
 
 def sync_points(history, places):
-    """Behind how many of the source's steps a synchronisation of slots stands."""
+    """After how many of the source's steps a synchronisation of slots stands."""
     return {bisect.bisect_left(places, place) for place, step in enumerate(history) if step[0] == "syncslots"}
 
 
@@ -162,7 +162,7 @@ def action_of(step):
 
 
 def is_read_behind(step, waiting, hint):
-    """Is to be read behind this step? Where frames may have ended, and before more events wait than a ring
+    """Is to be read after this step? Where frames may have ended, and before more events wait than a ring
     holds."""
     is_event = step[0] in ("inject", "write")
     return not is_event or step[-3:-1] == ["EV_SYN", "SYN_REPORT"] or waiting >= hint
@@ -176,7 +176,7 @@ def is_sent(step):
 
 
 def sending_places(state):
-    """The places of the steps behind which the owner asks, where there is one."""
+    """The places of the steps after which the owner asks, where there is one."""
     is_requested = state.description.is_requested
     return [place for place in state.places if is_requested and is_sent(state.history[place])]
 
@@ -228,7 +228,7 @@ def second_record(states):
     return text
 
 
-# What came of it
+# The result
 
 
 def own_places(part):
@@ -304,7 +304,7 @@ def read_frames(state, part, places):
 
 
 def read_described(state, part, places):
-    """The axes that were described anew, at the end of each frame, as the tap was told behind its step."""
+    """The axes that were described anew, at the end of each frame, as the tap was told after its step."""
     told = {}
     for entry in part.sight:
         if entry[0] == "call" and entry[1][0] == "getaxis":
@@ -336,7 +336,7 @@ def read_synchronisations(state, part):
 
 
 def read_sent(state, part):
-    """What each step sent to the device, as its owner was told behind it. A step sends one event at most."""
+    """What each step sent to the device, as its owner was told after it. A step sends one event at most."""
     calls = iter(sending_places(state))
     for entry in part.sight:
         if entry[0] == "feedback":

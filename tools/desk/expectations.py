@@ -36,7 +36,7 @@ ROLE_TEXT = {"client": "client", "tap": "tap", "joy": "joystick", "owner": "owne
 
 class Expectation:
     """A line of a record that expects something: its number, its words, the actor that it is of (or None),
-    what it expects (`kind`), and the words behind that."""
+    what it expects (`kind`), and the words after that."""
 
     def __init__(self, number, words, actors):
         self.number, self.text = number, " ".join(words)
@@ -82,7 +82,7 @@ class Expectation:
         self.value = int(self.words[1]) if self.words[1:] else None
 
     def check_line(self):
-        """The line of the view that is named, and what stands behind it."""
+        """The line of the view that is named, and what stands after it."""
         lines = LINES[self.role]
         if not self.words or self.words[0] not in lines:
             raise Wrong(f"{AT_END} wants a line of the view at the end: {', '.join(lines)}")

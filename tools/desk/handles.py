@@ -88,7 +88,7 @@ class Handles:
         return any(changed == place for changed, _ in self.clocks.get(client, [])[1:])
 
     def clock_change_behind(self, client, place):
-        """The place of the client's first change of clock behind a place, or None."""
+        """The place of the client's first change of clock after a place, or None."""
         return next((changed for changed, _ in self.clocks.get(client, [])[1:] if changed > place), None)
 
 

@@ -39,7 +39,7 @@ def since_of(state, thing, value):
 
 
 def place_in_open_frame(state, thing):
-    """The place of the last step behind the last frame that has an event for a thing."""
+    """The place of the last step after the last frame that has an event for a thing."""
     ended = state.frame_places[-1] if state.frames else -1
     event = ["EV_ABS", thing[2]] if thing[0] == "slot" else list(thing)
     behind = [place for place in state.places if place > ended and state.history[place][-3:-1] == event]

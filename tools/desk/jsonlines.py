@@ -76,7 +76,7 @@ def fields_of(words):
 
 
 def moment_fields(at, place):
-    """A place and its time, both None where there is none."""
+    """A place and its time, both None where no place is given."""
     return {"place": place, "time": None if place is None else at.moment(place)}
 
 

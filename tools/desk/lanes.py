@@ -205,7 +205,7 @@ class Lanes:
     # Clients
 
     def call_marks(self, client):
-        """The marks of a client's reads, losses, synchronisations and answers Again. Behind a joystick's call
+        """The marks of a client's reads, losses, synchronisations and answers Again. After a joystick's call
         stand the records that it was handed."""
         marks, part = [], client.part
         for entry in part.sight:

@@ -114,7 +114,7 @@ class Walk:
             self.open[thing].points.append(point)
 
     def is_told_behind(self, thing, point):
-        """Where nothing was left to read: was the value told by an answer behind the last frame's end?"""
+        """Where nothing was left to read: was the value told by an answer after the last frame's end?"""
         origin = self.belief.origin(thing)
         if point.kind != "again" or origin is None or origin[1] != "answer":
             return False

@@ -22,7 +22,7 @@ READS = {"client": "follow", "tap": "read 4096", "joy": "read 100000"}
 
 
 class Unread:
-    """What clients would lose if they read on at the end: the record is played again with such lines behind
+    """What clients would lose if they read on at the end: the record is played again with such lines after
     it."""
 
     def __init__(self, text, record, folder, player, report):

@@ -1,4 +1,4 @@
-"""Reads a raw capture: the records of events as a program reads them from an event node, one behind another.
+"""Reads a raw capture: the records of events as a program reads them from an event node, one after another.
 
 A record has 24 bytes on a 64-bit machine and 16 on a 32-bit one: seconds, microseconds, type, code, value.
 """

@@ -1,4 +1,4 @@
-"""The readers of a record, as the words behind `--reader` tell them, and the lines that each of them has."""
+"""The readers of a record, as the words after `--reader` tell them, and the lines that each of them has."""
 
 import re
 
@@ -17,7 +17,7 @@ RANKS = ("ungrab", "revoke", "open", "grab")
 
 
 class Reader:
-    """A client that opens at the start, or at a time, and follows behind each frame, each N-th, or at the end
+    """A client that opens at the start, or at a time, and follows after each frame, each N-th, or at the end
     alone. Times are in microseconds from the capture's first event on.
 
     `grab` is the span of its grab, from the start (None) and with no end (None); `joy` says that it reads as
@@ -89,7 +89,7 @@ class Reader:
         return any(time is not None for time, *_ in self.acts())
 
     def lines_of(self, words):
-        """The lines of one act. What waits is read before an end, and a joystick's startup behind its open."""
+        """The lines of one act. What waits is read before an end, and a joystick's startup after its open."""
         lines = self.lines_at_the_end() if words[0] == "revoke" else []
         self.is_open = words[0] != "revoke"
         lines += [f"do {self.name} {word}" for word in words]
@@ -136,7 +136,7 @@ class Acts:
 
 
 def micros_of(text):
-    """A time in seconds, with six digits behind the point at most, as microseconds."""
+    """A time in seconds, with six digits after the point at most, as microseconds."""
     match = re.fullmatch(r"([0-9]{1,10})(?:\.([0-9]{1,6}))?", text)
     if not match or int(match[1]) > LATEST_SECOND:
         raise Wrong(f'"{text}" is no time in seconds: 9, or 1.5')
@@ -195,7 +195,7 @@ def bits_of(numbers):
 
 
 def readers_of(texts):
-    """The readers that are asked for: one that follows behind each frame where none is."""
+    """The readers that are asked for: one that follows after each frame where no reader is asked for."""
     readers = [Reader(text) for text in texts or ["reader"]]
     names = [reader.name for reader in readers]
     for name in names:

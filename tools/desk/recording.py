@@ -73,7 +73,7 @@ class Recording:
 
 @dataclass
 class Frame:
-    """The events of a frame and the value of its report. Behind a loss `lost` is the time of SYN_DROPPED."""
+    """The events of a frame and the value of its report. After a loss `lost` is the time of SYN_DROPPED."""
 
     time: int
     events: list
@@ -82,7 +82,7 @@ class Frame:
 
 
 def frames_of(events):
-    """The frames of a capture, how many events stand behind the last one, and the time of a loss behind it.
+    """The frames of a capture, how many events stand after the last one, and the time of a loss after it.
 
     A SYN_DROPPED is no event of a frame: it tells that events before it are missing. What came before it in
     the same frame is a frame of its own.

@@ -11,14 +11,14 @@ TOLD_EVERY = 65536
 
 VIEW_WORDS = ("keys", "switches", "leds", "buttons", "axes", "current", "slot")
 
-# The actors whose parts stand behind all devices.
+# The actors whose parts stand after all devices.
 BEHIND = ("joy", "owner")
 
 
 class Device:
     """A device's name, the length of its history, the words of each step, and its actors' parts.
 
-    A report does not say whose the joysticks and owners are that stand behind all devices: who knows the
+    A report does not say whose the joysticks and owners are that stand after all devices: who knows the
     record puts them to the devices.
     """
 
@@ -90,7 +90,7 @@ def add_line(devices, words):
 
 
 def read_report(text):
-    """The devices of a report, without the parts that stand behind all of them."""
+    """The devices of a report, without the parts that stand after all of them."""
     devices, lines = [], text.splitlines()
     for number, line in enumerate(lines):
         if number % TOLD_EVERY == 0:
@@ -103,7 +103,7 @@ def read_report(text):
 
 
 def parts_behind(text):
-    """The parts of joysticks and owners, which stand behind all devices."""
+    """The parts of joysticks and owners, which stand after all devices."""
     parts = []
     for line in text.splitlines():
         words = line.split(" ")

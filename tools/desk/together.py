@@ -72,7 +72,7 @@ def recordings_of(paths):
 
 
 def unlike(names):
-    """Names of devices, those that were there already with a number behind."""
+    """Names of devices, those that were there already with a number after."""
     made = []
     for name in names:
         number, other = 2, name
@@ -83,7 +83,7 @@ def unlike(names):
 
 
 def readers_of_device(texts, number):
-    """A device's own readers: the name of each has the device's number behind it."""
+    """A device's own readers: the name of each has the device's number after it."""
     parts = [text.partition(":") for text in texts or ["reader"]]
     return readers_of([f"{name}-{number}{colon}{options}" for name, colon, options in parts])
 

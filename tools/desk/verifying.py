@@ -1,4 +1,4 @@
-"""Plays a record that was made, with one reader that follows behind each frame, and says how many events of the
+"""Plays a record that was made, with one reader that follows after each frame, and says how many events of the
 capture it took as they were captured."""
 
 import bisect
@@ -64,7 +64,7 @@ def verify(record):
 
 
 def found_in_order(wanted, came):
-    """Of each event that is wanted, whether it came, behind those before it."""
+    """Of each event that is wanted, whether it came, after those before it."""
     places, index, found = {}, 0, []
     for place, event in enumerate(came):
         places.setdefault(event, []).append(place)

@@ -86,7 +86,7 @@ class Record:
         self.note_unpassed(unpassed)
 
     def add(self, frame, state):
-        """Takes a frame, or the state behind one that comes before the part that is taken."""
+        """Takes a frame, or the state after one that comes before the part that is taken."""
         if self.window.has(frame.time):
             self.frames.append(frame)
         elif not self.frames:
@@ -168,7 +168,7 @@ class Record:
             yield from self.lines_of_frame(frame)
 
     def lines_of_frame(self, frame):
-        """A frame, and what the readers do behind it."""
+        """A frame, and what the readers do after it."""
         if not frame.was_captured:
             yield LOSS_COMMENT
         yield from self.event_lines(frame.all_events())
@@ -211,7 +211,7 @@ def ids_of(frames):
 
 
 def parts_between_losses(frames):
-    """The frames, parted before each that stands behind a loss."""
+    """The frames, parted before each that stands after a loss."""
     parts = [[]]
     for frame in frames:
         if frame.lost is not None and parts[-1]:

@@ -23,8 +23,8 @@ pub struct Load {
 }
 
 impl Load {
-    /// What these four words ask for, or nothing where one is missing or is no number in its range, where the devices cannot
-    /// have the threads in equal parts, or the turns the steps.
+    /// What these four words ask for, or nothing where one is missing or is no number in its range. Nothing comes
+    /// either where the devices cannot have the threads in equal parts, or the turns the steps.
     pub fn read(
         threads: Option<String>,
         devices: Option<String>,

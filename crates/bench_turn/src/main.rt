@@ -1,8 +1,8 @@
 //! Threads that make steps on devices: what `bench/turn` times.
 //!
-//! The words are THREADS DEVICES STEPS IN_TURN. The threads share the devices in equal parts, and each makes STEPS steps on
-//! its device, IN_TURN of them in one turn. Then the program prints how many there were of each, and how many steps all the
-//! histories have.
+//! The words are THREADS DEVICES STEPS IN_TURN. The threads share the devices in equal parts, and each makes STEPS
+//! steps on its device, IN_TURN of them in one turn. Then the program prints how many there were of each, and how many
+//! steps all the histories have.
 #![tactic(auto)]
 
 mod load;

@@ -130,7 +130,7 @@ fn key_events(alloc: Global, count: u32) -> Option<Vec<Stamped>>
     Some(events)
 }
 
-/// The event of this number: the key is pressed and let go of in turn, with a report behind each.
+/// The event of this number: the key is pressed and let go of in turn, with a report after each.
 fn key_event(k: u32) -> Event {
     if k % 2 == 1 {
         return Event {

@@ -31,8 +31,8 @@ pub enum Command {
     },
     /// A source ends the inhibition.
     Uninhibit,
-    /// A source injects the events of a file, each at its own moment. `index` is the number of the stream in the record.
-    /// The file has records of 24 bytes, as a 64-bit machine has them.
+    /// A source injects the events of a file, each at its own moment. `index` is the number of the stream in the
+    /// record. The file has records of 24 bytes, as a 64-bit machine has them.
     Stream {
         file: FileName,
         index: u32,
@@ -75,8 +75,8 @@ pub enum Command {
         code: u16,
         info: AxisInfo,
     },
-    /// A tap reads at most `count` events, of 0 to `READ_MAX`. A joystick reads until it has handed out `count` records, of
-    /// any number, or nothing is there.
+    /// A tap reads at most `count` events, of 0 to `READ_MAX`. A joystick reads until it has handed out `count`
+    /// records, of any number, or nothing is there.
     Read {
         count: u32,
     },
@@ -108,7 +108,7 @@ pub enum Command {
     Skip {
         count: u32,
     },
-    /// A client is handed events until none is there.
+    /// A client is handed events until no event is there.
     Follow,
     /// A client's reader is to synchronise before the next event.
     Force,

@@ -1,14 +1,14 @@
-//! What a recorded device file says, as data: devices, the actors on them, what these do, and the streams of events that
-//! sources take from files.
+//! What a recorded device file says, as data: devices, the actors on them, what these do, and the streams of events
+//! that sources take from files.
 //!
-//! This crate is for whoever reads a record from text, plays one, or prints what came of it; they meet in [`Record`] and
-//! need to know nothing of one another. It stands on `inp_model` for events and clocks, and on `inp_caps` for
+//! This crate is for whoever reads a record from text, plays one, or prints its result. They meet in [`Record`] and
+//! need to know nothing of one another. It depends on `inp_model` for events and clocks, and on `inp_caps` for
 //! descriptions.
 //!
 //! Its contract: a [`Record`] is seen as its version and its four lists and keeps what `IsRecord` says
-//! (`specs/Record.antt`): its indices are in range, an owner's device is made by requests and has no other owner, each
-//! line's command is one that its actor's role has, each number is one that a line may have, there is one stream for
-//! each stream command, there are at most [`ACTORS_MAX`] actors, and the version is 1 or 2. So whoever plays a record
+//! (`specs/Record.antt`). The version is 1 or 2, its indices are in range, and there are at most [`ACTORS_MAX`] actors.
+//! An owner's device is made by requests and has no other owner. Each line's command is one that its actor's role has,
+//! each number is one that a line may have, and there is one stream for each stream command. So whoever plays a record
 //! has nothing to refuse. [`Name`], [`FileName`], `Command::is_of` and `Command::stream_index` have exact results, each
 //! an equation. Nothing here takes memory but the lists' `push`.
 #![tactic(auto)]

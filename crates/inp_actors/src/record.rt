@@ -20,10 +20,10 @@ pub type Stamps = Items<Stamped>;
 /// The streams of a record, one for each stream command, in line order.
 pub type Streams = Items<Stamps>;
 
-/// A recorded device file. It keeps that its version is 1 or 2, that its indices are in range, that an owner's device is
-/// made by requests and has no other owner, that each line's command is one that its actor's role has, that each number
-/// is one that a line may have, that there is one stream for each stream command, and that it has at most
-/// [`ACTORS_MAX`](crate::ACTORS_MAX) actors.
+/// A recorded device file. It keeps that its version is 1 or 2, that its indices are in range, and that it has at most
+/// [`ACTORS_MAX`](crate::ACTORS_MAX) actors. An owner's device is made by requests and has no other owner. Each line's
+/// command is one that its actor's role has, each number is one that a line may have, and there is one stream for each
+/// stream command.
 ///
 /// Contracts see it as its version and its four lists.
 #[derive(Drop)]

@@ -20,7 +20,7 @@ option name = record (new_rule name) { long = Some name; action = Some Set }
 abbrev pub file : Rule
 file = new_rule (codes "FILE")
 
--- no argument yet; the words begin behind the program's name, and `--help` is no option
+-- no argument yet; the words begin after the program's name, and `--help` is no option
 abbrev pub no_arguments : App
 no_arguments = on_top (λ s. record s { no_binary_name = true; disable_help_flag = true }) (new_app (codes "inputplay"))
 

@@ -11,7 +11,7 @@ AskForNothing words = requested words ≡ None
 abbrev pub Makes : Arguments → ℕ → ℕ → Type 0
 Makes words number count = requested words ≡ Some (Make number count)
 
--- a file is played; the flag stands before it or behind it
+-- a file is played; the flag stands before it or after it
 abbrev pub PlaysFiles : Type 0
 PlaysFiles =
     (requested (codes "f" ∷ []) ≡ Some (Play (codes "f") false None)) × (requested (codes "--history" ∷ codes "f" ∷ []) ≡ Some (Play (codes "f") true None))
@@ -26,7 +26,7 @@ PlaysOnThreads =
     × (requested (codes "--idle" ∷ codes "5" ∷ codes "f" ∷ []) ≡ Some (Play (codes "f") false None))
     × Makes (codes "--make" ∷ codes "7" ∷ codes "--idle" ∷ codes "5" ∷ []) 7 100
 
--- a lone `-` is a file, and so are the empty word and each word behind `--`
+-- a lone `-` is a file, and so are the empty word and each word after `--`
 abbrev pub PlaysOddWords : Type 0
 PlaysOddWords =
     (requested (codes "-" ∷ []) ≡ Some (Play (codes "-") false None)) × (requested (codes "" ∷ []) ≡ Some (Play [] false None))
@@ -40,7 +40,7 @@ MakesRecords =
     Makes (codes "--make" ∷ codes "7" ∷ []) 7 100 × Makes (codes "--make" ∷ codes "7" ∷ codes "--count" ∷ codes "20" ∷ []) 7 20
     × Makes (codes "--make=7" ∷ codes "--count=5" ∷ []) 7 5 × Makes (codes "--count" ∷ codes "5" ∷ codes "--make" ∷ codes "7" ∷ []) 7 5
 
--- a file is migrated; the flag stands before it or behind it
+-- a file is migrated; the flag stands before it or after it
 abbrev pub MigratesFiles : Type 0
 MigratesFiles =
     (requested (codes "--migrate" ∷ codes "f" ∷ []) ≡ Some (Migrate (codes "f"))) × (requested (codes "f" ∷ codes "--migrate" ∷ []) ≡ Some (Migrate (codes "f")))
@@ -80,7 +80,8 @@ RefusesCounts =
     AskForNothing (codes "--make" ∷ codes "7" ∷ codes "--count" ∷ codes "0" ∷ []) × AskForNothing (codes "--make" ∷ codes "7" ∷ codes "--count" ∷ codes "10001" ∷ [])
     × AskForNothing (codes "--make" ∷ codes "7" ∷ codes "--count=" ∷ [])
 
--- a file with `--make` or `--count`, a count without a number, the history or threads of a record that is made, and neither
+-- a file with `--make` or `--count`, a count without a number, the history or threads of a record that is
+-- made, and neither
 abbrev pub RefusesMixtures : Type 0
 RefusesMixtures =
     AskForNothing (codes "--make" ∷ codes "7" ∷ codes "x" ∷ []) × AskForNothing (codes "--count" ∷ codes "5" ∷ codes "x" ∷ [])

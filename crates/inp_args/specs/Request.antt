@@ -5,7 +5,7 @@ use Rattle.inp_args.specs.declared.request.Request.TheVariants.{Play, Migrate, M
 use Rattle.inp_args.specs.Number.{number_of}
 use Rattle.inp_args.specs.Command.{is_taken, is_given, found_text}
 
--- the words behind the program's name, each as its bytes
+-- the words after the program's name, each as its bytes
 abbrev pub Arguments : Type 0
 Arguments = List (List ℕ)
 

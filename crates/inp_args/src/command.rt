@@ -36,7 +36,7 @@ fn fault_of(error: &Error) -> WordsFault
     }
 }
 
-// The command. Its words begin behind the program's name.
+// The command. Its words begin after the program's name.
 fn command<'a>(alloc: Global) -> Result<Command<'a>, AllocError>
     ensures { IfOk result (λ made. app_of made ≡ command) }
 {

@@ -1,8 +1,8 @@
 //! The words on the program's command line.
 //!
 //! This crate is for the program's one call, which is handed its words. [`read_words`] reads them and gives a
-//! [`Request`]: a file to play or to migrate, or a record to make from numbers. It stands on the toolchain's `clap`, which
-//! says which words a command takes, and on `inp_actors` for names of files.
+//! [`Request`]: a file to play or to migrate, or a record to make from numbers. It depends on the toolchain's `clap`,
+//! which says which words a command takes, and on `inp_actors` for names of files.
 //!
 //! | Word | Is |
 //! |---|---|
@@ -15,8 +15,8 @@
 //! | `FILE` | the record in this file is played |
 //!
 //! There is FILE, without `--make`, `--count` and `--migrate`; or `--migrate` and FILE, and nothing else; or `--make`,
-//! without FILE, `--threads`, `--history` and `--migrate`. Numbers are as Rust reads a `u32`, and one that is not in its
-//! range is refused also where it is not used. None of the words has a short form, and there is no `--help`.
+//! without FILE, `--threads`, `--history` and `--migrate`. Numbers are as Rust reads a `u32`, and one that is not in
+//! its range is refused also where it is not used. None of the words has a short form, and there is no `--help`.
 //!
 //! Its contract: `specs/Command.antt` is the command in `clap`'s own definitions, and `requested` of
 //! `specs/Request.antt` says what words ask for. A request comes exactly where `requested` gives it, and `Usage`

@@ -23,7 +23,7 @@ pub(crate) fn number_of(text: &str) -> Option<u32>
     text.parse().ok()
 }
 
-// The count that a text is, or the default where there is none.
+// The count that a text is, or the default where no text is given.
 pub(crate) fn count_of(text: Option<&str>) -> Option<u32>
     ensures { result ≡ count_of (option_copied text.entry) }
 {
@@ -33,7 +33,7 @@ pub(crate) fn count_of(text: Option<&str>) -> Option<u32>
     }
 }
 
-// How many reads in a row may find nothing, by a text, or the default where there is none.
+// How many reads in a row may find nothing, by a text, or the default where no text is given.
 pub(crate) fn idle_number(text: Option<&str>) -> Option<u32>
     ensures { result ≡ idle_number (option_copied text.entry) }
 {

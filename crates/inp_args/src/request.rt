@@ -11,8 +11,8 @@ pub enum Request {
         file: FileName,
         /// Whether the history is wanted too.
         history: bool,
-        /// Where each job is to have a thread of its own: after how many reads in a row that find nothing a job stops, 1 to
-        /// 1,000,000,000.
+        /// Where each job is to have a thread of its own: after how many reads in a row that find nothing a job stops,
+        /// 1 to 1,000,000,000.
         idle: Option<u32>,
     },
     /// The record in a file is written in the newest version of its text, and not played.

@@ -11,8 +11,8 @@ use std::marker::Model;
 /// A list of 64·W truth values, for W up to 1,024, in W words of 64 bits.
 ///
 /// It stands in the place of the kernel's bitmaps of keys, switches and LEDs, and its layout is theirs on a 64-bit
-/// machine: value i is bit i % 64 of word i / 64. It is `Copy`, takes no memory and stores 8·W bytes. A contract
-/// sees the list of the values.
+/// machine. Value i is bit i % 64 of word i / 64. It is `Copy`, takes no memory and stores 8·W bytes. A contract sees
+/// the list of the values.
 #[derive(Debug, Clone, Copy)]
 pub struct Bits<const W: usize> {
     words: [u64; W],

@@ -19,15 +19,16 @@ abbrev pub read_status : Option Kept → ℕ → ℕ
 read_status (Some (Device device)) room = argument_status (nat_le room READ_MAX)
 read_status _ room = BAD_HANDLE
 
--- A kept device made a read of as many events as C has room for, with this answer. The events stand at the front of C's array.
+-- A kept device made a read of as many events as C has room for, with this answer. The events stand at the
+-- front of C's array.
 pub record TellsRead (old new : KeptDevice) (client : ℕ) (events new_events : List Taken) (reply : Reply) : Type 0 where
   pub given : Answer
   pub answered : IsDeviceAnswer old new (Read client (length events)) given
   pub replied : reply ≡ given.reply
   pub events_written : new_events ≡ written given.events events
 
--- A handle keeps a device before and after, which made the read. C is told its place, or the history's length, how many events
--- were read, and the cause where it was refused.
+-- A handle keeps a device before and after, which made the read. C is told its place, or the history's
+-- length, how many events were read, and the cause where it was refused.
 pub record IsToldRead (before after : Option Kept) (client : ℕ) (events new_events : List Taken) (at count why : ℕ) : Type 0 where
   pub old : KeptDevice
   pub new : KeptDevice

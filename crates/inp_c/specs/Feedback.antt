@@ -30,8 +30,8 @@ fed_full (Full at) = 1
 abbrev pub room_of_owner : List Taken → ℕ
 room_of_owner events = min (length events) FEEDBACK_MAX
 
--- A kept device answered a feedback call so, and its reader and joystick client stay. The events that it took stand at the front of C's array,
--- and what is behind them stays.
+-- A kept device answered a feedback call so, and its reader and joystick client stay. The events that it took
+-- stand at the front of C's array, and what is after them stays.
 pub record FeedsDevice (old new : KeptDevice) (events new_events : List Taken) (answer : Fed) : Type 0 where
   pub answered : answer ≡ fed old.udev.description old.udev.kept (room_of_owner events)
   pub kept : new.udev.kept ≡ kept_after_feedback old.udev.description old.udev.kept (room_of_owner events)

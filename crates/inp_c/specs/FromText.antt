@@ -1,4 +1,4 @@
--- Devices and records that are made of a text, and what C is told of a text that is none.
+-- Devices and records that are made of a text, and what C is told of a text that is no device and no record.
 use Rattle.std.specs.Prelude.{◌≡◌, ◌≢◌, ◌<◌, ◌≤◌, ℕ, false, List, [], length, replicate, slice_get, Option, Some, None, Result, Ok, Err}
 use Rattle.inp_edge.specs.declared.input.TheConstants.{INPUT_LIMIT}
 use Rattle.inp_actors.specs.Record.{RecordView}
@@ -20,7 +20,8 @@ pub record IsRefusedText (text : List ℕ) (line cause : ℕ) : Type 0 where
   pub line_is : line ≡ refused.line
   pub cause_is : cause ≡ cause_number refused.cause
 
--- What a status other than OK says of a text, and what is told of a line. The two numbers behind are those before.
+-- What a status other than OK says of a text, and what is told of a line. The two numbers after are those
+-- before.
 pub record IsNoText (text : List ℕ) (old_line old_cause status line cause : ℕ) : Type 0 where
   pub not_ok : status ≢ OK
   pub not_number : status ≢ BAD_ARGUMENT
@@ -36,9 +37,9 @@ abbrev pub IsTextRead : List ℕ → ℕ → ℕ → Result RecordView ℕ → �
 IsTextRead text old_line old_cause (Ok recorded) line cause = (meaning text ≡ Ok recorded) × (length text ≤ INPUT_LIMIT) × (line ≡ old_line) × (cause ≡ old_cause)
 IsTextRead text old_line old_cause (Err status) line cause = IsNoText text old_line old_cause status line cause
 
--- What a call that makes something of a text answers: that the handle is in use exactly where it keeps something, else that
--- the text is too long exactly where it is, and that it is refused only where it is. It tells a line and a cause where the
--- text is refused, else zeros.
+-- What a call that makes something of a text answers. The handle is in use exactly where it keeps something,
+-- else the text is too long exactly where it is. The call says refused only of a text that is to be refused.
+-- It tells a line and a cause where the text is refused, else zeros.
 pub record IsMakingAnswer (before : Option Kept) (text : List ℕ) (status line cause : ℕ) : Type 0 where
   pub in_use : status ≡ IN_USE → before ≢ None
   pub was_free : status ≢ IN_USE → before ≡ None
@@ -48,8 +49,8 @@ pub record IsMakingAnswer (before : Option Kept) (text : List ℕ) (status line 
   pub no_line : status ≢ REFUSED → line ≡ 0
   pub no_cause : status ≢ REFUSED → cause ≡ 0
 
--- what is kept is the device of this number of a record, with a history that is empty, and a reader and a joystick client that
--- have not started
+-- what is kept is the device of this number of a record, with a history that is empty, and a reader and a
+-- joystick client that have not started
 pub record IsDeviceKept (recorded : RecordView) (number : ℕ) (after : Option Kept) : Type 0 where
   pub text : DeviceText
   pub device : KeptDevice

@@ -28,7 +28,8 @@ inject_all_status _ events = BAD_HANDLE
 abbrev pub inject_cause : ℕ → ℕ
 inject_cause count = if nat_eq count 0 then refusal_number LogFull else 0
 
--- A kept device was injected these events, as many of them as its history has room for, and its reader and joystick client stay.
+-- A kept device was injected these events, as many of them as its history has room for, and its reader and
+-- joystick client stay.
 pub record IsKeptInjectAll (old new : KeptDevice) (events : List Stamped) (injected : Injected) : Type 0 where
   pub from : injected.from ≡ length (steps_in old.udev.kept)
   pub count : injected.count ≡ entered_count old.udev.description injected.from events
@@ -38,8 +39,8 @@ pub record IsKeptInjectAll (old new : KeptDevice) (events : List Stamped) (injec
   pub reader : new.reader ≡ old.reader
   pub joy : new.joy ≡ old.joy
 
--- A handle keeps a device before and after, which was injected the events that C gave. C is told the place of the first one
--- and how many were entered.
+-- A handle keeps a device before and after, which was injected the events that C gave. C is told the place of
+-- the first one and how many were entered.
 pub record IsToldInjectAll (before after : Option Kept) (events : List Stamped) (from count : ℕ) : Type 0 where
   pub old : KeptDevice
   pub new : KeptDevice

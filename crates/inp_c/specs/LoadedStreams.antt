@@ -22,7 +22,8 @@ abbrev pub LacksEvents : Option Kept → ℕ → List ℕ → Type 0
 LacksEvents (Some (Record kept)) line bytes = events_at kept.recorded line bytes ≡ None
 LacksEvents _ line bytes = ⊥
 
--- What the call that gives a line its bytes answers: each status comes only so. That memory ran out may be said anywhere.
+-- What the call that gives a line its bytes answers: each status comes only so. That memory ran out may be
+-- said anywhere.
 pub record IsLoadStatus (before : Option Kept) (line : ℕ) (bytes : List ℕ) (status : ℕ) : Type 0 where
   pub no_record : status ≡ BAD_HANDLE → kept_record before ≡ None
   pub record_there : status ≢ BAD_HANDLE → kept_record before ≢ None

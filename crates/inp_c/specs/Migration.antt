@@ -13,7 +13,8 @@ use Rattle.inp_c.specs.Texts.{IsTextKept}
 abbrev pub in_newest : RecordView → RecordView
 in_newest r = record r { version = VERSION_MAX }
 
--- what a call that migrates a record answers: BAD_HANDLE exactly where there is none, else OK, or that memory ran out
+-- what a call that migrates a record answers: BAD_HANDLE exactly where the handle keeps no record, else OK,
+-- or that memory ran out
 pub record IsMigrateStatus (before : Option Kept) (status : ℕ) : Type 0 where
   pub one_of : (status ≡ OK) ⊎ ((status ≡ BAD_HANDLE) ⊎ (status ≡ NO_MEMORY))
   pub no_record : status ≡ BAD_HANDLE → kept_record before ≡ None

@@ -5,7 +5,7 @@ use Rattle.inp_model.specs.Reply.{written}
 use Rattle.inp_codes.specs.CodeNames.{name_of, code_of}
 use Rattle.inp_c.specs.Status.{argument_status}
 
--- no code has the name: it is no text, or the table has none
+-- no code has the name: it is no text, or the table has no such name
 abbrev pub HasNoCode : List ℕ → Type 0
 HasNoCode name = (¬ IsUtf8 name) ⊎ (code_of name ≡ None)
 

@@ -65,7 +65,7 @@ next_number NoDevice = 5
 next_number Closed = 6
 next_number (Full at) = 7
 
--- the event of an answer; where the answer has none it is the one that C had
+-- the event of an answer; where the answer has no event it is the one that C had
 abbrev pub next_event : Next → Taken → Taken
 next_event (Success event) had = event
 next_event (Dropped event) had = event

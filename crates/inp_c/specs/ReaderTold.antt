@@ -13,11 +13,11 @@ use Rattle.inp_c.specs.declared.kept_device.KeptDevice.{KeptDevice}
 use Rattle.inp_c.specs.declared.status.TheConstants.{BAD_HANDLE}
 use Rattle.inp_c.specs.Status.{argument_status}
 
--- 1 where the flag of a code is on, else 0; a code above the greatest one has none
+-- 1 where the flag of a code is on, else 0; a code above the greatest one has no flag
 abbrev pub flag_value : List Bool → ℕ → ℕ → Option ℤ
 flag_value flags greatest code = if nat_le code greatest then Some (if is_on_at flags code then pos 1 else pos 0) else None
 
--- the value of an axis; one whose values belong to slots has none
+-- the value of an axis; one whose values belong to slots has no value of its own
 abbrev pub axis_value_in : List ℤ → ℕ → Option ℤ
 axis_value_in axes code = if nat_le code ABS_MAX && not (is_multi_touch_code code) then Some (slice_index_or axes code (pos 0)) else None
 

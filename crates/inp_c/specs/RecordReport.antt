@@ -11,7 +11,8 @@ use Rattle.inp_c.specs.declared.status.TheConstants.{OK, NO_MEMORY, BAD_HANDLE}
 use Rattle.inp_c.specs.LoadedStreams.{kept_record}
 use Rattle.inp_c.specs.Texts.{IsTextKept}
 
--- what a call that plays a record answers: BAD_HANDLE exactly where there is none, else OK, or that memory ran out
+-- what a call that plays a record answers: BAD_HANDLE exactly where the handle keeps no record, else OK, or
+-- that memory ran out
 pub record IsPlayStatus (before : Option Kept) (status : ℕ) : Type 0 where
   pub one_of : (status ≡ OK) ⊎ ((status ≡ BAD_HANDLE) ⊎ (status ≡ NO_MEMORY))
   pub no_record : status ≡ BAD_HANDLE → kept_record before ≡ None
@@ -21,8 +22,8 @@ pub record IsPlayStatus (before : Option Kept) (status : ℕ) : Type 0 where
 abbrev pub has_history : ℕ → Bool
 has_history number = not (nat_eq number 0)
 
--- The text is the whole report of what comes of the record where its lines are done in file order, on one thread. Of that
--- holds all that is promised of runs.
+-- The text is the whole report of the result of the record where its lines are done in file order, on one
+-- thread. Of that holds all that is promised of runs.
 pub record IsReport (recorded : RecordView) (history : Bool) (text : List ℕ) : Type 0 where
   pub played : Played
   pub in_order : IsPlay recorded played

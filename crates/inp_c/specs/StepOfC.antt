@@ -48,6 +48,6 @@ step_numbered c =
     else if nat_eq c.step 22 then Some End
     else None
 
--- the step, unless its moment is too late, or a number is none that a step has
+-- the step, unless its moment is too late, or a number is not one that a step has
 abbrev pub step_of_c : CStep → Option Step
 step_of_c c = if nat_lt MOMENT_MAX c.moment then None else step_numbered c

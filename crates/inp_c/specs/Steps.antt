@@ -23,7 +23,8 @@ abbrev pub read_count : Reply → ℕ
 read_count (Took at count) = count
 read_count _ = 0
 
--- A kept device made the step with this answer, which is the one-thread device's, and its reader and joystick client stay.
+-- A kept device made the step with this answer, which is the one-thread device's, and its reader and joystick
+-- client stay.
 pub record IsDeviceAnswer (old new : KeptDevice) (x : Step) (given : Answer) : Type 0 where
   pub exact : IsAnswer old.udev.description (steps_in old.udev.kept) x given
   pub kept : new.udev.kept ≡ kept_after_step given.reply x old.udev.kept
@@ -32,7 +33,8 @@ pub record IsDeviceAnswer (old new : KeptDevice) (x : Step) (given : Answer) : T
   pub reader : new.reader ≡ old.reader
   pub joy : new.joy ≡ old.joy
 
--- The same, with C's arrays of events and of values, to whose fronts the answer is written; what is behind it stays.
+-- The same, with C's arrays of events and of values, to whose fronts the answer is written; what is after it
+-- stays.
 pub record IsKeptStep (old new : KeptDevice) (x : Step) (reply : Reply) (events new_events : List Taken) (cells new_cells : List ℤ) : Type 0 where
   pub given : Answer
   pub answered : IsDeviceAnswer old new x given
@@ -58,8 +60,8 @@ pub record IsToldStep (before after : Option Kept) (c : CStep) (reply : CReply) 
   pub reads : step_of_c c ≡ Some step
   pub tells : TellsStep old new step reply events new_events cells new_cells
 
--- A handle keeps a device before and after, which was injected this event. C is told its place, or the history's length and
--- the cause.
+-- A handle keeps a device before and after, which was injected this event. C is told its place, or the
+-- history's length and the cause.
 pub record IsToldInject (before after : Option Kept) (event : Event) (now at why : ℕ) : Type 0 where
   pub old : KeptDevice
   pub new : KeptDevice

@@ -11,7 +11,7 @@ use Rattle.inp_c.specs.declared.kept_record.KeptRecord.{KeptRecord}
 use Rattle.inp_c.specs.declared.status.TheConstants.{BAD_HANDLE}
 use Rattle.inp_c.specs.Status.{argument_status}
 
--- the name of the file that a command's stream comes of
+-- the name of the file from which a command's stream comes
 abbrev pub file_of_stream : Command → Option (List ℕ)
 file_of_stream (Stream file index) = Some file
 file_of_stream (Stream16 file index) = Some file

@@ -35,7 +35,7 @@ pub struct CStep {
 
 const _: () = prove!(size_of::<CStep>() == 64);
 
-/// The step that C gave, unless a number is none that a step has.
+/// The step that C gave, unless a number is not one that a step has.
 pub(crate) fn step_of(c: &CStep) -> Option<Step>
     ensures step { result ≡ step_of_c c.now }
     ensures moment { IfSome result (λ x. moment_of x ≤ MOMENT_MAX) }

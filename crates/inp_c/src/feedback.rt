@@ -15,8 +15,8 @@ use inp_model::{Event, Taken};
 use inp_uinput::{FEEDBACK_MAX, Fed};
 use std::alloc::Global;
 
-/// The owner's call: the first of the events that wait for it stand at the front of C's array, as many as fit. It tells the
-/// history's length, how many they are, and whether the calls are as many as may be kept.
+/// The owner's call: the first of the events that wait for it stand at the front of C's array, as many as fit. It tells
+/// the history's length, how many they are, and whether the calls are as many as may be kept.
 #[unsafe(no_mangle)]
 pub extern "C" fn inputplay_feedback(
     alloc: Global,

@@ -10,8 +10,8 @@ use inp_actors::READ_MAX;
 use inp_model::{MOMENT_MAX, Stamped};
 use std::alloc::Global;
 
-/// Injects events, each at its own moment, as many of them as the history has room for. It tells the place of the first one,
-/// and how many were entered.
+/// Injects events, each at its own moment, as many of them as the history has room for. It tells the place of the first
+/// one, and how many were entered.
 #[unsafe(no_mangle)]
 pub extern "C" fn inputplay_inject_all(
     alloc: Global,

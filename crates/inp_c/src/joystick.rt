@@ -12,8 +12,8 @@ use crate::status::{BAD_HANDLE, OK};
 use inp_joy::JoyRead;
 use std::alloc::Global;
 
-/// Opens a client of the device for its joystick client and asks for the whole state. It tells the client, and why a call was
-/// refused, or 0.
+/// Opens a client of the device for its joystick client and asks for the whole state. It tells the client, and why a
+/// call was refused, or 0.
 #[unsafe(no_mangle)]
 pub extern "C" fn inputplay_joy_start(
     alloc: Global,

@@ -68,7 +68,7 @@ fn view_value(view: &View, kind: u16, code: u16) -> Option<i32>
     }
 }
 
-/// 1 where the flag of a code is on, else 0. A code above the greatest one has none.
+/// 1 where the flag of a code is on, else 0. A code above the greatest one has no flag.
 fn flag_value<const W: usize>(flags: &Bits<W>, greatest: u16, code: u16) -> Option<i32>
     requires { greatest < 64 * W }
     ensures { result ≡ flag_value flags.now greatest code }
@@ -80,7 +80,7 @@ fn flag_value<const W: usize>(flags: &Bits<W>, greatest: u16, code: u16) -> Opti
     Some(if on { 1 } else { 0 })
 }
 
-/// The value of an axis. One whose values belong to slots has none.
+/// The value of an axis. One whose values belong to slots has no value of its own.
 fn axis_value(axes: &[i32; 64], code: u16) -> Option<i32>
     ensures { result ≡ axis_value_in axes.now code }
 {

@@ -12,8 +12,8 @@ use inp_record::Record;
 use inp_report::whole_report;
 use std::alloc::Global;
 
-/// Plays a record on one thread, and keeps its report as its text: with the devices' histories, unless `history` is 0. The
-/// record stays.
+/// Plays a record on one thread, and keeps its report as its text: with the devices' histories, unless `history` is 0.
+/// The record stays.
 #[unsafe(no_mangle)]
 pub extern "C" fn inputplay_record_play(
     alloc: Global,
@@ -56,7 +56,7 @@ fn play_in(alloc: Global, kept: &mut Kept, history: u32, len: &mut usize) -> u32
     }
 }
 
-/// The report of what comes of a record, which is played for it.
+/// The report of a record's result. The record is played for it.
 fn report_of(alloc: Global, recorded: &Record, history: bool) -> Result<Vec<u8>, NoMemory>
     ensures { IfOk result (λ text. IsReport recorded.now history text.items) }
 {

@@ -11,7 +11,7 @@ use inp_edge::INPUT_LIMIT;
 use inp_record::{ParseFault, Record, parse};
 use std::alloc::Global;
 
-/// The record that a text is, or the status that says why it is none. The line and the cause of a refused text are
+/// The record that a text is, or the status that says why it is no record. The line and the cause of a refused text are
 /// told; both are 0 at first.
 pub(crate) fn read_text(
     alloc: Global,

@@ -9,8 +9,8 @@ use crate::kept::Kept;
 use crate::status::{BAD_ARGUMENT, BAD_HANDLE, OK};
 use std::alloc::Global;
 
-/// Copies the text that was made of a record last, from a place on, as many bytes as fit, and tells how many there are from
-/// there on.
+/// Copies the text that was made of a record last, from a place on, as many bytes as fit, and tells how many there are
+/// from there on.
 #[unsafe(no_mangle)]
 pub extern "C" fn inputplay_record_text(
     alloc: Global,

@@ -150,7 +150,7 @@ filtered =
     let third : Description = with_filter (with_axis (with_kind second EV_ABS) 0 no_info) Norepeat in
     with_filter (with_filter third (Eat EV_REL 8)) Norepeat
 
--- behind the axes, in the order in which they were added
+-- after the axes, in the order in which they were added
 abbrev pub WritesFiltersInOrder : Type 0
 WritesFiltersInOrder =
     lines_text (description_lines filtered)

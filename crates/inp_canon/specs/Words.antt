@@ -5,7 +5,7 @@ use Rattle.std.specs.Prelude.{ℕ, List, [], ◌∷◌, ◌++◌, flat_map}
 abbrev pub Words : Type 0
 Words = List (List ℕ)
 
--- words that follow the first one, each behind one space, and a line feed
+-- words that follow the first one, each after one space, and a line feed
 abbrev pub further_text : Words → List ℕ
 further_text [] = 10 ∷ []
 further_text (w ∷ ws) = 32 ∷ (w ++ further_text ws)

@@ -9,7 +9,7 @@ use inp_model::NoMemory;
 use inp_texts::{BitsText, ClockText, CodeText, KindText};
 use std::fmt::Write;
 
-// Adds a command and its words behind the name of its actor, and ends the line.
+// Adds a command and its words after the name of its actor, and ends the line.
 #[tactic(auto, unfolding(crate::specs::Command::command_words))]
 pub(crate) fn push_command(text: &mut String, command: &Command) -> Result<(), NoMemory>
     ensures pushed { OnOk result

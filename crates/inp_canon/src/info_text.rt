@@ -4,7 +4,7 @@ use inp_model::AxisInfo;
 use std::fmt;
 use std::fmt::Write;
 
-/// The data of an axis, behind the axis, to the end of the line.
+/// The data of an axis, after the axis, to the end of the line.
 #[derive(Drop)]
 pub struct InfoText(pub AxisInfo);
 

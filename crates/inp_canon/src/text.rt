@@ -18,7 +18,7 @@ use std::fmt::Write;
 ///
 /// # Errors
 ///
-/// `NoMemory` where there is none for the text.
+/// `NoMemory` where memory is short for the text.
 pub fn print(alloc: Global, rec: &Record) -> Result<Vec<u8>, NoMemory>
     ensures text { IfOk result (λ text. text.items ≡ record_text rec.now) }
 {

@@ -38,7 +38,7 @@ with_code d kind code =
 abbrev pub with_axis : Description → ℕ → AxisInfo → Description
 with_axis d code i = record d { axes = slice_set d.axes code true; infos = slice_set d.infos code i }
 
--- one more filter, behind the others
+-- one more filter, after the others
 abbrev pub with_filter : Description → Filter → Description
 with_filter d filter = record d { filters = d.filters ++ filter ∷ [] }
 

@@ -1,4 +1,4 @@
--- What becomes of an event.
+-- What is done with an event.
 use Rattle.std.specs.Prelude.{ℕ, ◌+◌, Bool, ◌&&◌, if◌then◌else◌, List, is_some}
 use Rattle.inp_model.specs.declared.event.Event.{Event}
 use Rattle.inp_model.specs.Description.{Description}
@@ -16,7 +16,7 @@ abbrev pub flags : Bool → Bool → Bool → Bool → ℕ
 flags to_handlers to_device slot flush =
     (if to_handlers then 1 else 0) + (if to_device then 2 else 0) + (if slot then 4 else 0) + (if flush then 8 else 0)
 
--- what becomes of an event after the items r
+-- what is done with an event after the items r
 abbrev pub flags_after : Description → List RawItem → Event → ℕ
 flags_after d r e =
     let passed = is_some (passes_as d r e) in

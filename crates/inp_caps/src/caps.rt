@@ -237,7 +237,7 @@ impl Caps {
         self.filter_count
     }
 
-    // Adds a filter behind the others, of which there are fewer than eight.
+    // Adds a filter after the others, of which there are fewer than eight.
     pub(crate) fn add_filter(&mut self, filter: Filter)
         requires room { length self.old.filters < FILTERS_MAX }
         requires good { is_filter filter ≡ true }

@@ -42,8 +42,8 @@ impl CapsBuilder {
 
     /// Adds a type. `EV_REP` comes with both of its codes, any other type with none.
     ///
-    /// `BadCode` comes where it is none of `EV_SYN`, `EV_KEY`, `EV_REL`, `EV_ABS`, `EV_MSC`, `EV_SW`, `EV_LED`, `EV_SND`
-    /// and `EV_REP`.
+    /// `BadCode` comes where it is none of `EV_SYN`, `EV_KEY`, `EV_REL`, `EV_ABS`, `EV_MSC`, `EV_SW`, `EV_LED`,
+    /// `EV_SND` and `EV_REP`.
     pub fn kind(&mut self, kind: u16) -> Result<(), CapsRefused>
         ensures answer { result ≡ (if is_kind kind then Ok tt else Err CapsRefused.BadCode) }
         ensures ok { OnOk result (self.new ≡ with_kind self.old kind) }
@@ -75,8 +75,8 @@ impl CapsBuilder {
 
     /// Adds an axis and `EV_ABS`, or describes the axis anew.
     ///
-    /// `BadCode` comes where the code is above `ABS_MAX`. Else `BadAxis` comes where the fuzz is not in 0 to 2^30, where
-    /// a multi-touch axis has a value other than 0, and where `ABS_MT_SLOT` or `ABS_MT_TRACKING_ID` has a fuzz.
+    /// `BadCode` comes where the code is above `ABS_MAX`. Else `BadAxis` comes where the fuzz is not in 0 to 2^30,
+    /// where a multi-touch axis has a value other than 0, and where `ABS_MT_SLOT` or `ABS_MT_TRACKING_ID` has a fuzz.
     pub fn axis(&mut self, code: u16, info: AxisInfo) -> Result<(), CapsRefused>
         ensures answer { result ≡ (if nat_lt ABS_MAX code then Err CapsRefused.BadCode
             else if is_bad_axis code info then Err CapsRefused.BadAxis else Ok tt) }
@@ -96,8 +96,8 @@ impl CapsBuilder {
 
     /// Adds a filter that eats every event of the type and code.
     ///
-    /// `BadCode` comes where the type is `EV_SYN` or no type of a device, where the code is above the type's greatest, and
-    /// at code 0 of `EV_KEY`; the device need not support the code. Else `BadFilter` comes at a ninth filter.
+    /// `BadCode` comes where the type is `EV_SYN` or no type of a device, where the code is above the type's greatest,
+    /// and at code 0 of `EV_KEY`. The device need not support the code. Else `BadFilter` comes at a ninth filter.
     pub fn eat(&mut self, kind: u16, code: u16) -> Result<(), CapsRefused>
         ensures answer { result ≡ filter_answer self.old (Eat kind code) }
         ensures ok { OnOk result (self.new ≡ with_filter self.old (Eat kind code)) }
@@ -117,8 +117,8 @@ impl CapsBuilder {
 
     /// Adds a filter that eats the holds of the second key that start while the first one is down.
     ///
-    /// `BadCode` comes where one of them is no key from 1 to `KEY_MAX`, and where they are the same; the device need not
-    /// support them. Else `BadFilter` comes at a ninth filter.
+    /// `BadCode` comes where one of them is no key from 1 to `KEY_MAX`, and where they are the same. The device need
+    /// not support them. Else `BadFilter` comes at a ninth filter.
     pub fn chord(&mut self, first: u16, second: u16) -> Result<(), CapsRefused>
         ensures answer { result ≡ filter_answer self.old (Chord first second) }
         ensures ok { OnOk result (self.new ≡ with_filter self.old (Chord first second)) }
@@ -141,7 +141,7 @@ impl CapsBuilder {
         self.add(Filter::Bounce { code, micros })
     }
 
-    // Adds a filter behind the others.
+    // Adds a filter after the others.
     fn add(&mut self, filter: Filter) -> Result<(), CapsRefused>
         ensures answer { result ≡ filter_answer self.old filter }
         ensures ok { OnOk result (self.new ≡ with_filter self.old filter) }

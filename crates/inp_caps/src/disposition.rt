@@ -1,9 +1,9 @@
-//! What becomes of an event.
+//! What is done with an event.
 ghost use Rattle.std.specs.Prelude.{⊤, [], ◌∷◌, codes};
 
 use bitflags::{Flag, Flags, bitflag_items};
 
-/// What becomes of an event, as flags (the kernel's `input_get_disposition`). With no flag set it is ignored.
+/// What is done with an event, as flags (the kernel's `input_get_disposition`). With no flag set it is ignored.
 #[derive(Clone, Copy, PartialEq, Eq, Debug)]
 pub struct Disposition(u8);
 

@@ -5,7 +5,7 @@ ghost use Rattle.inp_model.specs.Defuzz.{defuzz, is_within};
 /// The value that an axis takes in place of `value`, where it has the value `old` and this fuzz (the kernel's
 /// `input_defuzz_abs_event`).
 ///
-/// Within half the fuzz of `old` it stays, within the fuzz it goes a quarter of the way to `value`, within twice the
+/// Within half the fuzz of `old` it stays. Within the fuzz it goes a quarter of the way to `value`, within twice the
 /// fuzz half of the way, and else the whole way. The ends are left out, and division truncates toward zero. Sums are of
 /// 64 bits (this project's choice: the kernel's wrap at 32 bits), so nothing overflows for any three numbers.
 pub fn defuzz(value: i32, old: i32, fuzz: i32) -> i32

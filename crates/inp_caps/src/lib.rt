@@ -2,11 +2,11 @@
 //!
 //! This crate is for whoever makes a device or keeps its state. [`CapsBuilder`] gathers a description call by call and
 //! refuses what no device has; [`Caps`] is the description, plain data that never changes. [`defuzz`] says how far an
-//! axis moves, and [`Disposition`] what becomes of an event. The crate stands on `inp_model`, on `inp_bits` for the
+//! axis moves, and [`Disposition`] what is done with an event. The crate depends on `inp_model`, on `inp_bits` for the
 //! lists of codes, and on `bitflags`.
 //!
 //! Its contract: a [`Caps`] is seen as a `Description` of `inp_model`, which keeps the ranges of `IsDescription`. Each
-//! call of the builder is refused exactly where its documentation says, and changes nothing then; each accepted call
+//! call of the builder is refused exactly where its documentation says, and changes nothing then. Each accepted call
 //! changes exactly what it names (`specs/Builder.antt`). Nothing here takes memory.
 #![tactic(auto)]
 

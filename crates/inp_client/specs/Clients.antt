@@ -6,8 +6,8 @@ use Rattle.inp_ring.specs.declared.cell.Cell.{Cell}
 use Rattle.inp_ring.specs.Ring.{times}
 use Rattle.inp_client.specs.Client.{ClientView}
 
--- The open clients, each with its queue of cells; and for each of them, in that order, the numbers of the cells that its
--- ring holds.
+-- The open clients, each with its queue of cells; and for each of them, in that order, the numbers of the
+-- cells that its ring holds.
 pub record ClientsView : Type 0 where
   pub list : List (ClientView Cell)
   pub rings : List (List ℕ)
@@ -46,7 +46,7 @@ module _ {E : Type 0} where
   abbrev pub without_client : ℕ → List (ClientView E) → List (ClientView E)
   without_client number clients = filter (λ c. not (has_number number c)) clients
 
-  -- one client is opened: it stands behind those with lower numbers, and the others stay
+  -- one client is opened: it stands after those with lower numbers, and the others stay
   abbrev pub with_client : ClientView E → List (ClientView E) → List (ClientView E)
   with_client new [] = new ∷ []
   with_client new (c ∷ clients) = if nat_lt c.number new.number then c ∷ with_client new clients else new ∷ c ∷ clients

@@ -7,7 +7,7 @@ use Rattle.inp_client.specs.declared.location.Location.{Location}
 use Rattle.inp_client.specs.Client.{new_client}
 use Rattle.inp_client.specs.Member.{Member}
 
--- the client under a key, and any client where there is none
+-- the client under a key, and any client where no client has the key
 abbrev pub client_at : Slab Member → ℕ → Member
 client_at slab key = unwrap_or (get slab key) (new_client 0 0)
 

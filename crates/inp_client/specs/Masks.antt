@@ -5,8 +5,8 @@ use Rattle.inp_model.specs.declared.event.TheConstants.{EV_SYN, EV_KEY, EV_REL, 
 use Rattle.inp_model.specs.declared.event.Event.{Event}
 use Rattle.inp_bits.specs.Bits.{word_bits}
 
--- The masks of a client: one of the types, and one of the codes of each of seven types. At k each says whether the bit k
--- is set. That of the keys has 768 bits, and each other one 64.
+-- The masks of a client: one of the types, and one of the codes of each of seven types. At k each says
+-- whether the bit k is set. That of the keys has 768 bits, and each other one 64.
 pub record MaskView : Type 0 where
   pub types : List Bool
   pub keys : List Bool
@@ -43,7 +43,7 @@ full_masks = record {
   sounds = replicate 64 true;
 }
 
--- the mask that goes by a type, none where the type has none
+-- the mask that goes by a type, if the type has one
 abbrev pub mask_of : MaskView → ℕ → List Bool
 mask_of m kind =
     if nat_eq kind EV_SYN then m.types

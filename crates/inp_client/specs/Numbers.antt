@@ -50,7 +50,7 @@ pub record IsPutBehind (given : List ℕ) (is_lost : Bool) (old new : List ℕ) 
   pub front : List ℕ
   pub kept : is_lost ≡ false → front ≡ old
   pub lost : is_lost ≡ true → length front ≡ 1
-  -- and behind them some of the frame's
+  -- and after them some of the frame's
   pub behind : List ℕ
   pub theirs : (n : ℕ) → times n behind ≤ times n given
   pub numbers : new ≡ front ++ behind

@@ -1,6 +1,6 @@
--- A frame is offered event by event: a cell for each, whose number comes into one ring after the other. A short frame
--- that each of its clients admits whole, with room for it, may go in one run (`FitsInOneRun`): a cell for each event
--- first, and then all their numbers into each ring.
+-- A frame is offered event by event: a cell for each, whose number comes into one ring after the other. A
+-- short frame that each of its clients admits whole, with room for it, may go in one run (`FitsInOneRun`).
+-- First comes a cell for each event, and then all their numbers enter each ring.
 use Rattle.std.specs.Prelude.{◌≡◌, ◌≤◌, ◌<◌, ◌+◌, ◌&&◌, ◌++◌, ℕ, Bool, true, not, if◌then◌else◌, nat_eq, nat_lt, List, [], ◌∷◌, length, map, count_by, get_or, All, Option, None}
 use Rattle.slab.specs.Slab.{Slab}
 use Rattle.inp_ring.specs.declared.cell.Cell.{Cell}
@@ -30,7 +30,7 @@ pub record AreShared (locations : List Location) (slab : Slab Member) (store : S
   pub stored : AreStored store (clients_in locations slab) (λ n. 0)
   pub none_idle : (n : ℕ) → IsIdle store n → ⊥
 
--- No report of a frame follows a report; where one is behind the frame, none stands first.
+-- No report of a frame follows a report; where one is after the frame, none stands first.
 abbrev pub are_reports_apart : Bool → List Event → Bool
 are_reports_apart behind [] = true
 are_reports_apart behind (e ∷ frame) = not (is_report e && behind) && are_reports_apart (is_report e) frame
@@ -53,7 +53,7 @@ pub record FitsInOneRun (locations : List Location) (slab : Slab Member) (store 
   pub takers_are : takers ≡ takers_in f.holder (clients_in locations slab)
   pub all : All (TakesFrame f.holder (length f.events.now)) (clients_in locations slab)
 
--- cells were added, each with so many holders, under numbers that had none
+-- cells were added, each with so many holders, under numbers that had no cell
 pub record AreAdded (old new : StoreView) (cells : List Cell) (count : ℕ) (numbers : List ℕ) : Type 0 where
   pub long : length numbers ≡ length cells
   pub fresh : (n : ℕ) → 1 ≤ times n numbers → held_under old n ≡ None
@@ -83,8 +83,8 @@ seen_at s locations slab i = client_in s (member_at locations slab i)
 abbrev pub ring_at : List Location → Slab Member → ℕ → List ℕ
 ring_at locations slab i = (member_at locations slab i).ring.events
 
--- The number of a cell was put into the rings of the first `count` clients, so far as they take it. `taken` of them have it,
--- and it is owed as many holders. The others are as before.
+-- The number of a cell was put into the rings of the first `count` clients, so far as they take it. `taken`
+-- of them have it, and it is owed as many holders. The others are as before.
 pub record IsEnteredTo (count : ℕ) (cell : Cell) (holder : Option ℕ) (number : ℕ) (locations : List Location) (before slab : Slab Member) (first store : StoreView) (taken : ℕ) : Type 0 where
   pub located : AreLocated locations slab
   pub stored : AreStored store (clients_in locations slab) (owing number taken)

@@ -30,9 +30,9 @@ use std::marker::Model;
 
 /// The open clients of a device, at most 64, each under its number (evdev's clients).
 ///
-/// They ascend by number, so that one is found by binary search. Each event of a frame that a client's queue holds is kept
-/// once, as a cell that all of them share. A contract sees the list of the open clients, ascending by number, each with its
-/// queue of cells, and the numbers of the cells.
+/// They ascend by number, so that one is found by binary search. Each event of a frame that a client's queue holds is
+/// kept once, as a cell that all of them share. A contract sees the list of the open clients, ascending by number, each
+/// with its queue of cells, and the numbers of the cells.
 #[derive(Drop)]
 pub struct Clients {
     alloc: Global,
@@ -71,8 +71,9 @@ impl Clients {
 
     /// Opens a client, with an empty ring of 64 to 4,096 places, all bits of its masks set, on the realtime clock.
     ///
-    /// The store grows first, by one cell more than the ring has places, so that no other call takes memory. No open client
-    /// may have the number. It is refused where 64 are open, and may be refused for want of memory; nothing changes then.
+    /// The store grows first, by one cell more than the ring has places, so that no other call takes memory. No open
+    /// client may have the number. It is refused where 64 are open, and may be refused for want of memory; nothing
+    /// changes then.
     pub fn open(&mut self, number: u32, ring: u32) -> Result<(), OpenRefused>
         requires ring { (64 ≤ ring) × (ring ≤ 4096) }
         requires unused { has_client number self.old.list ≡ false }
@@ -147,8 +148,8 @@ impl Clients {
 
     /// How many events are kept: each event of a frame that at least one queue holds, once, and each SYN_DROPPED.
     ///
-    /// It is as many as there are different numbers in the rings. So it is at least the length of the longest queue, and at
-    /// least how many steps the queued events came from. It is at most the length of all queues together.
+    /// It is as many as there are different numbers in the rings. So it is at least the length of the longest queue,
+    /// and at least how many steps the queued events came from. It is at most the length of all queues together.
     pub fn stored(&self) -> u32
         ensures stored { result ≡ stored_of self.now }
         ensures places { length (held_places self.now.list) ≤ result }
@@ -251,8 +252,8 @@ impl Clients {
     }
 
     /// Offers a frame to each open client, or to the holder of the grab alone, where there is one. A client that was
-    /// revoked is offered none. Each client gets the events that its masks admit; each of them is kept once, whoever gets
-    /// it. A client's offset is added when it reads.
+    /// revoked is offered none. Each client gets the events that its masks admit; each of them is kept once, whoever
+    /// gets it. A client's offset is added when it reads.
     ///
     /// The frame ended at a moment in microseconds, and at the place of its step in the history. It takes no memory.
     pub fn offer(&mut self, frame: &[Event], now: u64, place: u32, holder: Option<u32>)

@@ -70,7 +70,7 @@ fn takers_of_all(
     Some(takers)
 }
 
-/// Whether no SYN_REPORT of a frame stands first or behind another one.
+/// Whether no SYN_REPORT of a frame stands first or after another one.
 fn are_reports_apart(frame: &[Event]) -> bool
     ensures apart { result ≡ are_reports_apart true frame.now }
 {

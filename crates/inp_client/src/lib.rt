@@ -1,33 +1,34 @@
 //! The open clients of a device: their rings, masks and clocks, and the events that they share.
 //!
-//! This crate is for whoever makes a device. [`Clients`] keeps up to 64 open clients, each with a ring
-//! (`inp_ring`), the masks that say which events it admits, the clock by which it reads its events, and whether it was
-//! revoked. It offers a frame to each client, or to the holder of the grab alone, and hands each client what its ring
-//! has. Each event of a frame that some queue holds is kept once, in a store that all clients share. It stands on
-//! `inp_model`, `inp_bits`, `inp_caps` and `inp_ring`, and on the toolchain's `slab`, in which the clients lie.
+//! This crate is for whoever makes a device. [`Clients`] keeps up to 64 open clients. Each has a ring (`inp_ring`), the
+//! masks that say which events it admits, the clock by which it reads its events, and whether it was revoked. It offers
+//! a frame to each client, or to the holder of the grab alone, and hands each client what its ring has. Each event of a
+//! frame that some queue holds is kept once, in a store that all clients share. It depends on `inp_model`, `inp_bits`,
+//! `inp_caps` and `inp_ring`, and on the toolchain's `slab`, in which the clients lie.
 //!
-//! Its contract: a [`Clients`] is seen as the list of its open clients, ascending by number, each a `ClientView` of
-//! `specs/Client.antt` with a queue of cells, and the numbers of the cells that each ring holds. Each call changes the
-//! named client alone, by the definition there that is named after the call (`after_flush`, `after_mask`), and gives
-//! the exact result. What clients read of their cells is said in `specs/Read.antt`, and `proofs/OnClock.antt` has a
-//! lemma for each call.
+//! Its contract: a [`Clients`] is seen as the list of its open clients, ascending by number, and the numbers of the
+//! cells that each ring holds. Each client is a `ClientView` of `specs/Client.antt` with a queue of cells. Each call
+//! changes the named client alone, by the definition there that is named after the call (`after_flush`, `after_mask`),
+//! and gives the exact result. What clients read of their cells is said in `specs/Read.antt`, and `proofs/OnClock.antt`
+//! has a lemma for each call.
 //!
-//! That each event is kept once is said of the numbers (`specs/Numbers.antt`). [`Clients::stored`] is how many different
-//! ones there are. By [`Clients::offer`] each event of a frame has one number, whoever takes it (`IsStoredOnce`): a
-//! client that loses nothing has its old numbers, and behind them some of the frame's; one that loses its queue has
-//! those of the frame behind a SYN_DROPPED. So the different numbers grow by one at most for each event, and for each
-//! client that loses its queue. An open, a mask and a revocation leave all numbers as they are. Reading, a flush and
-//! a close bring none, and a change of clock brings one at most.
+//! That each event is kept once is said of the numbers (`specs/Numbers.antt`). [`Clients::stored`] is how many
+//! different ones there are. By [`Clients::offer`] each event of a frame has one number, whoever takes it
+//! (`IsStoredOnce`). A client that loses nothing has its old numbers, and after them some of the frame's. One that
+//! loses its queue has those of the frame after a SYN_DROPPED. So the different numbers grow by one at most for each
+//! event, and for each client that loses its queue. An open, a mask and a revocation leave all numbers as they are.
+//! Reading, a flush and a close bring none, and a change of clock brings one at most.
 //!
-//! [`Clients::open`] asks of its number only that no open client has it, and puts the client in its place by number; it
+//! [`Clients::open`] asks of its number only that no open client has it, and puts the client in its place by number. It
 //! answers `TooMany` exactly where 64 are open. [`Clients::offer`] puts into each queue what its masks admit, under the
 //! grab of one client or of none, and [`Clients::take`] tells events on the client's clock.
 //!
-//! Only [`Clients::new`] and [`Clients::open`] take memory. Before it makes a ring of S places, an open has the store grow
-//! by S + 1 cells. A ring holds at most S - 1 numbers, and while a frame is offered event by event there is at most one cell
-//! more that no ring has; so there is always room for one cell (`proofs/OtherClients.antt`, `spare_some`). A frame goes in one
-//! run, with a cell for each event first, only where the store has as many to spare (`proofs/Runs.antt`).
-//! Lemmas for callers are in `proofs/ClientLists.antt`, `proofs/OnClock.antt` and `proofs/MaskBits.antt`.
+//! Only [`Clients::new`] and [`Clients::open`] take memory. Before it makes a ring of S places, an open has the store
+//! grow by S + 1 cells. A ring holds at most S - 1 numbers, and while a frame is offered event by event there is at
+//! most one cell more that no ring has. So there is always room for one cell (`proofs/OtherClients.antt`,
+//! `spare_some`). A frame goes in one run, with a cell for each event first, only where the store has as many to spare
+//! (`proofs/Runs.antt`). Lemmas for callers are in `proofs/ClientLists.antt`, `proofs/OnClock.antt` and
+//! `proofs/MaskBits.antt`.
 #![tactic(auto)]
 
 mod client;

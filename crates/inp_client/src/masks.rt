@@ -68,7 +68,7 @@ impl Masks {
                 && (event.kind == EV_REP || self.has_bit(event.kind, event.code)))
     }
 
-    /// A bit of the mask that goes by a type, set where there is none.
+    /// A bit of the mask that goes by a type, set where the type has no mask.
     fn has_bit(&self, kind: u16, index: u16) -> bool
         ensures bit { result ≡ mask_bit_of self.now kind index }
     {

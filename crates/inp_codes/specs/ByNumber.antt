@@ -7,7 +7,8 @@ use Rattle.inp_codes.specs.Table.{NamedNumber}
 abbrev pub texts : List (Bor (List ℕ)) → List (List ℕ)
 texts names = map (λ name. name.now) names
 
--- the names of entries whose numbers rise, from the number `first` on; an empty text stands for each number that has none
+-- the names of entries whose numbers rise, from the number `first` on; an empty text stands for each number
+-- that has no name
 unfoldable pub names_from : ℕ → List (NamedNumber ℕ) → List (List ℕ)
 names_from first [] = []
 names_from first (e ∷ es) = replicate (e.0 - first) [] ++ e.1 ∷ names_from (e.0 + 1) es

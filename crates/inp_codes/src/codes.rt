@@ -19,19 +19,19 @@ use names::{
 use rows::code_rows;
 use slots::name_slot;
 
-/// The name of the code `code` of the event type `kind`, as `KEY_F12` for 1 and 88; `None` where the
-/// table has no such code.
+/// The name of the code `code` of the event type `kind`, as `KEY_F12` for 1 and 88; `None` where the table has no such
+/// code.
 ///
-/// Numbers and names are those of the kernel's header `input-event-codes.h`, one name for each code:
-/// which of several the table has is this project's choice. One look at an index.
+/// Numbers and names are those of the kernel's header `input-event-codes.h`, one name for each code: which of several
+/// the table has is this project's choice. One look at an index.
 pub fn name_of(kind: u16, code: u16) -> Option<&'static str>
     ensures name { option_copied result ≡ name_of kind code }
 {
     name_at(code_names(kind), code)
 }
 
-/// The event type and the code whose name is `text`, as 1 and 88 for `KEY_F12`; `None` where the table
-/// has no such name. The name of an event type, as `EV_KEY`, is no code's: see `kind_of`.
+/// The event type and the code whose name is `text`, as 1 and 88 for `KEY_F12`; `None` where the table has no such
+/// name. The name of an event type, as `EV_KEY`, is no code's: see `kind_of`.
 ///
 /// The whole text is compared, byte by byte: case counts, and nothing is trimmed. One look at a slot.
 pub fn code_of(text: &str) -> Option<(u16, u16)>

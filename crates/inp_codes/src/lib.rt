@@ -1,8 +1,7 @@
 //! The names of event types and of their codes, as `EV_KEY` and `KEY_A`.
 //!
-//! The kernel's header `input-event-codes.h` numbers the types of input events and, for each type, its
-//! codes. This crate has 9 types and 272 codes of that header, one name for each, and looks them up both
-//! ways:
+//! The kernel's header `input-event-codes.h` numbers the types of input events and, for each type, its codes. This
+//! crate has 9 types and 272 codes of that header, one name for each, and looks them up both ways:
 //!
 //! | Call | Gives |
 //! |---|---|
@@ -11,15 +10,15 @@
 //! | `name_of(1, 88)` | `Some("KEY_F12")` |
 //! | `code_of("KEY_F12")` | `Some((1, 88))` |
 //!
-//! The table is stated once, in `specs/KindNames.antt` and `specs/CodeNames.antt`, line by line as the
-//! header has it. Each look-up is proved to answer as that table does: the entry's name or numbers where
-//! there is an entry, and `None` everywhere else. The laws `kinds_are_one_to_one` and
-//! `codes_are_one_to_one` say that the look-ups are inverse, so that a name that was written is read
-//! back, and that each name is a word of upper-case letters, digits and underscores.
+//! The table is stated once, in `specs/KindNames.antt` and `specs/CodeNames.antt`, line by line as the header has it.
+//! Each look-up is proved to answer as that table does: the entry's name or numbers where there is an entry, and `None`
+//! everywhere else. The laws `kinds_are_one_to_one` and `codes_are_one_to_one` say that the look-ups are inverse, so
+//! that a name that was written is read back. They also say that each name is a word of upper-case letters, digits and
+//! underscores.
 //!
-//! A look-up by number reads one place of an array; one by a name compares it with the row at its slot, and
-//! walks over the rows where that has another name, which no name of the table needs. No call needs memory or
-//! can fail otherwise than by `None`. The crate stands on `std` alone.
+//! A look-up by number reads one place of an array. One by a name compares it with the row at its slot, and walks over
+//! the rows where that row has another name. No name of the table needs such a walk. No call needs memory or can fail
+//! otherwise than by `None`. The crate depends on `std` alone.
 #![tactic(auto)]
 
 mod by_name;

@@ -12,8 +12,8 @@ use Rattle.inp_model.specs.Left.{eaten, left}
 use Rattle.inp_model.specs.Past.{open_clients}
 use Rattle.inp_model.specs.Queue.{queue}
 
--- its description, which never changes, the steps that it accepted, newest first, how many calls were answered Again, and
--- how many events are kept for its clients
+-- its description, which never changes, the steps that it accepted, newest first, how many calls were
+-- answered Again, and how many events are kept for its clients
 pub record StoringView : Type 0 where
   pub description : Description
   pub past : List Step
@@ -41,8 +41,8 @@ abbrev pub lost_count : Description → List Step → Step → ℕ
 lost_count d past (ToClock client clock now) = 1
 lost_count d past x = count_by (is_lost_at d past x) (open_clients (x ∷ past))
 
--- How many events a step adds to those that are kept, at most: each that it offers, once, whoever gets it, and a
--- SYN_DROPPED for each client that loses its queue.
+-- How many events a step adds to those that are kept, at most. It adds each that it offers, once, whoever
+-- gets it, and a SYN_DROPPED for each client that loses its queue.
 abbrev pub stored_most : Description → List Step → Step → ℕ
 stored_most d past x = offered_count d past x + lost_count d past x
 

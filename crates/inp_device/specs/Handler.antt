@@ -15,8 +15,8 @@ pub record IsFreshHandler (d : Description) (h : Handler) : Type 0 where
   pub clients : h.clients ≡ record { list = []; rings = [] }
   pub filters : FiltersStandFor d.filters [] h.filters.kept
 
--- What is offered of a frame: what filters let through, behind what the first one was given before, or all of it while a
--- client holds the grab.
+-- What is offered of a frame: what filters let through, after what the first one was given before, or all of
+-- it while a client holds the grab.
 abbrev pub offered_of : Option ℕ → List Filter → ℕ → List Timed → List Event → List Event
 offered_of None fs now given events = let_through fs now given events
 offered_of (Some client) fs now given events = events
@@ -26,8 +26,8 @@ abbrev pub given_with : Option ℕ → ℕ → List Timed → List Event → Lis
 given_with None now given events = given_after now given events
 given_with (Some client) now given events = given
 
--- The frame came to the filters unless a client holds the grab, and what is left of it was offered to each client, with
--- the place and under the grab of the step.
+-- The frame came to the filters unless a client holds the grab. What is left of it was offered to each
+-- client, with the place and under the grab of the step.
 pub record IsAfterFrame (before : Handler) (events : List Event) (now : ℕ) (after : Handler) : Type 0 where
   pub clients : (fs : List Filter) (given : List Timed) → FiltersStandFor fs given before.filters.kept
       → after.clients.list ≡ map (after_offer (offered_of before.holder fs now given events) now before.place before.holder) before.clients.list

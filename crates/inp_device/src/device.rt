@@ -30,8 +30,8 @@ const _: () = prove!(size_of::<Step>() <= 40);
 /// A device, seen as its description, its past (the steps that it accepted, newest first), how many calls it answered
 /// `Again`, and how many events it keeps for its clients.
 ///
-/// It keeps the present state and never looks back at its history. It takes memory when it is made, for what it keeps and
-/// for the whole history, and when a client is opened, and at no other step.
+/// It keeps the present state and never looks back at its history. It takes memory when it is made, for what it keeps
+/// and for the whole history, and when a client is opened, and at no other step.
 #[derive(Drop)]
 pub struct Device {
     // On the heap, so that a device is moved in some words.
@@ -85,10 +85,10 @@ impl Device {
     /// Makes one step.
     ///
     /// An accepted step is entered in the history, and its reply has its place there. After any other reply all is as
-    /// before, but that answers `Again` are counted (the count stays at its type's end). What a `Read` takes is written to
-    /// the front of `out`, and what `GetSlots` and `SyncSlots` tell to the front of `cells`; the rest of both stays. A query
-    /// of keys, switches, LEDs or sounds removes the client's queued events of its type, and `SyncSlots` those of the
-    /// multi-touch axes.
+    /// before, but that answers `Again` are counted (the count stays at its type's end). What a `Read` takes is written
+    /// to the front of `out`, and what `GetSlots` and `SyncSlots` tell to the front of `cells`. The rest of both stays.
+    /// A query of keys, switches, LEDs or sounds removes the client's queued events of its type, and `SyncSlots` those
+    /// of the multi-touch axes.
     ///
     /// A step is refused for the first of these causes that holds:
     ///
@@ -109,8 +109,8 @@ impl Device {
     ///
     /// The cost of a step does not grow with the history. Only `Open` takes memory.
     ///
-    /// The caller must pass a moment of at most `MOMENT_MAX`, an `out` that is as long as the count of a `Read`, and for
-    /// `GetSlots` and `SyncSlots` a `cells` of fourteen values a slot.
+    /// The caller must pass a moment of at most `MOMENT_MAX` and an `out` that is as long as the count of a `Read`. For
+    /// `GetSlots` and `SyncSlots` it must pass a `cells` of fourteen values a slot.
     pub fn step(&mut self, step: Step, out: &mut [Taken], cells: &mut [i32]) -> Reply
         requires moment { moment_of step ≤ MOMENT_MAX }
         requires room { HasRoom self.old.description step out.old cells.old }
@@ -190,8 +190,8 @@ impl Device {
         Reply::Done { at }
     }
 
-    /// Injects events, each at its own moment, as many of them as the log limit leaves room for. They are entered in order,
-    /// as steps `Inject` are.
+    /// Injects events, each at its own moment, as many of them as the log limit leaves room for. They are entered in
+    /// order, as steps `Inject` are.
     ///
     /// The cost of an event does not grow with the history, nor with the number of events. No memory is taken.
     ///
@@ -251,8 +251,8 @@ impl Device {
 
     /// How many events are kept: each event of a frame that at least one queue holds, once, and each SYN_DROPPED.
     ///
-    /// It is 0 exactly where all queues are empty. It is at least the length of the longest queue, and at least how many
-    /// steps the queued events came from. It is at most the length of all queues together.
+    /// It is 0 exactly where all queues are empty. It is at least the length of the longest queue, and at least how
+    /// many steps the queued events came from. It is at most the length of all queues together.
     ///
     /// A step adds to it at most as many events as it offers to clients, and one for each client that loses its queue
     /// (`stored_most`). A step that is refused leaves it.

@@ -8,8 +8,8 @@ use inp_frames::Frames;
 use inp_model::{Event, NoMemory};
 use std::alloc::Global;
 
-/// It offers what the filters of a device leave of its frames to its clients (the kernel's evdev handler, behind its filter
-/// handlers). While a client holds the grab, frames pass the filters by and are offered whole.
+/// It offers what the filters of a device leave of its frames to its clients (the kernel's evdev handler, behind its
+/// filter handlers). While a client holds the grab, frames pass the filters by and are offered whole.
 ///
 /// The place and the holder of the grab are those of the step whose frames come next.
 #[derive(Drop)]
@@ -40,8 +40,8 @@ impl Frames for Handler {
 impl Handler {
     ghost use Rattle.inp_device.specs.Handler.{IsFreshHandler};
 
-    /// A handler without clients, with memory for the list of them, for what is kept of the filters and for what they leave
-    /// of a frame.
+    /// A handler without clients, with memory for the list of them, for what is kept of the filters and for what they
+    /// leave of a frame.
     pub fn new(alloc: Global, caps: &Caps) -> Result<Handler, NoMemory>
         ensures fresh { IfOk result (λ handler. IsFreshHandler caps.now handler) }
     {

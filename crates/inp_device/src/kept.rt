@@ -4,7 +4,7 @@ use inp_caps::Caps;
 use inp_model::Step;
 use inp_turn::Kept;
 
-/// A device stands on its description, and its entries are the steps that it accepted, oldest first.
+/// A device is made for its description, and its entries are the steps that it accepted, oldest first.
 impl Kept for Device {
     type Base = Caps;
 

@@ -13,8 +13,8 @@ use inp_handles::Handles;
 use inp_model::{EV_KEY, EV_LED, EV_SND, EV_SW, NoMemory, Reply, Step, Taken};
 use std::alloc::Global;
 
-/// The present state of a device: the description, the core with its batch, the filters and the clients behind them, the
-/// grab, and how many clients were opened and sources are done.
+/// The present state of a device: the description, the core with its batch, the filters and the clients behind them,
+/// and the grab. It also has how many clients were opened and how many sources are done.
 ///
 /// It does not keep the history; each call is lent it, oldest first.
 #[derive(Drop)]

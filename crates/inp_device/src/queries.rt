@@ -47,7 +47,8 @@ pub fn axis(core: &Core, caps: &Caps, code: u16) -> AxisInfo
     info
 }
 
-/// The present value of an axis: of `ABS_MT_SLOT` the slot announced last, and 0 of the axes whose values belong to slots.
+/// The present value of an axis: of `ABS_MT_SLOT` the slot announced last, and 0 of the axes whose values belong to
+/// slots.
 fn present_value(core: &Core, code: u16) -> i32
     requires within { code ≤ ABS_MAX }
     ensures value { (d : Description) (past : List Step) → CoreStandsFor d past core.now

@@ -72,7 +72,8 @@ impl Present {
     }
 
     // The reply to a query that tells so many values of slots. It tells the slot that the clients know from the last
-    // frame, to which the next values without an announcement belong, and not the one that the open batch has reached.
+    // frame, and not the one that the open batch has reached. The next values without an announcement belong to that
+    // known slot.
     fn tell_cells(&self, history: &[Step], count: u32) -> Reply
         requires few { length history.now ≤ LOG_MAX }
         ensures told { result

@@ -99,8 +99,8 @@ impl Present {
         }
     }
 
-    // Whether the step is about a code that its type, or a word that its mask, does not have, or describes an axis anew
-    // that stays as it is described at first.
+    // Whether the step is about a code that its type, or a word that its mask, does not have. Or whether it describes
+    // an axis anew that stays as it is described at first.
     fn is_bad_code(&self, step: Step) -> bool
         ensures exact { result ≡ is_bad_code self.now.caps step }
     {

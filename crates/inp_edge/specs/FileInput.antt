@@ -4,8 +4,9 @@ use Rattle.std.specs.Result.{result_ok}
 use Rattle.std.specs.Io.KnownBytes.{ReadConsumes}
 use Rattle.inp_edge.specs.declared.fault.Failed.{Failed}
 
--- What is known of it: the file begun, if there is one, as the bytes that the runtime tells to be
--- left of it; how many bytes were given since the last `begin`; and how many calls were at fault.
+-- What is known of it. The file begun, if there is one, is known as the bytes that the runtime tells to be
+-- left of it. Known too is how many bytes were given since the last `begin`, and how many calls were at
+-- fault.
 pub record FileInputView : Type 0 where
   pub begun : Option (Option (List ℕ))
   pub given : ℕ

@@ -2,7 +2,7 @@
 -- bytes.
 use Rattle.std.specs.Prelude.{◌≡◌, ℕ, List, [], ◌++◌, Option, Some, None, ⊤}
 
--- where the bytes left are told, there are none
+-- where the bytes left are told, no byte is left
 abbrev pub IsAtEnd : Option (List ℕ) → Type 0
 IsAtEnd None = ⊤
 IsAtEnd (Some left) = left ≡ []

@@ -6,8 +6,8 @@ use crate::count::count_fault;
 use crate::items::Items;
 use std::marker::Model;
 
-/// The numbers of the calls that are to fail, counted from 0. The greatest `u64`, at which the count
-/// of calls stays, is no call's number.
+/// The numbers of the calls that are to fail, counted from 0. The greatest `u64`, at which the count of calls stays, is
+/// no call's number.
 pub type Fails = Items<u64>;
 
 // Which calls are to fail, and how many were made and were at fault.

@@ -15,10 +15,9 @@ use std::{fs, io};
 
 /// An input that reads real files, each call of which may fail.
 ///
-/// As an input it tells no files and no bytes, since the runtime does not say what is on the disk. It
-/// is seen with the file begun, as far as the runtime tells it: each read is one read by the runtime,
-/// and hands on its answer and its bytes. Each error of the runtime is a fault, want of memory and an
-/// interrupted call among them.
+/// As an input it tells no files and no bytes, since the runtime does not say what is on the disk. It is seen with the
+/// file begun, as far as the runtime tells it: each read is one read by the runtime, and hands on its answer and its
+/// bytes. Each error of the runtime is a fault, want of memory and an interrupted call among them.
 #[derive(Drop)]
 pub struct FileInput<'a, R: Files> {
     rt: &'a R,
@@ -85,7 +84,7 @@ impl<R: Files> Input for FileInput<'_, R> {
         begin_once(|| fs::open(rt, name), &mut self.begun, &mut self.faults)
     }
 
-    /// Makes one read of the file begun, which stays begun. Where none is, nothing is left.
+    /// Makes one read of the file begun, which stays begun. Where no file is begun, nothing is left.
     fn read(&mut self, buf: &mut [u8]) -> Result<usize, Failed>
         requires room { 0 < length buf.old }
         ensures fits { IfOk result (λ n. n ≤ length buf.new) }
@@ -101,8 +100,7 @@ impl<R: Files> Input for FileInput<'_, R> {
     }
 }
 
-// Opens a file by this call of the runtime, and begins it. A failure is counted, and no file is begun
-// then.
+// Opens a file by this call of the runtime, and begins it. A failure is counted, and no file is begun then.
 fn begin_once<F: Drop, C: FnOnce() -> io::Result<F>>(
     open_file: C,
     begun: &mut Option<F>,
@@ -126,7 +124,7 @@ fn begin_once<F: Drop, C: FnOnce() -> io::Result<F>>(
     }
 }
 
-// Reads from the file begun. Where there is none, nothing is left.
+// Reads from the file begun. Where no file was begun, nothing is left.
 fn read_begun<F: Read>(
     begun: &mut Option<F>,
     buf: &mut [u8],

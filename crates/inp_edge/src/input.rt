@@ -17,8 +17,8 @@ const PIECE: usize = 4096;
 
 /// Files that are read by name, one at a time.
 ///
-/// An input may tell contracts its files, and the bytes left of the file that it is at. No call
-/// changes the files, or whether the bytes are told. A call that succeeds was not at fault.
+/// An input may tell contracts its files, and the bytes left of the file that it is at. No call changes the files, or
+/// whether the bytes are told. A call that succeeds was not at fault.
 pub trait Input {
     /// The files, where they are told.
     ghost files: { Self → Option (List File) };
@@ -52,8 +52,8 @@ pub trait Input {
             (RoseUnlessSaturated (faults self.old) (faults self.new)
             ⊎ IsMissing (files self.old) name.now) };
 
-    /// Takes bytes off the front of what is left, writes them to the front of `buf`, and answers how
-    /// many they are: at most as many as `buf` has, and 0 only at the end.
+    /// Takes bytes off the front of what is left, writes them to the front of `buf`, and answers how many they are.
+    /// They are at most as many as `buf` has, and 0 only at the end.
     ///
     /// # Errors
     ///
@@ -78,14 +78,14 @@ pub trait Input {
 ///
 /// - `Failed` exactly where the count of faults rose, or where no file has this name.
 /// - `TooLong` exactly where the input gave more than `INPUT_LIMIT` bytes; the file has more then.
-/// - `NoMemory` where there is none for the bytes.
+/// - `NoMemory` where memory is short for the bytes.
 pub fn read_all<I: Input>(alloc: Global, input: &mut I, name: &str) -> Result<Vec<u8>, ReadFault>
     ensures files_stay { I.files input.new ≡ I.files input.old }
     ensures stays_told { is_some (I.left input.new) ≡ is_some (I.left input.old) }
     ensures never_falls { I.faults input.old ≤ I.faults input.new }
 
-    // The whole file, read to its end: as many bytes as were given, with none left, and where the
-    // input tells its bytes and its files, the bytes of the file of this name.
+    // The whole file, read to its end: as many bytes as were given, with no byte left. Where the input tells its bytes
+    // and its files, they are the bytes of the file of this name.
     ensures counted { IfOk result (λ bytes. vec_len bytes ≡ I.given input.new) }
     ensures ended { OnOk result (IsAtEnd (I.left input.new)) }
     ensures whole { IfOk result (λ bytes. IfSome (I.left input.new)

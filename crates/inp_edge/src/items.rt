@@ -47,7 +47,7 @@ impl<T: Drop> Items<T> {
     ///
     /// # Errors
     ///
-    /// `NoMemory` where there is none for it. The list is then as before.
+    /// `NoMemory` where memory is short for it. The list is then as before.
     pub fn push(&mut self, item: T) -> Result<(), NoMemory>
         ensures ok { OnOk result (self.new ≡ self.old ++ item ∷ []) }
         ensures err { OnErr result (self.new ≡ self.old) }
@@ -63,7 +63,7 @@ impl<T: Drop> Items<T> {
         self.items.len()
     }
 
-    /// Whether there are none.
+    /// Whether the list is empty.
     pub fn is_empty(&self) -> bool
         ensures empty { IsTrue result ↔ (self.now ≡ []) }
     {

@@ -48,8 +48,8 @@ impl Model for MemInput {
 }
 
 impl MemInput {
-    /// An input of these files, at none of them yet. The calls of these numbers fail, counted from 0
-    /// over `begin` and `read`. It takes no memory.
+    /// An input of these files, at none of them yet. The calls of these numbers fail, counted from 0 over `begin` and
+    /// `read`. It takes no memory.
     pub fn new(files: MemFiles, fails: Fails) -> MemInput
         ensures files { result.files ≡ files }
         ensures left { result.left ≡ [] }
@@ -111,8 +111,7 @@ impl Input for MemInput {
 
     ghost faults = { λ m. m.calls.faults };
 
-    /// Fails exactly at a call that is to fail, and where no file has this name. The latter raises no
-    /// count of faults.
+    /// Fails exactly at a call that is to fail, and where no file has this name. The latter raises no count of faults.
     fn begin(&mut self, name: &str) -> Result<(), Failed>
         ensures same_files { self.new.files ≡ self.old.files }
         ensures same_piece { self.new.piece ≡ self.old.piece }
@@ -140,8 +139,8 @@ impl Input for MemInput {
         Ok(())
     }
 
-    /// Gives as many bytes as are left and go into `buf`, or a piece of them where it gives pieces.
-    /// Fails exactly at a call that is to fail.
+    /// Gives as many bytes as are left and go into `buf`, or a piece of them where it gives pieces. Fails exactly at a
+    /// call that is to fail.
     fn read(&mut self, buf: &mut [u8]) -> Result<usize, Failed>
         requires room { 0 < length buf.old }
         ensures same_files { self.new.files ≡ self.old.files }
@@ -186,8 +185,8 @@ fn index_of(files: &[MemFile], name: &str) -> Option<usize>
     None
 }
 
-// Copies bytes from the front of one slice to the front of another, as many as go or a piece of them,
-// and answers how many.
+// Copies bytes from the front of one slice to the front of another, as many as go or a piece of them, and answers how
+// many.
 fn copy_front(from: &[u8], to: &mut [u8], piece: Option<u32>) -> usize
     ensures count { result ≡ in_piece piece (min (length from.now) (length to.old)) }
     ensures copied { take result to.new ≡ take result from.now }

@@ -43,7 +43,7 @@ impl MemSink {
     ///
     /// # Errors
     ///
-    /// `NoMemory` where there is none for the room.
+    /// `NoMemory` where memory is short for the room.
     pub fn new(alloc: Global, room: usize, fails: Fails) -> Result<MemSink, NoMemory>
         ensures written { IfOk result (λ sink. sink.written ≡ []) }
         ensures room { IfOk result (λ sink. sink.room ≡ room) }
@@ -63,7 +63,7 @@ impl MemSink {
     ///
     /// # Errors
     ///
-    /// `NoMemory` where there is none for the room.
+    /// `NoMemory` where memory is short for the room.
     pub fn in_pieces(
         alloc: Global,
         room: usize,
@@ -101,9 +101,8 @@ impl Sink for MemSink {
 
     ghost faults = { λ m. m.calls.faults };
 
-    /// Takes as many bytes as there are and as there is room for, or a piece of them where it takes
-    /// pieces. Fails exactly at a call that is to fail, and where no room is left, both of which raise
-    /// the count of faults.
+    /// Takes as many bytes as there are and as there is room for, or a piece of them where it takes pieces. Fails
+    /// exactly at a call that is to fail, and where no room is left, both of which raise the count of faults.
     fn write(&mut self, buf: &[u8]) -> Result<usize, Failed>
         requires bytes { 0 < length buf.now }
         ensures calls { self.new.calls

@@ -20,8 +20,7 @@ pub trait Sink {
     ///
     /// # Errors
     ///
-    /// `Failed` only where the count of faults rose. Nothing was written then. A sink that takes
-    /// nothing is at fault.
+    /// `Failed` only where the count of faults rose. Nothing was written then. A sink that takes nothing is at fault.
     fn write(&mut self, buf: &[u8]) -> Result<usize, Failed>
         requires bytes { 0 < length buf.now }
         ensures some { IfOk result (λ n. 0 < n) }
@@ -34,12 +33,12 @@ pub trait Sink {
         ensures failed { OnErr result (RoseUnlessSaturated (faults self.old) (faults self.new)) };
 }
 
-/// Writes all the bytes, in order. Where there are none it makes no call. It takes no memory.
+/// Writes all the bytes, in order. Where no byte is given it makes no call. It takes no memory.
 ///
 /// # Errors
 ///
-/// `Failed` exactly where the count of faults rose. What was written is then a front part of the
-/// bytes, and not all of them.
+/// `Failed` exactly where the count of faults rose. What was written is then a front part of the bytes, and not all of
+/// them.
 pub fn write_all<O: Sink>(out: &mut O, bytes: &[u8]) -> Result<(), Failed>
     ensures appended { OnOk result (Appends bytes.now (O.written out.old) (O.written out.new)) }
     ensures cut_off { OnErr result (IsCutOff bytes.now (O.written out.old) (O.written out.new)) }

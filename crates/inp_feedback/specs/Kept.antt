@@ -6,14 +6,15 @@ use Rattle.inp_feedback.specs.declared.u_entry.UEntry.TheVariants.{Made, Feedbac
 use Rattle.inp_feedback.specs.declared.feedback_call.FeedbackCall.{FeedbackCall}
 use Rattle.inp_feedback.specs.UEntry.{steps_in}
 
--- The kept list of a past and of feedback calls, all newest first: each call stands behind as many steps as it says.
+-- The kept list of a past and of feedback calls, all newest first: each call stands after as many steps as it
+-- says.
 unfoldable pub kept_of : List Step → List FeedbackCall → List UEntry
 kept_of past [] = map Made past
 kept_of past (call ∷ calls) =
     let later = length past - call.at in
     map Made (take later past) ++ Feedback call.count ∷ kept_of (drop later past) calls
 
--- the newest feedback call stands behind no more steps than there are
+-- the newest feedback call stands after no more steps than there are
 abbrev pub StandsWithin : ℕ → List FeedbackCall → Type 0
 StandsWithin count [] = Unit {0}
 StandsWithin count (call ∷ calls) = call.at ≤ count
@@ -24,13 +25,13 @@ calls_in [] = []
 calls_in (Made x ∷ kept) = calls_in kept
 calls_in (Feedback count ∷ kept) = record { at = length (steps_in kept); count = count } ∷ calls_in kept
 
--- Feedback calls, newest first, are in order: each stands behind no more steps than the one after it, and the newest
--- behind no more than there are.
+-- Feedback calls, newest first, are in order: each stands after no more steps than the one after it, and the
+-- newest after no more than there are.
 abbrev pub AreInOrder : ℕ → List FeedbackCall → Type 0
 AreInOrder count [] = Unit {0}
 AreInOrder count (call ∷ calls) = (call.at ≤ count) × AreInOrder call.at calls
 
--- feedback calls as numbers: of each, behind how many steps it stands, and how many events it took
+-- feedback calls as numbers: of each, after how many steps it stands, and how many events it took
 abbrev pub feedback_numbers : List FeedbackCall → List ℕ
 feedback_numbers [] = []
 feedback_numbers (call ∷ calls) = call.at ∷ call.count ∷ feedback_numbers calls

@@ -1,4 +1,5 @@
--- What is sent to a device: the passed events that set its lights, sounds and the like (docs/RULES.md, "What is passed").
+-- What is sent to a device: the passed events that set its lights, sounds and the like (docs/RULES.md, "What
+-- is passed").
 use Rattle.std.specs.Prelude.{List, [], ◌∷◌, ◌++◌, filter, Option, Some, None}
 use Rattle.inp_model.specs.declared.event.Event.{Event}
 use Rattle.inp_model.specs.declared.step.Step.{Step}

@@ -7,8 +7,8 @@ use inp_model::Event;
 
 /// What answers an owner's feedback calls: its device, or its use of a device that threads share.
 pub trait Feeds {
-    /// What one call leaves: what this was before, what it is then, for how many events there was room, the answer, and the
-    /// events that were taken.
+    /// What one call leaves: what this was before, what it is then, for how many events there was room, the answer, and
+    /// the events that were taken.
     ghost feeds: { Feeding Self };
 
     /// Makes one feedback call. The events that it took stand at the front of `out`. It takes no memory.

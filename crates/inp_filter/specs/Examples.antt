@@ -1,4 +1,4 @@
--- Short frames behind filters, worked out by hand: what is left of each.
+-- What filters leave of short frames, worked out by hand.
 use Rattle.std.specs.Prelude.{◌≡◌, ℕ, ℤ, pos, List, [], ◌∷◌}
 use Rattle.inp_model.specs.declared.event.TheConstants.{EV_SYN, EV_KEY, EV_REL, SYN_REPORT, SYN_CONFIG, KEY_A}
 use Rattle.inp_model.specs.declared.event.Event.{Event}
@@ -12,7 +12,7 @@ pub record At : Type 0 where
   pub moment : ℕ
   pub events : List Event
 
--- what is left of frames, one after another, behind what the first filter was given before
+-- what is left of frames, one after another, after what the first filter was given before
 unfoldable pub left_of_frames : List Filter → List Timed → List At → List (List Event)
 left_of_frames fs before [] = []
 left_of_frames fs before (f ∷ frames) =
@@ -119,8 +119,8 @@ EatsABounce =
     (one 0 (A (pos 1)) ∷ one 10000 (A (pos 0)) ∷ one 12000 (A (pos 1)) ∷ one 13000 (A (pos 0)) ∷ one 16000 (A (pos 1)) ∷ [])
     (whole (A (pos 1)) ∷ whole (A (pos 0)) ∷ alone ∷ alone ∷ whole (A (pos 1)) ∷ [])
 
--- The first press is left, also one behind a repeat alone. A press in the time is eaten up to its last microsecond, and
--- one at its end is left; so is one at an earlier moment than the release.
+-- The first press is left, also one after a repeat alone. A press in the time is eaten up to its last
+-- microsecond, and one at its end is left. So is one at an earlier moment than the release.
 abbrev pub EatsInTime : Type 0
 EatsInTime =
     Leave (Bounce KEY_A 5000 ∷ [])
@@ -148,7 +148,7 @@ EatsWithinAFrame =
     (record { moment = 7; events = A (pos 1) ∷ A (pos 0) ∷ A (pos 1) ∷ R ∷ [] } ∷ [])
     ((A (pos 1) ∷ A (pos 0) ∷ R ∷ []) ∷ [])
 
--- The second of two filters does not see what the first one ate: behind it A is never down.
+-- The second of two filters does not see what the first one ate: after it A is never down.
 abbrev pub GivesWhatIsLeft : Type 0
 GivesWhatIsLeft =
     Leave (Eat EV_KEY KEY_A ∷ Chord KEY_A KEY_B ∷ [])
@@ -162,7 +162,7 @@ GivesInOrder =
     (one 0 (A (pos 1)) ∷ one 1 (B (pos 1)) ∷ one 2 (B (pos 0)) ∷ one 3 (A (pos 0)) ∷ [])
     (alone ∷ alone ∷ alone ∷ alone ∷ [])
 
--- A chord behind a bounce: the bounced press of A is not there for it, so B is left then.
+-- A chord after a bounce: the bounced press of A is not there for it, so B is left then.
 abbrev pub ChordsBehindABounce : Type 0
 ChordsBehindABounce =
     Leave (Bounce KEY_A 5000 ∷ Chord KEY_A KEY_B ∷ [])

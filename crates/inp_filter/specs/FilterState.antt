@@ -9,7 +9,7 @@ use Rattle.inp_filter.specs.declared.filter_state.FilterState.{FilterState}
 use Rattle.inp_filter.specs.declared.filter_state.FilterState.TheVariants.{Eat as EatState, Norepeat as NorepeatState, Chord as ChordState, Bounce as BounceState}
 use Rattle.inp_model.specs.Filter.{Timed, Given, Press, last_press, is_there_and, is_down, last_release, is_chorded, is_bounced, given_all, left_by}
 
--- of a key, whether a press is there behind the last event, and passes the test
+-- of a key, whether a press is there after the last event, and passes the test
 pub record IsHold (code : ℕ) (test : Press → Bool) (given : List Given) (hold : Hold) : Type 0 where
   pub code_is : hold.code ≡ code
   pub eaten : hold.is_eaten ≡ is_there_and test (last_press code given)
@@ -34,8 +34,8 @@ FilterStandsFor (Chord first second) given (ChordState chord) = IsChord first se
 FilterStandsFor (Bounce code micros) given (BounceState bounce) = IsBounce code micros given bounce
 FilterStandsFor f given state = ⊥
 
--- This is kept of filters in a row, the first of which was given these events, and each other one what the one before
--- it did not eat of those that it was given itself.
+-- This is kept of filters in a row, the first of which was given these events. Each other one was given what
+-- the one before it did not eat of those that it was given itself.
 unfoldable pub FiltersStandFor : List Filter → List Timed → List FilterState → Type 0
 FiltersStandFor [] given [] = Unit {0}
 FiltersStandFor [] given (state ∷ states) = ⊥

@@ -17,14 +17,14 @@ LeavesSyn =
 abbrev pub LeavesAllOfNone : Type 0
 LeavesAllOfNone = (moment : ℕ) (given : List Timed) (es : List Event) → let_through [] moment given es ≡ es
 
--- Filters in a row leave of a frame what the others leave of what the first one leaves of it, where they were given what
--- the first one left.
+-- Filters in a row leave of a frame what the others leave of what the first one leaves of it, where they were
+-- given what the first one left.
 abbrev pub LeavesOneAfterAnother : Type 0
 LeavesOneAfterAnother =
     (f : Filter) (fs : List Filter) (moment : ℕ) (given : List Timed) (es : List Event)
     → let_through (f ∷ fs) moment given es ≡ let_through fs moment (left_by f given) (let_through (f ∷ []) moment given es)
 
--- the last press of a key was eaten, and no release of the key stands behind it
+-- the last press of a key was eaten, and no release of the key stands after it
 unfoldable pub has_eaten_press : ℕ → List Given → Bool
 has_eaten_press code [] = false
 has_eaten_press code (g ∷ before) =

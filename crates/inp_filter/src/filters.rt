@@ -14,8 +14,8 @@ use std::marker::Model;
 
 /// The filters of a device, in a row: each is given what the one before it left.
 ///
-/// They keep no event: a filter keeps a few bits, and a moment at most. A contract sees them as the list of what is kept
-/// of each, and `FiltersStandFor` says for which filters and which events given so far that stands.
+/// They keep no event: a filter keeps a few bits, and a moment at most. A contract sees them as the list of what is
+/// kept of each, and `FiltersStandFor` says for which filters and which events given so far that stands.
 #[derive(Drop)]
 pub struct Filters {
     filters: Vec<FilterState>,
@@ -52,8 +52,8 @@ impl Filters {
         self.filters.is_empty()
     }
 
-    /// Takes a frame that ended at a moment in microseconds, writes what the filters leave of it to the front of `out`,
-    /// in order, and answers how many events that are. The rest of `out` stays.
+    /// Takes a frame that ended at a moment in microseconds, and writes what the filters leave of it to the front of
+    /// `out`, in order. It answers how many events that are. The rest of `out` stays.
     ///
     /// Events of `EV_SYN` are never eaten. It takes constant time an event and filter, and no memory.
     pub fn pass(&mut self, events: &[Event], now: u64, out: &mut [Event]) -> u32

@@ -13,6 +13,7 @@ pub record Waiting : Type 0 where
 abbrev pub passed_events : Passed → List Event
 passed_events p = option_to_list p.announcement ++ option_to_list p.event
 
--- the events are a frame: behind a report where it is not alone, and behind another event where there are enough
+-- the events are a frame: after a report where it is not alone, and after another event where there are
+-- enough
 abbrev pub are_frame : Bool → Waiting → Bool
 are_frame report w = if report then nat_lt 1 (length w.events) else nat_le w.hint (length w.events)

@@ -1,4 +1,5 @@
--- What the core keeps, and which histories it stands for. Inside a definition a history is a past, written newest first.
+-- What the core keeps, and which histories it stands for. Inside a definition a history is a past, written
+-- newest first.
 use Rattle.std.specs.Prelude.{◌≡◌, ℕ, Bool, List, ◌∷◌, length}
 use Rattle.inp_model.specs.declared.event.Event.{Event}
 use Rattle.inp_model.specs.declared.step.Step.{Step}
@@ -47,8 +48,8 @@ pub record CoreStandsFor (d : Description) (past : List Step) (core : CoreValues
   pub timer : core.timer ≡ timer d past
   pub inhibited : core.inhibited ≡ is_inhibited past
 
--- The core made the step x after a past: it stands for the past with x, and whoever takes frames took those that x ended,
--- in order and each once.
+-- The core made the step x after a past: it stands for the past with x, and whoever takes frames took those
+-- that x ended, in order and each once.
 pub record IsEntered {T : Type 0} (d : Description) (past : List Step) (x : Step) (new : CoreValues) (takes : T → List Event → ℕ → T → Type 0) (to_old to_new : T) : Type 0 where
   pub stands_for : CoreStandsFor d (x ∷ past) new
   pub takes_all : TakesAll takes (moment_of x) (cuts_of_step d past x) to_old to_new

@@ -55,7 +55,7 @@ impl Batch {
         &self.events
     }
 
-    /// Puts what is passed for a raw event behind the others.
+    /// Puts what is passed for a raw event after the others.
     pub fn add(&mut self, passed: Passed)
         requires room { length self.old.events < self.old.hint }
         ensures added { self.new.events ≡ self.old.events ++ passed_events passed }
@@ -65,7 +65,7 @@ impl Batch {
         self.push(passed.event);
     }
 
-    // Puts an event behind the others, if there is one.
+    // Puts an event after the others, if there is one.
     fn push(&mut self, event: Option<Event>)
         requires room { length self.old.events < self.old.hint + 2 }
         ensures pushed { self.new.events ≡ self.old.events ++ option_to_list event }
@@ -77,7 +77,7 @@ impl Batch {
     }
 
     /// Whether the events are a whole frame, which is to be passed on and let go. It is asked once for each raw event,
-    /// behind what is passed for it, with whether it is a report.
+    /// after what is passed for it, with whether it is a report.
     ///
     /// A full batch gets a report of its own, and a report alone is let go.
     pub fn cut(&mut self, report: bool) -> bool

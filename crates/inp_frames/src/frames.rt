@@ -13,8 +13,8 @@ const _: () = prove!(FRAME_MAX == inp_model::HINT_MAX as usize + 2);
 
 /// Who takes the frames of a device, one at a time, as the kernel's handlers do.
 pub trait Frames {
-    /// What a taker makes of a frame: the taker before it, the frame's events, its moment in microseconds, and the taker
-    /// after it.
+    /// What a taker makes of a frame: the taker before it, the frame's events, its moment in microseconds, and the
+    /// taker after it.
     ghost takes: { Self → List Event → ℕ → Self → Type 0 };
 
     /// Takes a frame that ended at a moment in microseconds, at most `MOMENT_MAX`. It has at most `FRAME_MAX` events.

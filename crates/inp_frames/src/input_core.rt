@@ -84,7 +84,7 @@ impl Core {
     /// one (the kernel's `input_event`).
     ///
     /// A report ends the frame, unless it is alone. So does an event that leaves as many events as the hint; a report
-    /// with the value 1 is put behind it. The moment of the frame is `now`, in microseconds, at most `MOMENT_MAX`. A key
+    /// with the value 1 is put after it. The moment of the frame is `now`, in microseconds, at most `MOMENT_MAX`. A key
     /// that is pressed in the frame arms the timer of the autorepeat, and one that is released disarms it. While the
     /// device is inhibited the event is ignored.
     pub fn inject<F: Frames>(&mut self, caps: &Caps, event: Event, now: u64, to: &mut F)
@@ -107,7 +107,7 @@ impl Core {
     /// Lets the timer of the autorepeat fire, where it is due (the kernel's `input_repeat_key`).
     ///
     /// The timer is disarmed. Where its key is still down and the device is not inhibited, an autorepeat of the key is
-    /// passed on as a frame, with what the batch holds, and the timer is armed anew one period after `now`, unless the
+    /// passed on as a frame, with what the batch holds. The timer is then armed anew one period after `now`, unless the
     /// period is 0. It fires once however late it is. `now` is in microseconds, at most `MOMENT_MAX`.
     pub fn tick<F: Frames>(&mut self, caps: &Caps, now: u64, to: &mut F)
         requires timely { now ≤ MOMENT_MAX }
@@ -132,8 +132,8 @@ impl Core {
     /// (the kernel's `input_dev_release_keys` and `input_mt_release_slots`).
     ///
     /// The frame has what the batch holds, then for each slot with a contact its end, then the release of each key that
-    /// is down, both by ascending numbers, and a report with the value 1; a full batch is cut as ever. A device that is
-    /// inhibited stays as it is. `now` is in microseconds, at most `MOMENT_MAX`.
+    /// is down, both by ascending numbers. A report with the value 1 ends it. A full batch is cut as ever. A device
+    /// that is inhibited stays as it is. `now` is in microseconds, at most `MOMENT_MAX`.
     pub fn inhibit<F: Frames>(&mut self, caps: &Caps, now: u64, to: &mut F)
         requires timely { now ≤ MOMENT_MAX }
         requires made { IsFor caps.now self.old }
@@ -159,8 +159,8 @@ impl Core {
 
     /// Describes the axis with this code anew, which is at most `ABS_MAX` (evdev's `EVIOCSABS`).
     ///
-    /// No event is passed and no frame ends. What the batch holds stays there, as it was passed. A device that is inhibited
-    /// is described all the same.
+    /// No event is passed and no frame ends. What the batch holds stays there, as it was passed. A device that is
+    /// inhibited is described all the same.
     pub fn describe(&mut self, code: u16, info: AxisInfo)
         requires within { code ≤ ABS_MAX }
         ensures stands { (d : Description) (past : List Step) (client : ℕ)
@@ -231,7 +231,8 @@ impl Core {
         self.gather(caps, second, now, to);
     }
 
-    // Lifts all contacts and releases all keys, and ends the frame. Which these are is looked up before the first event.
+    // Lifts all contacts and releases all keys, and ends the frame. Which these are is looked up before the first
+    // event.
     fn release_all<F: Frames>(&mut self, caps: &Caps, now: u64, to: &mut F)
         requires timely { now ≤ MOMENT_MAX }
         requires made { IsFor caps.now self.old }

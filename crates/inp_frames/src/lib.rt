@@ -1,12 +1,12 @@
 //! The core of a device: steps come in, frames go out.
 //!
-//! This crate is for whoever delivers frames to clients. [`Core`] keeps the present state, the slots, the batch of events
-//! passed since the last frame, the timer of the autorepeat, and whether the device is inhibited. It handles the raw
-//! events of each step, and passes each frame that they end on to a [`Frames`], whoever that is. The crate stands on
-//! `inp_state` for keys, switches and the like, on `inp_slots` for the multi-touch values, on `inp_caps` for the
-//! description, and on `inp_bits` for lists of keys and slots.
+//! This crate is for whoever delivers frames to clients. [`Core`] keeps the present state, the slots, the batch of
+//! events passed since the last frame, the timer of the autorepeat, and whether the device is inhibited. It handles the
+//! raw events of each step, and passes each frame that they end on to a [`Frames`], whoever that is. The crate depends
+//! on `inp_state` for keys, switches and the like, and on `inp_slots` for the multi-touch values. It also depends on
+//! `inp_caps` for the description, and on `inp_bits` for lists of keys and slots.
 //!
-//! How raw events become frames, one row behind another on a device with two slots whose hint is 8 (the kernel's input
+//! How raw events become frames, one row after another on a device with two slots whose hint is 8 (the kernel's input
 //! documentation):
 //!
 //! | Raw events | Frame |
@@ -19,10 +19,10 @@
 //!
 //! The core makes raw events itself on two occasions. Both end their frame by `SYN_REPORT` with the value 1.
 //!
-//! *A tick* ([`Core::tick`]) lets the timer of the autorepeat fire, on a device with `EV_REP` and `EV_KEY`. A key that is
-//! pressed in a frame arms the timer, one delay after the frame; any key that is released in a frame disarms it. A tick
-//! at the moment for which the timer is armed, or later, repeats the key once and arms the timer again, one period after
-//! the tick:
+//! *A tick* ([`Core::tick`]) lets the timer of the autorepeat fire, on a device with `EV_REP` and `EV_KEY`. A key that
+//! is pressed in a frame arms the timer, one delay after the frame. Any key that is released in a frame disarms it. A
+//! tick at the moment for which the timer is armed, or later, repeats the key once and arms the timer again, one period
+//! after the tick:
 //!
 //! | Steps, moments in milliseconds, delay 250 and period 33 | Frame |
 //! |---|---|
@@ -33,10 +33,10 @@
 //! | a tick at 1,283 | none: the release disarmed the timer |
 //!
 //! *An inhibition* ([`Core::inhibit`]) lifts each contact and releases each key that is down, by ascending numbers,
-//! behind what the batch holds. From then on raw events are ignored, until [`Core::uninhibit`].
+//! after what the batch holds. From then on raw events are ignored, until [`Core::uninhibit`].
 //!
-//! *An axis described anew* ([`Core::describe`]) passes no event and ends no frame. On a device with the axis `ABS_X`, at 0
-//! with fuzz 0:
+//! *An axis described anew* ([`Core::describe`]) passes no event and ends no frame. On a device with the axis `ABS_X`,
+//! at 0 with fuzz 0:
 //!
 //! | Steps | Frame |
 //! |---|---|
@@ -49,15 +49,15 @@
 //! they are cut into, and how they arm the timer. A [`Core`] keeps no history; `CoreStandsFor` (`specs/Core.antt`) says
 //! for which histories it stands. A new one stands for the empty history, and after each call it stands for the history
 //! with one step more, for each history that it stood for. The frames that the step ends are the model's, and each is
-//! passed on once, in order; a step that ends no frame leaves the taker as it was (`IsEntered`). [`Core::is_for_device`]
-//! tells beforehand whether an event goes to the device itself. `proofs/KeptCore.antt`
-//! is for whoever keeps a core beside the clients of a device: a step that is none of the core's ends no frame, and the
-//! core stands for the history with it as it is. A raw event takes the same time whatever came before, an inhibition
-//! takes time for each slot and each key that is down, and memory is taken when the core is made and never again.
+//! passed on once, in order. A step that ends no frame leaves the taker as it was (`IsEntered`).
+//! [`Core::is_for_device`] tells beforehand whether an event goes to the device itself. `proofs/KeptCore.antt` is for
+//! whoever keeps a core beside the clients of a device. A step that is not the core's ends no frame, and the core as it
+//! is stands for the history with that step. A raw event takes the same time whatever came before, and an inhibition
+//! takes time for each slot and each key that is down. Memory is taken when the core is made and never again.
 //!
-//! Inside: `passed` says what is passed for a raw event, `batch` keeps it until its frame ends, `autorepeat` says what a
-//! frame makes of the timer, `contacts` finds the contacts to lift, `raw_events` has the events that the core makes, and
-//! `input_core` joins them.
+//! Inside: `passed` says what is passed for a raw event, `batch` keeps it until its frame ends, and `autorepeat` says
+//! what a frame makes of the timer. `contacts` finds the contacts to lift, `raw_events` has the events that the core
+//! makes, and `input_core` joins them.
 #![tactic(auto)]
 
 mod autorepeat;

@@ -42,7 +42,7 @@ pub(crate) fn handle(state: &mut State, slots: &mut Slots, caps: &Caps, event: E
     passed_as(disposition, Event { value, ..event }, slots.announced())
 }
 
-// Handles a raw event, and says what becomes of it, with the value to pass.
+// Handles a raw event, and says what is done with it, with the value to pass.
 fn apply(state: &mut State, slots: &mut Slots, caps: &Caps, event: Event) -> (Disposition, i32)
     requires count { length slots.old.slots ≡ caps.now.slots }
     ensures state { (r : List RawItem) → StateStandsFor caps.now r state.old
@@ -65,7 +65,7 @@ fn apply(state: &mut State, slots: &mut Slots, caps: &Caps, event: Event) -> (Di
     }
 }
 
-// The events that are passed by what becomes of an event: itself, and its slot before it.
+// The events that are passed by what is done with an event: itself, and its slot before it.
 fn passed_as(disposition: Disposition, event: Event, slot: i32) -> Passed
     ensures announcement { result.announcement
         ≡ (if bit_and (flags_of disposition) 4 == 4 then Some (slot_event slot) else None) }

@@ -11,7 +11,7 @@ use Rattle.inp_joy.specs.declared.code_list.TheConstants.{BTN_MISC, BTN_JOYSTICK
 unfoldable pub codes_among : Description → ℕ → ℕ → ℕ → List ℕ
 codes_among d kind first count = filter (supports d kind) (range_with_len first count)
 
--- the keys of a joystick and those behind them, and then the keys before them: the first 64
+-- the keys of a joystick and those after them, and then the keys before them: the first 64
 unfoldable pub buttons : Description → List ℕ
 buttons d =
     take 64 (codes_among d EV_KEY BTN_JOYSTICK (KEY_MAX + 1 - BTN_JOYSTICK)

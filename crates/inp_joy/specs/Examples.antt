@@ -56,8 +56,8 @@ stick = record slider {
 abbrev pub trigger : Event
 trigger = record { kind = EV_KEY; code = 288; value = pos 1 }
 
--- A startup, a press of the trigger and a move of the axis past its range, two seconds and a half later: what each read
--- answers, and the bytes of each record.
+-- A startup, a press of the trigger and a move of the axis past its range, two seconds and a half later. It
+-- has what each read answers, and the bytes of each record.
 abbrev pub TellsAPressAndAMove : Type 0
 TellsAPressAndAMove =
     let steps = Inject trigger 0 ∷ Inject (axis 0 (pos 40000)) 0 ∷ Inject report 2500000 ∷ [] in

@@ -72,7 +72,7 @@ is_startup_over d j = nat_le (startup_len d) j.handed
 
 -- Starting
 
--- a startup begins where a client was opened; where its queries were refused in part none is left
+-- a startup begins where a client was opened; where its queries were refused in part no record is left
 abbrev pub joying_after_start : Description → Joying → Started → Joying
 joying_after_start d j (Opened client ring) = with_startup j.reading
 joying_after_start d j (Refused at why) = if is_needed j.reading.phase then without_startup d j else j
@@ -192,7 +192,7 @@ record_or_turn d j (Some r) = finish (gives (hand_out_record (next_in_startup j)
 abbrev pub turn_talk : Description → Joying → Talk JoyTurn
 turn_talk d j = record_or_turn d j (slice_get (startup d j.reading.view) j.handed)
 
--- a talk, with how many of its steps were accepted behind so many before
+-- a talk, with how many of its steps were accepted after so many before
 abbrev pub with_count : {A : Type 0} → Talk A → ℕ → Talk (ℕ × A)
 with_count (finish a) n = finish (n, a)
 with_count (ask x rest) n = ask x (λ answer. with_count (rest answer) (if is_accepted answer.reply then n + 1 else n))

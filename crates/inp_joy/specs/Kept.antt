@@ -67,8 +67,8 @@ abbrev pub agains_after_turn : TurnEnd → ℕ → ℕ
 agains_after_turn (Stops read) n = agains_after_read read n
 agains_after_turn _ n = n
 
--- What a reader did: the calls that it made, what they leave, and that it stands afterwards, and shows this, where it stood
--- before and nobody else used its client.
+-- What a reader did: the calls that it made, what they leave, and that it stands afterwards, and shows this,
+-- where it stood before and nobody else used its client.
 pub record ReaderCalls (before after : EvdevView) (old new : List CallMade) (d : Description) (r s : Reading) (Shown : Type 0) : Type 0 where
   pub more : List CallMade
   pub kept : new ≡ old ++ more

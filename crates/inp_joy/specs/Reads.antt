@@ -22,8 +22,8 @@ abbrev pub bytes_after : Option JoyRecord → List ℕ → List ℕ
 bytes_after None out = out
 bytes_after (Some r) out = bytes_of_record r
 
--- The calls that were made are those of some number of turns, and the answer, what is kept and what is written are their
--- result.
+-- The calls that were made are those of some number of turns, and the answer, what is kept and what is
+-- written are their result.
 pub record IsJoyRead (before after : EvdevView) (d : Description) (old new : Joying) (made : List CallMade) (read : JoyRead) (out new_out : List ℕ) : Type 0 where
   pub count : ℕ
   pub record_out : Option JoyRecord
@@ -35,8 +35,8 @@ abbrev pub agains_after_read : JoyRead → ℕ → ℕ
 agains_after_read (Again at ends) n = if nat_lt n (2 ^ 64 - 1) then n + 1 else n
 agains_after_read _ n = n
 
--- A read that ended a frame, or that was long, leaves its reader less to do (a number, its effort); of the others nothing is
--- said. By this a caller's loop over `read` that counts its records ends.
+-- A read that ended a frame, or that was long, leaves its reader less to do (a number, its effort). Of the
+-- others nothing is said. By this a caller's loop over `read` that counts its records ends.
 abbrev pub IsReadLess : JoyRead → ℕ → ℕ → Type 0
 IsReadLess (Frame place) after before = after < before
 IsReadLess More after before = after < before
@@ -52,8 +52,8 @@ IsPictured d j =
 abbrev pub JoyStands : EvdevView → JoyView → Type 0
 JoyStands told joy = StandsAt joy.description (reverse told.seen) joy.joying.reading
 
--- A report that its client took ended the frame of this place. Where the client could follow the device up to that frame,
--- the picture is the device's at the frame's end.
+-- A report that its client took ended the frame of this place. Where the client could follow the device up to
+-- that frame, the picture is the device's at the frame's end.
 pub record PicturesTheDevice (d : Description) (past : List Step) (j : Joying) (place : ℕ) : Type 0 where
   pub at : ReadEntry
   pub is_at : slice_get (read_entries d past j.reading.client) (index_handed_out d past j.reading) ≡ Some at

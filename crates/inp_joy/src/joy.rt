@@ -23,13 +23,14 @@ use std::marker::Model;
 
 /// A client of a device that reads it as a joystick, as the kernel's `/dev/input/js0` is read.
 ///
-/// It numbers the buttons and axes of the device. Buttons are the supported keys from `BTN_JOYSTICK` on, ascending, and then
-/// those from `BTN_MISC` to before it, the first 64 of them. Axes are the supported ones outside 0x2f to 0x3d, ascending. It
-/// hands out records of eight bytes ([`JoyRecord`](crate::JoyRecord)): first how each button and axis stands, a startup, and
-/// then what happens to them. Where events were lost it synchronises, and begins with a startup again.
+/// It numbers the buttons and axes of the device. Buttons are the supported keys from `BTN_JOYSTICK` on, ascending, and
+/// then those from `BTN_MISC` to before it, the first 64 of them. Axes are the supported ones outside 0x2f to 0x3d,
+/// ascending. It hands out records of eight bytes ([`JoyRecord`](crate::JoyRecord)): first how each button and axis
+/// stands, a startup, and then what happens to them. Where events were lost it synchronises, and begins with a startup
+/// again.
 ///
-/// Each call is lent the device, which must be of the description that the client was made for. A contract sees a joystick
-/// client as its description, what it keeps (`Joying` of `specs/Joy.antt`), and the calls that it made last.
+/// Each call is lent the device, which must be of the description that the client was made for. A contract sees a
+/// joystick client as its description, what it keeps (`Joying` of `specs/Joy.antt`), and the calls that it made last.
 #[derive(Drop)]
 pub struct Joy {
     state: JoyState,
@@ -48,10 +49,10 @@ impl Model for Joy {
 }
 
 impl Joy {
-    /// A joystick client for devices of this description. It has no client yet: its client is `NO_CLIENT`, no record of a
-    /// startup is left, and its picture is blank.
+    /// A joystick client for devices of this description. It has no client yet: its client is `NO_CLIENT`, no record of
+    /// a startup is left, and its picture is blank.
     ///
-    /// It takes all memory that it will need. `NoMemory` comes where there is none.
+    /// It takes all memory that it will need. `NoMemory` comes where memory is short.
     pub fn new(alloc: Global, caps: &Caps) -> Result<Joy, NoMemory>
         ensures description { IfOk result (λ joy. joy.description ≡ caps.now) }
         ensures joying { IfOk result (λ joy. joy.joying ≡ record {
@@ -81,10 +82,10 @@ impl Joy {
         Ok(Joy { state })
     }
 
-    /// Opens a client and asks for the whole state, as [`Reader::start`](inp_reader::Reader::start) does, and answers as it
-    /// does. After `Opened` a startup begins: the next records tell how each button and axis stands. After a start that was
-    /// refused in a query no record of a startup is left, and the next [`read`](Joy::read) synchronises first; the picture
-    /// stays. After one whose open was refused all is as before.
+    /// Opens a client and asks for the whole state, as [`Reader::start`](inp_reader::Reader::start) does, and answers
+    /// as it does. After `Opened` a startup begins: the next records tell how each button and axis stands. After a
+    /// start that was refused in a query no record of a startup is left, and the next [`read`](Joy::read) synchronises
+    /// first. The picture stays. After one whose open was refused all is as before.
     ///
     /// Only the open may meet want of memory. What the calls leave, and where the client then stands, is as after the
     /// reader's start.
@@ -120,18 +121,19 @@ impl Joy {
     /// | `Full` | the history is as long as it may be |
     /// | `More` | at least 64 steps of this read were accepted, no record of a startup is left, and a turn gave none of the others |
     ///
-    /// An autorepeat gives no record. Where events were lost (SYN_DROPPED) the reader synchronises, without handing out what
-    /// it synthesised, and a startup begins; this belongs to the same turn. Where the synchronisation is answered `NoDevice`,
-    /// `Closed` or `Full`, so is the read, and the next one tries it again. But for `Record`, `out` stays.
+    /// An autorepeat gives no record. Where events were lost (SYN_DROPPED) the reader synchronises, without handing out
+    /// what it synthesised, and a startup begins; this belongs to the same turn. Where the synchronisation is answered
+    /// `NoDevice`, `Closed` or `Full`, so is the read, and the next one tries it again. But for `Record`, `out` stays.
     ///
-    /// It takes no memory. The calls are a legal run of the history that is seen afterwards; what was seen before and the
-    /// device stay, the own places of the device's caller grow by theirs, and its count of answers Again rises by one at
-    /// `Again` alone. A client that stood at the end of what was seen before stands at the end of what is seen afterwards, if
-    /// nobody else used it in between. Where it answers `Frame`, its picture is then the device's at the end of that frame, if
-    /// the client could follow the device up to there.
+    /// It takes no memory. The calls are a legal run of the history that is seen afterwards. What was seen before and
+    /// the device stay, and the own places of the device's caller grow by theirs. Its count of answers Again rises by
+    /// one at `Again` alone. A client that stood at the end of what was seen before stands at the end of what is seen
+    /// afterwards, if nobody else used it in between. Where it answers `Frame`, its picture is then the device's at the
+    /// end of that frame, if the client could follow the device up to there.
     ///
-    /// A loop over `read` that ends after so many records, and at any answer but `Record`, `Frame` and `More`, ends, since a
-    /// read that answers `Frame` or `More` leaves the reader less to do than before (a number, its effort).
+    /// A loop over `read` is finite where it stops after so many records, and at any answer but `Record`, `Frame` and
+    /// `More`. For a read that answers `Frame` or `More` leaves the reader less to do than before (a number, its
+    /// effort).
     pub fn read<E: Evdev>(&mut self, dev: &mut E, out: &mut [u8; 8]) -> JoyRead
         requires description { (E.told dev.old).description ≡ self.old.description }
         ensures says { IsJoyRead (E.told dev.old) (E.told dev.new)
@@ -154,8 +156,8 @@ impl Joy {
         self.state.read(dev, out)
     }
 
-    /// How the buttons and axes stand, as the records since the last startup began tell. What is left of a startup leads
-    /// the picture to the buttons and cut axes of what the client has seen, and after the startup it shows them.
+    /// How the buttons and axes stand, as the records since the last startup began tell. What is left of a startup
+    /// leads the picture to the buttons and cut axes of what the client has seen, and after the startup it shows them.
     pub fn picture(&self) -> &Picture
         ensures picture { seen_as result.now ≡ self.now.joying.picture }
         ensures pictured { IsPictured self.now.description self.now.joying }

@@ -429,7 +429,7 @@ impl JoyState {
         }
     }
 
-    // A startup begins where the reader opened a client; where its queries were refused in part none is left.
+    // A startup begins where the reader opened a client; where its queries were refused in part no record is left.
     fn after_start(&mut self, started: Started)
         requires state { IsJoyState self.old.reader.description self.old }
         ensures joying { kept_joying self.new

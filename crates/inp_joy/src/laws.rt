@@ -4,10 +4,10 @@ ghost use Rattle.inp_joy.specs.Laws.{StartupIsWhole, StartupIsShort, StartupLead
 
 /// The laws of what a joystick client's records tell.
 ///
-/// A startup has a record of each button and axis, at most 113. It leads a blank picture to the buttons and cut axes of the
-/// view that it is made from. From there on the record of each event, where it gives one, leads the picture to those of the
-/// view after the event; where it gives none they are the same. Where a view is the device's state, its buttons and cut
-/// axes are the device's. The bytes of a record tell it.
+/// A startup has a record of each button and axis, at most 113. It leads a blank picture to the buttons and cut axes of
+/// the view that it is made from. From there on the record of each event, where it gives one, leads the picture to
+/// those of the view after the event. Where it gives no record they are the same. Where a view is the device's state,
+/// its buttons and cut axes are the device's. The bytes of a record tell it.
 pub fn pictures()
     ensures whole { StartupIsWhole }
     ensures short { StartupIsShort }

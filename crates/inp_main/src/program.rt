@@ -13,9 +13,10 @@ use std::process::ExitCode;
 use std::sync::Wait;
 use std::thread::Threads;
 
-/// Calls `inputplay` with the words behind the program's name, and ends with the status of its end.
+/// Calls `inputplay` with the words after the program's name, and ends with the status of its end.
 ///
-/// The arguments are those of the process, the program's name first. Where there are none there are no words.
+/// The arguments are those of the process, the program's name first. Where the process has no arguments there are no
+/// words.
 pub fn run<R: Threads + Wait + Sync, I: Input, O: Sink, G: Gate>(
     rt: &R,
     alloc: Global,
@@ -33,7 +34,7 @@ pub fn run<R: Threads + Wait + Sync, I: Input, O: Sink, G: Gate>(
     ExitCode::from(end.status)
 }
 
-/// The arguments behind the program's name.
+/// The arguments after the program's name.
 fn words(args: &[String]) -> &[String]
     ensures behind_the_name { result.now ≡ drop 1 args.now }
 {

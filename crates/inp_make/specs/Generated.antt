@@ -40,7 +40,8 @@ pad = built pad_gathered
 abbrev pub devices : List DeviceText
 devices = record { name = codes "pad"; caps = pad; requested = false } ∷ []
 
--- The actors, with their numbers: a source, and three clients that read after each frame, after each tenth, and at the end.
+-- The actors, with their numbers: a source, and three clients that read after each frame, after each tenth,
+-- and at the end.
 abbrev pub finger : ℕ
 finger = 0
 

@@ -6,7 +6,7 @@ use Rattle.inp_model.specs.Event.{is_report, core_report}
 use Rattle.inp_model.specs.RawItem.{RawItem, Occurred, Described, Cut}
 use Rattle.inp_model.specs.Passed.{passed, announced}
 
--- more items behind others: they come to stand in front, one after another
+-- more items after others: they come to stand in front, one after another
 abbrev pub raw_after : List RawItem → List RawItem → List RawItem
 raw_after r [] = r
 raw_after r (x ∷ xs) = raw_after (x ∷ r) xs
@@ -20,7 +20,7 @@ pending d (Occurred e ∷ r) =
     let batch = pending d r ++ passed d r e in
     if is_report e then [] else if nat_le d.hint (length batch) then [] else batch
 
--- The events of the frame that e ends after the items r, if it ends one: a report alone is no frame, and a
+-- The events of the frame that e ends after the items r, if it ends one. A report alone is no frame, and a
 -- full batch gets a report of its own.
 abbrev pub cut_events : Description → List RawItem → Event → Option (List Event)
 cut_events d r e =
@@ -38,7 +38,7 @@ abbrev pub cut_for : Description → List RawItem → RawItem → List Cut
 cut_for d r (Occurred e) = cut d r e
 cut_for d r (Described axis i) = []
 
--- the frames that items end one after another, behind the items r
+-- the frames that items end one after another, after the items r
 unfoldable pub cuts : Description → List RawItem → List RawItem → List Cut
 cuts d r [] = []
 cuts d r (x ∷ xs) = cut_for d r x ++ cuts d (x ∷ r) xs

@@ -6,8 +6,9 @@ use Rattle.std.specs.Ordering.{int_eq}
 abbrev pub is_within : ℤ → ℤ → ℤ → Bool
 is_within distance old value = int_lt (old -ℤ distance) value && int_lt value (old +ℤ distance)
 
--- The value that an axis takes in place of `value`: within half the fuzz it stays, within the fuzz it goes a quarter
--- of the way, within twice the fuzz half of the way, and else the whole way. Division truncates toward zero.
+-- The value that an axis takes in place of `value`. Within half the fuzz it stays, within the fuzz it goes a
+-- quarter of the way, within twice the fuzz half of the way, and else the whole way. Division truncates
+-- toward zero.
 abbrev pub defuzz : ℤ → ℤ → ℤ → ℤ
 defuzz value old fuzz =
     if int_eq fuzz (pos 0) then value

@@ -5,7 +5,8 @@ use Rattle.inp_model.specs.declared.step.Step.{Step}
 use Rattle.inp_model.specs.Description.{Description}
 use Rattle.inp_model.specs.Evdev.{EvdevView}
 
--- its description, which never changes, the steps that it accepted, newest first, and how many calls were answered Again
+-- its description, which never changes, the steps that it accepted, newest first, and how many calls were
+-- answered Again
 pub record DeviceView : Type 0 where
   pub description : Description
   pub past : List Step

@@ -52,8 +52,8 @@ TurnsStand None after = Unit {0}
 TurnsStand (Some m) None = ⊥
 TurnsStand (Some m) (Some n) = m ≤ n
 
--- What a call with its answer leaves of what is told. Many events may be injected under one turn, so turns need not rise
--- at each of these.
+-- What a call with its answer leaves of what is told. Many events may be injected under one turn, so turns
+-- need not rise at each of these.
 pub record IsCall (before after : EvdevView) (call : Call) : Type 0 where
   pub description : after.description ≡ before.description
   pub tie : after.tie ≡ before.tie

@@ -34,11 +34,11 @@ is_multi_touch e = nat_eq e.kind EV_ABS && is_multi_touch_code e.code
 abbrev pub is_slot_value : Event → Bool
 is_slot_value e = nat_eq e.kind EV_ABS && is_slot_code e.code
 
--- it says which slot the values behind it belong to (docs/RULES.md, "Multi-touch slots")
+-- it says which slot the values after it belong to (docs/RULES.md, "Multi-touch slots")
 abbrev pub slot_event : ℤ → Event
 slot_event slot = record { kind = EV_ABS; code = ABS_MT_SLOT; value = slot }
 
--- a report that the core adds itself, as behind a batch that is full (docs/RULES.md, "Frames")
+-- a report that the core adds itself, as after a batch that is full (docs/RULES.md, "Frames")
 abbrev pub core_report : Event
 core_report = record { kind = EV_SYN; code = SYN_REPORT; value = pos 1 }
 

@@ -1,5 +1,5 @@
--- What a filter eats of the events that it is given, and what filters in a row do (docs/RULES.md, "Filters"). No filter is
--- given an event of EV_SYN, which is never eaten.
+-- What a filter eats of the events that it is given, and what filters in a row do (docs/RULES.md, "Filters").
+-- No filter is given an event of EV_SYN, which is never eaten.
 use Rattle.std.specs.Prelude.{ℕ, ◌+◌, Bool, false, ◌&&◌, ◌||◌, not, if◌then◌else◌, nat_eq, nat_lt, nat_le, List, [], ◌∷◌, Option, Some, None}
 use Rattle.inp_model.specs.declared.event.TheConstants.{EV_SYN, EV_KEY}
 use Rattle.inp_model.specs.declared.event.Event.{Event}
@@ -43,7 +43,7 @@ pub record Press : Type 0 where
   pub moment : ℕ
   pub before : List Given
 
--- the last press of a key, if no release of the key stands behind it
+-- the last press of a key, if no release of the key stands after it
 unfoldable pub last_press : ℕ → List Given → Option Press
 last_press code [] = None
 last_press code (g ∷ before) =
@@ -52,8 +52,8 @@ last_press code (g ∷ before) =
     else if is_on_key code g.event && is_release g.event then None
     else earlier
 
--- The press of an event on a key, behind what the filter was given before: the event itself where it is one, else the
--- last press, if no release stands between.
+-- The press of an event on a key, after what the filter was given before. It is the event itself where that
+-- is a press, else the last press, if no release stands between.
 abbrev pub press_of : ℕ → Timed → List Given → Option Press
 press_of code x before =
     if is_press x.event then Some (record { moment = x.moment; before = before }) else last_press code before
@@ -63,8 +63,8 @@ abbrev pub is_there_and : (Press → Bool) → Option Press → Bool
 is_there_and test None = false
 is_there_and test (Some press) = test press
 
--- An event on this key whose press is there and passes the test: so the holds of the key whose press passes it are eaten
--- whole, from the press over its autorepeats to the release.
+-- An event on this key whose press is there and passes the test. So the holds of the key whose press passes
+-- it are eaten whole, from the press over its autorepeats to the release.
 abbrev pub is_in_hold : ℕ → (Press → Bool) → Timed → List Given → Bool
 is_in_hold code test x before = is_on_key code x.event && is_there_and test (press_of code x before)
 
@@ -82,8 +82,8 @@ last_release code (g ∷ before) =
     let earlier = last_release code before in
     if is_on_key code g.event && (is_release g.event && not g.eaten) then Some g.moment else earlier
 
--- A moment is that of a release or less than so many microseconds behind it. Where moments fall it may be before the
--- release, and is not soon then.
+-- A moment is that of a release or less than so many microseconds after it. Where moments fall it may be
+-- before the release, and is not soon then.
 abbrev pub is_soon : ℕ → Option ℕ → ℕ → Bool
 is_soon micros None moment = false
 is_soon micros (Some release) moment = nat_le release moment && nat_lt moment (release + micros)
@@ -96,7 +96,7 @@ is_chorded first press = is_down first press.before
 abbrev pub is_bounced : ℕ → ℕ → Press → Bool
 is_bounced code micros press = is_soon micros (last_release code press.before) press.moment
 
--- whether a filter eats an event, behind what it was given before
+-- whether a filter eats an event, after what it was given before
 abbrev pub eats : Filter → Timed → List Given → Bool
 eats (Eat kind code) x before = nat_eq x.event.kind kind && nat_eq x.event.code code
 eats Norepeat x before = nat_eq x.event.kind EV_KEY && is_repeat x.event
@@ -121,8 +121,8 @@ left_by f (x ∷ before) =
     let rest = left_by f before in
     if eats f x (given_all f before) then rest else x ∷ rest
 
--- One of the filters in a row eats the event, behind the events that the first one was given before. Each filter is
--- given what the one before it did not eat.
+-- One of the filters in a row eats the event, after the events that the first one was given before. Each
+-- filter is given what the one before it did not eat.
 unfoldable pub is_eaten : List Filter → Timed → List Timed → Bool
 is_eaten [] x before = false
 is_eaten (f ∷ fs) x before = eats f x (given_all f before) || is_eaten fs x (left_by f before)

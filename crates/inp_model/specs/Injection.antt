@@ -23,7 +23,7 @@ AreInTime events = (i : ℕ) (s : Stamped) → slice_get events i ≡ Some s →
 abbrev pub inject_of : Stamped → Step
 inject_of stamped = Inject stamped.event stamped.now
 
--- how many of these events are entered behind a history of this length: no more than the log limit leaves
+-- how many of these events are entered after a history of this length: no more than the log limit leaves
 abbrev pub entered_count : Description → ℕ → List Stamped → ℕ
 entered_count d from events = min (length events) (d.log_limit - from)
 
@@ -53,12 +53,13 @@ pub record IsInjectAll (before after : EvdevView) (events : List Stamped) (injec
 abbrev pub entered_call : ℕ → Stamped → Call
 entered_call at stamped = record { step = inject_of stamped; answer = alone (Done at) }
 
--- the call for an event that is refused behind a history of this length, since that is the limit
+-- the call for an event that is refused after a history of this length, since that is the limit
 abbrev pub full_call : ℕ → Stamped → Call
 full_call limit stamped = record { step = inject_of stamped; answer = alone (Refused limit LogFull) }
 
--- The calls that it is, behind a history of length from: each event that is entered is a call with its place; the first
--- one for which there is no room is a call that is refused for the limit; and those behind it are no calls.
+-- The calls that it is, after a history of length from. Each event that is entered is a call with its place.
+-- The first one for which there is no room is a call that is refused for the limit, and those after it are no
+-- calls.
 abbrev pub calls_of : ℕ → ℕ → List Stamped → List Call
 calls_of limit from [] = []
 calls_of limit from (stamped ∷ events) =

@@ -19,9 +19,9 @@ abbrev pub agains_after_calls : List Call → ℕ → ℕ
 agains_after_calls [] n = n
 agains_after_calls (call ∷ calls) n = agains_after_calls calls (agains_after call.answer.reply n)
 
--- What these calls leave: the device is the same, and the tie; what was seen before is still there; the caller's own
--- places grow by theirs, in order; answers Again are counted; the calls are a legal run of what is seen afterwards, from
--- what was seen before on; and what is seen stays a history of accepted steps.
+-- What these calls leave. The device is the same, and the tie, and what was seen before is still there. The
+-- caller's own places grow by theirs, in order, and answers Again are counted. The calls are a legal run of
+-- what is seen afterwards, from what was seen before on, and what is seen stays a history of accepted steps.
 pub record Leaves (before after : EvdevView) (calls : List Call) : Type 0 where
   pub description : after.description ≡ before.description
   pub tie : after.tie ≡ before.tie

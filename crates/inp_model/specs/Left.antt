@@ -36,7 +36,8 @@ ends_later f g = nat_lt (length g.cut.until) (length f.cut.until)
 abbrev pub given_before : Description → Frame → List Timed
 given_before d f = given_by (filter (ends_later f) (frames_of_step d f.before f.step)) (given_in d f.before)
 
--- a filter eats the event with this index of a frame that ends at this moment, behind what the first one was given before
+-- a filter eats the event with this index of a frame that ends at this moment, after what the first one was
+-- given before
 abbrev pub eaten_from : List Filter → ℕ → List Timed → List Event → ℕ → Bool
 eaten_from fs moment before [] k = false
 eaten_from fs moment before (e ∷ es) zero = is_eaten fs (timed moment e) before

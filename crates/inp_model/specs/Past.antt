@@ -1,5 +1,5 @@
--- What a history says of clients, their clocks and masks, the grab, the inhibition, the sources and descriptions of axes. Here a history is
--- written newest first, and is called a past.
+-- What a history says of clients, their clocks and masks, the grab, the inhibition, the sources and
+-- descriptions of axes. Here a history is written newest first, and is called a past.
 use Rattle.std.specs.Prelude.{ℕ, suc, Bool, true, false, ◌&&◌, ◌||◌, not, if◌then◌else◌, nat_eq, nat_le, List, [], ◌∷◌, take, reverse, filter, Option, Some, None, is_some, unwrap_or}
 use Rattle.std.specs.List.{range_with_len}
 use Rattle.inp_model.specs.declared.event.TheConstants.{EV_SYN, EV_KEY, EV_SW, EV_LED, EV_SND, EV_REP}

@@ -69,7 +69,8 @@ events_after d past (Tick now) before = if fires d past before now then repeat_o
 events_after d past (Inhibit now) before = if is_inhibited past then [] else releases d before.raw
 events_after d past _ before = []
 
--- the items that a step stands for, oldest first: its raw events, or a description (docs/RULES.md, "Axes described anew")
+-- the items that a step stands for, oldest first: its raw events, or a description (docs/RULES.md, "Axes
+-- described anew")
 abbrev pub items_after : Description → List Step → Step → RawAndTimer → List RawItem
 items_after d past (SetAxis client code axis) before = Described code axis ∷ []
 items_after d past x before = map Occurred (events_after d past x before)

@@ -1,5 +1,5 @@
--- What the device's core is given, item by item: raw events and descriptions of axes; and the frames that its events are
--- cut into (docs/RULES.md, "Frames" and "Axes described anew").
+-- What the device's core is given, item by item: raw events and descriptions of axes. And the frames that its
+-- events are cut into (docs/RULES.md, "Frames" and "Axes described anew").
 use Rattle.std.specs.Prelude.{ℕ, Bool, true, false, List}
 use Rattle.inp_model.specs.declared.event.Event.{Event}
 use Rattle.inp_model.specs.declared.axis_info.AxisInfo.{AxisInfo}

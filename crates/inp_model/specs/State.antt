@@ -1,5 +1,5 @@
--- The state of a device after raw events and descriptions of axes, newest first: of each key, switch and the like by the last write on it
--- (docs/RULES.md, "What is passed").
+-- The state of a device after raw events and descriptions of axes, newest first. That of each key, switch and
+-- the like is by the last write on it (docs/RULES.md, "What is passed").
 use Rattle.std.specs.Prelude.{ℕ, ℤ, pos, negsuc, int_lt, Bool, false, ◌&&◌, not, if◌then◌else◌, nat_eq, List, [], ◌∷◌}
 use Rattle.std.specs.Ordering.{int_eq}
 use Rattle.inp_model.specs.declared.event.TheConstants.{EV_KEY, EV_ABS, EV_SW, EV_LED, EV_SND, EV_REP, REP_DELAY}
@@ -54,8 +54,8 @@ axis_info d [] code = info d code
 axis_info d (Described axis i ∷ r) code = let before = axis_info d r code in if nat_eq axis code then i else before
 axis_info d (Occurred e ∷ r) code = axis_info d r code
 
--- An axis begins at the value of its last description. Each event on it since moves it as far as that description's fuzz
--- allows. A multi-touch axis stays: its values belong to slots.
+-- An axis begins at the value of its last description. Each event on it since moves it as far as that
+-- description's fuzz allows. A multi-touch axis stays: its values belong to slots.
 unfoldable pub axis_value : Description → List RawItem → ℕ → ℤ
 axis_value d [] code = (info d code).value
 axis_value d (Described axis i ∷ r) code = let before = axis_value d r code in if nat_eq axis code then i.value else before
@@ -80,8 +80,9 @@ staged d (Occurred e ∷ r) =
 abbrev pub first_cell : ℕ → ℤ
 first_cell code = if nat_eq code ABS_MT_TRACKING_ID then negsuc 0 else pos 0
 
--- Of a device with slots each slot has a value of its own of each multi-touch axis. An event on the axis moves the value
--- of the slot that is staged, as far as the axis's fuzz allows (docs/RULES.md, "Multi-touch slots").
+-- Of a device with slots each slot has a value of its own of each multi-touch axis. An event on the axis
+-- moves the value of the slot that is staged, as far as the axis's fuzz allows (docs/RULES.md, "Multi-touch
+-- slots").
 unfoldable pub cell : Description → List RawItem → ℤ → ℕ → ℤ
 cell d [] slot code = first_cell code
 cell d (Described axis i ∷ r) slot code = cell d r slot code

@@ -1,5 +1,5 @@
--- A step read on its own. A new step decides in `client_of` and `moment_of`, which have a row for each; in the other
--- tests and selectors a step that has no row says nothing.
+-- A step read on its own. A new step decides in `client_of` and `moment_of`, which have a row for each. In
+-- the other tests and selectors a step that has no row says nothing.
 use Rattle.std.specs.Prelude.{◌==◌, ℕ, ◌/◌, ◌%◌, Bool, true, false, ◌&&◌, if◌then◌else◌, nat_eq, Option, Some, None}
 use Rattle.std.specs.Int.{bit_at}
 use Rattle.inp_model.specs.declared.event.TheConstants.{EV_KEY, EV_SW, EV_LED, EV_SND}
@@ -35,7 +35,7 @@ client_of (Inhibit now) = None
 client_of Uninhibit = None
 client_of End = None
 
--- the moment of a step, 0 where it has none (docs/RULES.md, "Places and moments")
+-- the moment of a step, 0 where it has no moment (docs/RULES.md, "Places and moments")
 abbrev pub moment_of : Step → ℕ
 moment_of (Inject e now) = now
 moment_of (Tick now) = now

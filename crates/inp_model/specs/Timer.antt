@@ -32,8 +32,8 @@ timer_disarmed timer = record timer { due = None }
 abbrev pub setting : Description → List RawItem → ℕ → ℕ
 setting d r code = 1000 * unsigned_abs (repeat_setting d r code)
 
--- A key event of a frame that ended at this moment: a release disarms the timer, and a press arms it for its key, where
--- neither delay nor period is 0.
+-- A key event of a frame that ended at this moment. A release disarms the timer, and a press arms it for its
+-- key, where neither delay nor period is 0.
 abbrev pub timer_at_key : ℕ → ℕ → ℕ → Event → Timer → Timer
 timer_at_key now delay period e timer =
     if not (is_set e) then timer_disarmed timer

@@ -14,8 +14,8 @@ use crate::{Injected, Reply, Stamped, Step, Taken};
 /// Every caller sees one history. A call leaves what was seen before as it is; between two calls other callers may have
 /// made steps. Each reply is the one-thread device's after the history before its place.
 pub trait Evdev {
-    /// What the caller sees: the description, the history seen, the places of its own steps, the count of answers Again,
-    /// and, where told, turns and a tie.
+    /// What the caller sees: the description, the history seen, the places of its own steps, the count of answers
+    /// Again, and, where told, turns and a tie.
     ghost told: { Self → EvdevView };
 
     /// Makes one step. What it writes stands at the front of `out` and of `cells`, and the rest of both stays.
@@ -28,9 +28,9 @@ pub trait Evdev {
         ensures called { IsEvdevCall
             (told self.old) (told self.new) step result out.old out.new cells.old cells.new };
 
-    /// Injects events, each at its own moment, up to the first for which the log limit leaves no room. They stand in the
-    /// history one after another, with nothing between. To the caller each one is a call, and so is the first one that is
-    /// left out, if one is: it is refused as `LogFull`, and those after it are no calls.
+    /// Injects events, each at its own moment, up to the first for which the log limit leaves no room. They stand in
+    /// the history one after another, with nothing between. To the caller each one is a call, and so is the first one
+    /// that is left out, if one is. It is refused as `LogFull`, and those after it are no calls.
     ///
     /// It takes no memory. Where the caller is told its turns they rise, also for no events.
     ///

@@ -163,7 +163,7 @@ impl Event {
         self.kind == EV_ABS && is_multi_touch_code(self.code)
     }
 
-    /// The event that says which slot the multi-touch values behind it belong to (multi-touch protocol B).
+    /// The event that says which slot the multi-touch values after it belong to (multi-touch protocol B).
     pub fn of_slot(slot: i32) -> Event
         ensures slot { result ≡ slot_event slot }
     {

@@ -1,7 +1,7 @@
 //! What a filter does.
 
 /// A filter of a device: which events it keeps from the device's clients (the kernel's input handlers with a `filter`
-/// function; the four kinds are this project's choice).
+/// function). The four kinds are this project's choice.
 ///
 /// A hold of a key goes from a press (a value other than 0 and 2) over its autorepeats (2) to its release (0).
 #[derive(Clone, Copy, Debug, PartialEq, Eq)]

@@ -1,4 +1,4 @@
-//! What came of many events that one call injected.
+//! The result of many events that one call injected.
 
 /// How many events a call entered, and from which place on.
 ///

@@ -1,24 +1,24 @@
 //! What an input device is and does, as data and definitions.
 //!
-//! This crate is for everybody: it has the types that the other crates pass to one another (events, steps,
-//! replies, histories), and in `specs/` the one-thread device as definitions over a list of steps. It stands on
-//! `std` alone.
+//! This crate is for everybody. It has the types that the other crates pass to one another (events, steps, replies,
+//! histories). In `specs/` it has the one-thread device as definitions over a list of steps. It depends on `std` alone.
 //!
 //! Its definitions are what a reader must believe. `Description` says what a device is, and which descriptions there
 //! are. A history is a list of accepted steps; `Step` reads one step, and `Past` what a history says of its clients.
-//! From the history and the description alone follow the raw events and descriptions of axes (`Raw`), the state by the
-//! last write (`State`: keys and the like, axes, and the slots of multi-touch devices, with `Defuzz` for axes and
-//! slots), the events passed (`Passed`), the frames that they are cut into (`Cut`, `Frame`), what filters leave of them
-//! (`Filter`, `Left`), each client's queue (`Queue`) and the reply to the next step (`Reply`). `Run` says when a
-//! caller's calls are a legal run of a history, and `Evdev` what one call of whatever makes steps leaves of what its
-//! caller sees, with `Leaves` for several and `Injecting` for a call that injects many events. A call that injects many
-//! events is calls one by one, up to the first that the limit refuses (`injected_events_are_calls`).
+//! All else follows from the history and the description alone. First come the raw events and descriptions of axes
+//! (`Raw`), and the state by the last write (`State`, with `Defuzz` for axes and slots). That is of keys and the like,
+//! of axes, and of the slots of multi-touch devices. Then come the events passed (`Passed`), the frames that they are
+//! cut into (`Cut`, `Frame`), and what filters leave of them (`Filter`, `Left`). Last come each client's queue
+//! (`Queue`) and the reply to the next step (`Reply`). `Run` says when a caller's calls are a legal run of a history.
+//! `Evdev` says what one call of whatever makes steps leaves of what its caller sees, with `Leaves` for several and
+//! `Injecting` for a call that injects many events. A call that injects many events is calls one by one, up to the
+//! first that the limit refuses (`injected_events_are_calls`).
 //!
-//! What the definitions compute on short histories: `examples`, `query_examples`, `slot_examples`, `client_examples`,
-//! `repeat_examples` and `axis_examples` have full rings, full batches, open batches, slots, queries, masks, grabs,
-//! clocks, revocation, autorepeat, inhibition and axes described anew among them. `filter_examples` has what clients
-//! read behind each kind of filter, behind two in a row and under a grab, and `injecting_examples` where many events
-//! are entered that one call injects.
+//! What the definitions compute on short histories is in `examples`, `query_examples`, `slot_examples`,
+//! `client_examples`, `repeat_examples` and `axis_examples`. Full rings, full batches, open batches, slots, queries,
+//! masks, grabs, clocks, revocation, autorepeat, inhibition and axes described anew are among them. `filter_examples`
+//! has what clients read behind each kind of filter, behind two in a row and under a grab. `injecting_examples` has
+//! where many events are entered that one call injects.
 //!
 //! Of the data types, `Items`, `Event`, `Step` and `Reply`, each call answers what its definition says. A push adds one
 //! item at the end, or nothing where memory ran out.

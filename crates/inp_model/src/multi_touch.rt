@@ -1,11 +1,11 @@
 //! The numbers of the multi-touch axes (the kernel's input event codes, and its multi-touch protocol B).
 //!
-//! A device with slots follows several contacts at once. `ABS_MT_SLOT` names a slot, and the values behind it belong to
+//! A device with slots follows several contacts at once. `ABS_MT_SLOT` names a slot, and the values after it belong to
 //! the contact in that slot.
 ghost use Rattle.std.specs.Prelude.{◌≡◌};
 ghost use Rattle.inp_model.specs.Description.{is_multi_touch_code, is_slot_code};
 
-/// The axis that names the slot of the values behind it (the kernel's multi-touch protocol).
+/// The axis that names the slot of the values after it (the kernel's multi-touch protocol).
 pub const ABS_MT_SLOT: u16 = 0x2f;
 
 const _: () = prove!(ABS_MT_SLOT == 47);

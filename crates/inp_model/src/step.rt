@@ -88,7 +88,7 @@ pub enum Step {
         client: u32,
     },
     /// A client says which events it admits: 64 bits of its mask of types (`kind` 0), or of its mask of a type's codes
-    /// (evdev's `EVIOCSMASK`; that a step sets one word is this project's choice).
+    /// (evdev's `EVIOCSMASK`). That a step sets one word is this project's choice.
     Mask {
         client: u32,
         kind: u16,

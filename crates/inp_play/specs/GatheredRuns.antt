@@ -1,4 +1,4 @@
--- What came of devices, gathered actor by actor.
+-- The results of devices, gathered actor by actor.
 use Rattle.std.specs.Prelude.{◌≡◌, ℕ, List, [], ◌∷◌, ◌++◌, reverse, slice_get, slice_set, Some}
 use Rattle.inp_feedback.specs.UEntry.{steps_in}
 use Rattle.inp_script.specs.declared.end.ended.Ended.{Ended}
@@ -9,7 +9,7 @@ use Rattle.inp_uinput.specs.UdevView.{UdevView}
 abbrev pub first_ends : UdevView → DeviceEnds
 first_ends device = record { history = reverse (steps_in device.kept); ends = [] }
 
--- with what came of one actor more
+-- with the result of one actor more
 abbrev pub with_end : DeviceEnds → Ended → DeviceEnds
 with_end device end = record device { ends = device.ends ++ end ∷ [] }
 

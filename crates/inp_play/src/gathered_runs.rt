@@ -1,4 +1,4 @@
-//! What came of devices, gathered actor by actor.
+//! The results of devices, gathered actor by actor.
 ghost use Rattle.std.specs.Prelude.{◌≡◌, ◌<◌, length, map, OnOk, IfOk};
 ghost use Rattle.inp_play.specs.GatheredRuns.{first_ends, HasEndMore};
 
@@ -7,7 +7,7 @@ use inp_script::{DeviceEnds, Ended};
 use inp_uinput::Owned;
 use std::alloc::Global;
 
-// The histories of devices that no actor works on any more, as yet without what came of actors.
+// The histories of devices that no actor works on any more, as yet without the results of actors.
 pub(crate) fn histories(alloc: Global, devices: Vec<Owned>) -> Result<Vec<DeviceEnds>, NoMemory>
     ensures { IfOk result (λ gathered. gathered.items ≡ map first_ends devices.items) }
 {
@@ -21,7 +21,7 @@ pub(crate) fn histories(alloc: Global, devices: Vec<Owned>) -> Result<Vec<Device
     Ok(gathered)
 }
 
-// Adds what came of an actor at the end of those of the device of this number.
+// Adds the result of an actor at the end of those of the device of this number.
 pub(crate) fn push_end(
     gathered: &mut Vec<DeviceEnds>,
     device: usize,

@@ -9,11 +9,11 @@ use inp_model::NoMemory;
 use inp_script::Played;
 use std::alloc::Global;
 
-/// Does the lines of a record in file order, each by its actor on its device, and gives what came of the devices, of the
-/// joysticks and of the owners.
+/// Does the lines of a record in file order, each by its actor on its device, and gives the results of the devices, of
+/// the joysticks and of the owners.
 ///
-/// It takes the memory of each device's history and feedback calls, of the actors, and of what they see. `NoMemory` comes
-/// where there is none, and nothing is given then.
+/// It takes the memory of each device's history and feedback calls, of the actors, and of what they see. `NoMemory`
+/// comes where memory is short, and nothing is given then.
 pub fn play(alloc: Global, rec: &Record) -> Result<Played, NoMemory>
     ensures played { IfOk result (IsPlay rec.now) }
     ensures promised { IfOk result (ArePromised None rec.now) }

@@ -37,7 +37,7 @@ impl Player {
         })
     }
 
-    // Has its actor do the line of this number on its device, and where it injects an event, those behind it too that
+    // Has its actor do the line of this number on its device, and where it injects an event, those after it too that
     // inject one of the same actor. Says how many lines were done.
     pub(crate) fn lines(&mut self, rec: &Record, line: u32) -> Result<u32, NoMemory>
         requires player { IsPlayer rec.now self.old }
@@ -74,7 +74,7 @@ impl Player {
         actor.act(dev, rec, line, None)
     }
 
-    // What came of the devices and of the actors.
+    // The results of the devices and of the actors.
     pub(crate) fn finish(self, alloc: Global, rec: &Record) -> Result<Played, NoMemory>
         requires player { IsPlayer rec.now self }
         ensures played { IfOk result (λ played. played ≡

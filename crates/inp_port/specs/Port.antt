@@ -45,7 +45,7 @@ module _ {S E : Type 0} where
     IsCallBy made port before after x reply out new_out cells new_cells =
         (agains : ℕ) → IsEvdevCall (told_by made port before agains) (told_by made port after (agains_after reply agains)) x reply out new_out cells new_cells
 
-    -- the same of a call that injects events: answers Again are none of it
+    -- the same of a call that injects events: answers Again are not part of it
     abbrev pub IsInjectAllBy : (E → Option Step) → PortOf S E → Pass S Description E K → Pass S Description E K → List Stamped → Injected → Type 0
     IsInjectAllBy made port before after events injected =
         (agains : ℕ) → IsInjectAll (told_by made port before agains) (told_by made port after agains) events injected

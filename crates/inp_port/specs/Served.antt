@@ -21,8 +21,8 @@ module _ {E : Type 0} (made : E → Option Step) where
     -- the steps so far were accepted, each after those before it
     pub accepted : IsHistory d (past_of made entries)
 
-  -- Events were injected, as many of them as the log limit left room for. They are the last entries, and nothing else was
-  -- entered.
+  -- Events were injected, as many of them as the log limit left room for. They are the last entries, and
+  -- nothing else was entered.
   pub record IsServedAll (d : Description) (entries : List E) (events : List Stamped) (injected : Injected) (now : List E) : Type 0 where
     pub from : injected.from ≡ length (steps_among made entries)
     pub count : injected.count ≡ entered_count d injected.from events

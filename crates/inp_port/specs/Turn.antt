@@ -15,8 +15,8 @@ use Rattle.inp_port.specs.Entries.{steps_among, step_places, other_places}
 use Rattle.inp_port.specs.Served.{IsServed, IsServedAll}
 
 module _ {E : Type 0} (made : E → Option Step) where
-  -- One turn was taken for the step, and it was answered from the entries that the value had then. The pass has seen these
-  -- and the step where it was accepted, whose place is its own.
+  -- One turn was taken for the step, and it was answered from the entries that the value had then. The pass
+  -- has seen these and the step where it was accepted, whose place is its own.
   pub record IsServedTurn (d : Description) (before : PassView Description E) (x : Step) (reply : Reply) (out new_out : List Taken) (cells new_cells : List ℤ) (after : PassView Description E) : Type 0 where
     -- what the value had when the turn was taken
     pub found : List E
@@ -27,8 +27,8 @@ module _ {E : Type 0} (made : E → Option Step) where
     pub share : after.share ≡ before.share
     pub base : after.base ≡ before.base
 
-  -- One turn was taken for all events, also for none. The pass has seen what was found then and the entries of the events,
-  -- whose places are its own.
+  -- One turn was taken for all events, also for none. The pass has seen what was found then and the entries
+  -- of the events, whose places are its own.
   pub record IsServedAllTurn (d : Description) (before : PassView Description E) (events : List Stamped) (injected : Injected) (after : PassView Description E) : Type 0 where
     -- what the value had when the turn was taken
     pub found : List E
@@ -39,9 +39,9 @@ module _ {E : Type 0} (made : E → Option Step) where
     pub share : after.share ≡ before.share
     pub base : after.base ≡ before.base
 
-  -- what the caller of a shared device sees, by the view of its pass: the steps among the entries. The tie is the share,
-  -- which shared value it is, behind the count of the numbers that name it, and the places of the pass's own entries that
-  -- are no steps.
+  -- what the caller of a shared device sees, by the view of its pass: the steps among the entries. The tie is
+  -- the share, which shared value it is, and the places of the pass's own entries that are no steps. Which
+  -- shared value it is stands after the count of the numbers that name it.
   abbrev pub told_of : Description → List ℕ → PassView Description E → ℕ → EvdevView
   told_of d name v agains = record {
     description = d;

@@ -10,9 +10,9 @@ use std::sync::Wait;
 
 /// A port with a pass of it, and so an evdev: what one thread uses a shared device by. Another thread has another one.
 ///
-/// To a contract its history is the steps that the pass has seen, its places are the pass's own where a step stands, and its
-/// turns are the pass's: each call takes one. Its tie is the pass's share, which port it is, and those places of the pass's
-/// own where an entry stands that is no step.
+/// To a contract its history is the steps that the pass has seen, and its places are the pass's own where a step
+/// stands. Its turns are the pass's: each call takes one. Its tie is the pass's share, which port it is, and those
+/// places of the pass's own where an entry stands that is no step.
 #[derive(Drop)]
 pub struct PortClientOf<'a, S: Served, R: Wait> {
     /// The port.

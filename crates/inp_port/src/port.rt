@@ -18,8 +18,8 @@ use std::sync::Wait;
 
 /// A served value that several threads use, each by a pass of its own. Threads share the port by reference.
 ///
-/// A contract sees its description (`description_of` in `specs/Port.antt`), the value that it was made of (`start_value`), and
-/// which passes are its own and have no turn (`IsReadyAt`).
+/// A contract sees its description (`description_of` in `specs/Port.antt`), the value that it was made of
+/// (`start_value`), and which passes are its own and have no turn (`IsReadyAt`).
 #[derive(Drop)]
 pub struct PortOf<S: Served> {
     shared: Shared<S>,
@@ -67,8 +67,8 @@ impl<S: Served> PortOf<S> {
         &self.shared
     }
 
-    /// Splits a pass off another, for another thread. The new pass has seen the same and owns nothing; it gets one unit of
-    /// the share, and its turns are 0.
+    /// Splits a pass off another, for another thread. The new pass has seen the same and owns nothing; it gets one unit
+    /// of the share, and its turns are 0.
     ///
     /// The pass must be one of this port, without the turn, and have two units at least.
     pub fn split(&self, pass: &mut Pass<S>) -> Pass<S>
@@ -112,14 +112,14 @@ impl<S: Served> PortOf<S> {
         self.shared.close(pass)
     }
 
-    /// Takes the turn, makes one step and gives the turn back. The pass has then seen all that was entered before the step,
-    /// and the step where it was accepted; its place is then the pass's own.
+    /// Takes the turn, makes one step and gives the turn back. The pass has then seen all that was entered before the
+    /// step, and the step where it was accepted. Its place is then the pass's own.
     ///
-    /// It waits for the turn, and nothing says that it gets it. Under the turn it makes the step and no more: what others
-    /// wait for is one step of the device, whose cost does not grow with the history.
+    /// It waits for the turn, and nothing says that it gets it. Under the turn it makes the step and no more: what
+    /// others wait for is one step of the device, whose cost does not grow with the history.
     ///
-    /// The pass must be one of this port, without the turn. The moment must be at most `MOMENT_MAX`, `out` as long as the
-    /// count of a `Read`, and `cells` fourteen values a slot for `GetSlots` and `SyncSlots`.
+    /// The pass must be one of this port, without the turn. The moment must be at most `MOMENT_MAX`, `out` as long as
+    /// the count of a `Read`, and `cells` fourteen values a slot for `GetSlots` and `SyncSlots`.
     pub fn call<R: Wait>(
         &self,
         rt: &R,
@@ -153,12 +153,12 @@ impl<S: Served> PortOf<S> {
         reply
     }
 
-    /// Takes the turn once, injects events under it, each at its own moment, and gives the turn back. As many are entered as
-    /// the log limit leaves room for, one behind another, and their places are then the pass's own. The pass has then seen
-    /// all that was entered before them, and them. The turn is taken also for no events.
+    /// Takes the turn once, injects events under it, each at its own moment, and gives the turn back. As many are
+    /// entered as the log limit leaves room for, one after another, and their places are then the pass's own. The pass
+    /// has then seen all that was entered before them, and them. The turn is taken also for no events.
     ///
-    /// It waits for the turn, and nothing says that it gets it. Others wait for it while the events are injected, whose cost
-    /// grows with their number alone. It takes no memory.
+    /// It waits for the turn, and nothing says that it gets it. Others wait for it while the events are injected, whose
+    /// cost grows with their number alone. It takes no memory.
     ///
     /// The pass must be one of this port, without the turn. The moments must be at most `MOMENT_MAX`.
     pub fn inject_all<R: Wait>(&self, rt: &R, pass: &mut Pass<S>, events: &[Stamped]) -> Injected

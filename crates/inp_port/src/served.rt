@@ -11,8 +11,8 @@ use inp_caps::Caps;
 use inp_model::{Injected, Reply, Stamped, Step, Taken};
 use inp_turn::Kept;
 
-/// A kept value that makes the steps of a device. It stands on the description of one, and the steps that it accepted are
-/// among its entries, in order; there may be entries that are no steps.
+/// A kept value that makes the steps of a device. It is made for the description of one, and the steps that it accepted
+/// are among its entries, in order. There may be entries that are no steps.
 pub trait Served: Kept<Base = Caps> {
     /// The step that an entry is, if it is one.
     ghost made: { Self.Entry → Option Step };
@@ -21,8 +21,8 @@ pub trait Served: Kept<Base = Caps> {
     fn caps(&self) -> &Caps
         ensures description { result.now ≡ Self.base self.now };
 
-    /// Makes one step, and answers as the one-thread device does after the steps so far. An accepted step is entered, and
-    /// nothing else is. What it writes stands at the front of `out` and of `cells`, and the rest of both stays.
+    /// Makes one step, and answers as the one-thread device does after the steps so far. An accepted step is entered,
+    /// and nothing else is. What it writes stands at the front of `out` and of `cells`, and the rest of both stays.
     ///
     /// The moment must be at most `MOMENT_MAX`, `out` as long as the count of a `Read`, and `cells` fourteen values a
     /// slot for `GetSlots` and `SyncSlots`.
@@ -33,8 +33,8 @@ pub trait Served: Kept<Base = Caps> {
         ensures served { IsServed made (Self.base self.old) (Self.entries self.old) step result
             out.old out.new cells.old cells.new (Self.entries self.new) };
 
-    /// Injects events, each at its own moment, as many of them as the log limit leaves room for. These are entered in order,
-    /// and nothing else is. It takes no memory.
+    /// Injects events, each at its own moment, as many of them as the log limit leaves room for. These are entered in
+    /// order, and nothing else is. It takes no memory.
     ///
     /// The moments must be at most `MOMENT_MAX`.
     fn serve_all(&mut self, events: &[Stamped]) -> Injected

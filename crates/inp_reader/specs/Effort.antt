@@ -1,5 +1,5 @@
--- How much a reader may still do: the history takes only so many more steps, and each answer but Again takes an event or a
--- step from what is left. By this a caller's loop over `next` ends.
+-- How much a reader may still do: the history takes only so many more steps, and each answer but Again takes
+-- an event or a step from what is left. By this a caller's loop over `next` ends.
 use Rattle.std.specs.Prelude.{ℕ, suc, ◌+◌, ◌*◌, ◌-◌, ◌<◌, ◌≤◌, Bool, true, false, List, length}
 use Rattle.inp_model.specs.declared.event.Event.{Event}
 use Rattle.inp_model.specs.Description.{Description}

@@ -35,7 +35,7 @@ pub record Reading : Type 0 where
   -- what the device is, as far as the reader has handed it out
   pub view : View
   pub phase : Phase
-  -- the synthesised events that it has not handed out; there are none unless the phase is Handing
+  -- the synthesised events that it has not handed out; in another phase than Handing the list is empty
   pub left : List Event
 
 -- what a reader is seen as
@@ -56,7 +56,7 @@ with_sync_needed r = record r { phase = Needed; left = [] }
 unfoldable pub axes_among : Description → ℕ → ℕ → List ℕ
 axes_among d first count = filter (supports d EV_ABS) (range_with_len first count)
 
--- the axes with a value of their own, ascending: those before and those behind the axes of slots
+-- the axes with a value of their own, ascending: those before and those after the axes of slots
 abbrev pub plain_axes : Description → List ℕ
 plain_axes d = axes_among d 0 ABS_MT_SLOT ++ axes_among d (ABS_MT_TOOL_Y + 1) (ABS_MAX - ABS_MT_TOOL_Y)
 
@@ -145,7 +145,7 @@ read_talk r = read_or_hand_out r r.queue
 
 -- Handing out in one go what was read
 
--- the first events of a queue, at most so many, and none behind a loss
+-- the first events of a queue, at most so many, and none after a loss
 unfoldable pub first_run : ℕ → List Taken → List Taken
 first_run zero q = []
 first_run (suc most) [] = []
@@ -201,7 +201,7 @@ after_sync r (Err reply) = after_failed_sync r
 unfoldable pub sync_talk : Description → Reading → Talk (Result View Reply)
 sync_talk d r = ask_each (Discard r.client ∷ queries d r.client) r.view
 
--- how a call goes on behind a synchronisation: as in phase Handing, unless that was refused
+-- how a call goes on after a synchronisation: as in phase Handing, unless that was refused
 abbrev pub talk_after_sync : Mode → Reading → Result View Reply → Talk (Next × Reading)
 talk_after_sync mode r (Err reply) = finish (stop_of reply, after_failed_sync r)
 talk_after_sync Normal r (Ok view) = read_talk (as_plain (after_full_sync r view))

@@ -94,8 +94,8 @@ abbrev pub is_needed : Phase → Bool
 is_needed Needed = true
 is_needed _ = false
 
--- A reader stands at the end of a history of accepted steps, which is written newest first: its client was opened there,
--- and unless it is to synchronise it is in step.
+-- A reader stands at the end of a history of accepted steps, which is written newest first. Its client was
+-- opened there, and unless it is to synchronise it is in step.
 pub record StandsAt (d : Description) (past : List Step) (r : Reading) : Type 0 where
   pub history : IsHistory d past
   pub opened : r.client < opens past

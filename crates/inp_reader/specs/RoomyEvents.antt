@@ -14,7 +14,7 @@ pub record RoomyEvents : Type 0 where
 abbrev pub code_total : Description → ℕ → ℕ → ℕ
 code_total d kind count = length (where_below count (supports d kind))
 
--- No more events are synthesised on a device than so many: one for each key, LED, switch and axis that it has, 17 for each
--- slot, one for the current slot, and two reports.
+-- No more events are synthesised on a device than so many. They are one for each key, LED, switch and axis
+-- that it has, 17 for each slot, one for the current slot, and two reports.
 abbrev pub synthesised_most : Description → ℕ
 synthesised_most d = code_total d EV_KEY 768 + code_total d EV_LED 64 + code_total d EV_SW 64 + code_total d EV_ABS 64 + 3 + 17 * d.slots

@@ -32,9 +32,9 @@ pub record IsSession (d : Description) (told : EvdevView) (s : Session) : Type 0
 abbrev pub reader_view : Inside → ReaderView
 reader_view r = record { description = r.caps; reading = reading_of r.session; made = r.session.asker.made }
 
--- a reader's views and its buffer have as many cells as its devices, it has room for all events that it may synthesise, it
--- keeps few calls, its view keeps what its devices
--- cannot have as in a new view, and its description keeps its ranges
+-- A reader's views and its buffer have as many cells as its devices, and it has room for all events that it
+-- may synthesise. It keeps few calls, its view keeps what its devices cannot have as in a new view, and its
+-- description keeps its ranges.
 pub record IsReader (r : Inside) : Type 0 where
   pub view : length r.session.view.cells ≡ SLOT_VALUES * r.caps.slots
   pub asked : length r.session.asker.view.cells ≡ SLOT_VALUES * r.caps.slots

@@ -1,5 +1,5 @@
--- What a reader's view keeps of a new view: all that its device cannot have, and so never tells (docs/READER.md, "Where a
--- reader stands").
+-- What a reader's view keeps of a new view: all that its device cannot have, and so never tells
+-- (docs/READER.md, "Where a reader stands").
 use Rattle.std.specs.Prelude.{◌≡◌, ℕ, pos, Bool, true, false, ◌&&◌, if◌then◌else◌, nat_eq, nat_lt, replicate, slice_index_or}
 use Rattle.std.specs.List.{All}
 use Rattle.inp_model.specs.declared.event.TheConstants.{EV_SYN, EV_KEY, EV_ABS, EV_SW, EV_LED}
@@ -25,7 +25,8 @@ pub record IsSpare (d : Description) (v : View) : Type 0 where
   pub axes : (code : ℕ) → has_axis d code ≡ false → slice_index_or v.axes code (pos 0) ≡ pos 0
   pub slot : d.slots ≡ 0 → v.slot ≡ pos 0
 
--- an event that a client of the device can take: one that the device supports, and a slot's number only where it has any
+-- an event that a client of the device can take: one that the device supports, and a slot's number only where
+-- it has any
 abbrev pub is_event_of : Description → Event → Bool
 is_event_of d e =
     if nat_eq e.kind EV_SYN then true

@@ -13,8 +13,9 @@ use Rattle.inp_reader.specs.ReaderPlace.{calls_since, steps_of, taken_by_calls, 
 abbrev pub steps_since : Description → List Step → List Step
 steps_since d past = steps_of (calls_since d past 0)
 
--- A reader started, a key went down, and the reader handed out the first event of that frame. Its client asked for the
--- keys and read once; the rest of what it read is the reader's queue; the view is what both made.
+-- A reader started, a key went down, and the reader handed out the first event of that frame. Its client
+-- asked for the keys and read once. The rest of what it read is the reader's queue, and the view is what both
+-- made.
 abbrev pub FollowsItsClient : Type 0
 FollowsItsClient =
     let s = after_all one_key [] (stroke (pos 1) 0) (Normal ∷ []) in

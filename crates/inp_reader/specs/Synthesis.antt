@@ -15,7 +15,7 @@ use Rattle.inp_recon.specs.View.{view_after_events}
 abbrev pub where_below : ℕ → (ℕ → Bool) → List ℕ
 where_below bound test = filter test (range_with_len 0 bound)
 
--- the report behind a group of events, where there is any
+-- the report after a group of events, where there is any
 abbrev pub with_report : List Event → List Event
 with_report [] = []
 with_report (e ∷ es) = (e ∷ es) ++ record { kind = EV_SYN; code = SYN_REPORT; value = pos 0 } ∷ []
@@ -28,7 +28,7 @@ unless_same other event = if int_eq other.value event.value then [] else event �
 abbrev pub to_slot : ℤ → ℤ → List Event
 to_slot current slot = unless_same (slot_event current) (slot_event slot)
 
--- the events of each of these slots, each behind the event that makes it the current one
+-- the events of each of these slots, each after the event that makes it the current one
 abbrev pub in_slots : (ℕ → List Event) → List ℕ → ℤ → List Event
 in_slots events [] current = []
 in_slots events (slot ∷ slots) current = to_slot current (pos slot) ++ events slot ++ in_slots events slots (pos slot)
@@ -117,8 +117,8 @@ cell_changes old new = in_slots (changes_in old new) (where_below (slot_count ol
 abbrev pub slot_changes : View → View → List Event
 slot_changes old new = let events = cell_changes old new in events ++ to_slot (view_after_events old events).slot new.slot
 
--- The events that lead from the old view to the new one: the contacts that ended first, with a report behind them, and
--- then all that still differs, with a report.
+-- The events that lead from the old view to the new one. The contacts that ended come first, with a report
+-- after them, and then all that still differs, with a report.
 unfoldable pub synth : View → View → List Event
 synth old new =
     let ended = lifts old new in

@@ -26,7 +26,7 @@ LeadsTo (ask x rest) (call ∷ calls) left = (call.step ≡ x) × LeadsTo (rest 
 abbrev pub EndsWith : {A : Type 0} → Talk A → List Call → A → Type 0
 EndsWith talk calls result = LeadsTo talk calls (finish result)
 
--- a talk with the one-thread device after this past: its result, and the past behind it
+-- a talk with the one-thread device after this past: its result, and the past after it
 unfoldable pub talk_with : {A : Type 0} → Description → List Step → Talk A → A × List Step
 talk_with d past (finish a) = (a, past)
 talk_with d past (ask x rest) = talk_with d (past_after (answer d past x).reply x past) (rest (answer d past x))

@@ -18,8 +18,8 @@ use Rattle.inp_reader.specs.Reader.{Reading, ReaderView}
 abbrev pub index_handed_out : Description → List Step → Reading → ℕ
 index_handed_out d past r = length (took d past r.client) - (length r.queue + 1)
 
--- The event is one that the client took. Where it is the report of a frame up to which the client could follow the device,
--- the view is the device's state at the frame's end.
+-- The event is one that the client took. Where it is the report of a frame up to which the client could
+-- follow the device, the view is the device's state at the frame's end.
 pub record ShowsTheDevice (d : Description) (past : List Step) (r : Reading) (taken : Taken) : Type 0 where
   pub at : ReadEntry
   pub is_at : slice_get (read_entries d past r.client) (index_handed_out d past r) ≡ Some at

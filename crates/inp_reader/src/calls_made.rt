@@ -24,7 +24,7 @@ impl<const ROOM: usize> Model for CallsMade<ROOM> {
 }
 
 impl<const ROOM: usize> CallsMade<ROOM> {
-    /// No call. It takes all memory that it will need. `NoMemory` comes where there is none.
+    /// No call. It takes all memory that it will need. `NoMemory` comes where memory is short.
     pub fn new(alloc: Global) -> Result<CallsMade<ROOM>, NoMemory>
         ensures none { IfOk result (λ made. made ≡ []) }
     {

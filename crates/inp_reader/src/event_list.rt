@@ -18,8 +18,8 @@ use inp_recon::View;
 use std::alloc::Global;
 use std::marker::Model;
 
-/// Events, in the order in which they are added, with room for a number of them that stays. A contract sees the list and
-/// the room.
+/// Events, in the order in which they are added, with room for a number of them that stays. A contract sees the list
+/// and the room.
 #[derive(Drop)]
 pub(crate) struct EventList {
     events: Vec<Event>,
@@ -91,7 +91,7 @@ impl EventList {
         }
     }
 
-    // Adds the report behind the events from an index on, if there are any.
+    // Adds the report after the events from an index on, if there are any.
     fn push_report(&mut self, start: usize)
         requires { length self.old.events < self.old.room }
         ensures room { self.new.room ≡ self.old.room }

@@ -6,8 +6,9 @@ ghost use Rattle.inp_reader.specs.KeptViews.{NewViewIsKept, KeptViewsAreOfOneDev
 /// The laws of the events that a reader synthesises to lead from an old view of its device to a new one.
 ///
 /// The old view that takes them over, in order, is the new one. Each of them but a report changes the view that takes
-/// it over. There are at most 948, and 17 a slot: 768 keys, 64 LEDs, 64 switches, 49 axes and 14 values of each slot,
-/// each once at most; an end of a contact and two ABS_MT_SLOT for each slot; the last ABS_MT_SLOT, and two reports.
+/// it over. There are at most 948, and 17 a slot. They are 768 keys, 64 LEDs, 64 switches, 49 axes and 14 values of
+/// each slot, each once at most. Each slot may add an end of a contact and two ABS_MT_SLOT. Last come one ABS_MT_SLOT,
+/// and two reports.
 ///
 /// Both views are sized for the same device and agree on the axes 0x2f to 0x3d, as any two views of a reader do
 /// ([`views`]). The current slots may be ones that the device has not, and the tracking ids any numbers.
@@ -23,8 +24,9 @@ pub fn synthesis()
 /// a [`start`](crate::Reader::start) or a [`next`](crate::Reader::next) has one afterwards, so the laws of
 /// [`synthesis`] hold of any two of its views.
 ///
-/// Where a `next` in [`Sync`](crate::Mode::Sync) mode synchronises, the synthesised events that it and the later ones
-/// hand out lead from the view that the reader had to the one that it has; once `Synced` is answered none is left.
+/// Where a `next` in [`Sync`](crate::Mode::Sync) mode synchronises, it and the later ones hand out synthesised events.
+/// These lead from the view that the reader had to the one that it has. Once `Synced` is answered no such event is
+/// left.
 pub fn views()
     ensures new_view { NewViewIsKept }
     ensures one_device { KeptViewsAreOfOneDevice }

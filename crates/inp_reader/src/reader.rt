@@ -32,12 +32,12 @@ const _: () = prove!(NO_CLIENT == 4_294_967_295);
 /// A client of a device that reads its events and knows its state by them, as libevdev's `struct libevdev` does.
 ///
 /// It has a view of the device, which is set by each event that is handed out. Where the device told that events were
-/// lost (SYN_DROPPED) the view no longer holds, and the reader synchronises: it drops what it has read, removes what is
+/// lost (SYN_DROPPED) the view no longer holds, and the reader synchronises. It drops what it has read, removes what is
 /// left to read, and asks for the whole state. In between it hands out events of its own, which lead from the old view
 /// to the new one.
 ///
-/// Each call is lent the device, which must be of the description that the reader was made for. A contract sees a reader
-/// as its description, what it keeps ([`Reading`](crate)), and the calls that it made last.
+/// Each call is lent the device, which must be of the description that the reader was made for. A contract sees a
+/// reader as its description, what it keeps ([`Reading`](crate)), and the calls that it made last.
 #[derive(Drop)]
 pub struct Reader {
     caps: Caps,
@@ -59,8 +59,8 @@ impl Model for Reader {
 impl Reader {
     /// A reader for devices of this description. It has no client yet: its client is `NO_CLIENT`, its phase Plain.
     ///
-    /// It takes all memory that it will need: about 10 kB, 8 bytes for each key, LED, switch and axis of such a device, and
-    /// 310 bytes a slot. `NoMemory` comes where there is none.
+    /// It takes all memory that it will need: about 10 kB, 8 bytes for each key, LED, switch and axis of such a device,
+    /// and 310 bytes a slot. `NoMemory` comes where memory is short.
     pub fn new(alloc: Global, caps: &Caps) -> Result<Reader, NoMemory>
         ensures description { IfOk result (λ reader. reader.description ≡ caps.now) }
         ensures reading { IfOk result (λ reader. reader.reading ≡ record {
@@ -91,8 +91,9 @@ impl Reader {
         })
     }
 
-    /// Opens a client and asks for the whole state: keys, LEDs and switches, each where the device has the type; each
-    /// axis outside 0x2f to 0x3d, ascending; and all slots, where there are any (libevdev's `libevdev_set_fd`).
+    /// Opens a client and asks for the whole state (libevdev's `libevdev_set_fd`). It asks for keys, LEDs and switches,
+    /// each where the device has the type. Then it asks for each axis outside 0x2f to 0x3d, ascending, and for all
+    /// slots, where the device has slots.
     ///
     /// | Answer | What it means | The reader then |
     /// |---|---|---|
@@ -101,10 +102,10 @@ impl Reader {
     ///
     /// An older client is not closed. Only the open may meet want of memory.
     ///
-    /// The calls are a legal run of the history that is seen afterwards; what was seen before and the device stay, and the
-    /// own places of the device's caller grow by theirs. None is answered Again. After `Opened` the reader stands at the end
-    /// of that history, if nobody else used its client in between; after `Refused` it stands there if it stood at what was
-    /// seen before.
+    /// The calls are a legal run of the history that is seen afterwards. What was seen before and the device stay, and
+    /// the own places of the device's caller grow by theirs. None is answered Again. After `Opened` the reader stands
+    /// at the end of that history, if nobody else used its client in between. After `Refused` it stands there if it
+    /// stood at what was seen before.
     pub fn start<E: Evdev>(&mut self, dev: &mut E) -> Started
         requires description { (E.told dev.old).description ≡ self.old.description }
         ensures says { Says (E.told dev.old) (E.told dev.new) [] self.new.made
@@ -119,7 +120,7 @@ impl Reader {
             → IsAlone (E.told dev.old) (E.told dev.new) self.new.reading.client self.new.made
             → Stands (E.told dev.new) self.new }
 
-        // What stands after a refusal: of the open itself, or of a query behind it.
+        // What stands after a refusal: of the open itself, or of a query after it.
         ensures open_refused { client_opened self.new.made ≡ None
             → self.new.reading ≡ self.old.reading }
         ensures query_refused { has_opened result ≡ false
@@ -133,8 +134,9 @@ impl Reader {
     /// The next event (libevdev's `libevdev_next_event`).
     ///
     /// In phase Plain a `Normal` call reads, where nothing is queued, and hands out the first event; a `Sync` call
-    /// answers `Synced`. In phase Needed either call synchronises first. Then, and in phase Handing, a `Sync` call hands
-    /// out the next synthesised event, and a `Normal` call drops those that are left and goes on as in phase Plain.
+    /// answers `Synced`. In phase Needed either call synchronises first. Then, and in phase Handing, a `Sync` call
+    /// hands out the next synthesised event, and a `Normal` call drops those that are left and goes on as in phase
+    /// Plain.
     ///
     /// | Answer | What it means | The reader then |
     /// |---|---|---|
@@ -153,15 +155,15 @@ impl Reader {
     /// Key value 2, an autorepeat, is handed out and does not change the view (this project's choice). It takes no
     /// memory. It makes at most 55 calls, but for a synchronisation at most one.
     ///
-    /// The calls are a legal run of the history that is seen afterwards; what was seen before and the device stay, the own
-    /// places of the device's caller grow by theirs, and its count of answers Again rises by one at `Again` alone. A reader
-    /// that stood at the end of what was seen before stands at the end of what is seen afterwards, if nobody else used its
-    /// client in between.
-    /// Where such a reader hands out a SYN_REPORT, its view is the device's state at the end of that frame, if the client
-    /// could follow the device up to there.
+    /// The calls are a legal run of the history that is seen afterwards. What was seen before and the device stay, and
+    /// the own places of the device's caller grow by theirs. Its count of answers Again rises by one at `Again` alone.
+    /// A reader that stood at the end of what was seen before stands at the end of what is seen afterwards, if nobody
+    /// else used its client in between. Where such a reader hands out a SYN_REPORT, its view is the device's state at
+    /// the end of that frame, if the client could follow the device up to there.
     ///
-    /// A loop over `next` ends: each of the first four answers leaves less to do than before (a number, its effort), and
-    /// `Again` leaves no more. But a `Sync` call in phase Plain has nothing to do: it makes no call and answers `Synced`.
+    /// A loop over `next` ends: each of the first four answers leaves less to do than before (a number, its effort),
+    /// and `Again` leaves no more. But a `Sync` call in phase Plain has nothing to do: it makes no call and answers
+    /// `Synced`.
     pub fn next<E: Evdev>(&mut self, dev: &mut E, mode: Mode) -> Next
         requires description { (E.told dev.old).description ≡ self.old.description }
         ensures says { Says (E.told dev.old) (E.told dev.new) [] self.new.made
@@ -184,9 +186,9 @@ impl Reader {
         self.session.next(dev, &self.caps, mode)
     }
 
-    /// The events that [`next`](Reader::next) in Normal mode would hand out one after another without a call of the device:
-    /// in phase Plain those that were read and not handed out, at most so many, and none behind a SYN_DROPPED; in another
-    /// phase none.
+    /// The events that [`next`](Reader::next) in Normal mode would hand out one after another without a call of the
+    /// device. In phase Plain they are those that were read and not handed out, at most so many, and none after a
+    /// SYN_DROPPED. In another phase there is no such event.
     pub fn queued(&self, most: u32) -> &[Taken]
         ensures run { result.now ≡ queued_run most self.now.reading }
     {
@@ -194,11 +196,11 @@ impl Reader {
     }
 
     /// Hands out the first `count` events of [`queued`](Reader::queued) in one go, as so many calls of
-    /// [`next`](Reader::next) would: the view takes these events over, and a SYN_DROPPED, which can only be the last of
+    /// [`next`](Reader::next) would. The view takes these events over, and a SYN_DROPPED, which can only be the last of
     /// them, makes the phase Needed.
     ///
-    /// The caller must pass no more than `queued` shows, as for the `consume` of std's `BufRead`. It makes no call. A reader
-    /// that stood at the end of a history stands there still.
+    /// The caller must pass no more than `queued` shows, as for the `consume` of std's `BufRead`. It makes no call. A
+    /// reader that stood at the end of a history stands there still.
     pub fn take_queued(&mut self, count: usize)
         requires queued { length (queued_run count self.old.reading) ≡ count }
         ensures reading { self.new.reading

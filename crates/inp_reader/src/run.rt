@@ -5,7 +5,7 @@ ghost use Rattle.inp_reader.specs.Reader.{Reading, first_run, has_loss, queued_r
 use crate::stops::is_dropped;
 use inp_model::Taken;
 
-// How many events can be handed out of a queue in one go, of at most so many: none behind a loss.
+// How many events can be handed out of a queue in one go, of at most so many: none after a loss.
 pub(crate) fn run_len(queue: &[Taken], most: u32) -> usize
     ensures run { take result queue.now ≡ first_run most queue.now }
     ensures len { result ≡ length (first_run most queue.now) }

@@ -11,8 +11,8 @@ use inp_recon::View;
 use std::alloc::Global;
 use std::marker::Model;
 
-/// How many events a synchronisation makes at most: one for each key, LED, switch and axis that the device has, 17 for each
-/// slot, one for the current slot, and two reports.
+/// How many events a synchronisation makes at most. It makes one for each key, LED, switch and axis that the device
+/// has, 17 for each slot, one for the current slot, and two reports.
 pub(crate) fn synthesised_most(caps: &Caps) -> usize
     ensures { result ≡ synthesised_most caps.now }
 {
@@ -39,8 +39,8 @@ fn code_total(caps: &Caps, kind: u16, count: u16) -> usize
     total
 }
 
-/// The synthesised events that are not handed out yet, and room for all that there can be. A contract sees the list and the
-/// room.
+/// The synthesised events that are not handed out yet, and room for all that there can be. A contract sees the list and
+/// the room.
 #[derive(Drop)]
 pub(crate) struct Synthesis {
     events: EventList,
@@ -90,8 +90,8 @@ impl Synthesis {
         Some(first)
     }
 
-    // Makes the events that lead from the old view to the new one, which has as many cells. The old view is used up. There
-    // must be room for what differs in codes, for 17 events a slot and for three more.
+    // Makes the events that lead from the old view to the new one, which has as many cells. The old view is used up.
+    // There must be room for what differs in codes, for 17 events a slot and for three more.
     pub(crate) fn fill(&mut self, old: &mut View, new: &View)
         requires cells { length old.old.cells ≡ length new.now.cells }
         requires room { length (class_changes old.old new.now) + 3

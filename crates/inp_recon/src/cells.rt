@@ -74,8 +74,8 @@ impl Cells {
         (self.cells.len() / SLOT_VALUES as usize) as u32
     }
 
-    /// The value of a slot on the axis with this code. There must be such a slot, and the values of the axis must belong
-    /// to slots.
+    /// The value of a slot on the axis with this code. There must be such a slot, and the values of the axis must
+    /// belong to slots.
     pub fn value(&self, slot: u32, code: u16) -> i32
         requires slot { slot < slot_count self.now }
         requires code { is_slot_code code ≡ true }

@@ -17,8 +17,9 @@ pub fn examples()
     ensures no_other { TellsNoOther }
 {}
 
-/// When the view of a client is the device's state, and what each condition for it is good for: what the definitions of
-/// this crate compute of short histories that were worked out by hand. It does nothing: its contract is the point.
+/// When the view of a client is the device's state, and what each condition for it is good for. It is what the
+/// definitions of this crate compute of short histories that were worked out by hand. It does nothing: its contract is
+/// the point.
 pub fn faithful_examples()
     ensures follows { FollowsTheDevice }
     ensures law { MeetsTheLaw }

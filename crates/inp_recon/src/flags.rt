@@ -5,7 +5,7 @@ ghost use Rattle.inp_recon.specs.View.{flags_after_reply, with_flag};
 use inp_bits::Bits;
 use inp_model::{Event, Reply};
 
-// Sets the flag of an event's code to whether the event sets it; there is none past the end.
+// Sets the flag of an event's code to whether the event sets it; past the end there is no flag.
 pub(crate) fn set_flag<const W: usize>(flags: &mut Bits<W>, event: Event)
     requires { W ≤ 1024 }
     ensures { flags.new ≡ with_flag (64 * W) flags.old event }

@@ -33,10 +33,10 @@ pub struct View {
 }
 
 impl View {
-    /// The view of a client that has seen nothing of a device with this description: no key is down, no switch and no
+    /// The view of a client that has seen nothing of a device with this description. No key is down, no switch and no
     /// LED is on, axes and the current slot are 0, and no slot has a contact (this project's choice).
     ///
-    /// It takes the memory for all slots. `NoMemory` comes where there is none.
+    /// It takes the memory for all slots. `NoMemory` comes where memory is short.
     #[tactic(auto, unfolding(crate::specs::View::first_view))]
     pub fn new(alloc: Global, caps: &Caps) -> Result<View, NoMemory>
         ensures view { IfOk result (λ view. view ≡ first_view caps.now) }
@@ -77,8 +77,8 @@ impl View {
         }
     }
 
-    /// Takes over events that the client read, the first one first, as a call of [`take_event`](View::take_event) for each
-    /// would.
+    /// Takes over events that the client read, the first one first, as a call of [`take_event`](View::take_event) for
+    /// each would.
     pub fn take_events(&mut self, events: &[Taken])
         ensures view { self.new ≡ view_after_events self.old (map (λ t. t.event) events.now) }
         ensures cells { length self.new.cells ≡ length self.old.cells }
@@ -91,9 +91,9 @@ impl View {
     /// Takes over the answer to one of the client's queries; `cells` is the buffer that the query wrote to.
     ///
     /// All keys, all switches or all LEDs are then as the answer tells. An axis that was asked for has the value that
-    /// was told, unless its values belong to slots. After a synchronisation of slots the values of all slots are those at
-    /// the front of `cells`, and the current slot is the one that was told. Any other step changes nothing, `GetSounds`
-    /// and `GetSlots` among them, and neither does a reply that refuses it.
+    /// was told, unless its values belong to slots. After a synchronisation of slots the values of all slots are those
+    /// at the front of `cells`, and the current slot is the one that was told. Any other step changes nothing,
+    /// `GetSounds` and `GetSlots` among them, and neither does a reply that refuses it.
     ///
     /// The code of an axis that was told must be at most `ABS_MAX`. Where a synchronisation of slots was answered,
     /// `cells` must have at least as many places as the view has cells.
@@ -144,7 +144,7 @@ impl View {
     }
 }
 
-// Sets the axis of an event's code to its value; there is none past the end.
+// Sets the axis of an event's code to its value; past the end there is no axis.
 fn set_axis(axes: &mut [i32; 64], event: Event)
     ensures { axes.new ≡ with_value_at code_count axes.old event.code event.value }
 {

@@ -152,7 +152,7 @@ pub record RefusesDescriptions : Type 0 where
   pub axis_code : AreRefusedAt 3 (Caps BadCode) (device_lines ++ codes "axis 64 0 0 0 -1 0 0" ∷ [])
   pub axis : AreRefusedAt 3 (Caps BadAxis) (device_lines ++ codes "axis ABS_X 0 0 9 -1 0 0" ∷ [])
 
--- Filters that are none, that stand where they may not, or that no device has.
+-- Filter lines that name no filter, that stand where they may not, or that no device has.
 pub record RefusesFilters : Type 0 where
   pub version_1 : AreRefusedAt 3 BadLine (device_lines ++ codes "filter norepeat" ∷ [])
   pub alone : AreRefusedAt 3 BadLine (later_lines ++ codes "filter" ∷ [])
@@ -174,7 +174,8 @@ pub record RefusesFilters : Type 0 where
 abbrev pub joy_lines : List (List ℕ)
 joy_lines = later_lines ++ codes "joy j" ∷ []
 
--- Joysticks under version 1, which has none; joysticks that stand where they may not; commands that joysticks do not have.
+-- Joysticks under version 1, which has no joysticks; joysticks that stand where they may not; commands that
+-- joysticks do not have.
 pub record RefusesJoysticks : Type 0 where
   pub version_1 : AreRefusedAt 3 BadLine (device_lines ++ codes "joy j" ∷ [])
   pub behind_an_action : AreRefusedAt 5 OutOfPlace (joy_lines ++ codes "do j open" ∷ codes "joy k" ∷ [])
@@ -189,8 +190,8 @@ requested_lines = codes "inputrecord 2" ∷ codes "udevice u" ∷ []
 abbrev pub owner_lines : List (List ℕ)
 owner_lines = requested_lines ++ codes "owner o" ∷ []
 
--- Devices made by requests and owners under version 1, which has none; that stand where they may not; a second owner;
--- commands that owners do not have, and that owners alone have.
+-- Devices made by requests and owners under version 1, which has neither; those that stand where they may
+-- not; a second owner. Commands that owners do not have, and that owners alone have.
 pub record RefusesOwners : Type 0 where
   pub version_1 : AreRefusedAt 2 BadLine (header_lines ++ codes "udevice u" ∷ [])
   pub owner_of_version_1 : AreRefusedAt 3 BadLine (device_lines ++ codes "owner o" ∷ [])

@@ -110,7 +110,7 @@ field_text Version kind n = decimal n
 field_text OtherClock kind boot = clock_text (other_clock boot)
 field_text Never kind never = absurd never
 
--- the type that a line has named behind this field
+-- the type that a line has named after this field
 abbrev pub kind_behind : (f : Field) → ℕ → ValueOf f → ℕ
 kind_behind Kind kind k = k
 kind_behind f kind value = kind

@@ -22,9 +22,9 @@ filter_rows = map keyword_row (Eat ∷ Norepeat ∷ Chord ∷ Bounce ∷ [])
 abbrev pub filter_keyword : List ℕ → Keyword
 filter_keyword second = unwrap_or (named filter_rows second) Filter
 
--- the keyword of a line whose first word names this one: under version 1 there is no filter line, no device made by
--- requests, no joystick and no owner, and under a later one the second word of a filter line says what kind of filter it
--- is
+-- The keyword of a line whose first word names this one. Under version 1 there is no filter line, no device
+-- made by requests, no joystick and no owner. Under a later one the second word of a filter line says what
+-- kind of filter it is.
 abbrev pub keyword_under : ℕ → List ℕ → Keyword → Option Keyword
 keyword_under version second Filter = if nat_eq version 1 then None else Some (filter_keyword second)
 keyword_under version second Udevice = if nat_eq version 1 then None else Some Udevice

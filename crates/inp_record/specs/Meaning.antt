@@ -38,8 +38,8 @@ is_text_of name (Some text) = bytes_eq text name
 abbrev pub has_device : Context → List ℕ → Bool
 has_device c name = is_text_of name c.name || list_any (λ d. bytes_eq d.name name) c.devices
 
--- a hint, a log limit, a number of slots, an offset or an axis that its device gave before; the name of a device or of an
--- actor that another one has
+-- A hint, a log limit, a number of slots, an offset or an axis that its device gave before. Or the name of a
+-- device or of an actor that another one has.
 abbrev pub is_twice : Context → Item → Bool
 is_twice c (Device requested name) = has_device c name
 is_twice c (Hint count) = c.given.hint
@@ -62,8 +62,8 @@ has_all c role =
     else if is_owner role then nat_le OWNERS_MAX c.owners
     else nat_le READERS_MAX c.readers
 
--- a ninth device, a ninth source of a device, a client, tap or joystick of a device that has 128 of them together, a
--- second owner of a device, a seventeenth stream
+-- A ninth device, a ninth source of a device, a second owner of a device, a seventeenth stream. Or a client,
+-- tap or joystick of a device that has 128 of them together.
 abbrev pub is_too_many : Context → Item → Bool
 is_too_many c (Device requested name) = nat_le DEVICES_MAX (device_count c)
 is_too_many c (Actor role name) = has_all c role
@@ -132,34 +132,34 @@ item_of_words c ws =
     if is_first_place c.place && not (is_header ws) then Err BadHeader
     else placed c (keyword_of c.version (word 0 ws) (word 1 ws) (length ws)) ws
 
--- the past behind a line of this meaning
+-- the past after a line of this meaning
 abbrev pub behind : Past → Result Item Cause → Result Past Cause
 behind past (Err cause) = Err cause
 behind past (Ok item) = Ok (item ∷ past)
 
--- the past behind a line of these words; a blank line means nothing
+-- the past after a line of these words; a blank line means nothing
 abbrev pub behind_words : Past → List (List ℕ) → Result Past Cause
 behind_words past [] = Ok past
 behind_words past (w ∷ ws) = behind past (checked (context_of past) (item_of_words (context_of past) (w ∷ ws)))
 
--- the past behind a line; a comment means nothing
+-- the past after a line; a comment means nothing
 unfoldable pub behind_line : Past → List ℕ → Result Past Cause
 behind_line past line =
     if is_comment line then Ok past
     else if not (is_text line) then Err NotText
     else behind_words past (words_of line)
 
--- what comes of a line with the number n, and then of those behind it
+-- the result of a line with the number n, and then of those after it
 abbrev pub then_lines : ℕ → Result Past Cause → (Past → Result Past Refused) → Result Past Refused
 then_lines n (Ok past) more = more past
 then_lines n (Err cause) more = Err (record { line = n; cause = cause })
 
--- the past behind all lines, of which the first has the number n, or the first line that has no meaning
+-- the past after all lines, of which the first has the number n, or the first line that has no meaning
 unfoldable pub behind_lines : ℕ → List (List ℕ) → Past → Result Past Refused
 behind_lines n [] past = Ok past
 behind_lines n (line ∷ lines) past = then_lines n (behind_line past line) (λ now. behind_lines (suc n) lines now)
 
--- the latest device stands behind those before it
+-- the latest device stands after those before it
 abbrev pub closed : Context → Context
 closed c =
     record c { name = None; builder = syn_alone; devices = devices_of c }
@@ -195,14 +195,14 @@ IsLineEntered (Err (line.Refused cause)) past item now =
     unless_refused (builder_refusal (context_of past).builder item) item ≡ Err cause
 IsLineEntered (Err line.NoMemory) past item now = Unit {0}
 
--- what a line leaves behind these lines, unless memory ran out
+-- what a line leaves after these lines, unless memory ran out
 abbrev pub IsBehind : Result (Unit {0}) LineFault → Result Past Cause → Context → Type 0
 IsBehind (Ok done) means now = (past : Past) × (means ≡ Ok past) × (now ≡ context_of past)
 IsBehind (Err (line.Refused cause)) means now = means ≡ Err cause
 IsBehind (Err line.NoMemory) means now = Unit {0}
 
--- all lines were read: what stands behind them and their number, or the first line that has no meaning, unless memory ran
--- out
+-- all lines were read: what stands after them and their number, or the first line that has no meaning, unless
+-- memory ran out
 abbrev pub AreLinesRead : Result (Context × ℕ) ParseFault → List (List ℕ) → Type 0
 AreLinesRead (Ok read) lines =
     (past : Past) × (behind_lines 1 lines [] ≡ Ok past) × (read.0 ≡ context_of past) × (read.1 ≡ length lines)

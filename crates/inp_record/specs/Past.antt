@@ -19,7 +19,7 @@ use Rattle.inp_record.specs.declared.context.TheConstants.{DEVICES_MAX, SOURCES_
 abbrev pub Past : Type 0
 Past = List item.Item
 
--- a device with this name, if there is one, behind those before it
+-- a device with this name, if there is one, after those before it
 abbrev pub with_latest : List DeviceText → Option (List ℕ) → Bool → Description → List DeviceText
 with_latest former None requested caps = former
 with_latest former (Some name) requested caps = former ++ record { name = name; caps = caps; requested = requested } ∷ []
@@ -65,7 +65,7 @@ first_context = record {
 abbrev pub describing : Context → Description → Given → Context
 describing c described given = record c { place = Describing; builder = described; given = given }
 
--- what the next line depends on, behind a line of this meaning
+-- what the next line depends on, after a line of this meaning
 abbrev pub after : item.Item → Context → Context
 after (Header version) c = record c { place = Headed; version = version }
 after (Device requested name) c = record c {
@@ -102,7 +102,7 @@ after (Action actor command) c = record c {
   streams = c.streams + streams_in command;
 }
 
--- what the line behind these depends on
+-- what the line after these depends on
 abbrev pub context_of : Past → Context
 context_of [] = first_context
 context_of (item ∷ past) = after item (context_of past)

@@ -21,9 +21,10 @@ abbrev pub is_acting : Place → Bool
 is_acting Acting = true
 is_acting _ = false
 
--- no line of this keyword may stand there, where the latest device is made by requests or is not: a second header, a
--- device after an action, an actor with no device before it or after an action, an owner of a device that is not made by
--- requests, a description with no device before it, after an actor of its device, or after an action
+-- No line of this keyword may stand there, where the latest device is made by requests or is not. Such are a
+-- second header, a device after an action, and an actor with no device before it or after an action. So is an
+-- owner of a device that is not made by requests. So is a description with no device before it, after an
+-- actor of its device, or after an action.
 abbrev pub is_out_of_place : Place → Bool → Keyword → Bool
 is_out_of_place place requested Header = not (is_first_place place)
 is_out_of_place place requested Device = is_acting place

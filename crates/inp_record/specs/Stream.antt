@@ -20,8 +20,8 @@ abbrev pub stamped_before : Option (List Stamped) → Result (Event × ℕ) Stre
 stamped_before more (Ok read) = option_map (λ stamps. record { event = read.0; now = read.1 } ∷ stamps) more
 stamped_before more (Err why) = None
 
--- the events that so many records are, if each has a time and nothing stands behind them; the seconds of a record, and its
--- microseconds, have this number of bytes
+-- the events that so many records are, if each has a time and nothing stands after them; the seconds of a
+-- record, and its microseconds, have this number of bytes
 unfoldable pub stamps_from : ℕ → ℕ → List ℕ → Option (List Stamped)
 stamps_from time_len zero bytes = if nat_eq (length bytes) 0 then Some [] else None
 stamps_from time_len (suc count) bytes =

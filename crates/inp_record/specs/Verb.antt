@@ -1,5 +1,5 @@
--- The commands of actors (docs/FORMATS.md, "Action lines"): for each its word, the actors that have it, what its words are
--- and what it is.
+-- The commands of actors (docs/FORMATS.md, "Action lines"): for each its word, the actors that have it, what
+-- its words are and what it is.
 use Rattle.std.specs.Prelude.{ℕ, ◌-◌, ◌^◌, Bool, true, false, ◌&&◌, ◌||◌, if◌then◌else◌, nat_eq, List, [], ◌∷◌, map, length, codes, Option, Some, None}
 use Rattle.inp_model.specs.declared.event.TheConstants.{EV_ABS}
 use Rattle.inp_actors.specs.declared.role.Role.{Role}
@@ -31,7 +31,7 @@ pub record Row : Type 0 where
   pub word : List ℕ
   -- the actors that have it
   pub group : Group
-  -- what the words behind it are
+  -- what the words after it are
   pub fields : List Field
   -- the command that they make
   pub make : Makes command.Command fields

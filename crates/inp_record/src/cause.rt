@@ -12,7 +12,8 @@ use std::fmt;
 pub enum Cause {
     /// A line that is no comment holds a byte other than a tab and printable ASCII.
     NotText,
-    /// The first line that is not blank and no comment is neither `inputrecord 1` nor `inputrecord 2`, or there is none.
+    /// The first line that is not blank and no comment is neither `inputrecord 1` nor `inputrecord 2`, or there is no
+    /// such line.
     BadHeader,
     /// The first word begins no line, or the line has another number of words.
     BadLine,
@@ -30,7 +31,7 @@ pub enum Cause {
     TooMany,
     /// No device has what the line describes.
     Caps(CapsRefused),
-    /// A stream's bytes are not whole records, or one has a time that is none.
+    /// A stream's bytes are not whole records, or the time of one is no time.
     BadStream,
 }
 

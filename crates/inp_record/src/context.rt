@@ -285,7 +285,7 @@ impl Context {
         Ok(())
     }
 
-    /// Puts the latest device behind those before it, if there is one.
+    /// Puts the latest device after those before it, if there is one.
     fn close(&mut self) -> Result<(), NoMemory>
         ensures closed { OnOk result (self.new ≡ closed self.old) }
     {
@@ -300,7 +300,7 @@ impl Context {
         }
     }
 
-    /// Begins a device, behind those before it.
+    /// Begins a device, after those before it.
     fn add_device(&mut self, alloc: Global, requested: bool, name: Name) -> Result<(), LineFault>
         requires room { IsWithinCounts self.old }
         requires enough { is_too_many self.old (items.Device requested name) ≡ false }
@@ -474,7 +474,7 @@ impl Context {
     }
 }
 
-/// Adds a filter to a description, behind its others.
+/// Adds a filter to a description, after its others.
 fn add_filter(builder: &mut CapsBuilder, filter: Filter) -> Result<(), CapsRefused>
     requires { has_micros (items.Filter filter) ≡ true }
     ensures answer { result ≡ filter_answer builder.old filter }

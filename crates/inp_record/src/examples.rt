@@ -1,8 +1,9 @@
 //! What the definitions say of short records.
 ghost use Rattle.inp_record.specs.Examples.{RefusesOtherBytes, RefusesHeaders, RefusesLines, RefusesPlaces, RefusesActors, RefusesCommands, RefusesWords, RefusesRepeats, RefusesMore, RefusesDescriptions, RefusesFilters, RefusesJoysticks, RefusesOwners, AcceptsLines, MeansRecords, MeansActions, MeansStreams};
 
-/// What short records mean, and which line of others is refused and why, worked out by hand: each cause at the lines that
-/// can have it, and of two causes that one line has the one that comes first. It does nothing: its contract is the point.
+/// What short records mean, and which line of others is refused and why, worked out by hand. It has each cause at the
+/// lines that can have it, and of two causes that one line has the one that comes first. It does nothing: its contract
+/// is the point.
 pub fn examples()
     ensures other_bytes { RefusesOtherBytes }
     ensures headers { RefusesHeaders }

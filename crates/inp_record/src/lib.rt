@@ -1,31 +1,31 @@
 //! The text of a recorded device: read, written, and given the events of its files.
 //!
-//! This crate is for whoever has a record as bytes and wants it as data, or the other way round. [`parse`] reads a record,
-//! or names the first line that has no meaning and its [`Cause`]. [`print`] writes one, and [`load`] gives it the events of
-//! a file. The record itself is plain data of `inp_actors`, handed on here, and its text is the one that `inp_canon` writes.
-//! `docs/FORMATS.md` has the whole form, with an example of each line.
+//! This crate is for whoever has a record as bytes and wants it as data, or the other way round. [`parse`] reads a
+//! record, or names the first line that has no meaning and its [`Cause`]. [`print`] writes one, and [`load`] gives it
+//! the events of a file. The record itself is plain data of `inp_actors`, handed on here, and its text is the one that
+//! `inp_canon` writes. `docs/FORMATS.md` has the whole form, with an example of each line.
 //!
-//! How a line is read: [`parse`] cuts the text into lines and lends each to `read_line`, with the `Context` that the lines
-//! before it left: where the line stands, what the latest device gave, which actors there are. Most lines are events of
-//! sources, which `read_event` takes in at once. Of any other line `item_of_words` says what its words are, an `Item`;
-//! then the context says whether that was said before, is one too many, or is refused by the description, and else
-//! takes it in.
+//! How a line is read: [`parse`] cuts the text into lines and lends each to `read_line`, with the `Context` that the
+//! lines before it left. That is where the line stands, what the latest device gave, and which actors there are. Most
+//! lines are events of sources, which `read_event` takes in at once. Of any other line `item_of_words` says what its
+//! words are, an `Item`. Then the context says whether that was said before, is one too many, or is refused by the
+//! description, and else takes it in.
 //!
 //! Its contract: `meaning` of `specs/Meaning.antt` says what bytes mean, and [`parse`] gives just that, unless memory
-//! ran out (`IsParsing`). What came before a line is the list of the items before it, a past, and what the line depends on
+//! ran out (`IsParsing`). What came before a line is the list of the items before it, a past. What the line depends on
 //! is a fold over that list, with what each kind of line changes (`specs/Past.antt`). The causes stand in
 //! `specs/Meaning.antt` as one chain in their order, and what the words of each line are in `specs/Line.antt` and
-//! `specs/Verb.antt`, a row for each. `specs/Spelling.antt` says what the lines of the canonical text mean, and that the text of each
-//! record that some bytes are is read again as that record, which [`print`] promises (`RoundTrips`): so [`parse`] gives
-//! the record of a printed text, or want of memory.
+//! `specs/Verb.antt`, a row for each. `specs/Spelling.antt` says what the lines of the canonical text mean. It also
+//! says that the text of each record that some bytes are is read again as that record, which [`print`] promises
+//! (`RoundTrips`). So [`parse`] gives the record of a printed text, or want of memory.
 //!
 //! [`load`] (`IsLoaded`): the stream of a line is the records of the bytes, of 24 bytes for `stream` and of 16 for
-//! `stream16`. It is refused as none only where they are no whole records or one has a time that is none, and loaded
-//! only where they are; memory may run out at both, and the record is unchanged after a refusal. [`line_number`] is the
-//! number of an action line in its text.
+//! `stream16`. It is refused as no stream only where they are no whole records or the time of one is no time, and
+//! loaded only where they are records. Memory may run out at both, and the record is unchanged after a refusal.
+//! [`line_number`] is the number of an action line in its text.
 //!
-//! [`examples`] shows what the definitions say of short records: each cause at each line that can have it, of two
-//! causes that one line has the one that comes first, and what whole records mean.
+//! [`examples`] shows what the definitions say of short records. It has each cause at each line that can have it, of
+//! two causes that one line has the one that comes first, and what whole records mean.
 #![tactic(auto)]
 
 mod cause;

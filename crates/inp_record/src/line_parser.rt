@@ -46,7 +46,7 @@ fn item_of(
     }
 }
 
-/// The second word, or an empty one where there is none.
+/// The second word, or an empty one where there is no second word.
 fn second_word<'a>(words: &[&'a [u8]]) -> &'a [u8]
     ensures { result.now ≡ word 1 (texts words.now) }
 {

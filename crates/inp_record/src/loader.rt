@@ -51,13 +51,13 @@ fn stream_at(parsed: &Record, line: u32) -> usize
     }
 }
 
-/// Makes the events of a file the stream of an action line, from 0, that has the command `stream` or `stream16`. All else
-/// of the record stays. The bytes are the file's, read to its end.
+/// Makes the events of a file the stream of an action line, from 0, that has the command `stream` or `stream16`. All
+/// else of the record stays. The bytes are the file's, read to its end.
 ///
 /// # Errors
 ///
-/// `BadStream` where the bytes are not whole records, of 24 bytes for `stream` and of 16 for `stream16`, or one has a time
-/// that is none (see `inp_stream`). `NoMemory` says that memory ran out. After both the record is unchanged.
+/// `BadStream` where the bytes are not whole records, of 24 bytes for `stream` and of 16 for `stream16`, or the time of
+/// one is no time (see `inp_stream`). `NoMemory` says that memory ran out. After both the record is unchanged.
 pub fn load(parsed: &mut Record, line: u32, bytes: &[u8]) -> Result<(), LoadFault>
     requires stream { IsSome (stream_at parsed.old line) }
     ensures loaded { IsLoaded result parsed.old line bytes.now parsed.new }

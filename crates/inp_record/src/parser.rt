@@ -44,15 +44,15 @@ fn read_lines(alloc: Global, text: &[u8]) -> Result<(Context, u32), ParseFault>
     }
 }
 
-/// The record that bytes are. `docs/FORMATS.md` has the form, which is this project's choice. Each stream is empty: `load`
-/// gives it its events. The time is linear in the length of the text, since a record has at most 1,096 actors and a line
-/// looks at each at most once.
+/// The record that bytes are. `docs/FORMATS.md` has the form, which is this project's choice. Each stream is empty:
+/// `load` gives it its events. The time is linear in the length of the text, since a record has at most 1,096 actors
+/// and a line looks at each at most once.
 ///
 /// # Errors
 ///
-/// `ParseFault::Refused` names the first line, from 1, that has a cause that the text alone decides, and its first cause
-/// in the order of [`Cause`]. A record without a header is refused at its last line. `ParseFault::NoMemory` says that
-/// memory ran out.
+/// `ParseFault::Refused` names the first line, from 1, that has a cause that the text alone decides, and its first
+/// cause in the order of [`Cause`]. A record without a header is refused at its last line. `ParseFault::NoMemory` says
+/// that memory ran out.
 pub fn parse(alloc: Global, text: &[u8]) -> Result<Record, ParseFault>
     requires few { length (lines_of text.now) < 2 ^ 32 }
     ensures meaning { IsParsing result (meaning text.now) }

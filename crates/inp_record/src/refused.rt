@@ -27,7 +27,7 @@ pub enum ParseFault {
 /// Why no stream was read.
 #[derive(Clone, Copy, Debug, PartialEq, Eq, Error)]
 pub enum LoadFault {
-    /// The bytes are not whole records of 24, or of 16 for `stream16`, or one has a time that is none.
+    /// The bytes are not whole records of 24, or of 16 for `stream16`, or the time of one is no time.
     #[error("bad-stream")]
     BadStream,
     /// Memory ran out.

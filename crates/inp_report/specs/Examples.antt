@@ -1,4 +1,4 @@
--- The texts of a few records and of what came of them, worked out by hand.
+-- The texts of a few records and of their results, worked out by hand.
 use Rattle.std.specs.Prelude.{◌≡◌, ℕ, pos, negsuc, true, false, List, [], ◌∷◌, ◌++◌, codes, flat_map, replicate}
 use Rattle.inp_model.specs.declared.event.Event.{Event}
 use Rattle.inp_model.specs.declared.axis_info.AxisInfo.{AxisInfo}
@@ -189,8 +189,8 @@ ShowsContacts =
     ∷ codes "slot 1 ABS_MT_POSITION_X=5 ABS_MT_POSITION_Y=0 ABS_MT_TRACKING_ID=11"
     ∷ [])
 
--- A stick with a trigger and the axis X. A joystick opens it, is handed out how they stand, and then that the trigger is
--- pressed and that the axis moves past its range.
+-- A stick with a trigger and the axis X. A joystick opens it, is handed out how they stand, and then that the
+-- trigger is pressed and that the axis moves past its range.
 abbrev pub joystick : RecordView
 joystick = record_of (codes "stick") stick (actor Source (codes "s") ∷ actor Joy (codes "j") ∷ [])
 
@@ -245,8 +245,8 @@ ShowsAnAxisBelowNought =
     Record (255 ∷ 255 ∷ 255 ∷ 255 ∷ 1 ∷ 128 ∷ 2 ∷ 0 ∷ []) ∷ []) (record blank_picture { axes = up_to_64 (pos 0) (negsuc 32766 ∷ []) }) (Full 9) ∷ [])
     ≡ text_of_lines (codes "joy j" ∷ codes "js 4294967295 -32767 2 0" ∷ codes "buttons" ∷ codes "axes -32767" ∷ codes "stop full 9" ∷ [])
 
--- A device with an LED, which is made by requests. A tap lights the LED two times, of which the second changes nothing. The
--- owner takes the one event that was sent, and then none.
+-- A device with an LED, which is made by requests. A tap lights the LED two times, of which the second
+-- changes nothing. The owner takes the one event that was sent, and then none.
 abbrev pub lamp : Description
 lamp = record one_key {
   kinds = true ∷ replicate 16 false ++ true ∷ replicate 46 false;
@@ -290,7 +290,7 @@ ShowsAnOwner =
     ∷ codes "stop finished"
     ∷ [])
 
--- where two calls are kept at most, the third one is refused behind two steps: it has no line
+-- where two calls are kept at most, the third one is refused after two steps: it has no line
 abbrev pub ShowsNoRefusedFeedback : Type 0
 ShowsNoRefusedFeedback =
     owner_report lamp_record (owner_of_lamp (

@@ -1,4 +1,5 @@
--- The report of a record's joysticks, which stands behind that of its devices (docs/FORMATS.md, "The joysticks").
+-- The report of a record's joysticks, which stands after that of its devices (docs/FORMATS.md, "The
+-- joysticks").
 use Rattle.std.specs.Prelude.{ℕ, ℤ, Bool, List, [], ◌++◌, length, take, codes, decimal, flat_map, slice_get, Option, Some, None}
 use Rattle.std.specs.Fmt.{signed_decimal}
 use Rattle.inp_bits.specs.Bits.{true_indices}
@@ -14,7 +15,7 @@ use Rattle.inp_report.specs.Words.{LINE_FEED}
 use Rattle.inp_report.specs.Sights.{sight_line}
 use Rattle.inp_report.specs.Report.{actor_line, stop_line}
 
--- a number behind a space
+-- a number after a space
 abbrev pub spaced_number : ℕ → List ℕ
 spaced_number number = codes " " ++ decimal number
 

@@ -1,4 +1,4 @@
--- The report of a record's owners, which stands behind that of its joysticks (docs/FORMATS.md, "The owners").
+-- The report of a record's owners, which stands after that of its joysticks (docs/FORMATS.md, "The owners").
 use Rattle.std.specs.Prelude.{ℕ, List, [], ◌++◌, codes, decimal, flat_map, slice_get, Option, Some, None}
 use Rattle.inp_actors.specs.declared.role.Role.TheVariants.{Owner}
 use Rattle.inp_actors.specs.declared.actor_text.ActorText.{ActorText}

@@ -1,4 +1,4 @@
--- The whole report of a record and of what came of it (docs/FORMATS.md, "The whole report").
+-- The whole report of a record and of its result (docs/FORMATS.md, "The whole report").
 use Rattle.std.specs.Prelude.{ℕ, Bool, if◌then◌else◌, List, [], ◌++◌, length, codes, decimal, flat_map, slice_get, Option, Some, None}
 use Rattle.std.specs.List.{count_by, enumerate_from, zip}
 use Rattle.inp_model.specs.declared.step.Step.{Step}
@@ -46,7 +46,8 @@ abbrev pub reading_text : Role → List ℕ → Description → JobView → List
 reading_text role name d job =
     actor_line role name ++ (flat_map sight_line job.sight ++ (view_text d job.view ++ stop_line job.stop))
 
--- an actor's part, by its role; a joystick and an owner have none under their device (JoyReport.antt, OwnerReport.antt)
+-- an actor's part, by its role; a joystick and an owner have no part under their device (JoyReport.antt,
+-- OwnerReport.antt)
 abbrev pub part_text : Role → List ℕ → Description → JobView → List ℕ
 part_text Source name d job = source_line name (count_by is_counted_call job.sight) job.stop
 part_text Client name d job = reading_text Client name d job
@@ -68,6 +69,6 @@ run_text actors history played =
     device_line (played.0).name (length (played.1).history)
     ++ ((if history then history_text (played.1).history else []) ++ flat_map (job_text actors (played.0).caps) (played.1).jobs)
 
--- the devices in order, each with what came of it
+-- the devices in order, each with its result
 unfoldable pub report : RecordView → List Run → Bool → List ℕ
 report r runs history = flat_map (run_text r.actors history) (zip r.devices runs)

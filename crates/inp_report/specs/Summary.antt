@@ -1,4 +1,4 @@
--- The summary of a record that was generated, and of what came of it (docs/FORMATS.md, "The summary").
+-- The summary of a record that was generated, and of its result (docs/FORMATS.md, "The summary").
 use Rattle.std.specs.Prelude.{ℕ, ℤ, List, [], ◌++◌, length, codes, decimal, flat_map, slice_get, Option, Some, None}
 use Rattle.std.specs.List.{count_by, zip}
 use Rattle.std.specs.Fmt.{signed_decimal}
@@ -46,7 +46,7 @@ abbrev pub counts_line : Role → List ℕ → JobView → List ℕ
 counts_line role name job =
     role_text role ++ (codes " " ++ (name ++ (codes " " ++ (counts_text job.sight ++ (codes " " ++ (position_text job.view.cells ++ LINE_FEED))))))
 
--- an actor's line, by its role; a joystick and an owner have none
+-- an actor's line, by its role; a joystick and an owner have no line
 abbrev pub brief_line : Role → List ℕ → JobView → List ℕ
 brief_line Source name job = calls_line name (count_by is_counted_call job.sight)
 brief_line Client name job = counts_line Client name job

@@ -13,7 +13,7 @@ use Rattle.inp_report.specs.Words.{LINE_FEED, flags_text, value_text}
 unfoldable pub flags_line : Description → List ℕ → ℕ → List Bool → List ℕ
 flags_line d word kind flags = if has_kind d kind then word ++ (flags_text kind flags ++ LINE_FEED) else []
 
--- a supported axis whose values do not belong to slots, behind a space
+-- a supported axis whose values do not belong to slots, after a space
 abbrev pub axis_entry : Description → List ℤ → ℕ → List ℕ
 axis_entry d axes code =
     if supports d EV_ABS code && not (is_multi_touch_code code) then codes " " ++ value_text code (slice_index_or axes code (pos 0)) else []
@@ -26,7 +26,7 @@ axes_text d axes = flat_map (axis_entry d axes) (range_with_len 0 64)
 unfoldable pub axes_line : Description → List ℤ → List ℕ
 axes_line d axes = if has_kind d EV_ABS then codes "axes" ++ (axes_text d axes ++ LINE_FEED) else []
 
--- a supported axis of a slot, behind a space
+-- a supported axis of a slot, after a space
 abbrev pub slot_entry : Description → List ℤ → ℕ → ℕ → List ℕ
 slot_entry d cells slot code = if supports d EV_ABS code then codes " " ++ value_text code (cell_of cells slot code) else []
 

@@ -15,15 +15,15 @@ use Rattle.inp_script.specs.declared.stop.Stop.TheVariants.{Finished, Idle, Full
 abbrev pub LINE_FEED : List ℕ
 LINE_FEED = 10 ∷ []
 
--- a code of the type, behind a space
+-- a code of the type, after a space
 abbrev pub spaced_code : ℕ → ℕ → List ℕ
 spaced_code kind code = codes " " ++ code_text kind code
 
--- the codes that are on, ascending, each behind a space
+-- the codes that are on, ascending, each after a space
 unfoldable pub flags_text : ℕ → List Bool → List ℕ
 flags_text kind flags = flat_map (spaced_code kind) (true_indices flags)
 
--- KIND CODE, and a space behind each
+-- KIND CODE, and a space after each
 unfoldable pub event_label : ℕ → ℕ → List ℕ
 event_label kind code = kind_text kind ++ (codes " " ++ (code_text kind code ++ codes " "))
 

@@ -18,16 +18,17 @@ use std::alloc::Global;
 /// The slot whose position a summary tells: the last one of a generated device (this project's choice).
 const TOLD_SLOT: u32 = 9;
 
-/// The summary of a generated record and of what came of it: the two numbers that it was generated from, the devices in
-/// order, each with the number of its steps, and its actors with counts and with the position of slot 9.
+/// The summary of a generated record and of its result. It has the two numbers from which the record was generated, and
+/// the devices in order. Each device has the number of its steps, and its actors with counts and with the position of
+/// slot 9.
 ///
-/// It tells any record, and is meant for the generated one, whose device has ten slots: of a device that has no slot 9 the
-/// position is 0. `runs` must be those of this record, as for [`report`](crate::report). It takes time and memory in
-/// proportion to what was seen.
+/// It tells any record, and is meant for the generated one, whose device has ten slots: of a device that has no slot 9
+/// the position is 0. `runs` must be those of this record, as for [`report`](crate::report). It takes time and memory
+/// in proportion to what was seen.
 ///
 /// # Errors
 ///
-/// `NoMemory` where there is none for the text.
+/// `NoMemory` where memory is short for the text.
 pub fn summary(
     alloc: Global,
     number: u32,

@@ -1,7 +1,7 @@
 //! What the definitions say of a few records.
 ghost use Rattle.inp_report.specs.Examples.{ShowsAPress, ShowsItsHistory, ShowsAFullHistory, CountsNoEnd, ShowsAClient, ShowsALoss, ShowsEachClass, ShowsIdle, ShowsContacts, ShowsAJoystick, ShowsAnAxisBelowNought, ShowsAnOwner, ShowsNoRefusedFeedback, SumsUp};
 
-/// What the definitions of this crate make of a few records and of what came of them, worked out by hand. It does nothing:
+/// What the definitions of this crate make of a few records and of their results, worked out by hand. It does nothing:
 /// its contract is the point.
 pub fn examples()
     ensures press { ShowsAPress }

@@ -13,15 +13,15 @@ use inp_script::{JoyEnd, JoyRuns};
 use inp_texts::Page;
 use std::alloc::Global;
 
-/// The report of a record's joysticks, in the order of the record: what each did and saw, how its buttons and axes stand at
-/// the end, and why it stopped. It stands behind what [`report`](crate::report) says of the devices.
+/// The report of a record's joysticks, in the order of the record: what each did and saw, how its buttons and axes
+/// stand at the end, and why it stopped. It stands after what [`report`](crate::report) says of the devices.
 ///
-/// `joys` must be those of this record: one job for each joystick, in order. It takes time and memory in proportion to the
-/// text.
+/// `joys` must be those of this record: one job for each joystick, in order. It takes time and memory in proportion to
+/// the text.
 ///
 /// # Errors
 ///
-/// `NoMemory` where there is none for the text.
+/// `NoMemory` where memory is short for the text.
 pub fn joy_report(alloc: Global, rec: &Record, joys: &JoyRuns) -> Result<Vec<u8>, NoMemory>
     requires joys { AreJoysOf rec.now joys.now }
     ensures text { IfOk result (λ text. text.items ≡ joy_report rec.now joys.now) }

@@ -1,20 +1,20 @@
-//! The printed text of a record of input devices and of what came of it: the report, that of its joysticks, that of its
+//! The printed text of a record of input devices and of its result: the report, that of its joysticks, that of its
 //! owners, and the summary.
 //!
-//! This crate is for whoever shows what was played. It stands on `inp_actors` for records, on `inp_script` for what came of
-//! them, on `inp_recon` for views, on `inp_joy` for joysticks' records and pictures, on `inp_feedback` for what owners were
-//! answered, and on `inp_codes` for names.
+//! This crate is for whoever shows what was played. It depends on `inp_actors` for records, on `inp_script` for their
+//! results, and on `inp_recon` for views. It also depends on `inp_joy` for joysticks' records and pictures, on
+//! `inp_feedback` for what owners were answered, and on `inp_codes` for names.
 //!
 //! Its contract: [`report`], [`joy_report`], [`owner_report`] and [`summary`] give exactly the bytes that
-//! `specs/Report.antt`, `specs/JoyReport.antt`, `specs/OwnerReport.antt` and `specs/Summary.antt` define of the record and of
-//! what came of it, with and without histories, row by row of the tables in docs/FORMATS.md, or want of memory.
-//! [`whole_report`] gives the first three one behind another (`specs/Whole.antt`). The caller
-//! must pass the runs, the joysticks and the owners of this record (`AreRunsOf`, `AreJoysOf` and `AreOwnersOf` of
-//! `inp_script`): a run for each device and a job for each of its actors but joysticks and owners, in order, with a view of
-//! the device, a job for each joystick, and what each owner was told. [`examples`] shows the whole text of a key press, with
-//! its history too, a client's part, a loss and the synchronisation after it, a full history, the slots of a touchpad, a
-//! joystick, an owner, and a summary. A report takes time in proportion to what it prints, a summary to what was seen; no
-//! clause says so.
+//! `specs/Report.antt`, `specs/JoyReport.antt`, `specs/OwnerReport.antt` and `specs/Summary.antt` define of the record
+//! and of its result, or want of memory. They do so with and without histories, row by row of the tables in
+//! docs/FORMATS.md. [`whole_report`] gives the first three one after another (`specs/Whole.antt`). The caller must pass
+//! the runs, the joysticks and the owners of this record (`AreRunsOf`, `AreJoysOf` and `AreOwnersOf` of `inp_script`).
+//! Those are a run for each device and a job for each of its actors but joysticks and owners, in order, with a view of
+//! the device. There is also a job for each joystick, and what each owner was told. [`examples`] shows the whole text
+//! of a key press, with its history too, a client's part, and a loss and the synchronisation after it. It also shows a
+//! full history, the slots of a touchpad, a joystick, an owner, and a summary. A report takes time in proportion to
+//! what it prints, a summary to what was seen; no clause says so.
 #![tactic(auto)]
 
 mod bits;

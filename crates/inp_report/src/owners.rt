@@ -12,14 +12,16 @@ use inp_script::{FedSight, OwnerEnd, OwnerRuns};
 use inp_texts::Page;
 use std::alloc::Global;
 
-/// The report of a record's owners, in the order of the record: what each feedback call took, and why the owner stopped. It
-/// stands behind what [`joy_report`](crate::joy_report) says of the joysticks. A call that was refused has no line.
+/// The report of a record's owners, in the order of the record: what each feedback call took, and why the owner
+/// stopped. It stands after what [`joy_report`](crate::joy_report) says of the joysticks. A call that was refused has
+/// no line.
 ///
-/// `owners` must be those of this record: one for each owner, in order. It takes time and memory in proportion to the text.
+/// `owners` must be those of this record: one for each owner, in order. It takes time and memory in proportion to the
+/// text.
 ///
 /// # Errors
 ///
-/// `NoMemory` where there is none for the text.
+/// `NoMemory` where memory is short for the text.
 pub fn owner_report(alloc: Global, rec: &Record, owners: &OwnerRuns) -> Result<Vec<u8>, NoMemory>
     requires owners { AreOwnersOf rec.now owners.now }
     ensures text { IfOk result (λ text. text.items ≡ owner_report rec.now owners.now) }

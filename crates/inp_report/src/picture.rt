@@ -42,7 +42,7 @@ fn bits_of(word: u64) -> Bits<1>
     bits
 }
 
-// Appends the indices at which the list is true, ascending, each behind a space.
+// Appends the indices at which the list is true, ascending, each after a space.
 fn push_numbers(text: &mut Page, flags: &Bits<1>) -> Result<(), NoMemory>
     ensures pushed { OnOk result
         (text.new

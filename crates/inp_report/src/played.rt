@@ -1,4 +1,4 @@
-//! The report of all that came of a record.
+//! The report of the whole result of a record.
 ghost use Rattle.std.specs.Prelude.{◌≡◌, IfOk};
 ghost use Rattle.inp_report.specs.Whole.{whole_report};
 ghost use Rattle.inp_script.specs.Runs.{AreRunsOf, AreJoysOf, AreOwnersOf};
@@ -11,14 +11,14 @@ use inp_model::NoMemory;
 use inp_script::Played;
 use std::alloc::Global;
 
-/// The report of the record's devices, behind it that of its joysticks, and behind that the one of its owners.
+/// The report of the record's devices, after it that of its joysticks, and after that the one of its owners.
 ///
-/// `played` must be what came of this record, as for [`report`], `joy_report` and `owner_report`. It takes time and
+/// `played` must be the result of this record, as for [`report`], `joy_report` and `owner_report`. It takes time and
 /// memory in proportion to the text.
 ///
 /// # Errors
 ///
-/// `NoMemory` where there is none for the text.
+/// `NoMemory` where memory is short for the text.
 pub fn whole_report(
     alloc: Global,
     recorded: &Record,

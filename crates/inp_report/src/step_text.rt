@@ -86,7 +86,7 @@ fn push_of_axis(text: &mut Page, before: &str, client: u32, code: u16) -> Result
     push_code(text, EV_ABS, code)
 }
 
-/// Appends a clock and a moment, each behind a space.
+/// Appends a clock and a moment, each after a space.
 fn push_clock_at(text: &mut Page, clock: Clock, now: u64) -> Result<(), NoMemory>
     ensures pushed { OnOk result
         (text.new

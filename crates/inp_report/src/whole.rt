@@ -12,15 +12,16 @@ use inp_script::{Run, Runs};
 use inp_texts::Page;
 use std::alloc::Global;
 
-/// The report of a record and of what came of it: the devices in order, each with the number of its steps, with all its
-/// steps where `history` is wanted, and with what each of its actors did, saw and knows at the end.
+/// The report of a record and of its result. It has the devices in order, each with the number of its steps, and with
+/// all its steps where `history` is wanted. Each device also has what each of its actors did, saw and knows at the end.
 ///
-/// `runs` must be those of this record: one run for each device, in order, each with one job for each actor of the device
-/// but joysticks and owners, in order, whose view is of the device. It takes time and memory in proportion to the text.
+/// `runs` must be those of this record: one run for each device, in order. Each has one job for each actor of the
+/// device but joysticks and owners, in order, whose view is of the device. It takes time and memory in proportion to
+/// the text.
 ///
 /// # Errors
 ///
-/// `NoMemory` where there is none for the text.
+/// `NoMemory` where memory is short for the text.
 pub fn report(alloc: Global, rec: &Record, runs: &Runs, history: bool) -> Result<Vec<u8>, NoMemory>
     requires runs { AreRunsOf rec.now runs.now }
     ensures text { IfOk result (λ text. text.items ≡ report rec.now runs.now history) }

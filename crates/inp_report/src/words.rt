@@ -17,7 +17,7 @@ pub(crate) fn push_numbered(text: &mut Page, before: &str, number: u64) -> Resul
     push_number(text, number)
 }
 
-/// Appends a number that may be negative, behind a space.
+/// Appends a number that may be negative, after a space.
 #[inline(always)]
 pub(crate) fn push_spaced(text: &mut Page, number: i32) -> Result<(), NoMemory>
     ensures pushed { OnOk result

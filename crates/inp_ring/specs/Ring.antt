@@ -39,12 +39,12 @@ pub record IsRing (ring : RingView) : Type 0 where
 abbrev pub HoldsAllButOne : RingView → Type 0
 HoldsAllButOne ring = length ring.numbers + 1 ≡ ring.places
 
--- Where a number is put, nothing enters the ring but the number itself, behind all that was there.
+-- Where a number is put, nothing enters the ring but the number itself, after all that was there.
 abbrev pub EntersAlone : ℕ → List ℕ → List ℕ → Type 0
 EntersAlone number old new = (new ≡ old) ⊎ (new ≡ old ++ number ∷ [])
 
--- The queue of a full ring was lost: SYN_DROPPED stands in its place, in a cell that no other ring holds, and behind it
--- these numbers.
+-- The queue of a full ring was lost: SYN_DROPPED stands in its place, in a cell that no other ring holds, and
+-- after it these numbers.
 pub record IsLost (behind : List ℕ) (store : StoreView) (old new : RingView) : Type 0 where
   pub full : HoldsAllButOne old
   pub loss : ℕ
@@ -60,7 +60,7 @@ abbrev pub some_cell : Option Cell → Cell
 some_cell None = record { event = syn_dropped; now = 0; place = 0 }
 some_cell (Some cell) = cell
 
--- the cell under a number, and any where there is none
+-- the cell under a number, and any cell where no cell has the number
 abbrev pub cell_at : StoreView → ℕ → Cell
 cell_at s number = some_cell (cell_in s number)
 
@@ -72,9 +72,9 @@ queue_in s q = map (cell_at s) q
 abbrev pub AreFit : List Cell → Type 0
 AreFit cells = All (λ cell. cell.now ≤ MOMENT_MAX) cells
 
--- What becomes of a store where a ring goes from some numbers to others: each number that leaves has one holder less, and
--- its cell goes with the last one; each number that comes has one holder more. A number may leave with its cell, and
--- come again with another.
+-- How a store changes where a ring goes from some numbers to others. Each number that leaves has one holder
+-- less, and its cell goes with the last one. Each number that comes has one holder more. A number may leave
+-- with its cell, and come again with another.
 pub record IsMoved (old new : StoreView) (from to : List ℕ) : Type 0 where
   pub held : (n : ℕ) → holders new n + times n from ≡ holders old n + times n to
   -- a cell that another ring holds stays

@@ -21,7 +21,7 @@ pub record IsNumbered (slab : Slab Held) : Type 0 where
   pub within : slab_len slab ≤ slab.capacity
   pub numbered : slab.capacity < 2 ^ 32
 
--- how many rings hold a cell, 0 where there is none
+-- how many rings hold a cell, 0 where no cell is given
 abbrev pub holders_of : Option Held → ℕ
 holders_of None = 0
 holders_of (Some h) = h.holders
@@ -42,7 +42,7 @@ held_under s number = slice_index_or s.slots number None
 abbrev pub cell_in : StoreView → ℕ → Option Cell
 cell_in s number = held_cell (held_under s number)
 
--- how many rings hold the cell under a number, 0 where there is none
+-- how many rings hold the cell under a number, 0 where no cell has it
 abbrev pub holders : StoreView → ℕ → ℕ
 holders s number = holders_of (held_under s number)
 

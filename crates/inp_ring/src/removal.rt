@@ -112,7 +112,7 @@ pub fn replace_all(numbers: &mut HeapCircularBuffer<u32>, store: &mut Store, cel
 }
 
 /// Releases the numbers of a class of events, and the reports that are left with no event before them. Each number is
-/// taken from the front once and, where it stays, put behind the others.
+/// taken from the front once and, where it stays, put after the others.
 pub fn remove_class(numbers: &mut HeapCircularBuffer<u32>, store: &mut Store, class: Class)
     requires within { length numbers.old.items ≤ numbers.old.capacity }
     requires held { AreHeld store.old numbers.old.items }
@@ -143,7 +143,7 @@ fn first_event(numbers: &HeapCircularBuffer<u32>, store: &Store) -> Event
     store.get(number).event
 }
 
-/// Puts the oldest number behind the others. There must be one.
+/// Puts the oldest number after the others. There must be one.
 fn turn(numbers: &mut HeapCircularBuffer<u32>)
     requires some { 0 < length numbers.old.items }
     requires within { length numbers.old.items ≤ numbers.old.capacity }

@@ -28,11 +28,11 @@ const LOSS: Event = Event {
     value: 0,
 };
 
-/// The events that a client was offered and has not read, oldest first: the numbers of their cells, in a ring of 64 to
-/// 4,096 places that holds one number less than it has places.
+/// The events that a client was offered and has not read, oldest first. A ring has the numbers of their cells, in 64 to
+/// 4,096 places, and holds one number less than it has places.
 ///
-/// With a [`Store`], which the ring shares with others, its queue is the list of the cells. Each call keeps that each of
-/// its numbers has a cell with a holder. The events up to the last SYN_REPORT are visible: they may be read.
+/// With a [`Store`], which the ring shares with others, its queue is the list of the cells. Each call keeps that each
+/// of its numbers has a cell with a holder. The events up to the last SYN_REPORT are visible: they may be read.
 #[derive(Drop)]
 pub struct Ring {
     numbers: HeapCircularBuffer<u32>,
@@ -76,9 +76,9 @@ impl Ring {
     /// Puts the number of a cell at the end, and adds a holder. A SYN_REPORT is left out where it would follow a
     /// SYN_REPORT, or nothing.
     ///
-    /// Where all places but one are held, all events are lost: SYN_DROPPED stands in their place, in a cell of its own
-    /// with the moment and place of the event that did not fit, and that event behind it (evdev's client buffer). There
-    /// must be room to spare for that cell. It takes the same time at any length but for a loss, and no memory.
+    /// Where all places but one are held, all events are lost (evdev's client buffer). SYN_DROPPED stands in their
+    /// place, in a cell of its own with the moment and place of the event that did not fit. That event stands after it.
+    /// There must be room to spare for that cell. It takes the same time at any length but for a loss, and no memory.
     ///
     /// The number must have a cell with fewer than 64 holders, and not be in this ring.
     pub fn put(&mut self, store: &mut Store, number: u32)
@@ -103,8 +103,8 @@ impl Ring {
         }
     }
 
-    /// Puts the number of a cell at the end as [`put`](Ring::put) does, but adds no holder, and says whether the number is
-    /// in the ring now. So a caller that puts it in several rings can add all their holders at once.
+    /// Puts the number of a cell at the end as [`put`](Ring::put) does, but adds no holder, and says whether the number
+    /// is in the ring now. So a caller that puts it in several rings can add all their holders at once.
     ///
     /// The number must have a cell with this event, and not be in this ring.
     pub fn enter(&mut self, store: &mut Store, number: u32, event: Event) -> bool
@@ -197,8 +197,8 @@ impl Ring {
         count as u32
     }
 
-    /// Moves the first `count` visible events, or as many as there are, to the front of a buffer, and says how many. Each
-    /// is read on a clock that is `offset` microseconds ahead, and has one holder less.
+    /// Moves the first `count` visible events, or as many as there are, to the front of a buffer, and says how many.
+    /// Each is read on a clock that is `offset` microseconds ahead, and has one holder less.
     ///
     /// The rest of the buffer stays. The buffer must have room for `count`.
     pub fn take(&mut self, store: &mut Store, count: u32, offset: u64, out: &mut [Taken]) -> u32
@@ -235,8 +235,9 @@ impl Ring {
         removed
     }
 
-    /// Puts SYN_DROPPED in the place of all events, with a moment in microseconds and the place of the step that changed
-    /// the client's clock (evdev's clock request). An empty ring stays empty. There must be room to spare for a cell.
+    /// Puts SYN_DROPPED in the place of all events, with a moment in microseconds and the place of the step that
+    /// changed the client's clock (evdev's clock request). An empty ring stays empty. There must be room to spare for a
+    /// cell.
     pub fn clock_changed(&mut self, store: &mut Store, now: u64, place: u32)
         requires room { 0 < store.old.spare }
         requires held { AreHeld store.old self.old.numbers }
@@ -299,8 +300,8 @@ impl Ring {
         self.numbers.len() + 1 < self.numbers.capacity()
     }
 
-    /// Leaves the ring as it is where one more number fits. Else SYN_DROPPED stands in the place of all, at the moment and
-    /// place of the cell under a number.
+    /// Leaves the ring as it is where one more number fits. Else SYN_DROPPED stands in the place of all, at the moment
+    /// and place of the cell under a number.
     fn make_room(&mut self, store: &mut Store, number: u32)
         requires there { HasCell store.old number }
         requires absent { times number self.old.numbers ≡ 0 }

@@ -11,8 +11,8 @@ use std::marker::Model;
 /// The cells of a device: each event that some client's ring holds, once, under a number, with the number of rings that
 /// hold it.
 ///
-/// A cell goes with its last holder, and its number may then be given out again. Only [`grow`](Store::grow) takes memory:
-/// it says how many cells there may be, and each further call takes the time of one look-up.
+/// A cell goes with its last holder, and its number may then be given out again. Only [`grow`](Store::grow) takes
+/// memory: it says how many cells there may be, and each further call takes the time of one look-up.
 #[derive(Drop)]
 pub struct Store {
     slab: Slab<Held>,
@@ -39,7 +39,8 @@ impl Store {
         }
     }
 
-    /// Makes room for so many cells, those that are there included. It is refused for memory alone, and no cell changes.
+    /// Makes room for so many cells, those that are there included. It is refused for memory alone, and no cell
+    /// changes.
     pub fn grow(&mut self, cells: u32) -> Result<(), NoMemory>
         ensures room { OnOk result (cells ≤ cell_count self.new + self.new.spare) }
         ensures cells { self.new.slots ≡ self.old.slots }
@@ -65,7 +66,7 @@ impl Store {
         self.slab.len() as u32
     }
 
-    /// Adds a cell that nobody holds, and gives its number, under which there was none. There must be room to spare.
+    /// Adds a cell that nobody holds, and gives its number, which no cell had. There must be room to spare.
     pub fn add(&mut self, cell: Cell) -> u32
         requires room { 0 < self.old.spare }
         ensures new { held_under self.old result ≡ None }

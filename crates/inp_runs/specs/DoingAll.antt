@@ -19,8 +19,8 @@ use Rattle.inp_runs.specs.Job.{lines_by, last_talk, lines_talk}
 abbrev pub AreNumbersOf : RecordView → ℕ → List ℕ → Type 0
 AreNumbersOf r actor numbers = map (slice_get r.lines) numbers ≡ map Some (lines_by actor r.lines)
 
--- An actor that is no owner did all its lines: its calls are those of their talk, each line in at most some number of
--- rounds, and of what is asked of it then. This is its job afterwards.
+-- An actor that is no owner did all its lines. Its calls are those of their talk, each line in at most some
+-- number of rounds, and of what is asked of it then. This is its job afterwards.
 pub record DoesAll (before after : EvdevView) (r : RecordView) (wait : Option Waiting) (old : ActorView) (new : Job) : Type 0 where
   pub rounds : ℕ
   pub holds : Holds before after (lines_talk old.role old.description r.streams wait rounds (lines_by old.actor r.lines) old.job) (Some new)
@@ -53,8 +53,8 @@ module _ {S : Type 0} (told : S → EvdevView) (feeds : Feeding S) where
       ((after ≡ before) × (new ≡ old) × (last_talk wait old.role old.job ≡ finish (Some old.job)))
       ⊎ ((old.role ≡ Source) × Holds (told before) (told after) (last_talk wait old.role old.job) (Some new.job) × (new ≡ record old { job = new.job }))
 
-  -- An actor did all its lines, in file order, and what is asked of it then. It is an owner, whose lines are feedback calls
-  -- one after another, or its calls are those of its lines' talk.
+  -- An actor did all its lines, in file order, and what is asked of it then. It is an owner, whose lines are
+  -- feedback calls one after another, or its calls are those of its lines' talk.
   abbrev pub ActsAll : S → S → RecordView → Option Waiting → ActorView → ActorView → Type 0
   ActsAll before after r wait old new =
       ((old.role ≡ Owner) × AreOwned feeds before after (lines_by old.actor r.lines) old new)

@@ -1,5 +1,5 @@
--- What stands when the actors of a device have done all their lines, in whatever order their steps were made, and that this
--- is all that is promised of the device (docs/PROMISES.md).
+-- What stands when the actors of a device have done all their lines, in whatever order their steps were made.
+-- It is shown that this is all that is promised of the device (docs/PROMISES.md).
 use Rattle.std.specs.Prelude.{ℕ, ◌≡◌, ◌<◌, List, length, map, slice_get, Option, Some}
 use Rattle.std.specs.List.{count_by, sum_by}
 use Rattle.inp_model.specs.declared.step.Step.{Step}
@@ -21,9 +21,9 @@ use Rattle.inp_script.specs.Ended.{HasDeviceSlots, ended_of, ended_run, joys_amo
 use Rattle.inp_runs.specs.Owner.{rooms_of, HasOwned, IsOwner}
 use Rattle.inp_runs.specs.Job.{lines_by, lines_talk, is_entry_at, wait_of, IsRun, ArePromised}
 
--- An actor did all its lines: its calls are a legal run of the device's history, and its job is what its lines and the
--- answers to these calls make. Its view has the device's slots, if a view comes of it. Where it is an owner its feedback
--- calls are the device's.
+-- An actor did all its lines: its calls are a legal run of the device's history, and its job is what its
+-- lines and the answers to these calls make. Its view has the device's slots, if its result has a view. Where
+-- it is an owner its feedback calls are the device's.
 pub record HasFollowed (r : RecordView) (d : Description) (wait : Option Waiting) (history : List Step) (role : Role) (a : ActorView) : Type 0 where
   pub calls : List Call
   pub legal : IsLegalRun d history calls
@@ -37,14 +37,14 @@ pub record HasFollowed (r : RecordView) (d : Description) (wait : Option Waiting
 abbrev pub calls_at : ℕ → ActorView → ℕ
 calls_at place a = count_by (is_entry_at place) a.job.sight
 
--- The actors of the device of this number did all their lines, and each place of its history is the place of one accepted
--- call of one of them.
+-- The actors of the device of this number did all their lines, and each place of its history is the place of
+-- one accepted call of one of them.
 pub record IsDeviceDone (idle : Option ℕ) (r : RecordView) (i : ℕ) (d : Description) (history : List Step) (actors : List ActorView) : Type 0 where
   pub numbers : map (λ (a : ActorView). a.actor) actors ≡ actors_of r.actors i
   pub each : (k : ℕ) (a : ActorView) (text : ActorText) → slice_get actors k ≡ Some a → slice_get r.actors a.actor ≡ Some text → HasFollowed r d (wait_of idle r i) history text.role a
   pub once : (place : ℕ) → place < length history → sum_by (calls_at place) actors ≡ 1
 
--- All that is promised of what came of the device of this number.
+-- All that is promised of the result of the device of this number.
 pub record IsRunAsPromised (idle : Option ℕ) (r : RecordView) (i : ℕ) (device : DeviceText) (done : DeviceEnds) : Type 0 where
   pub run_of : IsRunOf r.actors i device (ended_run done)
   pub joys_of : joy_actors (joys_among done.ends) ≡ joysticks_of r.actors i
@@ -53,7 +53,7 @@ pub record IsRunAsPromised (idle : Option ℕ) (r : RecordView) (i : ℕ) (devic
   pub owners : (k : ℕ) (owner : OwnerView) → slice_get (owners_among done.ends) k ≡ Some owner
       → IsOwner device.caps done.history (rooms_of (lines_by owner.actor r.lines)) owner
 
--- what comes of a device whose actors did all their lines is promised
+-- the result of a device whose actors did all their lines is promised
 abbrev pub DevicesDoneArePromised : Type 0
 DevicesDoneArePromised =
     (idle : Option ℕ) (r : RecordView) (i : ℕ) (device : DeviceText) (history : List Step) (actors : List ActorView)

@@ -13,8 +13,8 @@ use Rattle.inp_script.specs.declared.sight.Sight.{Sight}
 use Rattle.inp_script.specs.declared.sight.Sight.TheVariants.{Call, Took}
 use Rattle.inp_runs.specs.JobViews.{last_read, index_in_history}
 
--- A job opened client 2. Its read at place 7 gave three equal events, and its read at place 9 gave two more, between which
--- it took the grab.
+-- A job opened client 2. Its read at place 7 gave three equal events, and its read at place 9 gave two more,
+-- between which it took the grab.
 abbrev pub two_reads : Taken → List Sight
 two_reads t =
     Call Open (Opened 5 2 64) ∷ Call (Read 2 64) (TookSoMany 7 3) ∷ Took t ∷ Took t ∷ Took t
@@ -38,7 +38,7 @@ TellsEqualEventsApart =
     × (index_in_history d history (take 7 (two_reads t)) ≡ Some (length (took d (past_at history 9) 2) + 0))
     × (index_in_history d history (two_reads t) ≡ Some (length (took d (past_at history 9) 2) + 1))
 
--- a read that was refused is none, and behind a second open the job has read nothing as its new client
+-- a read that was refused does not count, and after a second open the job has read nothing as its new client
 abbrev pub CountsAcceptedReadsOfItsClient : Type 0
 CountsAcceptedReadsOfItsClient =
     (t : Taken)

@@ -1,4 +1,4 @@
--- What is promised of what came of a record, whatever the order of its jobs' steps (docs/PROMISES.md).
+-- What is promised of the result of a record, whatever the order of its jobs' steps (docs/PROMISES.md).
 use Rattle.std.specs.Prelude.{ℕ, suc, ◌+◌, ◌≡◌, ◌≤◌, Bool, true, false, ◌&&◌, if◌then◌else◌, nat_eq, nat_lt, List, [], ◌∷◌, length, filter, take, reverse, slice_get, Option, Some, None}
 use Rattle.std.specs.List.{count_by, list_any, sum_by}
 use Rattle.inp_model.specs.declared.stamped.Stamped.{Stamped}
@@ -50,8 +50,8 @@ last_talk None role j = finish (Some j)
 last_talk (Some waiting) Source j = end_talk j.stop j
 last_talk (Some waiting) role j = finish (Some j)
 
--- What an actor does at its lines, one after another, each in at most so many rounds, and when they are done. Where nobody
--- waits a line ends at the first answer Again.
+-- What an actor does at its lines, one after another, each in at most so many rounds, and when they are done.
+-- Where nobody waits a line ends at the first answer Again.
 unfoldable pub lines_talk : Role → Description → List (List Stamped) → Option Waiting → ℕ → List Line → Job → Talk (Option Job)
 lines_talk role d streams wait rounds [] j = last_talk wait role j
 lines_talk role d streams wait rounds (line ∷ lines) j =
@@ -67,13 +67,14 @@ pub record TellsAllBut (calls : List model.Call) (sight : List Sight) : Type 0 w
   pub part : LeavesOut kept calls
   pub entries : sight_of_calls kept ≡ filter is_call_entry sight
 
--- The calls are those that the sight tells of. Where lines wait it leaves out the answers Again that they waited through.
+-- The calls are those that the sight tells of. Where lines wait it leaves out the answers Again that they
+-- waited through.
 abbrev pub AreTold : Option Waiting → List model.Call → List Sight → Type 0
 AreTold None calls sight = sight_of_calls calls ≡ filter is_call_entry sight
 AreTold (Some waiting) calls sight = TellsAllBut calls sight
 
--- What came of a job: its calls are a legal run of the device's history, none of them lacked memory, and its sight and its
--- view are what its lines and the answers to these calls make.
+-- The result of a job. Its calls are a legal run of the device's history, and none of them lacked memory. Its
+-- sight and its view are what its lines and the answers to these calls make.
 pub record IsJob (r : RecordView) (d : Description) (wait : Option Waiting) (history : List Step) (role : Role) (job : JobView) : Type 0 where
   pub calls : List model.Call
   pub legal : IsLegalRun d history calls
@@ -92,8 +93,8 @@ pub record IsJob (r : RecordView) (d : Description) (wait : Option Waiting) (his
   pub folded : IsFolded role d history last
   pub ended : job ≡ job_end (record { actor = job.actor; role = role; description = d; job = last; owning = first_owning })
 
--- What came of a joystick's job: the same of its calls, and its sight and its picture are what its lines and the answers to
--- these calls make.
+-- The result of a joystick's job: the same of its calls, and its sight and its picture are what its lines and
+-- the answers to these calls make.
 pub record IsJoyJob (r : RecordView) (d : Description) (wait : Option Waiting) (history : List Step) (joy : JoyJobView) : Type 0 where
   pub calls : List model.Call
   pub legal : IsLegalRun d history calls
@@ -104,7 +105,7 @@ pub record IsJoyJob (r : RecordView) (d : Description) (wait : Option Waiting) (
   pub last : Job
   -- it follows its lines
   pub follows : EndsWith (lines_talk Joy d r.streams wait rounds (lines_by joy.actor r.lines) (first_job Joy d)) calls (Some last)
-  -- its picture is what the records of its last startup and those behind it make
+  -- its picture is what the records of its last startup and those after it make
   pub pictured : IsFolded Joy d history last
   pub ended : joy ≡ joy_end (record { actor = joy.actor; role = Joy; description = d; job = last; owning = first_owning })
 
@@ -121,9 +122,9 @@ entries_at place jobs = sum_by (λ (job : JobView). count_by (is_entry_at place)
 abbrev pub joy_entries_at : ℕ → List JoyJobView → ℕ
 joy_entries_at place joys = sum_by (λ (joy : JoyJobView). count_by (is_entry_at place) joy.sight) joys
 
--- What came of a device: one history within the limit; each of its jobs follows its lines on that history; and each place
--- of the history is the place of exactly one accepted call of exactly one job. The jobs are the device's, with those of its
--- joysticks.
+-- The result of a device. It has one history within the limit, and each of its jobs follows its lines on that
+-- history. Each place of the history is the place of exactly one accepted call of exactly one job. The jobs
+-- are the device's, with those of its joysticks.
 pub record IsRun (r : RecordView) (d : Description) (wait : Option Waiting) (run : Run) (joy_jobs : List JoyJobView) : Type 0 where
   pub within : length run.history ≤ d.log_limit
   pub jobs : (i : ℕ) (job : JobView) (text : ActorText) → slice_get run.jobs i ≡ Some job → slice_get r.actors job.actor ≡ Some text → IsJob r d wait run.history text.role job
@@ -142,8 +143,8 @@ pub record IsRun (r : RecordView) (d : Description) (wait : Option Waiting) (run
 abbrev pub AreDescribed : RecordView → Type 0
 AreDescribed r = (i : ℕ) (device : DeviceText) → slice_get r.devices i ≡ Some device → IsDescription device.caps
 
--- How the lines of the device of this number wait: through so many answers Again in a row at most, and not once all sources
--- of the device are done. Without a number nobody waits.
+-- How the lines of the device of this number wait: through so many answers Again in a row at most, and not
+-- once all sources of the device are done. Without a number nobody waits.
 abbrev pub wait_of : Option ℕ → RecordView → ℕ → Option Waiting
 wait_of None r device = None
 wait_of (Some idle) r device = Some (record { idle = idle; sources = source_count r device })
@@ -152,8 +153,8 @@ wait_of (Some idle) r device = Some (record { idle = idle; sources = source_coun
 abbrev pub joys_on : RecordView → List JoyJobView → ℕ → List JoyJobView
 joys_on r joys device = filter (λ (joy : JoyJobView). is_on_device device (slice_get r.actors joy.actor)) joys
 
--- What came of a record: one run for each device, with one job for each of its actors, and each run and each owner is as
--- above. With a number, lines waited so.
+-- The result of a record: one run for each device, with one job for each of its actors, and each run and each
+-- owner is as above. With a number, lines waited so.
 pub record ArePromised (idle : Option ℕ) (r : RecordView) (played : Played) : Type 0 where
   pub runs_of : AreRunsOf r played.runs
   pub joys_of : AreJoysOf r played.joys
@@ -163,8 +164,8 @@ pub record ArePromised (idle : Option ℕ) (r : RecordView) (played : Played) : 
   pub owners : (k : ℕ) (owner : OwnerView) (text : ActorText) (device : DeviceText) (run : Run) → slice_get played.owners k ≡ Some owner → slice_get r.actors owner.actor ≡ Some text
       → slice_get r.devices text.device ≡ Some device → slice_get played.runs text.device ≡ Some run → IsOwner device.caps run.history (rooms_of (lines_by owner.actor r.lines)) owner
 
--- at each report that a job took, its view up to then is the device's state at the end of that report's frame, where its
--- client could follow the device up to there
+-- At each report that a job took, its view up to then is the device's state at the end of that report's
+-- frame. This holds where its client could follow the device up to there.
 abbrev pub JobsShowTheDevice : Type 0
 JobsShowTheDevice =
     (r : RecordView) (d : Description) (wait : Option Waiting) (run : Run) (joys : List JoyJobView) (i k : ℕ) (job : JobView) (text : ActorText) (taken : Taken)

@@ -48,10 +48,10 @@ is_read_as client _ = false
 pub record LastRead : Type 0 where
   -- the place of the read
   pub place : ℕ
-  -- how many events the sight took behind it
+  -- how many events the sight took after it
   pub events : ℕ
 
--- an accepted read as this client is the last one so far, and an event more was taken behind it at each Took
+-- an accepted read as this client is the last one so far, and an event more was taken after it at each Took
 abbrev pub read_after_entry : ℕ → Option LastRead → Sight → Option LastRead
 read_after_entry client last (Call x reply) =
     if is_read_as client x && is_accepted reply then Some (record { place = place_of reply; events = 0 }) else last
@@ -68,8 +68,8 @@ read_after_sight client last (entry ∷ sight) = read_after_sight client (read_a
 abbrev pub last_read : List Sight → Option LastRead
 last_read sight = read_after_sight (reads_as sight) None sight
 
--- Which event of a client a job took last: so many events had the client taken before this read, and of those behind it
--- all but the last one were handed to the job before.
+-- Which event of a client a job took last. So many events had the client taken before this read, and of those
+-- after it all but the last one were handed to the job before.
 abbrev pub index_behind : Description → List Step → ℕ → LastRead → ℕ
 index_behind d history client read = length (took d (past_at history read.place) client) + (read.events - 1)
 
@@ -113,8 +113,9 @@ pub record AgreesIn (d : Description) (v w : View) : Type 0 where
   pub cells : v.cells ≡ w.cells
   pub slot : 0 < d.slots → v.slot ≡ w.slot
 
--- An event is the one of its own index among those that a client took, and where the client is synchronised then, this view
--- agrees with the client's view in the history. A history is written newest first, and is called a past.
+-- An event is the one of its own index among those that a client took. Where the client is synchronised then,
+-- this view agrees with the client's view in the history. A history is written newest first, and is called a
+-- past.
 pub record ShowsAt (d : Description) (past : List Step) (client : ℕ) (own : Option ℕ) (taken : Taken) (view : View) : Type 0 where
   -- which of the events that the client took
   pub index : ℕ
@@ -135,8 +136,8 @@ AreReportsSeen d history role sight =
     (k : ℕ) (taken : Taken) → slice_get sight k ≡ Some (Took taken) → is_report taken.event ≡ true
     → IsSeenAt d history role (take (suc k) sight) taken
 
--- An event is the one of its own index among those that a client took, and where it is the report of a frame up to which the
--- client could follow the device, this view is the device's state at the frame's end.
+-- An event is the one of its own index among those that a client took. Where it is the report of a frame up
+-- to which the client could follow the device, this view is the device's state at the frame's end.
 pub record ShowsTheState (d : Description) (past : List Step) (client : ℕ) (own : Option ℕ) (taken : Taken) (view : View) : Type 0 where
   pub index : ℕ
   pub is_own : own ≡ Some index

@@ -10,13 +10,14 @@ use Rattle.inp_script.specs.declared.sight.Sight.{Sight}
 use Rattle.inp_script.specs.declared.sight.Sight.TheVariants.{Took}
 use Rattle.inp_runs.specs.JobViews.{reads_as}
 
--- each loss that a client took in a past has its cause, whoever read as it: a job, or a joystick's, whose sight tells of none
+-- each loss that a client took in a past has its cause, whoever read as it: a job, or a joystick's, whose
+-- sight tells of none
 abbrev pub AreClientsLossesCaused : Description → List Step → ℕ → Type 0
 AreClientsLossesCaused d past client =
     (i : ℕ) (e : Entry) → slice_get (took d past client) i ≡ Some e → IsCaused d past client e
 
--- The loss at the end of a sight came to the client that the job reads as then: the step at its place met a full ring of
--- this client, or changed its clock while events were queued.
+-- The loss at the end of a sight came to the client that the job reads as then. The step at its place met a
+-- full ring of this client, or changed its clock while events were queued.
 abbrev pub HasLossCause : Description → List Step → List Sight → Taken → Type 0
 HasLossCause d history sight taken = IsCausedAt d (reverse history) (reads_as sight) taken.place
 

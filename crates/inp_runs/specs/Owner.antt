@@ -16,8 +16,8 @@ use Rattle.inp_script.specs.Owner.{Owning, first_owning, after_feedback}
 abbrev pub rooms_of : List Line → List ℕ
 rooms_of lines = filter_map (λ (line : Line). feedback_room line.command) lines
 
--- The feedback calls in what a device kept, newest first, are an owner's, with room for so many events each, the last call
--- first: each was answered from what was kept before it, and this is what the owner was told.
+-- The feedback calls in what a device kept, newest first, are an owner's, with room for so many events each,
+-- the last call first. Each was answered from what was kept before it, and this is what the owner was told.
 unfoldable pub HasFed : Description → List UEntry → List ℕ → Owning → Type 0
 HasFed d [] [] o = o ≡ first_owning
 HasFed d [] (room ∷ rooms) o = ⊥
@@ -28,13 +28,14 @@ HasFed d (Feedback count ∷ kept) (room ∷ rooms) o =
     × (Feedback count ∷ kept ≡ kept_after_feedback d kept room)
     × (o ≡ after_feedback (fed d kept room) (taken_by_feedback d kept room) before)
 
--- A call was refused, since as many are kept as the limit says, and the owner stopped. Only steps were kept behind it.
+-- A call was refused, since as many are kept as the limit says, and the owner stopped. Only steps were kept
+-- after it.
 pub record IsRefusedAtLimit (d : Description) (kept : List UEntry) (rooms done : List ℕ) (before last : Owning) : Type 0 where
   pub room : ℕ
-  -- the lines behind it were not done
+  -- the lines after it were not done
   pub left : List ℕ
   pub is_next : rooms ≡ reverse done ++ room ∷ left
-  -- the steps that came behind it, newest first, and what was kept when it was made
+  -- the steps that came after it, newest first, and what was kept when it was made
   pub later : List Step
   pub found : List UEntry
   pub split : kept ≡ map Made later ++ found
@@ -45,8 +46,8 @@ pub record IsRefusedAtLimit (d : Description) (kept : List UEntry) (rooms done :
 abbrev pub EndsFed : Description → List UEntry → List ℕ → List ℕ → Owning → Owning → Type 0
 EndsFed d kept rooms done before last = ((reverse done ≡ rooms) × (last ≡ before)) ⊎ IsRefusedAtLimit d kept rooms done before last
 
--- An owner did its lines, with room for so many events each, on a device with this history: what the device kept is the
--- history's steps and, among them, the owner's calls and no other ones.
+-- An owner did its lines, with room for so many events each, on a device with this history. What the device
+-- kept is the history's steps and, among them, the owner's calls and no other ones.
 pub record HasOwned (d : Description) (history : List Step) (rooms : List ℕ) (last : Owning) : Type 0 where
   -- what the device kept, newest first
   pub kept : List UEntry
@@ -57,7 +58,7 @@ pub record HasOwned (d : Description) (history : List Step) (rooms : List ℕ) (
   pub fed : HasFed d kept done before
   pub ends : EndsFed d kept rooms done before last
 
--- What came of an owner.
+-- The result of an owner.
 pub record IsOwner (d : Description) (history : List Step) (rooms : List ℕ) (owner : OwnerView) : Type 0 where
   pub last : Owning
   pub owned : HasOwned d history rooms last

@@ -1,5 +1,5 @@
--- What comes of an owner on a short row of steps and calls that was worked out by hand (docs/RULES.md, "Devices made by
--- requests").
+-- The result of an owner on a short row of steps and calls that was worked out by hand (docs/RULES.md,
+-- "Devices made by requests").
 use Rattle.std.specs.Prelude.{pos, List, [], ◌∷◌, ◌++◌}
 use Rattle.inp_model.specs.declared.step.Step.{Step}
 use Rattle.inp_model.specs.declared.step.Step.TheVariants.{Inject}

@@ -1,4 +1,4 @@
--- What comes of a record whose lines are done in file order, each device answering on one list of steps
+-- The result of a record whose lines are done in file order, each device answering on one list of steps
 -- (docs/RUNS.md, "Playing a record").
 use Rattle.std.specs.Prelude.{◌≡◌, ℕ, List, [], ◌∷◌, map, filter, reverse, slice_get, slice_set, slice_index_or, Option, Some, None, option_map, option_and_then}
 use Rattle.std.specs.List.{enumerate_from}
@@ -54,7 +54,7 @@ first_stage r = record {
   actors = map (first_actor r) (enumerate_from 0 r.actors);
 }
 
--- the stage behind a line of this actor, by what came of its talk with the device of this number
+-- the stage after a line of this actor, by the result of its talk with the device of this number
 abbrev pub after_talk : Stage → ℕ → ActorView → Option Job × List Step → Option Stage
 after_talk stage device a done = option_map (λ job. record {
   pasts = slice_set stage.pasts device done.1;
@@ -67,8 +67,8 @@ abbrev pub feedback_calls_after : Fed → List FeedbackCall → List FeedbackCal
 feedback_calls_after (Took at count) calls = record { at = at; count = count } ∷ calls
 feedback_calls_after (Full at) calls = calls
 
--- the stage behind a feedback call of this owner, with room for so many events, on the device of this number, which keeps
--- these steps and calls
+-- the stage after a feedback call of this owner, with room for so many events, on the device of this number,
+-- which keeps these steps and calls
 abbrev pub stage_after_feedback : Stage → ℕ → ActorView → ℕ → List Step → List FeedbackCall → Stage
 stage_after_feedback stage device a room past calls =
     let kept = kept_of past calls in
@@ -95,38 +95,38 @@ after_line_of r rounds stage line device a past =
     by_command (feedback_room line.command) stage device a past
     (after_talk stage device a (talk_with a.description past (line_talk a.role a.description r.streams None rounds line.command a.job)))
 
--- the stage behind a line, where so many rounds are enough for it
+-- the stage after a line, where so many rounds are enough for it
 unfoldable pub after_line : RecordView → ℕ → Stage → Line → Option Stage
 after_line r rounds stage line =
     option_and_then (λ text. option_and_then (λ a. option_and_then (λ past.
     after_line_of r rounds stage line text.device a past)
     (slice_get stage.pasts text.device)) (slice_get stage.actors line.actor)) (slice_get r.actors line.actor)
 
--- the stage behind lines, in file order
+-- the stage after lines, in file order
 unfoldable pub after_lines : RecordView → ℕ → Stage → List Line → Option Stage
 after_lines r rounds stage [] = Some stage
 after_lines r rounds stage (line ∷ lines) = option_and_then (λ now. after_lines r rounds now lines) (after_line r rounds stage line)
 
--- what came of the actors of the device of this number, in order
+-- the results of the actors of the device of this number, in order
 abbrev pub jobs_on : RecordView → List ActorView → ℕ → List ActorView
 jobs_on r actors device = filter (λ a. is_on_device device (slice_get r.actors a.actor)) actors
 
--- what came of a device, with its number
+-- the result of a device, with its number
 abbrev pub run_of : RecordView → Stage → ℕ × List Step → DeviceEnds
 run_of r stage numbered = record { history = reverse numbered.1; ends = map ended_of (jobs_on r stage.actors numbered.0) }
 
 abbrev pub runs_of : RecordView → Stage → List DeviceEnds
 runs_of r stage = map (run_of r stage) (enumerate_from 0 stage.pasts)
 
--- what comes of a record, where so many rounds are enough for each of its lines
+-- the result of a record, where so many rounds are enough for each of its lines
 unfoldable pub play : ℕ → RecordView → Option Played
 play rounds r = option_map (λ stage. played_of (runs_of r stage)) (after_lines r rounds (first_stage r) r.lines)
 
--- This comes of the record. How many rounds are tried makes no difference once they are enough.
+-- This is the result of the record. How many rounds are tried makes no difference once they are enough.
 pub record IsPlay (r : RecordView) (played : Played) : Type 0 where
   pub rounds : ℕ
   pub plays : play rounds r ≡ Some played
 
--- at most one outcome comes of a record
+-- a record has at most one result
 abbrev pub HasOnePlay : Type 0
 HasOnePlay = (r : RecordView) (played other : Played) → IsPlay r played → IsPlay r other → played ≡ other

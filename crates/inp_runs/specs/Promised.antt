@@ -5,6 +5,6 @@ use Rattle.inp_script.specs.declared.run.Played.{Played}
 use Rattle.inp_runs.specs.Job.{AreDescribed, ArePromised}
 use Rattle.inp_runs.specs.Play.{IsPlay}
 
--- what comes of a record whose lines are done in file order is promised
+-- the result of a record whose lines are done in file order is promised
 abbrev pub EachPlayIsPromised : Type 0
 EachPlayIsPromised = (r : RecordView) (played : Played) → IsRecord r → AreDescribed r → IsPlay r played → ArePromised None r played

@@ -12,23 +12,24 @@ use inp_feedback::Feeds;
 use inp_model::{Evdev, NoMemory};
 use inp_script::{Actor, Waiting};
 
-// How many lines are done together at most: a quarter of the smallest ring, so that a client that keeps up loses nothing
-// to it (this project's choice).
+// How many lines are done together at most: a quarter of the smallest ring, so that a client that keeps up loses
+// nothing to it (this project's choice).
 const LINES_MAX: usize = 16;
 
-/// Has the actor of this number do all its lines of a record, in file order, over the device that it is lent. An owner makes
-/// its feedback calls, and any other actor calls of an evdev.
+/// Has the actor of this number do all its lines of a record, in file order, over the device that it is lent. An owner
+/// makes its feedback calls, and any other actor calls of an evdev.
 ///
-/// Lines that follow each other in `lines` and each inject an event of the actor are done together, up to 16 of them, by one
-/// call of the device, and so under one turn. To the history it is the calls that the lines would make one by one.
+/// Lines that follow each other in `lines` and each inject an event of the actor are done together, up to 16 of them.
+/// One call of the device does them, and so they are under one turn. To the history it is the calls that the lines
+/// would make one by one.
 ///
-/// `lines` must be the numbers of the actor's lines, from 0 over the whole record, in file order (`AreNumbersOf`). No other
-/// line is looked at. Where a [`Waiting`] is given the lines may wait, and a source that did not stop says at the end that
-/// it is done, by the step `End`.
+/// `lines` must be the numbers of the actor's lines, from 0 over the whole record, in file order (`AreNumbersOf`). No
+/// other line is looked at. Where a [`Waiting`] is given the lines may wait, and a source that did not stop says at the
+/// end that it is done, by the step `End`.
 ///
-/// `NoMemory` comes where there is none for what the actor saw or was told, or for a client that it opened. No line was
-/// begun then after the one in which memory ran out, or after those that were done together with it. Whatever the answer,
-/// all that was done with the device is calls, one after another (`left`).
+/// `NoMemory` comes where memory is short for what the actor saw or was told, or for a client that it opened. No line
+/// was begun then after the one in which memory ran out, or after those that were done together with it. Whatever the
+/// answer, all that was done with the device is calls, one after another (`left`).
 pub fn do_lines<D: Evdev + Feeds>(
     actor: &mut Actor,
     dev: &mut D,
@@ -58,7 +59,7 @@ pub fn do_lines<D: Evdev + Feeds>(
     end_lines(actor, dev, rec, number, wait)
 }
 
-// Does the line that comes next, and where it injects an event, those behind it too that inject one. Says how many lines
+// Does the line that comes next, and where it injects an event, those after it too that inject one. Says how many lines
 // were done.
 fn do_some<D: Evdev + Feeds>(
     actor: &mut Actor,

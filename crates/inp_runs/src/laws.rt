@@ -7,25 +7,25 @@ ghost use Rattle.inp_runs.specs.LossCauses.{AreQueuedCaused, AreTakenCaused};
 ghost use Rattle.inp_runs.specs.Play.{HasOnePlay};
 ghost use Rattle.inp_runs.specs.Promised.{EachPlayIsPromised};
 
-/// What comes of a device whose actors did all their lines is promised, in whatever order their steps were made. It does
-/// nothing: its contract is the point.
+/// The result of a device whose actors did all their lines is promised, in whatever order their steps were made. It
+/// does nothing: its contract is the point.
 ///
-/// Let each actor's calls be a legal run of the device's history and its job be what its lines and the answers to these
-/// calls make, let its view, if one comes of it, have the device's slots, and let each place of the history be one accepted
-/// call of one actor (`IsDeviceDone`). Then all that is promised of a run holds of the history and of what came of the
-/// actors (`IsRunAsPromised`), jobs and joysticks' jobs apart.
+/// Let each actor's calls be a legal run of the device's history, and its job be what its lines and the answers to
+/// these calls make. Let its view, if its result has one, have the device's slots, and let each place of the history be
+/// one accepted call of one actor (`IsDeviceDone`). Then all that is promised of a run holds of the history and of the
+/// results of the actors (`IsRunAsPromised`), jobs and joysticks' jobs apart.
 pub fn devices_done_are_promised()
     ensures promised { DevicesDoneArePromised }
 {}
 
-/// Where all is promised of what came of each device, all is promised of what came of the record. It does nothing: its
-/// contract is the point.
+/// Where all is promised of the result of each device, all is promised of the result of the record. It does nothing:
+/// its contract is the point.
 pub fn all_as_promised()
     ensures promised { AllAsPromised }
 {}
 
-/// At each report that a job took, its view up to then is the device's state at the end of that report's frame, where its
-/// client could follow the device up to there. It does nothing: its contract is the point.
+/// At each report that a job took, its view up to then is the device's state at the end of that report's frame. This
+/// holds where its client could follow the device up to there. It does nothing: its contract is the point.
 pub fn jobs_show_the_device()
     ensures shown { JobsShowTheDevice }
 {}
@@ -37,7 +37,7 @@ pub fn indices_on_a_short_sight()
     ensures own_client { CountsAcceptedReadsOfItsClient }
 {}
 
-/// What comes of an owner, computed on a short row of a step and its calls. It does nothing: its contract is the point.
+/// The result of an owner, computed on a short row of a step and its calls. It does nothing: its contract is the point.
 pub fn owners_on_a_short_row()
     ensures once { TakesTheBellOnce }
     ensures limit { StopsAtItsLimit }
@@ -50,8 +50,8 @@ pub fn owners_lines_are_calls()
 
 /// A client loses events for two causes alone. It does nothing: its contract is the point.
 ///
-/// For every description, every list of steps and every client: let a `SYN_DROPPED` be queued for the client, or taken by
-/// it. Then the step at its place did one of two things (`IsCausedAt`).
+/// For every description, every list of steps and every client: let a `SYN_DROPPED` be queued for the client, or taken
+/// by it. Then the step at its place did one of two things (`IsCausedAt`).
 ///
 /// - It ended frames, and one of their events came to the client's ring while all places but one were taken
 ///   (`MeetsFullRing`).
@@ -66,7 +66,7 @@ pub fn at_most_one_play()
     ensures one_play { HasOnePlay }
 {}
 
-/// What comes of a record whose lines are done in file order is promised. It does nothing: its contract is the point.
+/// The result of a record whose lines are done in file order is promised. It does nothing: its contract is the point.
 pub fn each_play_is_promised()
     ensures promised { EachPlayIsPromised }
 {}

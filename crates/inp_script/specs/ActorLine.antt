@@ -32,8 +32,8 @@ module _ {S : Type 0} (feeds : Feeding S) where
   AreFeedCalls before after (call ∷ calls) =
       (between : S) × feeds before between call.room call.answer call.events × AreFeedCalls between after calls
 
-  -- An owner did a line. Each of its lines is a feedback call with room for so many events. No more than 15 ever wait, so
-  -- that the call has no more room.
+  -- An owner did a line. Each of its lines is a feedback call with room for so many events. No more than 15
+  -- ever wait, so that the call has no more room.
   pub record OwnsLine (before after : S) (old : ActorView) (line : Line) (new : ActorView) : Type 0 where
     pub owner : old.role ≡ Owner
     pub room : ℕ
@@ -68,8 +68,8 @@ module _ {S : Type 0} (told : S → EvdevView) (feeds : Feeding S) where
     pub is_line : slice_get r.lines number ≡ Some line
     pub acts : ActsLine before after r wait old line new
 
-  -- An actor made the first calls of the line of this number: all of them, or those until memory ran out. They are calls of
-  -- an evdev or, of an owner, the feedback call.
+  -- An actor made the first calls of the line of this number: all of them, or those until memory ran out.
+  -- They are calls of an evdev or, of an owner, the feedback call.
   abbrev pub BeginsToAct : S → S → RecordView → Option Waiting → ℕ → ActorView → Type 0
   BeginsToAct before after r wait number a =
       MayOwnLine feeds before after r number a

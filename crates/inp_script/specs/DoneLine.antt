@@ -79,8 +79,8 @@ pub record DoesLine (before after : EvdevView) (a : ActorView) (r : RecordView) 
   pub rounds : ℕ
   pub holds : Holds before after (line_talk a.role a.description r.streams wait rounds line.command a.job) (Some new)
 
--- An actor made the first calls of the line of this number, in some number of rounds: all of them, or those until memory
--- ran out.
+-- An actor made the first calls of the line of this number, in some number of rounds: all of them, or those
+-- until memory ran out.
 pub record BeginsLine (before after : EvdevView) (a : ActorView) (r : RecordView) (wait : Option Waiting) (number : ℕ) : Type 0 where
   pub line : Line
   pub is_line : slice_get r.lines number ≡ Some line

@@ -1,5 +1,5 @@
--- How much a line that hands out events may still do, by which its loop ends: what its reader may still do, and how often
--- the line may wait.
+-- How much a line that hands out events may still do, by which its loop ends: what its reader may still do,
+-- and how often the line may wait.
 use Rattle.std.specs.Prelude.{ℕ, suc, ◌+◌, ◌*◌, ◌-◌, ◌<◌, Option, Some, None}
 use Rattle.inp_script.specs.declared.role.client.Turn.{Turn}
 use Rattle.inp_script.specs.declared.role.client.Turn.TheVariants.{GoesOn, Ends}

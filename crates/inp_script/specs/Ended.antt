@@ -1,4 +1,4 @@
--- What comes of an actor when its lines are done.
+-- The result of an actor when its lines are done.
 use Rattle.std.specs.Prelude.{◌≡◌, ℕ, ◌*◌, List, [], ◌∷◌, length, map, flat_map}
 use Rattle.inp_model.specs.declared.multi_touch.TheConstants.{SLOT_VALUES}
 use Rattle.inp_model.specs.Description.{Description}
@@ -44,11 +44,11 @@ owners_among (JobEnded job ∷ ends) = owners_among ends
 owners_among (JoyEnded joy ∷ ends) = owners_among ends
 owners_among (OwnerEnded owner ∷ ends) = owner ∷ owners_among ends
 
--- what came of a device, and of its jobs but joysticks' and owners'
+-- the result of a device, and of its jobs but joysticks' and owners'
 abbrev pub ended_run : DeviceEnds → Run
 ended_run device = record { history = device.history; jobs = jobs_among device.ends }
 
--- what came of a record, by what came of its devices
+-- the result of a record, by the results of its devices
 abbrev pub played_of : List DeviceEnds → Played
 played_of devices = record {
   runs = map ended_run devices;

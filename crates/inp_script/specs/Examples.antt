@@ -159,8 +159,9 @@ axis_at value = record { buttons = up_to_64 false []; axes = up_to_64 (pos 0) (p
 abbrev pub axis_begins : ℕ → Sight
 axis_begins value = Record (0 ∷ 0 ∷ 0 ∷ 0 ∷ value ∷ 0 ∷ 0x82 ∷ 0 ∷ [])
 
--- A stick with a trigger and an axis is opened. The trigger is pressed, and the axis is moved past its range. Then a line
--- reads more records than there are: the two of the startup, and those of the press and the move, two seconds and a half in.
+-- A stick with a trigger and an axis is opened. The trigger is pressed, and the axis is moved past its range.
+-- Then a line reads more records than there are: the two of the startup, and those of the press and the move,
+-- two seconds and a half in.
 abbrev pub JoystickTells : Type 0
 JoystickTells =
     let move = by_source (Event 2500000 EV_KEY 288 (pos 1)) ∷ by_source (Event 2500000 EV_ABS 0 (pos 40000)) ∷ end_frame 2500000 ∷ [] in
@@ -175,7 +176,8 @@ JoystickTells =
     × (s.other.stick.picture ≡ record { buttons = up_to_64 false (true ∷ []); axes = up_to_64 (pos 0) (pos 32767 ∷ []) })
     × (s.other.stop ≡ None)
 
--- A joystick that lost events hands out the rest of its startup first. Then it synchronises, and another startup begins.
+-- A joystick that lost events hands out the rest of its startup first. Then it synchronises, and another
+-- startup begins.
 abbrev pub JoystickBeginsAnew : Type 0
 JoystickBeginsAnew =
     let s = after_acts slider Joy None 16 (losing_as Joy) (by_other (Read 16) ∷ []) in

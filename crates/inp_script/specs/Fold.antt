@@ -1,5 +1,6 @@
--- What a sight says that the device is: the fold of the answers and the events that it tells of, over the history of the
--- device, which holds what a synchronisation of slots wrote (docs/RUNS.md, "What a sight tells of the device").
+-- What a sight says that the device is. It is the fold of the answers and the events that it tells of, over
+-- the history of the device. That history holds what a synchronisation of slots wrote (docs/RUNS.md, "What a
+-- sight tells of the device").
 use Rattle.std.specs.Prelude.{◌≡◌, if◌then◌else◌, List, [], ◌∷◌}
 use Rattle.inp_model.specs.declared.taken.Taken.{Taken}
 use Rattle.inp_model.specs.declared.step.Step.{Step}
@@ -85,8 +86,8 @@ unfoldable pub client_fold : Description → List Step → Folding → List Sigh
 client_fold d history f [] = f
 client_fold d history f (entry ∷ sight) = client_fold d history (after_client_entry d history f entry) sight
 
--- The view of a job is the fold of its whole sight, from the view that has seen nothing; of a joystick's job its picture is.
--- Sources and owners see nothing of the device.
+-- The view of a job is the fold of its whole sight, from the view that has seen nothing. Of a joystick's job
+-- its picture is. Sources and owners see nothing of the device.
 abbrev pub IsFolded : Role → Description → List Step → Job → Type 0
 IsFolded Source d history j = j.reading.view ≡ first_view d
 IsFolded Tap d history j = tap_fold d history (first_view d) j.sight ≡ j.reading.view
@@ -94,6 +95,6 @@ IsFolded Client d history j = client_fold d history (settled (first_view d)) j.s
 IsFolded Joy d history j = joy_fold d blank_shown j.sight ≡ shown j.stick.picture
 IsFolded Owner d history j = j.reading.view ≡ first_view d
 
--- it is so of each history that begins with what was seen, where it was before
+-- it holds of each history that begins with what was seen, where it was before
 abbrev pub StaysFolded : Role → Description → EvdevView → Job → Job → Type 0
 StaysFolded role d after old new = (history : List Step) → BeginsWith after.seen history → IsFolded role d history old → IsFolded role d history new

@@ -1,4 +1,4 @@
--- What an actor has done so far, and what came of a job.
+-- What an actor has done so far, and the result of a job.
 use Rattle.std.specs.Prelude.{ℕ, List, [], Option, Some, None}
 use Rattle.inp_model.specs.Description.{Description}
 use Rattle.inp_actors.specs.declared.role.Role.{Role}
@@ -69,7 +69,7 @@ pub record ActorView : Type 0 where
   -- what an owner keeps, there for the role Owner alone
   pub owning : Owning
 
--- what came of a job
+-- the result of a job
 pub record JobView : Type 0 where
   -- the number of its actor, from 0 over the whole record
   pub actor : ℕ
@@ -80,7 +80,7 @@ pub record JobView : Type 0 where
   -- why it ended
   pub stop : Stop
 
--- what came of a joystick's job
+-- the result of a joystick's job
 pub record JoyJobView : Type 0 where
   -- the number of its actor, from 0 over the whole record
   pub actor : ℕ
@@ -91,11 +91,11 @@ pub record JoyJobView : Type 0 where
   -- why it ended
   pub stop : Stop
 
--- what came of an owner
+-- the result of an owner
 pub record OwnerView : Type 0 where
   -- the number of its actor, from 0 over the whole record
   pub actor : ℕ
-  -- what it was told: each answer, and behind it the events that it took
+  -- what it was told: each answer, and after it the events that it took
   pub fed : List FedSight
   -- why it ended
   pub stop : Stop
@@ -105,7 +105,7 @@ abbrev pub last_stop : Option Stop → Stop
 last_stop None = Finished
 last_stop (Some stop) = stop
 
--- what comes of an actor when its lines are done
+-- the result of an actor when its lines are done
 abbrev pub job_end : ActorView → JobView
 job_end a = record { actor = a.actor; sight = a.job.sight; view = a.job.reading.view; stop = last_stop a.job.stop }
 

@@ -1,5 +1,5 @@
--- What the sight of a joystick's job says of its buttons and axes: what the records since the last startup began make of a
--- blank picture (docs/RULES.md, "Joystick clients").
+-- What the sight of a joystick's job says of its buttons and axes: what the records since the last startup
+-- began make of a blank picture (docs/RULES.md, "Joystick clients").
 use Rattle.std.specs.Prelude.{ℕ, if◌then◌else◌, List, [], ◌∷◌}
 use Rattle.inp_model.specs.declared.step.Step.{Step}
 use Rattle.inp_model.specs.declared.step.Step.TheVariants.{Open, Discard}

@@ -1,4 +1,4 @@
--- How the parts of what came of a job are kept.
+-- How the parts of the result of a job are kept.
 use Rattle.inp_script.specs.declared.end.job.JobEnd.TheInside.{Inside}
 use Rattle.inp_script.specs.declared.end.joystick.JoyEnd.TheInside as joystick
 use Rattle.inp_script.specs.declared.end.owner.OwnerEnd.TheInside as owner

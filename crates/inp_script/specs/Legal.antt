@@ -50,14 +50,14 @@ pub record GainsPlaces (before after : EvdevView) (old new : List Sight) : Type 
 abbrev pub StaysLegal : Description → EvdevView → EvdevView → List Sight → List Sight → Type 0
 StaysLegal d before after old new = IsLegalSight d before.seen old → IsLegalSight d after.seen new
 
--- The first calls are the other ones, in order, but for some of those that were answered Again. A sight leaves out so the
--- calls that a line waited through.
+-- The first calls are the other ones, in order, but for some of those that were answered Again. A sight
+-- leaves out so the calls that a line waited through.
 abbrev pub LeavesOut : List Call → List Call → Type 0
 LeavesOut kept [] = kept ≡ []
 LeavesOut kept (call ∷ calls) = ((rest : List Call) × (kept ≡ call ∷ rest) × LeavesOut rest calls) ⊎ ((is_again call.answer.reply ≡ true) × LeavesOut kept calls)
 
--- Where a line stopped its job as idle, the evdev's count of answers Again rose by as many as it says at least, or stands at
--- the end of its type.
+-- A line may have stopped its job as idle. Then the evdev's count of answers Again rose by as many as it says
+-- at least, or is at the end of its type.
 abbrev pub CountsTurns : EvdevView → EvdevView → Job → Job → Type 0
 CountsTurns before after old new =
     (turns at : ℕ) → old.stop ≡ None → new.stop ≡ Some (Idle turns at)

@@ -54,7 +54,7 @@ after_call j x answer = record j {
   stop = stop_after answer.reply;
 }
 
--- A job after so many calls may be given up: there is none where memory ran out.
+-- A job after so many calls may be given up: no job is left where memory ran out.
 abbrev pub unless_lacking : Reply → Job → Option Job
 unless_lacking reply j = if lacks_memory reply then None else Some j
 

@@ -1,4 +1,5 @@
--- Rounds of a line that hands out events: one by which a reader is asked, or as many as there are events that it has read.
+-- Rounds of a line that hands out events: one by which a reader is asked, or as many as there are events that
+-- it has read.
 use Rattle.std.specs.Prelude.{◌≡◌, ◌≤◌, ℕ, ◌+◌, ◌-◌, max, Bool, List, ◌++◌, length, map, Option, Some, None}
 use Rattle.inp_model.specs.declared.taken.Taken.{Taken}
 use Rattle.inp_model.specs.Description.{Description}
@@ -19,7 +20,7 @@ abbrev pub most_of : Option ℕ → ℕ
 most_of None = 4294967295
 most_of (Some n) = max n 1
 
--- how many are left behind so many more
+-- how many are left after so many more
 abbrev pub less_by : ℕ → Option ℕ → Option ℕ
 less_by count None = None
 less_by count (Some n) = Some (n - count)

@@ -39,13 +39,13 @@ joysticks_of actors device = filter (λ i. is_joystick (slice_get actors i)) (ac
 abbrev pub owners_of : List ActorText → ℕ → List ℕ
 owners_of actors device = filter (λ i. is_owning (slice_get actors i)) (actors_of actors device)
 
--- What came of a device: one job for each of its actors but joysticks and owners, in order, whose view has the device's
--- slots.
+-- The result of a device: one job for each of its actors but joysticks and owners, in order, whose view has
+-- the device's slots.
 pub record IsRunOf (actors : List ActorText) (number : ℕ) (device : DeviceText) (run : Run) : Type 0 where
   pub jobs : map (λ (job : JobView). job.actor) run.jobs ≡ jobs_of actors number
   pub views : (i : ℕ) (job : JobView) → slice_get run.jobs i ≡ Some job → IsSizedFor device.caps.slots job.view
 
--- What came of a record: one run for each device, in order.
+-- The result of a record: one run for each device, in order.
 pub record AreRunsOf (r : RecordView) (runs : List Run) : Type 0 where
   pub devices : length runs ≡ length r.devices
   pub each : (i : ℕ) (device : DeviceText) (run : Run) → slice_get r.devices i ≡ Some device → slice_get runs i ≡ Some run → IsRunOf r.actors i device run
@@ -54,8 +54,8 @@ pub record AreRunsOf (r : RecordView) (runs : List Run) : Type 0 where
 abbrev pub joy_actors : List JoyJobView → List ℕ
 joy_actors joys = map (λ (joy : JoyJobView). joy.actor) joys
 
--- What came of a record's joysticks: one job for each, device by device, and on a device in the order of its actors. In a
--- record's text the actors of a device stand behind it, so this is the order of the text.
+-- The results of a record's joysticks: one job for each, device by device, and on a device in the order of
+-- its actors. In a record's text the actors of a device stand after it, so this is the order of the text.
 abbrev pub AreJoysOf : RecordView → List JoyJobView → Type 0
 AreJoysOf r joys = joy_actors joys ≡ flat_map (joysticks_of r.actors) (range_with_len 0 (length r.devices))
 
@@ -63,6 +63,6 @@ AreJoysOf r joys = joy_actors joys ≡ flat_map (joysticks_of r.actors) (range_w
 abbrev pub owner_actors : List OwnerView → List ℕ
 owner_actors owners = map (λ (owner : OwnerView). owner.actor) owners
 
--- What came of a record's owners: one for each, in the same order.
+-- The results of a record's owners: one for each, in the same order.
 abbrev pub AreOwnersOf : RecordView → List OwnerView → Type 0
 AreOwnersOf r owners = owner_actors owners ≡ flat_map (owners_of r.actors) (range_with_len 0 (length r.devices))

@@ -25,13 +25,13 @@ use inp_model::{Evdev, NoMemory, Stamped, Step};
 use std::alloc::Global;
 use std::marker::Model;
 
-/// An actor of a record at work: a source, a tap, a client, a joystick or an owner. It does its lines one by one over whatever
-/// evdev it is lent, an owner over whatever answers feedback calls, and keeps what it saw.
+/// An actor of a record at work: a source, a tap, a client, a joystick or an owner. It does its lines one by one over
+/// whatever evdev it is lent, an owner over whatever answers feedback calls, and keeps what it saw.
 ///
-/// A contract sees its number, its role, its device's description, its job (the reader, the client or the joystick client
-/// that it reads as, what it saw, and why it stopped, if it did), and what it keeps as an owner. After a call answered
-/// `NoMemory` the actor is given up: no contract says what it saw in that call. Which calls were made, and what they left
-/// of the evdev, is said then too.
+/// A contract sees its number, its role, its device's description, its job, and what it keeps as an owner. The job is
+/// the reader, the client or the joystick client that it reads as, what it saw, and why it stopped, if it did. After a
+/// call answered `NoMemory` the actor is given up: no contract says what it saw in that call. Which calls were made,
+/// and what they left of the evdev, is said then too.
 #[derive(Drop)]
 pub struct Actor {
     actor: u32,
@@ -55,7 +55,7 @@ impl Model for Actor {
 impl Actor {
     /// The actor of this number of the record, which has seen nothing.
     ///
-    /// It takes all memory that its calls need, but for what it will see. `NoMemory` comes where there is none.
+    /// It takes all memory that its calls need, but for what it will see. `NoMemory` comes where memory is short.
     pub fn new(alloc: Global, rec: &Record, actor: u32) -> Result<Actor, NoMemory>
         requires actor { actor < length rec.now.actors }
         ensures number { IfOk result (λ new. new.actor ≡ actor) }
@@ -86,19 +86,21 @@ impl Actor {
         self.actor
     }
 
-    /// Does the line of this number on an evdev, or nothing where the actor has stopped. Nobody owns that device, so that a
-    /// line of an owner is nothing.
+    /// Does the line of this number on an evdev, or nothing where the actor has stopped. Nobody owns that device, so
+    /// that a line of an owner is nothing.
     ///
-    /// Where a [`Waiting`] is given, a `follow` goes on while nothing is visible, until all sources of the device are done,
-    /// or until so many reads in a row found nothing that the actor stops with `Stop::Idle`. No other line waits.
+    /// Where a [`Waiting`] is given, a `follow` goes on while nothing is visible, until all sources of the device are
+    /// done. Or it goes on until so many reads in a row found nothing that the actor stops with `Stop::Idle`. No other
+    /// line waits.
     ///
-    /// `NoMemory` comes where there is none for what the actor saw, and where an `open` was refused for want of memory.
+    /// `NoMemory` comes where memory is short for what the actor saw, and where an `open` was refused for want of
+    /// memory.
     ///
     /// Whatever the answer, the calls that were made are the first ones of what the line asks for, each by the answers
     /// before it (`begun`). After `Ok` they are all of it (`done`). After `NoMemory` no further call was made: how many
-    /// were, is not said. The calls are all that was done with the evdev (`left`). So its description and its tie are as
-    /// before, what was seen is still there, its own places are those from before and those of these calls, the calls are
-    /// a legal run of what is seen afterwards, and what is seen stays a history of accepted steps.
+    /// were, is not said. The calls are all that was done with the evdev (`left`). So its description and its tie are
+    /// as before, what was seen is still there, and its own places are those from before and those of these calls. The
+    /// calls are a legal run of what is seen afterwards, and what is seen stays a history of accepted steps.
     pub fn line<E: Evdev>(
         &mut self,
         dev: &mut E,
@@ -132,13 +134,13 @@ impl Actor {
             .do_command(dev, &mut self.notes, rec, command, wait)
     }
 
-    /// Does the line of this number on a device that the actor may own, or nothing where it has stopped. An owner makes the
-    /// feedback call of its line, with room for so many events, but for no more than ever wait, which are 15, and notes the
-    /// answer and the events. Any other actor makes the calls of [`line`](Actor::line).
+    /// Does the line of this number on a device that the actor may own, or nothing where it has stopped. An owner makes
+    /// the feedback call of its line, and notes the answer and the events. The call has room for so many events, but
+    /// for no more than ever wait, which are 15. Any other actor makes the calls of [`line`](Actor::line).
     ///
-    /// After `Full` an owner has stopped. `NoMemory` comes where there is none for what the actor saw or was told, and
-    /// where an `open` was refused for want of memory. Whatever the answer, the calls that were made are the first ones of
-    /// what the line asks for (`begun`). After `Ok` they are all of it (`done`).
+    /// After `Full` an owner has stopped. `NoMemory` comes where memory is short for what the actor saw or was told,
+    /// and where an `open` was refused for want of memory. Whatever the answer, the calls that were made are the first
+    /// ones of what the line asks for (`begun`). After `Ok` they are all of it (`done`).
     pub fn act<D: Evdev + Feeds>(
         &mut self,
         dev: &mut D,
@@ -166,12 +168,12 @@ impl Actor {
         }
     }
 
-    /// Injects events as a source, each at its own moment, or does nothing where it has stopped. It is what lines do that
-    /// inject these events one after another, by one call for a thousand of them.
+    /// Injects events as a source, each at its own moment, or does nothing where it has stopped. It is what lines do
+    /// that inject these events one after another, by one call for a thousand of them.
     ///
-    /// The first event for which the log limit leaves no room is refused and stops the source, and no event behind it is
-    /// injected. `NoMemory` comes where there is none for what the actor saw. Whatever the answer, the calls that were made
-    /// are the first ones of what is asked for (`begun`). After `Ok` they are all of it (`done`).
+    /// The first event for which the log limit leaves no room is refused and stops the source, and no event after it is
+    /// injected. `NoMemory` comes where memory is short for what the actor saw. Whatever the answer, the calls that
+    /// were made are the first ones of what is asked for (`begun`). After `Ok` they are all of it (`done`).
     pub fn inject_all<E: Evdev>(&mut self, dev: &mut E, events: &[Stamped]) -> Result<(), NoMemory>
         requires source { self.old.role ≡ Source }
         requires moments { AreInTime events.now }
@@ -190,8 +192,8 @@ impl Actor {
 
     /// Makes the step `End`, by which a source says that it is done, or does nothing where the actor has stopped.
     ///
-    /// `NoMemory` comes where there is none for what the actor saw. No other call was made then either (`begun`), and what
-    /// was done with the evdev is calls, as after [`line`](Actor::line).
+    /// `NoMemory` comes where memory is short for what the actor saw. No other call was made then either (`begun`), and
+    /// what was done with the evdev is calls, as after [`line`](Actor::line).
     pub fn end<E: Evdev>(&mut self, dev: &mut E) -> Result<(), NoMemory>
         requires source { self.old.role ≡ Source }
         requires device { (E.told dev.old).description ≡ self.old.description }
@@ -215,7 +217,7 @@ impl Actor {
         Ok(())
     }
 
-    /// What came of the job. An actor that did not stop has finished. It takes no memory.
+    /// The result of the job. An actor that did not stop has finished. It takes no memory.
     pub fn finish(self) -> Ended
         ensures ended { result ≡ ended_as self.role self }
         ensures cells { HasDeviceSlots self.description result }

@@ -12,5 +12,5 @@ pub enum FedSight {
     Event { event: Event },
 }
 
-/// What an owner was told, in order: each answer, and behind it the events that the call took.
+/// What an owner was told, in order: each answer, and after it the events that the call took.
 pub type FedList = Items<FedSight>;

@@ -1,4 +1,4 @@
-//! An evdev, or what answers feedback calls, behind a gate.
+//! An evdev, or what answers feedback calls, after a gate.
 ghost use Rattle.std.specs.Prelude.{◌≡◌, ◌≤◌, ◌+◌, ◌-◌, ◌^◌, length, min, take};
 ghost use Rattle.inp_model.specs.declared.stamped.TheConstants.{MOMENT_MAX};
 ghost use Rattle.inp_model.specs.Step.{moment_of};
@@ -15,14 +15,14 @@ use std::thread::yield_now;
 /// How often a job yields the processor before a call, at most (this project's choice).
 const MOST_RESTS: u32 = 16;
 
-/// An evdev that passes a gate before each call, also before one that injects many events and before a feedback call. To a
-/// contract it is the evdev behind the gate.
+/// An evdev that passes a gate before each call, also before one that injects many events and before a feedback call.
+/// To a contract it is the evdev behind the gate.
 ///
 /// After a call the gate was told of it: its job, and how many calls were made before.
 ///
-/// A job that found nothing rests before its next call, since each call takes the turn from the sources that it
-/// waits for: after the first answer `Again` in a row it yields the processor once, after the second twice, and so on
-/// up to 16 times.
+/// A job that found nothing rests before its next call, since each call takes the turn from the sources that it waits
+/// for. After the first answer `Again` in a row it yields the processor once, after the second twice, and so on up to
+/// 16 times.
 #[derive(Drop)]
 pub struct Gated<'a, E, G> {
     /// The evdev that makes the calls.

@@ -6,7 +6,8 @@ ghost use Rattle.inp_script.specs.KeptSight.{sight_in, IsWithin};
 use crate::Sight;
 use inp_model::{Event, Items, Reply, Step, Taken};
 
-/// An entry of what a job saw, in 32 bytes. The frequent ones are all here, and the others stand whole in a second list.
+/// An entry of what a job saw, in 32 bytes. The frequent ones are all here, and the others stand whole in a second
+/// list.
 #[derive(Clone, Copy)]
 pub(crate) enum KeptSight {
     /// The job took this event.

@@ -45,8 +45,8 @@ impl Notes {
         Ok(())
     }
 
-    // Adds the calls of a start, and stops the job where it was refused for the limit. `NoMemory` comes too where memory ran
-    // out in that start.
+    // Adds the calls of a start, and stops the job where it was refused for the limit. `NoMemory` comes too where
+    // memory ran out in that start.
     pub(crate) fn note_start(&mut self, started: Started, made: &[CallMade]) -> Result<(), NoMemory>
         ensures { OnOk result (IsStartNoted started made.now self.old self.new) }
     {
@@ -110,8 +110,8 @@ impl Notes {
         Ok(reply)
     }
 
-    // Injects events by one call, and notes each as a call, up to the first for which the limit left no room. Says whether
-    // all were entered.
+    // Injects events by one call, and notes each as a call, up to the first for which the limit left no room. Says
+    // whether all were entered.
     pub(crate) fn inject_all<E: Evdev>(
         &mut self,
         dev: &mut E,

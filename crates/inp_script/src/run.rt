@@ -1,4 +1,4 @@
-//! What came of a device and of its jobs.
+//! The result of a device and of its jobs.
 ghost use Rattle.std.specs.Prelude.{◌≡◌, ◌++◌, ◌∷◌, [], OnOk, IfOk};
 ghost use Rattle.inp_script.specs.Ended.{jobs_among, joys_among, owners_among, played_of};
 
@@ -6,49 +6,50 @@ use crate::{Ended, JobEnd, JoyEnd, OwnerEnd};
 use inp_model::{History, Items, NoMemory};
 use std::alloc::Global;
 
-/// What came of the jobs of a device but joysticks' and owners', in the order of their actors.
+/// The results of the jobs of a device but joysticks' and owners', in the order of their actors.
 pub type Jobs = Items<JobEnd>;
 
-/// What came of one device.
+/// The result of one device.
 #[derive(Drop)]
 pub struct Run {
     /// The steps that the device accepted, taken out of it.
     pub history: History,
-    /// What came of its jobs.
+    /// The results of its jobs.
     pub jobs: Jobs,
 }
 
-/// What came of the devices, in the order of the record.
+/// The results of the devices, in the order of the record.
 pub type Runs = Items<Run>;
 
-/// What came of joysticks, in the order of the record.
+/// The results of joysticks, in the order of the record.
 pub type JoyRuns = Items<JoyEnd>;
 
-/// What came of owners, in the order of the record.
+/// The results of owners, in the order of the record.
 pub type OwnerRuns = Items<OwnerEnd>;
 
-/// What came of one device and of all its actors.
+/// The result of one device and of all its actors.
 #[derive(Drop)]
 pub struct DeviceEnds {
     /// The steps that the device accepted, taken out of it.
     pub history: History,
-    /// What came of its actors, in their order.
+    /// The results of its actors, in their order.
     pub ends: Items<Ended>,
 }
 
-/// What came of a record.
+/// The result of a record.
 #[derive(Drop)]
 pub struct Played {
-    /// What came of each device, and of its jobs but joysticks' and owners'.
+    /// The result of each device, and of its jobs but joysticks' and owners'.
     pub runs: Runs,
-    /// What came of the joysticks.
+    /// The results of the joysticks.
     pub joys: JoyRuns,
-    /// What came of the owners.
+    /// The results of the owners.
     pub owners: OwnerRuns,
 }
 
 impl Played {
-    /// What came of a record, by what came of its devices, in their order. `NoMemory` comes where there is none for the lists.
+    /// The result of a record, by the results of its devices, in their order. `NoMemory` comes where memory is short
+    /// for the lists.
     pub fn of(alloc: Global, devices: Vec<DeviceEnds>) -> Result<Played, NoMemory>
         ensures played { IfOk result (λ played. played ≡ played_of devices.items) }
     {
@@ -64,7 +65,8 @@ impl Played {
     }
 }
 
-// The jobs among what came of a device's actors. The joysticks and the owners among them come behind those of other devices.
+// The jobs among the results of a device's actors. The joysticks and the owners among them come after those of other
+// devices.
 fn sort_ends(
     alloc: Global,
     ends: Items<Ended>,
@@ -82,7 +84,7 @@ fn sort_ends(
     Ok(jobs)
 }
 
-// Adds what came of an actor to the jobs, to those of joysticks, or to the owners.
+// Adds the result of an actor to the jobs, to those of joysticks, or to the owners.
 fn push_end(
     jobs: &mut Jobs,
     joys: &mut JoyRuns,

@@ -72,7 +72,8 @@ impl Sights {
         self.kept.push(KeptSight::Took { event })
     }
 
-    // Adds the call that injected an event, which was entered at this place. Where it is refused, the list is as before.
+    // Adds the call that injected an event, which was entered at this place. Where it is refused, the list is as
+    // before.
     pub(crate) fn push_entered(&mut self, stamped: Stamped, at: u32) -> Result<(), NoMemory>
         ensures ok { OnOk result
             (self.new ≡ self.old ++ Call (inject_of stamped) (Done at) ∷ []) }

@@ -7,7 +7,7 @@ use Rattle.inp_slots.specs.Slots.{SlotValues}
 abbrev pub values : Inside → SlotValues
 values s = record { slots = s.slots.items; staged = pos s.staged; announced = pos s.announced; at_frame = pos s.at_frame }
 
--- each slot that is named is one that there is, and 0 where there is none
+-- each slot that is named is one that the device has, and 0 where it has no slots
 pub record IsSlots (s : Inside) : Type 0 where
   pub count : length s.slots.items ≤ SLOTS_MAX
   pub staged : s.staged ≤ length s.slots.items - 1

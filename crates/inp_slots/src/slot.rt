@@ -13,7 +13,7 @@ use inp_model::{
 };
 use std::marker::Model;
 
-// The field of a slot for the axis with this code: read, or written where `= value` stands behind the code.
+// The field of a slot for the axis with this code: read, or written where `= value` stands after the code.
 macro_rules! at_axis {
     ($slot:ident, $code:ident $(= $value:ident)?) => {
         match $code {

@@ -21,8 +21,8 @@ use std::marker::Model;
 /// The slots of a multi-touch device: each contact's values, and which slot is staged and which announced.
 ///
 /// It keeps the last values of each slot and no list of events, in 56 bytes a slot. It belongs to the description whose
-/// number of slots [`Slots::new`] was given; with another one no clause says anything. A device without slots has one of
-/// these too, which keeps nothing and passes each value on.
+/// number of slots [`Slots::new`] was given; with another one no clause says anything. A device without slots has one
+/// of these too, which keeps nothing and passes each value on.
 #[derive(Debug, Drop)]
 pub struct Slots {
     slots: Vec<Slot>,
@@ -46,7 +46,7 @@ impl Model for Slots {
 impl Slots {
     /// So many slots, 1 to 256 or 0 for none: no contact in any of them, slot 0 staged and announced.
     ///
-    /// It takes the memory for all slots. `NoMemory` comes where there is none.
+    /// It takes the memory for all slots. `NoMemory` comes where memory is short.
     pub fn new(alloc: Global, count: u32) -> Result<Slots, NoMemory>
         requires range { count ≤ SLOTS_MAX }
         ensures fresh { IfOk result (λ slots. (d : Description) → d.slots ≡ count
@@ -63,14 +63,14 @@ impl Slots {
         })
     }
 
-    /// Takes a raw multi-touch event, and says what becomes of it, with the value to pass (the kernel's
+    /// Takes a raw multi-touch event, and says what is done with it, with the value to pass (the kernel's
     /// `input_handle_abs_event`).
     ///
     /// `ABS_MT_SLOT` stages a slot, if there is one of this number, and is not passed. A value moves that of the staged
-    /// slot as far as the axis's fuzz allows, and is passed where that changes it: as what the slot takes, and with
-    /// `SLOT` where the staged slot was not the announced one, which it is from then on. Without slots each value is
-    /// passed as it is, and kept nowhere. A code that is not supported is ignored. The value of an event that is not
-    /// passed is its own.
+    /// slot as far as the axis's fuzz allows, and is passed where that changes it. It is passed as what the slot takes,
+    /// and with `SLOT` where the staged slot was not the announced one, which it is from then on. Without slots each
+    /// value is passed as it is, and kept nowhere. A code that is not supported is ignored. The value of an event that
+    /// is not passed is its own.
     pub fn apply(&mut self, caps: &Caps, code: u16, value: i32) -> (Disposition, i32)
         requires multi_touch { is_multi_touch_code code ≡ true }
         requires count { length self.old.slots ≡ caps.now.slots }
@@ -125,7 +125,7 @@ impl Slots {
         slot.move_value(code, value, fuzz)
     }
 
-    // Announces the staged slot with a value that is passed, and says what becomes of the value.
+    // Announces the staged slot with a value that is passed, and says what is done with the value.
     fn announce(&mut self) -> Disposition
         ensures slots { self.new ≡ record self.old { announced = self.old.staged } }
         ensures disposition { flags_of result ≡ (if is_announced self.old then 1 else 5) }

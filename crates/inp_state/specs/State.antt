@@ -35,7 +35,7 @@ pub record StateStandsFor (d : Description) (r : List RawItem) (s : Values) : Ty
   pub delay : s.delay ≡ repeat_setting d r REP_DELAY
   pub period : s.period ≡ repeat_setting d r REP_PERIOD
 
--- What becomes of an event that is about no slot, by whether it is passed: a passed output goes to the device too, and a
--- report ends the frame.
+-- What is done with an event that is about no slot, by whether it is passed: a passed output goes to the
+-- device too, and a report ends the frame.
 abbrev pub flags_by : Bool → Event → ℕ
 flags_by passed e = flags passed (passed && is_output e) false (passed && is_report e)

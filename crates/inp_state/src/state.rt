@@ -76,8 +76,7 @@ impl State {
         }
     }
 
-    /// Takes a raw event, and says what becomes of it, with the value to pass (the kernel's
-    /// `input_get_disposition`).
+    /// Takes a raw event, and says what is done with it, with the value to pass (the kernel's `input_get_disposition`).
     ///
     /// An axis event is passed as the value that the axis takes, and any other as it is. The value of an event that is
     /// not passed is its own. Multi-touch events are not for this call, so `SLOT` is never set.
@@ -150,9 +149,9 @@ impl State {
 
     /// Describes the axis with this code anew, which is at most `ABS_MAX` (evdev's `EVIOCSABS`).
     ///
-    /// The axis has the value of the description from now on, and moves by its fuzz. Nothing else changes, and nothing is
-    /// passed. The value may be outside of minimum and maximum. It is not for a multi-touch axis, whose values belong to
-    /// slots; the caller sees to that.
+    /// The axis has the value of the description from now on, and moves by its fuzz. Nothing else changes, and nothing
+    /// is passed. The value may be outside of minimum and maximum. It is not for a multi-touch axis, whose values
+    /// belong to slots; the caller sees to that.
     pub fn describe(&mut self, code: u16, info: AxisInfo)
         requires within { code ≤ ABS_MAX }
         ensures stands { (d : Description) (r : List RawItem) → StateStandsFor d r self.old
@@ -265,7 +264,7 @@ fn descriptions(caps: &Caps) -> [AxisInfo; 64]
     infos
 }
 
-// What becomes of an event, by whether it is passed.
+// What is done with an event, by whether it is passed.
 fn disposition(event: Event, is_passed: bool) -> Disposition
     ensures { flags_of result ≡ flags_by is_passed event }
 {

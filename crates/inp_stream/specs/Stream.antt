@@ -1,5 +1,5 @@
--- The bytes of an event and its moment (docs/FORMATS.md, "Event streams"). A record's seconds, and its microseconds, have
--- so many bytes: 8 on a 64-bit machine, 4 on a 32-bit one.
+-- The bytes of an event and its moment (docs/FORMATS.md, "Event streams"). A record's seconds, and its
+-- microseconds, have so many bytes: 8 on a 64-bit machine, 4 on a 32-bit one.
 use Rattle.std.specs.Prelude.{◌≡◌, ℕ, ◌+◌, ◌*◌, ◌/◌, ◌%◌, ◌^◌, ◌<◌, ◌≤◌, ◌||◌, if◌then◌else◌, nat_le, nat_lt, FitsSigned, List, ◌++◌, length, slice_index, take, drop, Result, Ok, Err}
 use Rattle.std.specs.Int.{w32, cast_signed, cast_unsigned}
 use Rattle.byteorder.specs.Endian.{little_bytes, little_number}
@@ -31,7 +31,7 @@ microseconds_of time_len bytes = little_number time_len (drop time_len bytes)
 abbrev pub moment_in : ℕ → List ℕ → ℕ
 moment_in time_len bytes = seconds_of time_len bytes * SECOND + microseconds_of time_len bytes
 
--- the event that bytes behind the time are
+-- the event that bytes after the time are
 abbrev pub event_in : List ℕ → Event
 event_in bytes = record {
   kind = little_number 2 bytes;
@@ -39,7 +39,7 @@ event_in bytes = record {
   value = cast_signed w32 (little_number 4 (drop 4 bytes));
 }
 
--- the event and the moment that bytes begin with, or why there is none
+-- the event and the moment that bytes begin with, or why they begin with no record
 abbrev pub decoded : ℕ → List ℕ → Result (Event × ℕ) StreamRefused
 decoded time_len bytes =
     if nat_lt (length bytes) (record_len time_len) then Err Short
@@ -52,7 +52,7 @@ pub record IsEvent (event : Event) : Type 0 where
   pub code : event.code < 2 ^ 16
   pub value : FitsSigned w32 event.value
 
--- what was written is read again, whatever stands behind it; the moment is so many microseconds at most
+-- what was written is read again, whatever stands after it; the moment is so many microseconds at most
 abbrev pub IsReadAgain : ℕ → ℕ → Type 0
 IsReadAgain time_len most =
     (event : Event) (time : ℕ) (rest : List ℕ)

@@ -17,8 +17,8 @@ pub(crate) const TIME_LEN: usize = 8;
 
 const _: () = prove!(TIME_LEN == 4 + 4);
 
-/// Writes the record of an event at a moment in microseconds: the seconds in 8 bytes, the microseconds in 8, the type in
-/// 2, the code in 2 and the value in 4, each little-endian.
+/// Writes the record of an event at a moment in microseconds. It has the seconds in 8 bytes, the microseconds in 8, the
+/// type in 2, the code in 2 and the value in 4, each little-endian.
 pub fn encode(event: Event, time: u64, out: &mut [u8; RECORD_LEN])
     ensures bytes { out.new ≡ record_bytes TIME_LEN event time }
 {
@@ -33,8 +33,8 @@ pub fn encode(event: Event, time: u64, out: &mut [u8; RECORD_LEN])
 ///
 /// # Errors
 ///
-/// `Short` where there are fewer than 24 bytes. Else `BadTime` where the microseconds are 1,000,000 or more, or the moment
-/// is above `MOMENT_MAX`. Any type, code and value is taken.
+/// `Short` where there are fewer than 24 bytes. Else `BadTime` where the microseconds are 1,000,000 or more, or the
+/// moment is above `MOMENT_MAX`. Any type, code and value is taken.
 pub fn decode(bytes: &[u8]) -> Result<(Event, u64), StreamRefused>
     ensures meaning { result ≡ decoded TIME_LEN bytes.now }
 {

@@ -23,8 +23,8 @@ pub const MOMENT16_MAX: u64 = 4_294_967_295_999_999;
 
 const _: () = prove!(MOMENT16_MAX + 1 == 4_294_967_296 * SECOND);
 
-/// Writes the record of an event at a moment in microseconds: the seconds in 4 bytes, the microseconds in 4, the type in
-/// 2, the code in 2 and the value in 4, each little-endian. The moment is below 4,294,967,296,000,000.
+/// Writes the record of an event at a moment in microseconds. It has the seconds in 4 bytes, the microseconds in 4, the
+/// type in 2, the code in 2 and the value in 4, each little-endian. The moment is below 4,294,967,296,000,000.
 pub fn encode16(event: Event, time: u64, out: &mut [u8; RECORD16_LEN])
     requires moment { time ≤ MOMENT16_MAX }
     ensures bytes { out.new ≡ record_bytes TIME16_LEN event time }
@@ -40,8 +40,8 @@ pub fn encode16(event: Event, time: u64, out: &mut [u8; RECORD16_LEN])
 ///
 /// # Errors
 ///
-/// `Short` where there are fewer than 16 bytes. Else `BadTime` where the microseconds are 1,000,000 or more: no seconds of
-/// 4 bytes are above `MOMENT_MAX`. Any type, code and value is taken.
+/// `Short` where there are fewer than 16 bytes. Else `BadTime` where the microseconds are 1,000,000 or more: no seconds
+/// of 4 bytes are above `MOMENT_MAX`. Any type, code and value is taken.
 pub fn decode16(bytes: &[u8]) -> Result<(Event, u64), StreamRefused>
     ensures meaning { result ≡ decoded TIME16_LEN bytes.now }
     ensures short { (result ≡ Err StreamRefused.Short) ↔ (length bytes.now < RECORD16_LEN) }

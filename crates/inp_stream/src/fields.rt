@@ -10,7 +10,7 @@ pub(crate) const SECOND: u64 = 1_000_000;
 
 const _: () = prove!(SECOND == 1000 * 1000);
 
-/// The event that stands behind the time of a record.
+/// The event that stands after the time of a record.
 pub(crate) fn event_in(bytes: &[u8]) -> Event
     requires { 8 ≤ length bytes.now }
     ensures { result ≡ event_in bytes.now }

@@ -5,7 +5,7 @@ ghost use Rattle.inp_stream.specs.declared.event_record16.TheConstants.{TIME16_L
 ghost use Rattle.inp_stream.specs.Stream.{IsReadAgain, HasOneSpelling};
 ghost use Rattle.inp_stream.specs.Examples.{SpellsAKeyPress, MeansAKeyPress, LacksAByte, HasAMillionMicroseconds, HasTheLastMicrosecond, IsTheLastMoment, IsPastTheLastMoment, WouldWrap, LooksAtNoMore, HasFourBytes};
 
-/// The law of the two spellings, for records of 24 and of 16 bytes: the record of an event and its moment means both
+/// The law of the two spellings, for records of 24 and of 16 bytes. The record of an event and its moment means both
 /// again, and bytes that mean them begin with their record. It does nothing: its contract is the point.
 pub fn round_trip()
     ensures read_again { IsReadAgain TIME_LEN MOMENT_MAX }

@@ -30,7 +30,7 @@ pub record AreJoined (workers : List Worker) (before after : PassView Descriptio
   pub more : IsPrefix before.seen after.seen
   pub seen : SawAll workers after.seen
 
--- what comes of the workers' actors
+-- the results of the workers' actors
 abbrev pub ends_of_workers : List Worker → List Ended
 ends_of_workers workers = map (λ (w : Worker). ended_of w.actor) workers
 
@@ -38,7 +38,7 @@ ends_of_workers workers = map (λ (w : Worker). ended_of w.actor) workers
 abbrev pub AreWorkersDone : List Worker → Type 0
 AreWorkersDone workers = All (λ (w : Worker). w.is_done ≡ true) workers
 
--- the view that comes of a worker's actor, if one does, has the slots of its device
+-- the view in the result of a worker's actor, if it has one, has the slots of its device
 abbrev pub IsSizedWorker : Worker → Type 0
 IsSizedWorker w = HasDeviceSlots w.actor.description (ended_of w.actor)
 

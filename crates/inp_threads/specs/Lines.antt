@@ -8,6 +8,6 @@ pub record AreLinesDealt (r : RecordView) (lists : List (List ℕ)) : Type 0 whe
   pub count : length lists ≡ length r.actors
   pub each : (actor : ℕ) (numbers : List ℕ) → slice_get lists actor ≡ Some numbers → AreNumbersOf r actor numbers
 
--- The line of this number was dealt to this actor, behind its other ones.
+-- The line of this number was dealt to this actor, after its other ones.
 abbrev pub HasLineMore : List (List ℕ) → List (List ℕ) → ℕ → ℕ → Type 0
 HasLineMore old new actor line = (numbers : List ℕ) → slice_get old actor ≡ Some numbers → new ≡ slice_set old actor (numbers ++ line ∷ [])

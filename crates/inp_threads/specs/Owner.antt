@@ -30,8 +30,8 @@ pub record IsFedTurn (d : Description) (before : PassView Description UEntry) (r
 abbrev pub IsFedBy : {K : Ghosts UdevView Description UEntry} → PortOf UdevView UEntry → PortOf UdevView UEntry → Pass UdevView Description UEntry K → Pass UdevView Description UEntry K → ℕ → Fed → List Event → Type 0
 IsFedBy port now before after room answer events = (now ≡ port) × IsFedTurn (description_of port) (view_of before) room answer events (view_of after)
 
--- A feedback call stands behind this kept list, newest first, and is the next one of an owner whose calls so far stand at
--- the places `earlier`, had the rooms `done` and told it this much.
+-- A feedback call stands after this kept list, newest first. It is the next one of an owner whose calls so
+-- far stand at the places `earlier`, had the rooms `done` and told it this much.
 pub record IsNextCall (d : Description) (kept : List UEntry) (count : ℕ) (earlier done : List ℕ) (before : Owning) (own rooms : List ℕ) (o : Owning) : Type 0 where
   pub room : ℕ
   pub place : own ≡ earlier ++ length kept ∷ []
@@ -39,9 +39,9 @@ pub record IsNextCall (d : Description) (kept : List UEntry) (count : ℕ) (earl
   pub answered : Feedback count ∷ kept ≡ kept_after_feedback d kept room
   pub told : o ≡ after_feedback (fed d kept room) (taken_by_feedback d kept room) before
 
--- What a device kept, newest first, has an owner's feedback calls at these places, and with room for so many events each,
--- the last call first: each was answered from what was kept before it, and this is what the owner was told. Between them
--- stand steps and, it may be, calls of others.
+-- What a device kept, newest first, has an owner's feedback calls at these places, and with room for so many
+-- events each, the last call first. Each was answered from what was kept before it, and this is what the
+-- owner was told. Between them stand steps and, it may be, calls of others.
 unfoldable pub HasCallsAt : Description → List UEntry → List ℕ → List ℕ → Owning → Type 0
 HasCallsAt d [] own rooms o = (own ≡ []) × (rooms ≡ []) × (o ≡ first_owning)
 HasCallsAt d (Made x ∷ kept) own rooms o = HasCallsAt d kept own rooms o
@@ -50,8 +50,8 @@ HasCallsAt d (Feedback count ∷ kept) own rooms o =
     ⊎ ((earlier : List ℕ) × (done : List ℕ) × (before : Owning) × HasCallsAt d kept earlier done before
     × IsNextCall d kept count earlier done before own rooms o)
 
--- An owner did its lines, with room for so many events each, and this is what it was told: its pass has seen its calls, and
--- owns their places alone.
+-- An owner did its lines, with room for so many events each, and this is what it was told: its pass has seen
+-- its calls, and owns their places alone.
 pub record HasFedLines (d : Description) (rooms : List ℕ) (view : PassView Description UEntry) (last : Owning) : Type 0 where
   pub done : List ℕ
   pub before : Owning

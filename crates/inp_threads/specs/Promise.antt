@@ -6,7 +6,7 @@ use Rattle.inp_script.specs.declared.run.DeviceEnds.{DeviceEnds}
 use Rattle.inp_runs.specs.Done.{IsRunAsPromised}
 use Rattle.inp_threads.specs.Lines.{AreLinesDealt}
 
--- all is promised of what came of the device of this number, where the lines of its actors waited so long
+-- all is promised of the result of the device of this number, where the lines of its actors waited so long
 abbrev pub IsPromisedOf : ℕ → RecordView → ℕ → DeviceEnds → Type 0
 IsPromisedOf idle r i done = (device : DeviceText) → slice_get r.devices i ≡ Some device → IsRunAsPromised (Some idle) r i device done
 

@@ -93,8 +93,9 @@ pub record IsReadyOn (port : PortOf UdevView UEntry) (r : RecordView) (device : 
   pub is_text : slice_get r.actors w.actor.actor ≡ Some text
   pub on_device : text.device ≡ device
 
--- Each actor of the device with a number below n has a worker, in order, which is ready; and the shares of their passes and
--- what is left to the pass that they were split off are the whole. This pass has seen nothing either.
+-- Each actor of the device with a number below n has a worker, in order, which is ready. The shares of their
+-- passes and what is left to the pass that they were split off are the whole. This pass has seen nothing
+-- either.
 pub record AreDealtUpTo {K : Ghosts UdevView Description UEntry} (port : PortOf UdevView UEntry) (r : RecordView) (device n : ℕ) (left : Pass UdevView Description UEntry K) (workers : List Worker) : Type 0 where
   pub numbers : map actor_number workers ≡ filter (λ i. is_on_device device (slice_get r.actors i)) (range_with_len 0 n)
   pub each : All (IsReadyOn port r device) workers
@@ -111,8 +112,9 @@ AreDealt port r device left workers = AreDealtUpTo port r device (length r.actor
 abbrev pub asking_count : List Call → ℕ
 asking_count calls = count_by (λ (call : Call). not (is_inject call.step)) calls
 
--- An actor did all its lines by calls of an evdev: they are a legal run of what was seen of the history, its job is what
--- its lines and the answers to these calls make, and its pass owns the places of its steps and no others.
+-- An actor did all its lines by calls of an evdev. They are a legal run of what was seen of the history, and
+-- its job is what its lines and the answers to these calls make. Its pass owns the places of its steps and no
+-- others.
 pub record HasWorked (r : RecordView) (d : Description) (wait : Option Waiting) (a : ActorView) (view : PassView Description UEntry) : Type 0 where
   pub calls : List Call
   pub legal : IsLegalRun d (steps_among step_made view.seen) calls
@@ -133,7 +135,8 @@ abbrev pub HasDoneLines : Role → RecordView → Description → Option Waiting
 HasDoneLines Owner r d wait a view = HasOwnedLines r d a view
 HasDoneLines _ r d wait a view = HasWorked r d wait a view
 
--- A worker's thread has ended: its pass is back, whatever came of it, and where it is done its actor did all its lines.
+-- A worker's thread has ended: its pass is back, whatever the result, and where it is done its actor did all
+-- its lines.
 pub record IsWorked (port : PortOf UdevView UEntry) (r : RecordView) (wait : Option Waiting) (w : Worker) : Type 0 where
   pub pass : HasPass port w.pass
   pub actor : HasActor r w.actor

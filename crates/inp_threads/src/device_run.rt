@@ -15,7 +15,7 @@ use std::alloc::Global;
 use std::sync::Wait;
 use std::thread::Threads;
 
-// What comes of the device of this number, whose actors do their lines on a thread each.
+// The result of the device of this number, whose actors do their lines on a thread each.
 pub(crate) fn run_device<R: Threads + Wait + Sync, G: Gate>(
     rt: &R,
     alloc: Global,

@@ -13,13 +13,13 @@ use inp_uinput::{UPort, Udev};
 pub(crate) struct Gathered {
     /// All passes, joined into one.
     pub(crate) pass: Pass<Udev>,
-    /// What came of their actors.
+    /// The results of their actors.
     pub(crate) ends: Vec<Ended>,
     /// Whether each of them did all its lines.
     pub(crate) is_done: bool,
 }
 
-// Joins the passes of all workers, and finishes their actors. There is room for what comes of them, so it takes no memory.
+// Joins the passes of all workers, and finishes their actors. There is room for their results, so it takes no memory.
 pub(crate) fn gather(
     port: &UPort,
     pass: Pass<Udev>,

@@ -5,8 +5,8 @@ use inp_edge::Gate;
 
 /// A gate that may be told of the jobs that it knows, and of no others.
 ///
-/// A worker is lent any such gate that knows the number of its actor. Nothing tells it whether the gate knows another number,
-/// so that it can tell it this one alone.
+/// A worker is lent any such gate that knows the number of its actor. Nothing tells it whether the gate knows another
+/// number, so that it can tell it this one alone.
 pub(crate) trait JobGate: Sync {
     /// Whether it knows the job of this number.
     ghost knows: { Self → ℕ → Bool };

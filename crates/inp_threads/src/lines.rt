@@ -9,8 +9,8 @@ use std::alloc::Global;
 /// The numbers of each actor's lines: a list for each actor, in file order.
 pub(crate) type LineLists = Items<Items<u32>>;
 
-// Deals the lines of a record: one walk over them, in file order. Each number takes 4 bytes, and growing lists may take as
-// many again.
+// Deals the lines of a record: one walk over them, in file order. Each number takes 4 bytes, and growing lists may take
+// as many again.
 pub(crate) fn deal_lines(alloc: Global, rec: &Record) -> Result<LineLists, NoMemory>
     ensures dealt { IfOk result (AreLinesDealt rec.now) }
 {

@@ -8,8 +8,8 @@ use inp_model::{Evdev, Event, Injected, Reply, Stamped, Step, Taken};
 use inp_uinput::{FeedbackPort, UClient};
 use std::sync::Wait;
 
-/// A port with a pass of it, as the thread of any actor uses its device by it: an owner makes its feedback calls, and any
-/// other actor is told what its evdev tells.
+/// A port with a pass of it, as the thread of any actor uses its device by it. An owner makes its feedback calls, and
+/// any other actor is told what its evdev tells.
 #[derive(Drop)]
 pub(crate) struct OwnedClient<'a, R: Wait> {
     /// The evdev, with the port and the pass.

@@ -14,17 +14,18 @@ use std::sync::Wait;
 use std::thread;
 use std::thread::Threads;
 
-/// What comes of a record whose sources, clients, taps, joysticks and owners do their lines on a thread each.
+/// The result of a record whose sources, clients, taps, joysticks and owners do their lines on a thread each.
 ///
-/// `idle` is how long a line `follow` waits: after so many answers in a row that nothing is visible the job stops as idle,
-/// unless all sources of its device are done before, which ends the line. It must be at least 1.
+/// `idle` is how long a line `follow` waits. After so many answers in a row that nothing is visible the job stops as
+/// idle, unless all sources of its device are done before, which ends the line. It must be at least 1.
 ///
-/// All devices are played side by side. Each device has a thread, and each of its actors one more. Where no thread can be
-/// made, jobs are done one after another. Before each call a job passes the gate, an owner before each feedback call.
+/// All devices are played side by side. Each device has a thread, and each of its actors one more. Where no thread can
+/// be made, jobs are done one after another. Before each call a job passes the gate, an owner before each feedback
+/// call.
 ///
-/// It takes the memory for all that each device may keep, for the numbers of the lines, of the actors, and of what they see. `NoMemory` comes where
-/// there is none, once all jobs have ended, and nothing that came of them is given then. Nothing says that the call
-/// returns.
+/// It takes the memory for all that each device may keep, for the numbers of the lines, of the actors, and of what they
+/// see. `NoMemory` comes where memory is short, once all jobs have ended, and none of their results is given then.
+/// Nothing says that the call returns.
 pub fn play_on_threads<R: Threads + Wait + Sync, G: Gate>(
     rt: &R,
     alloc: Global,
@@ -64,7 +65,7 @@ fn no_outcomes(alloc: Global, count: usize) -> Result<Vec<Option<DeviceEnds>>, N
     Ok(outcomes)
 }
 
-// What came of the devices, where each outcome has come.
+// The results of the devices, where each outcome has come.
 fn collect(alloc: Global, outcomes: Vec<Option<DeviceEnds>>) -> Result<Vec<DeviceEnds>, NoMemory>
     ensures devices { IfOk result (λ devices. map Some devices.items ≡ outcomes.items) }
 {

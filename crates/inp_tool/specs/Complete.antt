@@ -53,12 +53,12 @@ pub record IsReadable (r : Reads) (file : List ℕ) (recorded : RecordView) : Ty
   pub stamps : HoldEvents (stream_files parsed.lines) contents streams
   pub whole : recorded ≡ record parsed { streams = streams }
 
--- what came of a record, as the end has it
+-- the result of a record, as the end has it
 abbrev pub played_by : End → Played
 played_by end = record { runs = end.runs; joys = end.joys; owners = end.owners }
 
--- The text that tells what came of this record was written whole. The status is 6 where a job stopped since a history was
--- full, or an owner since its calls were as many as may be kept, and else 0.
+-- The text that tells the result of this record was written whole. The status is 6 where a job stopped since
+-- a history was full, or an owner since its calls were as many as may be kept, and else 0.
 pub record IsTold (w : Writes) (idle : Option ℕ) (recorded : RecordView) (text : Played → List ℕ) (end : End) : Type 0 where
   pub came : CameOf idle recorded (played_by end)
   pub status : end.status ≡ played_status (played_by end)
@@ -68,8 +68,8 @@ pub record IsTold (w : Writes) (idle : Option ℕ) (recorded : RecordView) (text
 abbrev pub made_summary : ℕ → ℕ → Played → List ℕ
 made_summary number count played = summary number count (generated number count) played.runs
 
--- The summary of a record that was made was written whole. No job of it stops since a history is full: the status is 0. It
--- has no joystick and no owner.
+-- The summary of a record that was made was written whole. No job of it stops since a history is full: the
+-- status is 0. It has no joystick and no owner.
 pub record IsToldWhole (w : Writes) (number count : ℕ) (end : End) : Type 0 where
   pub told : IsTold w None (generated number count) (made_summary number count) end
   pub status : end.status ≡ 0
@@ -84,8 +84,8 @@ pub record IsRewritten (w : Writes) (recorded : RecordView) (end : End) : Type 0
   pub owners : end.owners ≡ []
   pub written : Appends (record_text (upgraded recorded)) w.before.written w.after.written
 
--- A record that is there, or a record to be made, and no fault: its report, its text in version 2 or its summary, or want
--- of memory.
+-- A record that is there, or a record to be made, and no fault: its report, its text in version 2 or its
+-- summary, or want of memory.
 pub record IsComplete (words : Arguments) (r : Reads) (w : Writes) (end : End) : Type 0 where
   pub read : (file : List ℕ) (history : Bool) (idle : Option ℕ) (recorded : RecordView) → AskFor words file history idle → IsReadable r file recorded
       → IsFaultless r.before.faults r.after.faults → IsFaultless w.before.faults w.after.faults

@@ -2,8 +2,8 @@
 use Rattle.std.specs.Prelude.{ℕ, ◌≡◌, List, Option}
 use Rattle.inp_edge.specs.File.{File}
 
--- what an input tells besides its files: how many bytes were given since a file was begun, the bytes that are left of it,
--- and how often a call was at fault
+-- What an input tells besides its files. That is how many bytes were given since a file was begun, the bytes
+-- that are left of it, and how often a call was at fault.
 pub record InputView : Type 0 where
   pub given : ℕ
   pub left : Option (List ℕ)

@@ -55,7 +55,7 @@ CannotDo r text old line TooLong = (stream : StreamFile) × TakesFiles old line 
 CannotDo r text old line (IsRefused refused) = IsBad r text old line refused
 CannotDo r text old line NoMemory = RanOut r
 
--- the file that was read last is the last of these; none was where there are none
+-- the file that was read last is the last of these; where the list is empty no file was read
 abbrev pub IsLastOf : Reads → List (List ℕ) → Type 0
 IsLastOf r [] = r.after ≡ r.before
 IsLastOf r (bytes ∷ contents) = IsLast r (last_contents bytes contents)

@@ -49,7 +49,7 @@ has_full_owner owners = list_any (λ (owner : OwnerView). is_stopped_full owner.
 abbrev pub has_full : Played → Bool
 has_full played = has_full_run played.runs || has_full_joy played.joys || has_full_owner played.owners
 
--- the status where a report or a summary of what came of a record was written
+-- the status where a report or a summary of the result of a record was written
 abbrev pub played_status : Played → ℕ
 played_status played = if has_full played then 6 else 0
 
@@ -84,7 +84,7 @@ refused_of NoMemory = None
 refused_of (WasPlayed played text) = None
 refused_of (Migrated text) = None
 
--- what came of the record
+-- the result of the record
 abbrev pub played_in : Outcome → Played
 played_in Usage = no_play
 played_in Unread = no_play

@@ -27,12 +27,12 @@ use Rattle.inp_tool.specs.Edge.{Reads, Writes, KeepsInputFaults, KeepsSinkFaults
 use Rattle.inp_tool.specs.Outcome.{refused_text, text_of, status_of, refused_of, played_in}
 use Rattle.inp_tool.specs.RecordFile.{HasUnread, HasTooLong, HasBadText, HasBadStream, HasRecord, HasNoRecord, RanOut}
 
--- The words ask for the record in this file, with the history or without. With a number each job is to have a thread, and
--- waits through so many answers Again in a row.
+-- The words ask for the record in this file, with the history or without. With a number each job is to have a
+-- thread, and waits through so many answers Again in a row.
 abbrev pub AskFor : Arguments → List ℕ → Bool → Option ℕ → Type 0
 AskFor words file history idle = requested words ≡ Some (Play file history idle)
 
--- The words ask for what becomes of the record in this file: its report, or its text in the newest version.
+-- The words ask for what is made of the record in this file: its report, or its text in the newest version.
 pub record NameFile (words : Arguments) (file : List ℕ) : Type 0 where
   pub request : Request
   pub asked : requested words ≡ Some request
@@ -66,10 +66,10 @@ pub record IsNoRecord (words : Arguments) (r : Reads) (refused : Refused) (text 
 abbrev pub IsOutOfMemory : Reads → Type 0
 IsOutOfMemory r = (r.after ≡ r.before) ⊎ RanOut r
 
--- What came of a record: each job's replies are the one-thread device's at their places in one history, its sight follows
--- its lines, and each place of the history is in one sight, where joysticks' jobs are jobs too; and what each owner was told
--- is what its feedback calls took of what was sent to its device. On one thread the lines were done in file order besides
--- (both of `inp_runs`).
+-- The result of a record. Each job's replies are the one-thread device's at their places in one history, and
+-- its sight follows its lines. Each place of the history is in one sight, where joysticks' jobs are jobs too.
+-- What each owner was told is what its feedback calls took of what was sent to its device. On one thread the
+-- lines were done in file order besides (both of `inp_runs`).
 pub record CameOf (idle : Option ℕ) (recorded : RecordView) (played : Played) : Type 0 where
   pub promised : ArePromised idle recorded played
   pub in_order : idle ≡ None → IsPlay recorded played
@@ -85,8 +85,9 @@ pub record IsPlayed (words : Arguments) (r : Reads) (played : Played) (text : Li
   pub came : CameOf idle recorded played
   pub says : text ≡ whole_report recorded history played
 
--- The record in FILE was read with its streams. The text is its canonical text in version 2, by which it means the same
--- record but for its version; a record's text names the files of its streams, and has none of their events.
+-- The record in FILE was read with its streams. The text is its canonical text in version 2, by which it
+-- means the same record but for its version. A record's text names the files of its streams, and has no event
+-- of them.
 pub record IsMigrated (words : Arguments) (r : Reads) (text : List ℕ) : Type 0 where
   pub file : List ℕ
   pub asked : requested words ≡ Some (Migrate file)
@@ -154,8 +155,8 @@ pub record Promise (words : Arguments) (r : Reads) (w : Writes) (end : End) : Ty
   pub cause : HasCause words r found
   pub written : IsWritten w found end
 
--- No fault is hidden. A call of the input that was at fault ends in status 3, a call of the sink in status 4. With 4 the
--- text may be that of any outcome.
+-- No fault is hidden. A call of the input that was at fault ends in status 3, a call of the sink in status 4.
+-- With 4 the text may be that of any outcome.
 pub record HidesNoFault (words : Arguments) (r : Reads) (w : Writes) (end : End) : Type 0 where
   pub input : end.status ≢ 3 → end.status ≢ 4 → KeepsInputFaults r
   pub sink : end.status ≢ 4 → KeepsSinkFaults w

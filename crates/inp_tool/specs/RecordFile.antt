@@ -92,7 +92,7 @@ pub record IsNextStream (r : Reads) (file name : List ℕ) : Type 0 where
   pub at : IsAtStream r parsed line stream
   pub is_name : stream.name ≡ name
 
--- The next file to be read: FILE, and behind it the files of its stream lines, in line order.
+-- The next file to be read: FILE, and after it the files of its stream lines, in line order.
 abbrev pub IsNext : Reads → List ℕ → List ℕ → Type 0
 IsNext r file name = (name ≡ file) ⊎ IsNextStream r file name
 

@@ -14,6 +14,6 @@ upgraded r = record r { version = 2 }
 abbrev pub ReadsAgain : Type 0
 ReadsAgain = (bytes : List ℕ) (r : RecordView) → meaning bytes ≡ Ok r → meaning (record_text (upgraded r)) ≡ Ok (upgraded r)
 
--- What comes of a record, its lines done in file order, is what comes of it upgraded.
+-- The result of a record, its lines done in file order, is the result of it upgraded.
 abbrev pub PlaysAlike : Type 0
 PlaysAlike = (r : RecordView) (played : Played) → IsPlay (upgraded r) played ↔ IsPlay r played

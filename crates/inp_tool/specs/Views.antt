@@ -73,8 +73,8 @@ past_till at = reverse (take at steps)
 abbrev pub entries_taken : ℕ → ℕ → List ReadEntry
 entries_taken at client = entries_of_read (past_till at) [] (taken_by keyboard (past_till at) client (Read client 64))
 
--- whether the promise speaks of this entry and its frame: the client is synchronised, the frame was passed behind its last
--- query, and nothing was kept from it
+-- whether the promise speaks of this entry and its frame: the client is synchronised, the frame was passed
+-- after its last query, and nothing was kept from it
 abbrev pub speaks : ℕ → ReadEntry → Frame → Bool
 speaks client item f =
     is_synchronised keyboard item.before client item.taken
@@ -102,15 +102,15 @@ losses at client =
     map (λ (e : Entry). e.taken.place)
     (filter (λ (e : Entry). is_dropped (event_of e)) (taken_by keyboard (past_till at) client (Read client 64)))
 
--- The promise speaks of a press after the client opened and asked for keys, and of the release that an inhibition makes,
--- since the desktop synchronised before it.
+-- The promise speaks of a press after the client opened and asked for keys, and of the release that an
+-- inhibition makes, since the desktop synchronised before it.
 abbrev pub FollowsTheKeys : Type 0
 FollowsTheKeys =
     Shows 7 0 1 true (KEY_A ∷ []) (KEY_A ∷ [])
     × Shows 8 2 1 true (KEY_A ∷ []) (KEY_A ∷ [])
     × Shows 107 0 1 true [] []
 
--- A change of clock at place 11, and a full ring at place 82: the promise does not speak behind a loss.
+-- A change of clock at place 11, and a full ring at place 82: the promise does not speak after a loss.
 abbrev pub IsSilentBehindALoss : Type 0
 IsSilentBehindALoss =
     (losses 14 0 ≡ 11 ∷ [])

@@ -1,4 +1,4 @@
-//! Playing a record, and telling what came of it.
+//! Playing a record, and telling its result.
 ghost use Rattle.std.specs.Prelude.{◌≡◌, ◌≤◌, [], IfOk, IfSome, None};
 ghost use Rattle.inp_make.specs.Generated.{generated};
 ghost use Rattle.inp_report.specs.Summary.{summary};
@@ -18,7 +18,7 @@ use std::alloc::Global;
 use std::sync::Wait;
 use std::thread::Threads;
 
-/// What comes of a record, and its report.
+/// The result of a record, and its report.
 pub(crate) fn play_and_report<R: Threads + Wait + Sync, G: Gate>(
     rt: &R,
     alloc: Global,
@@ -37,7 +37,7 @@ pub(crate) fn play_and_report<R: Threads + Wait + Sync, G: Gate>(
     Ok((played, text))
 }
 
-/// What comes of a record: on threads where a bound is given, and else on one thread.
+/// The result of a record: on threads where a bound is given, and else on one thread.
 fn play_as_asked<R: Threads + Wait + Sync, G: Gate>(
     rt: &R,
     alloc: Global,
@@ -54,7 +54,7 @@ fn play_as_asked<R: Threads + Wait + Sync, G: Gate>(
     }
 }
 
-/// What comes of the record that is made from a number and a count of frames, and its summary. It has no joystick and
+/// The result of the record that is made from a number and a count of frames, and its summary. It has no joystick and
 /// no owner.
 pub(crate) fn make_and_play(
     alloc: Global,

@@ -22,24 +22,22 @@ use std::thread::Threads;
 /// The status where the text could not be written whole.
 const WRITE_FAULT: u8 = 4;
 
-/// Reads the record that the words name, with the streams that it names, or makes the one that they ask for;
-/// plays it, and writes the report or the summary of what its actors saw and what they believe. A record is
-/// played on one thread, its lines in file order, or, where `--threads` is among the words, each source,
-/// client, tap, joystick and owner on a thread of its own. Where `--migrate` is among them nothing is played:
-/// what is written is the record's canonical text in version 2.
+/// Reads the record that the words name, with the streams that it names, or makes the one that they ask for. Then it
+/// plays it, and writes the report or the summary of what its actors saw and what they believe. A record is played on
+/// one thread, its lines in file order. Where `--threads` is among the words, each source, client, tap, joystick and
+/// owner is on a thread of its own. Where `--migrate` is among them nothing is played: what is written is the record's
+/// canonical text in version 2.
 ///
-/// On each device, however the threads interleave, every reply is the one-thread device's at its place in one
-/// kept history; SYN_DROPPED is queued only at a full ring or a clock change; and at each SYN_REPORT queued
-/// after a client's last synchronisation, nothing since lost, masked, filtered, grabbed away or described
-/// anew, the client's reconstructed keys, switches, LEDs, axes and slots equal the device's at that frame's
-/// end.
+/// On each device, however the threads interleave, every reply is the one-thread device's at its place in one kept
+/// history. SYN_DROPPED is queued only at a full ring or a clock change. Let a SYN_REPORT be queued after a client's
+/// last synchronisation, with nothing since lost, masked, filtered, grabbed away or described anew. Then the client's
+/// reconstructed keys, switches, LEDs, axes and slots equal the device's at that frame's end.
 ///
-/// The words are those after the program's name, as `inp_args` reads them. The gate is called on threads
-/// alone, before each call that a job makes on its device. The statuses of `End` are tried in this order: 2
-/// where the words are not accepted; 3 or 7 for FILE, and 1 for its lines; stream by stream, in line order, 3
-/// or 7 for its file, and 1 for its bytes; then 4, 6 and 0. 5 may come at any point before the text is
-/// complete. Each outcome but these last writes a line of its own, and 4 comes where that cannot be written
-/// whole.
+/// The words are those after the program's name, as `inp_args` reads them. The gate is called on threads alone, before
+/// each call that a job makes on its device. The statuses of `End` are tried in this order. First comes 2, where the
+/// words are not accepted; then 3 or 7 for FILE, and 1 for its lines. Then, stream by stream, in line order, come 3 or
+/// 7 for its file, and 1 for its bytes; and last 4, 6 and 0. The status 5 may come at any point before the text is
+/// complete. Each outcome but these last writes a line of its own, and 4 comes where that cannot be written whole.
 pub fn inputplay<R: Threads + Wait + Sync, I: Input, O: Sink, G: Gate>(
     rt: &R,
     alloc: Global,
@@ -48,7 +46,7 @@ pub fn inputplay<R: Threads + Wait + Sync, I: Input, O: Sink, G: Gate>(
     out: &mut O,
     gate: &G,
 ) -> End
-    // The status, its cause, what was written, and what came of the record.
+    // The status, its cause, what was written, and the result of the record.
     ensures promise { Promise (map string_bytes words.now)
         (reads_of I.files I.given I.left I.faults input.old input.new)
         (writes_of O.written O.faults out.old out.new)
@@ -203,7 +201,7 @@ fn end_of(alloc: Global, found: Outcome) -> End
     }
 }
 
-/// The status of what came of a record.
+/// The status of the result of a record.
 fn played_status(played: &Played) -> u8
     ensures { result ≡ played_status played.now }
 {

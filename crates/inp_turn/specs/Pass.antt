@@ -15,7 +15,8 @@ module _ {S B E : Type 0} {K : Ghosts S B E} where
   abbrev pub has_turn : Pass S B E K → Bool
   has_turn p = p.seat.me.0.has_turn
 
-  -- A pass took the turn, and x is the value: it has the pass's base, and its entries begin with what the pass had seen.
+  -- A pass took the turn, and x is the value: it has the pass's base, and its entries begin with what the
+  -- pass had seen.
   pub record TakesTurn (base : S → B) (entries : S → List E) (old new : Pass S B E K) (x : S) : Type 0 where
     pub turn : has_turn new ≡ true
     pub base_is : (view_of old).base ≡ Some (base x)

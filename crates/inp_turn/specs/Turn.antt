@@ -1,5 +1,5 @@
--- The rule of the table: one word, which is how many passes have the turn, and one slot, where the value lies while none
--- has it.
+-- The rule of the table: one word, which is how many passes have the turn, and one slot, where the value lies
+-- while none has it.
 use Rattle.std.specs.Prelude.{◌≡◌, ℕ, ◌+◌, ◌<◌, ◌≤◌, true, false, nat_eq, if◌then◌else◌, List, [], ◌∷◌, length, sum_by, count_by, Option, Some}
 use mathlib.Core.List.{IsPrefix}
 use mathlib.Core.Option.{some}
@@ -28,9 +28,9 @@ module _ {B E : Type 0} where
   abbrev pub own_count : ℕ → SeatView B E → ℕ
   own_count place s = count_by (nat_eq place) s.pass.own + count_by (nat_eq place) s.met.own
 
-  -- What every view keeps, where the value had the base and these entries first and has the entries `log` now: it has seen
-  -- a beginning of them. While it has a share, it knows the base and has seen the first entries. Without one it owns
-  -- nothing.
+  -- What every view keeps, where the value had the base and these entries first and has the entries `log`
+  -- now: it has seen a beginning of them. While it has a share, it knows the base and has seen the first
+  -- entries. Without one it owns nothing.
   pub record FitsLog (base : B) (first log : List E) (v : PassView B E) : Type 0 where
     pub seen : IsPrefix v.seen log
     pub base_is : 0 < v.share → v.base ≡ Some base

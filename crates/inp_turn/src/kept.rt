@@ -3,13 +3,13 @@ ghost use Rattle.std.specs.Prelude.{List};
 
 /// A value that contracts see as a base, which stays, and a list of entries, which grows.
 pub trait Kept {
-    /// What the value stands on: plain data.
+    /// What the value is made for: plain data.
     type Base;
 
     /// What is entered in it.
     type Entry;
 
-    /// What the value stands on.
+    /// What the value is made for.
     ghost base: { Self → Self.Base };
 
     /// What was entered, oldest first.

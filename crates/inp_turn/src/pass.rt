@@ -7,9 +7,9 @@ use crate::rule::TurnSeat;
 
 /// The right to take turns on one shared value, for one thread at a time. It has no bytes.
 ///
-/// A contract sees what it has seen and owns (`view_of` in `specs/Pass.antt`), and whether it has the turn (`has_turn`). It is
-/// in one thread at a time, and can be handed to another. One that is dropped takes its share along, so that the value can
-/// no more be taken out of its [`Shared`](crate::Shared).
+/// A contract sees what it has seen and owns (`view_of` in `specs/Pass.antt`), and whether it has the turn
+/// (`has_turn`). It is in one thread at a time, and can be handed to another. One that is dropped takes its share
+/// along, so that the value can no more be taken out of its [`Shared`](crate::Shared).
 pub struct Pass<S: Kept> {
     pub(crate) seat: TurnSeat<S>,
     ghost in_no_join: { seat.me.0.met ≡ spent_view },

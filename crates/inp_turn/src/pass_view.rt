@@ -3,7 +3,7 @@ use std::collections::LinkedList;
 
 /// What a pass has seen and owns. It is for contracts alone: no value of it is made.
 pub struct PassView<B, E> {
-    /// What the kept value stands on. A view that a join has spent has none.
+    /// What the kept value is made for. A view that a join has spent has no base.
     pub base: Option<B>,
     /// The entries that the pass has seen, oldest first.
     pub seen: LinkedList<E>,

@@ -17,14 +17,14 @@ use std::thread::yield_now;
 
 /// How often a thread yields the processor between two tries for the turn, at most (this project's choice).
 ///
-/// A thread that tries again and again takes the cache line of the turn from the thread that has it, and costs it more than
-/// the wait gains. So a rest grows from one yield to this many.
+/// A thread that tries again and again takes the cache line of the turn from the thread that has it, and costs it more
+/// than the wait gains. So a rest grows from one yield to this many.
 const MOST_RESTS: u32 = 64;
 
 /// A kept value that several passes use, one at a time. Threads share it by reference.
 ///
-/// A contract sees the value as it came in (`start_of` in `specs/Shared.antt`), which passes are its own (`IsPassOf`), and
-/// what tells it from other shared values (`shared_id`).
+/// A contract sees the value as it came in (`start_of` in `specs/Shared.antt`), which passes are its own (`IsPassOf`),
+/// and what tells it from other shared values (`shared_id`).
 #[derive(Drop)]
 pub struct Shared<S: Kept> {
     table: TurnTable<S>,
@@ -62,8 +62,8 @@ impl<S: Kept> Shared<S> {
         }
     }
 
-    /// Splits a pass off another, for another thread. The new pass has seen the same and owns nothing; it gets one unit of
-    /// the share, and its turns are 0. It costs one load of the word.
+    /// Splits a pass off another, for another thread. The new pass has seen the same and owns nothing; it gets one unit
+    /// of the share, and its turns are 0. It costs one load of the word.
     ///
     /// The pass must be one of this value, without the turn, and have two units at least.
     pub fn split(&self, pass: &mut Pass<S>) -> Pass<S>
@@ -79,12 +79,12 @@ impl<S: Kept> Shared<S> {
         Pass { seat }
     }
 
-    /// Waits for the turn, and takes the value. It has the pass's base, and its entries begin with all that the pass had
-    /// seen. The pass has then seen all of them, and its turns have risen by one.
+    /// Waits for the turn, and takes the value. It has the pass's base, and its entries begin with all that the pass
+    /// had seen. The pass has then seen all of them, and its turns have risen by one.
     ///
-    /// A try is one compare-exchange. After a try that finds the turn taken the thread rests, twice as long after each, up
-    /// to [`MOST_RESTS`] yields of the processor; then another try follows. Nothing says that one of them succeeds. The
-    /// value moves out, and nothing is copied.
+    /// A try is one compare-exchange. After a try that finds the turn taken the thread rests, twice as long after each,
+    /// up to [`MOST_RESTS`] yields of the processor. Then another try follows. Nothing says that one of them succeeds.
+    /// The value moves out, and nothing is copied.
     ///
     /// The pass must be one of this value, and have no turn yet: it would wait for itself.
     pub fn take<R: Wait>(&self, rt: &R, pass: &mut Pass<S>) -> Held<S>
@@ -123,11 +123,11 @@ impl<S: Kept> Shared<S> {
         Some(shared.exchange(&mut pass.seat, 0, None).unwrap())
     }
 
-    /// Gives the value back, and with it the turn. The pass has then seen all entries of the value, and the places of those
-    /// that were added are its own. The value moves in, and one store frees the turn.
+    /// Gives the value back, and with it the turn. The pass has then seen all entries of the value, and the places of
+    /// those that were added are its own. The value moves in, and one store frees the turn.
     ///
-    /// The pass must have the turn. The value must have the pass's base, and its entries must begin with those that it had
-    /// when it was taken.
+    /// The pass must have the turn. The value must have the pass's base, and its entries must begin with those that it
+    /// had when it was taken.
     pub fn give(&self, pass: &mut Pass<S>, held: Held<S>)
         requires own { IsPassOf self.now pass.old }
         requires turn { has_turn pass.old ≡ true }
@@ -146,8 +146,8 @@ impl<S: Kept> Shared<S> {
     }
 
     /// Makes one pass of two. What one of them has seen begins with what the other has, and the new pass has seen the
-    /// longer list. It owns what both owned, and no place was own to both. Shares and turns are added. It costs two loads of
-    /// the word.
+    /// longer list. It owns what both owned, and no place was own to both. Shares and turns are added. It costs two
+    /// loads of the word.
     ///
     /// Both must be passes of this value, without the turn.
     pub fn join(&self, a: Pass<S>, b: Pass<S>) -> Pass<S>
@@ -168,11 +168,11 @@ impl<S: Kept> Shared<S> {
         Pass { seat }
     }
 
-    /// Ends the sharing, and gives the value. It has the pass's base, and its entries are those that the pass has seen. The
-    /// pass owns the place of each entry that was added since [`new`](Shared::new), once, and no other.
+    /// Ends the sharing, and gives the value. It has the pass's base, and its entries are those that the pass has seen.
+    /// The pass owns the place of each entry that was added since [`new`](Shared::new), once, and no other.
     ///
-    /// The pass must be one of this value, without the turn, and have the whole share: all others were joined into it. The
-    /// value moves out, and the memory of the sharing is given back.
+    /// The pass must be one of this value, without the turn, and have the whole share: all others were joined into it.
+    /// The value moves out, and the memory of the sharing is given back.
     pub fn close(self, pass: Pass<S>) -> S
         requires own { IsPassOf self pass }
         requires free { has_turn pass ≡ false }

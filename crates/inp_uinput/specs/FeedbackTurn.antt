@@ -36,9 +36,9 @@ abbrev pub call_places : Fed → List UEntry → List ℕ
 call_places (Took at count) entries = (length entries - 1) ∷ []
 call_places (Full at) entries = []
 
--- One turn was taken for a feedback call, and it was answered from the list that was kept then, as the device itself
--- answers. A call that is kept is the last entry that the pass has seen, and its place is the pass's own. Nothing else was
--- entered.
+-- One turn was taken for a feedback call, and it was answered from the list that was kept then, as the device
+-- itself answers. A call that is kept is the last entry that the pass has seen, and its place is the pass's
+-- own. Nothing else was entered.
 pub record IsFeedbackTurn (d : Description) (before : PassView Description UEntry) (answer : Fed) (out new_out : List Event) (after : PassView Description UEntry) : Type 0 where
   -- what was kept when the turn was taken, oldest first
   pub found : List UEntry
@@ -53,8 +53,8 @@ pub record IsFeedbackTurn (d : Description) (before : PassView Description UEntr
   pub share : after.share ≡ before.share
   pub base : after.base ≡ before.base
 
--- What the call leaves of what an evdev's caller is told. It is no step: steps of others may have come to be seen, and the
--- caller's own are those before. The places of the caller's feedback calls are part of its tie.
+-- What the call leaves of what an evdev's caller is told. It is no step: steps of others may have come to be
+-- seen, and the caller's own are those before. The places of the caller's feedback calls are part of its tie.
 pub record IsToldFeedback (answer : Fed) (entries : List UEntry) (before after : EvdevView) : Type 0 where
   pub description : after.description ≡ before.description
   pub seen : BeginsWith before.seen after.seen

@@ -10,7 +10,7 @@ use Rattle.inp_feedback.specs.Feedback.{feedback_queue}
 use Rattle.inp_feedback.specs.Kept.{kept_of, StandsWithin}
 use Rattle.inp_uinput.specs.declared.outputs.Outputs.{Outputs}
 
--- a ring with an event that was sent, if one was: behind the others, of which the last ones stay that fit
+-- a ring with an event that was sent, if one was: after the others, of which the last ones stay that fit
 abbrev pub with_sent : Option Event → Buffer Event → Buffer Event
 with_sent None waiting = waiting
 with_sent (Some e) waiting = buffer (keep_last waiting.capacity (waiting.items ++ e ∷ [])) waiting.capacity

@@ -25,6 +25,6 @@ abbrev pub maker_of : CreateRefused → Maker
 maker_of (NotSetUp maker) = maker
 maker_of (NoMemory maker) = maker
 
--- the maker ends with the builder that was left behind the result
+-- the maker ends with the builder that was left after the result
 abbrev pub LendsBuilder : MutBor Maker → MutBor Description → Fml
 LendsBuilder maker result = Lends the_row builder_row maker result (λ builder. record maker.now { builder = builder })

@@ -17,7 +17,8 @@ pub record UdevView : Type 0 where
 abbrev pub device_of : UdevView → DeviceView
 device_of u = record { description = u.description; past = steps_in u.kept; agains = u.agains }
 
--- What the caller of an evdev sees of a device with its owner: the same as of its steps alone, with its feedback calls as
--- the tie, so that no call of an evdev changes them (docs/RULES.md, "Devices made by requests").
+-- What the caller of an evdev sees of a device with its owner. It is the same as of its steps alone, with its
+-- feedback calls as the tie, so that no call of an evdev changes them (docs/RULES.md, "Devices made by
+-- requests").
 abbrev pub owned_view : UdevView → EvdevView
 owned_view u = record (evdev_view (device_of u)) { tie = Some (call_numbers u.kept) }

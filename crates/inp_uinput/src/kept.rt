@@ -6,7 +6,7 @@ use inp_model::{Injected, Reply, Stamped, Step, Taken};
 use inp_port::Served;
 use inp_turn::Kept;
 
-/// A device made by requests stands on its description, and its entries are all that it keeps, oldest first.
+/// A device made by requests is made for its description, and its entries are all that it keeps, oldest first.
 impl Kept for Udev {
     type Base = Caps;
 

@@ -13,8 +13,8 @@ use inp_model::NoMemory;
 use std::alloc::Global;
 use std::fmt;
 
-/// Makes a device by requests, as a program does that opened `/dev/uinput`: it says what the device has, sets it up under a
-/// name, and creates it.
+/// Makes a device by requests, as a program does that opened `/dev/uinput`: it says what the device has, sets it up
+/// under a name, and creates it.
 ///
 /// A contract sees the name that was accepted last (`maker_name` in `specs/Maker.antt`), and what the device has so far
 /// (`builder_of`). Until it is created nothing can be injected, since there is no [`Udev`].
@@ -64,8 +64,8 @@ impl Maker {
 
     /// Makes the device, which keeps nothing yet. It takes the memory for all that the device may keep.
     ///
-    /// `NotSetUp` comes exactly where no setup was accepted, and else memory alone refuses it. Either way the maker comes
-    /// back as it was.
+    /// `NotSetUp` comes exactly where no setup was accepted, and else memory alone refuses it. Either way the maker
+    /// comes back as it was.
     pub fn create(self, alloc: Global) -> Result<Udev, CreateRefused>
         ensures made { IfOk result (λ udev. udev
             ≡ record { description = built (builder_of self); kept = []; agains = 0 }) }

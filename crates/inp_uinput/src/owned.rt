@@ -12,8 +12,8 @@ use inp_model::{Evdev, Event, History, Injected, NoMemory, Reply, Stamped, Step,
 use std::alloc::Global;
 use std::marker::Model;
 
-/// A device made by requests as whoever plays it on one thread has it: what a caller is told has its feedback calls as its
-/// tie, so calls of an evdev leave them as they are.
+/// A device made by requests as whoever plays it on one thread has it. What a caller is told has its feedback calls as
+/// its tie, so calls of an evdev leave them as they are.
 ///
 /// A contract sees it as the device that it has.
 #[derive(Drop)]

@@ -18,8 +18,8 @@ use std::sync::Wait;
 pub type UPort = PortOf<Udev>;
 
 /// One thread's use of such a port, and so an evdev. To its caller the feedback calls are no steps: its history is the
-/// steps alone, and its places are those that its own steps have among these. Where its own feedback calls stand among all
-/// entries is part of its tie.
+/// steps alone, and its places are those that its own steps have among these. Where its own feedback calls stand among
+/// all entries is part of its tie.
 pub type UClient<'a, R> = PortClientOf<'a, Udev, R>;
 
 /// A port that an owner reads by, beside those who make steps by it. [`UPort`] is one.
@@ -27,10 +27,10 @@ pub trait FeedbackPort {
     /// The port that it is.
     ghost port: { Self → PortOf UdevView UEntry };
 
-    /// Takes the turn, makes one feedback call and gives the turn back. The call is answered, and the buffer written, as
-    /// [`Udev::feedback`] does it for what is kept when the turn is taken.
+    /// Takes the turn, makes one feedback call and gives the turn back. The call is answered, and the buffer written,
+    /// as [`Udev::feedback`] does it for what is kept when the turn is taken.
     ///
-    /// The pass has then seen all that was kept before the call, and behind it the call where the answer is `Took`. The
+    /// The pass has then seen all that was kept before the call, and after it the call where the answer is `Took`. The
     /// place of that entry is then the pass's own. Where the answer is `Full` nothing is entered.
     ///
     /// It waits for the turn, and nothing says that it gets it. It takes no memory.

@@ -24,8 +24,8 @@ use std::marker::Model;
 /// settings.
 ///
 /// It is seen as its description, as what it keeps, newest first (its accepted steps, and between them the feedback
-/// calls), and as how many calls it answered `Again`. It makes steps as a `Device` does. It takes memory when it is made,
-/// for all that it may keep, and when a client is opened, and at no other call.
+/// calls), and as how many calls it answered `Again`. It makes steps as a `Device` does. It takes memory when it is
+/// made, for all that it may keep, and when a client is opened, and at no other call.
 #[derive(Drop)]
 pub struct Udev {
     device: Device,
@@ -79,12 +79,12 @@ impl Udev {
 
     /// Makes one step, as `Device::step` does, over the steps that are kept; the feedback calls make no difference.
     ///
-    /// An accepted step is kept, and nothing is kept after any other reply. What it sends to the device waits for the owner:
-    /// the passed events of EV_LED, EV_SND, EV_MSC and EV_REP, and SYN_CONFIG, whether or not their frame has ended. Of
-    /// those not taken yet the last 15 are kept.
+    /// An accepted step is kept, and nothing is kept after any other reply. What it sends to the device waits for the
+    /// owner: the passed events of EV_LED, EV_SND, EV_MSC and EV_REP, and SYN_CONFIG, whether or not their frame has
+    /// ended. Of those not taken yet the last 15 are kept.
     ///
-    /// The caller must pass a moment of at most `MOMENT_MAX`, an `out` that is as long as the count of a `Read`, and for
-    /// `GetSlots` and `SyncSlots` a `cells` of fourteen values a slot. Only `Open` takes memory.
+    /// The caller must pass a moment of at most `MOMENT_MAX` and an `out` that is as long as the count of a `Read`. For
+    /// `GetSlots` and `SyncSlots` it must pass a `cells` of fourteen values a slot. Only `Open` takes memory.
     pub fn step(&mut self, step: Step, out: &mut [Taken], cells: &mut [i32]) -> Reply
         requires moment { moment_of step ≤ MOMENT_MAX }
         requires room { HasRoom self.old.description step out.old cells.old }
@@ -104,8 +104,8 @@ impl Udev {
         reply
     }
 
-    /// Injects events, each at its own moment, as many of them as the log limit leaves room for. They are kept in order, as
-    /// steps `Inject` are, and what they send waits for the owner.
+    /// Injects events, each at its own moment, as many of them as the log limit leaves room for. They are kept in
+    /// order, as steps `Inject` are, and what they send waits for the owner.
     ///
     /// The caller must pass moments of at most `MOMENT_MAX`. No memory is taken.
     pub fn inject_all(&mut self, events: &[Stamped]) -> Injected
@@ -146,11 +146,11 @@ impl Udev {
         self.outputs.keep(sent);
     }
 
-    /// Moves the first of the events that wait for the owner to the front of `out`, as many as fit, and keeps the call. The
-    /// rest of `out` stays. A call that finds no event, or has no room for one, is kept too.
+    /// Moves the first of the events that wait for the owner to the front of `out`, as many as fit, and keeps the call.
+    /// The rest of `out` stays. A call that finds no event, or has no room for one, is kept too.
     ///
-    /// It answers `Full`, and changes nothing, exactly where as many feedback calls are kept as the log limit says. `at` is
-    /// the length of the history, in which feedback calls do not count. It takes no memory.
+    /// It answers `Full`, and changes nothing, exactly where as many feedback calls are kept as the log limit says.
+    /// `at` is the length of the history, in which feedback calls do not count. It takes no memory.
     pub fn feedback(&mut self, out: &mut [Event]) -> Fed
         ensures answer { result ≡ fed self.old.description self.old.kept (length out.old) }
         ensures written { out.new ≡ written

@@ -14,7 +14,7 @@ use inp_model::{
 use std::alloc::{AllocError, Global};
 use std::test::Fail;
 
-// A taker that keeps the events of its frames one behind another, and the moment of each frame.
+// A taker that keeps the events of its frames one after another, and the moment of each frame.
 #[derive(Drop)]
 struct FrameList {
     events: Vec<Event>,

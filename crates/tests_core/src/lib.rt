@@ -1,8 +1,8 @@
 //! The tests of the core: of the crates from `inp_bits` to `inp_frames` and `inp_ring`.
 //!
-//! A crate with tests is proved twice, once without and once with them. So the crates under test have none of their own:
-//! their tests stand here, over public calls alone, in one file for each crate. [`common`] has the events and axes that
-//! several files use, and `tests_device` too.
+//! A crate with tests is proved twice, once without and once with them. So the crates under test have no tests of their
+//! own. Their tests stand here, over public calls alone, in one file for each crate. [`common`] has the events and axes
+//! that several files use, and `tests_device` too.
 #![tactic(auto)]
 
 #[cfg(test)]

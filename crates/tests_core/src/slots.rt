@@ -29,14 +29,14 @@ fn touchpad() -> Result<Caps, CapsRefused> {
     with_axes(builder)
 }
 
-// The flags of what becomes of a value, by name; none of them where it is ignored.
+// The flags of what is done with a value, by name; none of them where it is ignored.
 const IGNORED: u8 = 0;
 
 const HANDLERS: u8 = 1;
 
 const SLOT: u8 = 4;
 
-// A code and a value; the flags of what becomes of it; and the value to pass.
+// A code and a value; the flags of what is done with it; and the value to pass.
 static ROWS: [(u16, i32, u8, i32); 13] = [
     (ABS_MT_SLOT, 1, IGNORED, 1),
     (ABS_MT_POSITION_X, 5, HANDLERS | SLOT, 5),

@@ -25,7 +25,7 @@ fn panel() -> Result<Caps, CapsRefused> {
     Ok(builder.build())
 }
 
-// The flags of what becomes of an event, by name; none of them where it is ignored.
+// The flags of what is done with an event, by name; none of them where it is ignored.
 const IGNORED: u8 = 0;
 
 const HANDLERS: u8 = 1;
@@ -34,7 +34,7 @@ const DEVICE: u8 = 2;
 
 const FLUSH: u8 = 8;
 
-// A type, a code and a value; the flags of what becomes of it; and the value to pass.
+// A type, a code and a value; the flags of what is done with it; and the value to pass.
 static ROWS: [(u16, u16, i32, u8, i32); 21] = [
     (EV_KEY, A, 1, HANDLERS, 1),
     (EV_KEY, A, 1, IGNORED, 1),

@@ -1,5 +1,5 @@
-//! Clients: how many events are kept for all of them, against queues worked out by hand. What each reads under masks, grabs
-//! and clocks is shown by the records of `tests/records`.
+//! Clients: how many events are kept for all of them, against queues worked out by hand. What each reads under masks,
+//! grabs and clocks is shown by the records of `tests/records`.
 ghost use Rattle.std.specs.Prelude.{◌≡◌, ◌<◌, true};
 ghost use Rattle.inp_model.specs.Past.{has_mask, mask_words};
 

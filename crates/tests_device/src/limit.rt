@@ -39,7 +39,7 @@ fn device_after(rt: &impl Abort, alloc: Global, steps: &[Step], more: u32) -> Re
     Ok(device)
 }
 
-/// Behind these steps, which fill the history, the step is refused, and nothing changes. With room for one more it is
+/// After these steps, which fill the history, the step is refused, and nothing changes. With room for one more it is
 /// accepted.
 fn is_refused_behind(
     rt: &impl Abort,

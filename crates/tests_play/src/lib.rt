@@ -1,9 +1,9 @@
-//! The tests of playing: of `inp_recon`, `inp_reader`, `inp_joy` and `inp_script`. Whole plays are shown by the records of
-//! `tests/records`.
+//! The tests of playing: of `inp_recon`, `inp_reader`, `inp_joy` and `inp_script`. Whole plays are shown by the records
+//! of `tests/records`.
 //!
-//! A crate with tests is proved twice, once without and once with them. So the crates under test have none of their own:
-//! their tests stand here, over public calls alone, in one file for each crate, and in `waiting` that of a client of
-//! `inp_script` on a device. `common` has the keyboard and the actors of their records.
+//! A crate with tests is proved twice, once without and once with them. So the crates under test have no tests of their
+//! own. Their tests stand here, over public calls alone, in one file for each crate, and in `waiting` that of a client
+//! of `inp_script` on a device. `common` has the keyboard and the actors of their records.
 #![tactic(auto)]
 
 #[cfg(test)]

@@ -1,4 +1,4 @@
-//! A reader over a device whose history is full behind the open.
+//! A reader over a device whose history is full after the open.
 
 use crate::common::full_keyboard;
 use inp_device::Device;

@@ -1,4 +1,5 @@
-//! Views of a touchpad with two slots, worked by hand. What queries tell a view is shown by the records of `tests/records`.
+//! Views of a touchpad with two slots, worked by hand. What queries tell a view is shown by the records of
+//! `tests/records`.
 
 use inp_caps::{Caps, CapsBuilder, CapsRefused};
 use inp_model::{

@@ -1,5 +1,5 @@
-//! A gate before the calls on an evdev: that of a device whose history is full, and which looks at the gate. Which steps a
-//! full history refuses, and where actors stop then, is shown by the records of `tests/records`.
+//! A gate before the calls on an evdev: that of a device whose history is full, and which looks at the gate. Which
+//! steps a full history refuses, and where actors stop then, is shown by the records of `tests/records`.
 
 use inp_edge::Gate;
 use inp_model::{Evdev, Injected, Refusal, Reply, Stamped, Step, Taken};
@@ -7,8 +7,8 @@ use inp_script::Gated;
 use std::sync::atomic::{AtomicU64, Ordering};
 use std::test::Fail;
 
-/// A keyboard whose history has the one step that it may have, and no client. So each step is refused. At each call it looks
-/// how often the gate was passed so far.
+/// A keyboard whose history has the one step that it may have, and no client. So each step is refused. At each call it
+/// looks how often the gate was passed so far.
 #[derive(Drop)]
 struct FullDevice<'a> {
     gate: &'a NotingGate,
@@ -78,7 +78,7 @@ fn end<E: Evdev>(dev: &mut E, is_step: bool) {
     }
 }
 
-// It fails where a gate is passed behind a call, or twice.
+// It fails where a gate is passed after a call, or twice.
 #[test]
 fn a_gate_is_passed_once_before_each_call(rt: HostRuntime) -> Result<(), Fail> {
     let gate = NotingGate {

@@ -67,7 +67,8 @@ fn do_line(client: &mut Actor, device: &mut Device, rec: &Record, line: u32) -> 
     client.line(device, rec, line, Some(waiting))
 }
 
-/// What comes of the client's job, which is no joystick's or owner's, where the source is not done, and nothing is injected.
+/// The result of the client's job, which is no joystick's or owner's, where the source is not done, and nothing is
+/// injected.
 fn end_of_client(alloc: Global) -> Result<Option<JobEnd>, NoMemory> {
     let rec = record(alloc)?;
     let mut device = Device::new(alloc, keyboard())?;

@@ -1,10 +1,10 @@
-//! Words as a caller passes them, and what comes of them. Which words are accepted is shown by `tests/test_statuses.py`.
+//! Words as a caller passes them, and their results. Which words are accepted is shown by `tests/test_statuses.py`.
 
 use inp_args::{Request, examples, read_words, usage};
 use std::alloc::{AllocError, Global};
 use std::test::Fail;
 
-// What comes of words, as text.
+// The results of words, as text.
 fn answer(alloc: Global, words: &[&str]) -> Result<String, AllocError> {
     let mut owned = Vec::new(alloc);
     for word in words {

@@ -1,5 +1,5 @@
-//! What is printed of a record, by `inp_canon` and by `inp_record`. How descriptions and commands are written is shown by
-//! `tests/test_migrate.py`.
+//! What is printed of a record, by `inp_canon` and by `inp_record`. How descriptions and commands are written is shown
+//! by `tests/test_migrate.py`.
 
 use crate::common::read;
 use std::test::Fail;

@@ -14,7 +14,7 @@ tap t
 client c
 ";
 
-/// Lines behind these actors that are refused, each with its cause.
+/// Lines after these actors that are refused, each with its cause.
 const REFUSED: [(&str, &str); 16] = [
     ("joy", "bad-line"),
     ("joy k l", "bad-line"),

@@ -13,7 +13,7 @@ client c
 joy j
 ";
 
-/// Lines behind these actors that are refused, each with its cause.
+/// Lines after these actors that are refused, each with its cause.
 const REFUSED: [(&str, &str); 22] = [
     ("udevice", "bad-line"),
     ("owner", "bad-line"),
@@ -107,7 +107,7 @@ device g
     Ok(())
 }
 
-/// The canonical text of a device made by requests, behind another.
+/// The canonical text of a device made by requests, after another.
 const PRINTED: &str = "inputrecord 2
 device d
 hint 16

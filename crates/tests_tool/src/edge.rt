@@ -21,8 +21,8 @@ fn sample(alloc: Global, len: usize) -> Result<Vec<u8>, AllocError> {
     Ok(bytes)
 }
 
-// How a whole read of a file of so many bytes, `a`, ends, with the number of its bytes where they are the file's, and how
-// many faults there were.
+// How a whole read of a file of so many bytes, `a`, ends, with the number of its bytes where they are the file's, and
+// how many faults there were.
 fn whole_read(
     alloc: Global,
     len: usize,
@@ -59,7 +59,8 @@ fn reads_files_in_memory(rt: HostRuntime) -> Result<(), Fail> {
     Ok(())
 }
 
-// How a whole write to a sink with so much room ends, whether the sink has these bytes then, and how many faults there were.
+// How a whole write to a sink with so much room ends, whether the sink has these bytes then, and how many faults there
+// were.
 fn whole_write(
     alloc: Global,
     text: &str,
@@ -142,8 +143,8 @@ fn leaves_a_file_for_a_missing_one(rt: HostRuntime) -> Result<(), Fail> {
     Ok(())
 }
 
-// A runtime that keeps what is printed, three bytes a call at most, and then has no room. It counts
-// its calls, and the call of one number answers an error.
+// A runtime that keeps what is printed, three bytes a call at most, and then has no room. It counts its calls, and the
+// call of one number answers an error.
 struct Tape {
     bytes: RefCell<Vec<u8>>,
     room: usize,
@@ -180,8 +181,8 @@ impl Print for Tape {
     }
 }
 
-// How a whole write to a tape ends, whether the tape has these bytes then, how many faults there were, and how many calls of
-// the runtime.
+// How a whole write to a tape ends, whether the tape has these bytes then, how many faults there were, and how many
+// calls of the runtime.
 fn whole_print(
     alloc: Global,
     room: usize,
@@ -214,8 +215,8 @@ fn whole_print(
 
 #[test]
 fn writes_to_the_standard_output(rt: HostRuntime) -> Result<(), Fail> {
-    // The room, the call that answers an error, the answer, what was written, and how many calls of the
-    // runtime there were, the last of which is the only one at fault.
+    // The room, the call that answers an error, the answer, what was written, and how many calls of the runtime there
+    // were. The last of these is the only one at fault.
     let failed = Err(Failed);
     let table = [
         (20, 9, Ok(()), "hello, tape", 4),

@@ -1,8 +1,8 @@
 //! The tests of the program's edge and of its one call: of `inp_edge` and `inp_tool`.
 //!
-//! A crate with tests is proved twice, once without and once with them. So the crates under test have none of their own:
-//! their tests stand here, over public calls alone. `pieces` has the runs over inputs and sinks that give and take pieces,
-//! `common` the inputs and sinks in memory, and `texts` the records with what the program writes of them.
+//! A crate with tests is proved twice, once without and once with them. So the crates under test have no tests of their
+//! own. Their tests stand here, over public calls alone. `pieces` has the runs over inputs and sinks that give and take
+//! pieces, `common` the inputs and sinks in memory. `texts` has the records with what the program writes of them.
 #![tactic(auto)]
 
 #[cfg(test)]

@@ -11,8 +11,8 @@ use std::sync::Wait;
 use std::test::Fail;
 use std::thread::Threads;
 
-/// The end of a call over this file, where one read gives at most so many bytes and one write takes no more, and what it
-/// wrote. The call of the input with this number fails, and the sink has so much room.
+/// The end of a call over this file, where one read gives at most so many bytes and one write takes no more, and what
+/// it wrote. The call of the input with this number fails, and the sink has so much room.
 fn run<R: Threads + Wait + Sync>(
     rt: &R,
     alloc: Global,

@@ -72,7 +72,7 @@ do s stream keys
 do t read 16
 ";
 
-/// A stream, and a line behind it that begins with no keyword.
+/// A stream, and a line after it that begins with no keyword.
 pub const STREAM_AND_BAD_LINE: &str = "inputrecord 1
 device kbd
 cap EV_KEY KEY_A
@@ -95,7 +95,7 @@ do s stream keys
 do t read 16
 ";
 
-/// What comes of two streams that each press the key: the second press is passed to nobody.
+/// The result of two streams that each press the key: the second press is passed to nobody.
 pub const STREAMS_REPORT: &str = "device kbd steps 6
 source s calls 4 stop finished
 tap t

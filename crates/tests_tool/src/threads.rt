@@ -33,7 +33,8 @@ impl Told {
     }
 }
 
-/// A call of a job that is held until another job has come to so many calls: the job, the call, the other one, how many.
+/// A call of a job that is held until another job has come to so many calls: the job, the call, the other one, how
+/// many.
 type Hold = (u32, u32, usize, u64);
 
 /// A gate at which jobs meet: each is held at its first call until all have come to theirs, and then as a table says.
@@ -123,8 +124,9 @@ fn all_came<R: Abort>(rt: &R, gate: &Meeting) {
     }
 }
 
-/// Of two keyboards, each with a client (0, 2) before its source (1, 3), whose two lines are one call. A client reads in vain
-/// (its call 2), and is held at its next read until the source comes to its end, which is held until that read has been made.
+/// Of two keyboards, each with a client (0, 2) before its source (1, 3), whose two lines are one call. A client reads
+/// in vain (its call 2), and is held at its next read until the source comes to its end. The end is held until that
+/// read has been made.
 const FOLLOWS: &[Hold] = &[
     (1, 0, 0, 4),
     (0, 3, 1, 2),
@@ -134,8 +136,8 @@ const FOLLOWS: &[Hold] = &[
     (3, 1, 2, 5),
 ];
 
-// It fails where two jobs share a thread, where one device is played after another, where each job tells the number 0 or
-// one that is too high, and where the gate is passed behind a call or twice.
+// It fails where two jobs share a thread, where one device is played after another, and where each job tells the number
+// 0 or one that is too high. It also fails where the gate is passed after a call or twice.
 #[test]
 fn jobs_of_two_devices_run_side_by_side(rt: HostRuntime) -> Result<(), Fail> {
     let gate = Meeting::new(4, FOLLOWS);
@@ -149,12 +151,12 @@ fn jobs_of_two_devices_run_side_by_side(rt: HostRuntime) -> Result<(), Fail> {
     Ok(())
 }
 
-/// Of a source (0) and an owner (1): the owner's first call is held until the event is there, and the end of the source until
-/// that call has been made.
+/// A source (0) and an owner (1). The owner's first call is held until the event is there, and the end of the source
+/// until that call has been made.
 const RINGS: &[Hold] = &[(1, 0, 0, 2), (0, 1, 1, 2)];
 
-// It fails where an owner tells another number, and where it passes the gate behind a call, since its first call then takes
-// nothing, or twice. Its second call is made before the source's end or after it.
+// It fails where an owner tells another number, and where it passes the gate after a call, since its first call then
+// takes nothing, or twice. Its second call is made before the source's end or after it.
 #[test]
 fn an_owner_passes_the_gate_before_each_call(rt: HostRuntime) -> Result<(), Fail> {
     let gate = Meeting::new(2, RINGS);

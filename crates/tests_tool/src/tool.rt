@@ -1,5 +1,5 @@
-//! The program's one call over inputs and sinks in memory: whole runs, and each status. Longer records are played through
-//! the program itself (tests/run).
+//! The program's one call over inputs and sinks in memory: whole runs, and each status. Longer records are played
+//! through the program itself (tests/run).
 
 use crate::common::{arguments, input_of, sink_of};
 use crate::texts::{
@@ -171,8 +171,8 @@ fn passes_no_gate_without_threads(rt: HostRuntime) -> Result<(), Fail> {
     Ok(())
 }
 
-// Run with each allocation refused in turn (docs/DECISIONS.md): whichever it is, the call ends in its report or says that
-// memory ran out.
+// Run with each allocation refused in turn (docs/DECISIONS.md): whichever it is, the call ends in its report or says
+// that memory ran out.
 #[test]
 fn ends_in_its_report_or_in_want_of_memory(rt: HostRuntime) -> Result<(), Fail> {
     let files = [("f", STREAM.as_bytes()), ("keys", PRESS)];

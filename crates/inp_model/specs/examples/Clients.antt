@@ -71,7 +71,8 @@ MasksTypes =
     GivesOn desk (Open ∷ Mask 0 EV_SYN 0 (2 ^ EV_ABS) ∷ inject (key (pos 1)) ∷ inject move ∷ inject report ∷ []) (Read 0 16)
     (took 5 2 (at 4 0 move ∷ at 4 0 report ∷ []))
 
--- a change to another clock loses what is queued, from an empty queue nothing; then a report alone is queued behind it
+-- a change to another clock loses what is queued, from an empty queue nothing; then a report alone is queued
+-- after it
 abbrev pub clocked : List Step
 clocked = Open ∷ ToClock 0 Monotonic 500 ∷ stroke (pos 1) 600 ++ ToClock 0 Boottime 700 ∷ []
 

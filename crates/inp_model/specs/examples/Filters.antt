@@ -1,5 +1,5 @@
--- Short histories worked out by hand: devices with filters (docs/RULES.md, "Filters"). What each filter eats of frames in a
--- row is worked out in the crate of filters.
+-- Short histories worked out by hand: devices with filters (docs/RULES.md, "Filters"). What each filter eats
+-- of frames in a row is worked out in the crate of filters.
 use Rattle.std.specs.Prelude.{◌^◌, ℕ, ℤ, ◌+◌, pos, List, [], ◌∷◌, ◌++◌, replicate}
 use Rattle.inp_model.specs.declared.event.TheConstants.{EV_KEY, KEY_A}
 use Rattle.inp_model.specs.declared.event.Event.{Event}
@@ -37,7 +37,8 @@ EatsAChord =
     GivesOn d (Open ∷ chorded) (Read 0 16) (took 9 4 (at 2 0 (key (pos 1)) ∷ at 2 0 report ∷ at 8 0 (key (pos 0)) ∷ at 8 0 report ∷ []))
     × GivesOn d (Open ∷ frame (key (pos 1)) 0 ++ frame (b (pos 1)) 0) (GetKeys 0) (alone (Bits 5 ((2 ^ 30 + 2 ^ 48) ∷ replicate 11 0)))
 
--- the second hold of A starts 2,000 microseconds behind the first one and is eaten; the third one starts 6,000 behind it
+-- the second hold of A starts 2,000 microseconds after the first one and is eaten; the third one starts 6,000
+-- after it
 abbrev pub EatsABounce : Type 0
 EatsABounce =
     GivesOn (behind (Bounce KEY_A 5000 ∷ []))
@@ -45,14 +46,16 @@ EatsABounce =
     (took 11 6
     (at 2 0 (key (pos 1)) ∷ at 2 0 report ∷ at 4 10000 (key (pos 0)) ∷ at 4 10000 report ∷ at 10 16000 (key (pos 1)) ∷ at 10 16000 report ∷ []))
 
--- The autorepeat goes on behind a filter that eats it. The reports of its frames would follow a report, so they are left out.
+-- The autorepeat goes on behind a filter that eats it. The reports of its frames would follow a report, so
+-- they are left out.
 abbrev pub EatsAutorepeats : Type 0
 EatsAutorepeats =
     GivesOn (behind (Norepeat ∷ [])) (Open ∷ frame (key (pos 1)) 0 ++ Tick 250000 ∷ Tick 283000 ∷ frame (key (pos 0)) 300000) (Read 0 16)
     (took 7 4 (at 2 0 (key (pos 1)) ∷ at 2 0 report ∷ at 6 300000 (key (pos 0)) ∷ at 6 300000 report ∷ []))
 
--- The holder of the grab gets frames whole, and filters do not see them: B's hold that was eaten from its press on is let
--- go for the holder. Behind the grab B's hold, of which the chord saw no release, is eaten up to its end.
+-- The holder of the grab gets frames whole, and filters do not see them: B's hold that was eaten from its
+-- press on is let go for the holder. After the grab B's hold, of which the chord saw no release, is eaten up
+-- to its end.
 abbrev pub PassesByAGrab : Type 0
 PassesByAGrab =
     let d : Description = behind (Chord KEY_A 48 ∷ []) in
@@ -61,7 +64,7 @@ PassesByAGrab =
     (took 13 6
     (at 2 0 (key (pos 1)) ∷ at 2 0 report ∷ at 7 0 (b (pos 0)) ∷ at 7 0 report ∷ at 9 0 (b (pos 1)) ∷ at 9 0 report ∷ []))
 
--- a frame that is eaten whole still offers its report, which is queued behind a loss
+-- a frame that is eaten whole still offers its report, which is queued after a loss
 abbrev pub LeavesAReport : Type 0
 LeavesAReport =
     let d : Description = behind (Eat EV_KEY KEY_A ∷ []) in

@@ -21,7 +21,7 @@ five = press 10 ∷ record { event = report; now = 11 } ∷ press 12 ∷ press 1
 abbrev pub two : List Stamped
 two = press 10 ∷ press 12 ∷ []
 
--- of five events three are entered on a new device, two behind one step, and none at the limit; two have room
+-- of five events three are entered on a new device, two after one step, and none at the limit; two have room
 abbrev pub CountsToTheLimit : Type 0
 CountsToTheLimit =
     (entered_count three_steps 0 five ≡ 3) × (entered_count three_steps 1 five ≡ 2)

@@ -44,8 +44,8 @@ RepeatsOnce =
     × GivesOn desk (stroke (pos 1) 0 ++ no_period ++ Tick 250000 ∷ Open ∷ Tick 600000 ∷ []) (Read 0 16) (alone (Again 7 0))
     × GivesOn desk (no_period ++ stroke (pos 1) 0 ++ Open ∷ Tick 250000 ∷ []) (Read 0 16) (alone (Again 6 0))
 
--- A repeats while the press and the release of B wait in the batch: the report frames them, the timer is armed anew for
--- B, which is up, and A repeats no more.
+-- A repeats while the press and the release of B wait in the batch. The report frames them, the timer is
+-- armed anew for B, which is up, and A repeats no more.
 abbrev pub RepeatsTheLastKey : Type 0
 RepeatsTheLastKey =
     let waiting : List Step = stroke (pos 1) 0 ++ Inject key_b 1 ∷ Inject released_b 1 ∷ Tick 250000 ∷ [] in
@@ -60,7 +60,7 @@ tablet = record touchpad { keys = desk.keys }
 abbrev pub pressed : List Step
 pressed = inject (key (pos 1)) ∷ inject key_b ∷ inject (id (pos 5)) ∷ inject report ∷ []
 
--- An inhibition releases contacts and keys behind what waits in the batch; then all is ignored until it ends.
+-- An inhibition releases contacts and keys after what waits in the batch; then all is ignored until it ends.
 abbrev pub InhibitsADevice : Type 0
 InhibitsADevice =
     GivesOn tablet (pressed ++ Open ∷ inject (x (pos 9)) ∷ Inhibit 70 ∷ []) (Read 0 16)

@@ -109,7 +109,7 @@ CountsTheName =
     GivesOn (record touchpad { hint = 2 }) (Open ∷ inject (slot (pos 1)) ∷ inject (x (pos 5)) ∷ []) (Read 0 16)
     (took 3 3 (at 2 0 (slot (pos 1)) ∷ at 2 0 (x (pos 5)) ∷ at 2 0 core_report ∷ []))
 
--- a report behind a full batch is alone, and no frame
+-- a report after a full batch is alone, and no frame
 abbrev pub CutsAtTheHint : Type 0
 CutsAtTheHint =
     GivesOn (record desk { hint = 2 }) (Open ∷ inject (key (pos 1)) ∷ inject key_b ∷ inject report ∷ []) (Read 0 16)

@@ -1,8 +1,8 @@
-//! What comes of an actor.
+//! The result of an actor.
 
 use crate::{JobEnd, JoyEnd, OwnerEnd};
 
-/// What comes of an actor when its lines are done.
+/// The result of an actor when its lines are done.
 #[derive(Drop)]
 pub enum Ended {
     /// Of a source, a client or a tap.

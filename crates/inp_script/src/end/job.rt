@@ -1,11 +1,11 @@
-//! What came of a job.
+//! The result of a job.
 ghost use Rattle.std.specs.Prelude.{◌≡◌};
 
 use crate::{Sights, Stop};
 use inp_recon::View;
 use std::marker::Model;
 
-/// What came of one job, which is one actor doing its lines. Contracts see its four parts.
+/// The result of one job, which is one actor doing its lines. Contracts see its four parts.
 ///
 /// Only the end of an actor makes one, and nothing changes it.
 #[derive(Drop)]

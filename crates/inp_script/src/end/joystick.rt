@@ -1,4 +1,4 @@
-//! What came of a joystick's job.
+//! The result of a joystick's job.
 ghost use Rattle.std.specs.Prelude.{◌≡◌};
 ghost use Rattle.inp_joy.specs.Picture.{seen_as};
 
@@ -6,7 +6,7 @@ use crate::{JoySights, Stop};
 use inp_joy::Picture;
 use std::marker::Model;
 
-/// What came of the job of a joystick, which is one actor doing its lines. Contracts see its four parts.
+/// The result of the job of a joystick, which is one actor doing its lines. Contracts see its four parts.
 ///
 /// Only the end of an actor makes one, and nothing changes it.
 #[derive(Drop)]
@@ -59,7 +59,7 @@ impl JoyEnd {
         &self.sight
     }
 
-    /// How the buttons and axes stand, as the records of its last startup and those behind it tell.
+    /// How the buttons and axes stand, as the records of its last startup and those after it tell.
     pub fn picture(&self) -> &Picture
         ensures picture { seen_as result.now ≡ self.now.picture }
     {

@@ -1,10 +1,10 @@
-//! What came of an owner.
+//! The result of an owner.
 ghost use Rattle.std.specs.Prelude.{◌≡◌};
 
 use crate::{FedList, Stop};
 use std::marker::Model;
 
-/// What came of an owner, which is one actor doing its lines. Contracts see its three parts.
+/// The result of an owner, which is one actor doing its lines. Contracts see its three parts.
 ///
 /// Only the end of an actor makes one, and nothing changes it.
 #[derive(Drop)]

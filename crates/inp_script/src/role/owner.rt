@@ -31,8 +31,8 @@ impl Owner {
         }
     }
 
-    // Does a command of a record where it is a feedback call: makes the call with room for so many events, and notes it,
-    // or does nothing where the owner has stopped.
+    // Does a command of a record where it is a feedback call. It makes the call with room for so many events, and notes
+    // it, or does nothing where the owner has stopped.
     pub(crate) fn do_command<F: Feeds>(
         &mut self,
         dev: &mut F,

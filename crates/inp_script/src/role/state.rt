@@ -101,7 +101,7 @@ impl RoleState {
         }
     }
 
-    // What comes of an actor of this number that saw this and ended so. It takes no memory.
+    // The result of an actor of this number that saw this and ended so. It takes no memory.
     pub(crate) fn end(self, actor: u32, sight: Sights, stop: Stop) -> Ended
         requires sized { IsSized self }
         ensures ended { result ≡ ended_with self actor sight stop }
