@@ -19,6 +19,5 @@ pub mod FromText
 pub mod LoadedStreams
 pub mod Streams
 pub mod Texts
-pub mod Migration
-pub mod RecordReport
+pub mod MadeText
 pub mod Names

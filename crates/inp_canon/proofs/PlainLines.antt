@@ -5,7 +5,7 @@ use Rattle.std.specs.Str.Lines.{strip_carriage_return}
 use Rattle.std.proofs.lemmas.Bool.Decides.{nat_tests}
 use Rattle.std.proofs.lemmas.List.Folds.{list_all-append}
 use Rattle.std.proofs.lemmas.Bool.{and_parts, and_from}
-use Rattle.inp_words.specs.Line.{lines_of as text_lines, words_of, is_line_feed, is_blank, is_comment, is_text, is_text_byte, is_word}
+use Rattle.inp_texts.specs.Line.{lines_of as text_lines, words_of, is_line_feed, is_blank, is_comment, is_text, is_text_byte, is_word}
 use Rattle.inp_canon.specs.Words.{Words, further_text, line_text, lines_text}
 
 -- what passes one test passes a weaker one

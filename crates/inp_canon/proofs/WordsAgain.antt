@@ -13,10 +13,10 @@ use Rattle.inp_codes.specs.CodeNames.{name_of, code_of}
 use Rattle.inp_codes.proofs.LawLemmas.{kind_name-iff_kind_of, is_name_word-kind_name, name_of-iff_code_of, is_name_word-name_of}
 use Rattle.inp_texts.specs.Texts.{kind_text, code_text, bits_text, clock_text}
 use Rattle.inp_actors.specs.Name.{is_name, is_name_byte}
-use Rattle.inp_words.specs.Line.{is_word}
-use Rattle.inp_words.specs.Number.{digit_of, is_digit, value_of, is_hexadecimal, numeral, number, signed_number}
-use Rattle.inp_words.specs.Code.{or_number, kind_word, code_of_kind, code_word}
-use Rattle.inp_words.proofs.Numerals.{numeral_is}
+use Rattle.inp_texts.specs.Line.{is_word}
+use Rattle.inp_texts.specs.Number.{digit_of, is_digit, value_of, is_hexadecimal, numeral, number, signed_number}
+use Rattle.inp_texts.specs.Code.{or_number, kind_word, code_of_kind, code_word}
+use Rattle.inp_texts.proofs.Numerals.{numeral_is}
 use Rattle.inp_model.specs.declared.clock.Clock as clock
 use Rattle.inp_model.specs.declared.clock.Clock.TheVariants.{Realtime, Monotonic, Boottime}
 use Rattle.inp_canon.proofs.PlainLines.{all_weaker, is_visible, IsPlainWord, is_plain}

@@ -10,9 +10,9 @@ use Rattle.inp_codes.specs.CodeNames.{code_entries, code_of, is_same_code}
 use Rattle.inp_codes.proofs.Computation.{event_codes}
 use Rattle.inp_codes.proofs.CodeNamesLemmas.{is_same_code-true}
 use Rattle.inp_codes.proofs.TableLemmas.{Contains-number_in}
-use Rattle.inp_words.specs.Number.{number, signed_number}
-use Rattle.inp_words.specs.Code.{kind_word, code_word, or_number, code_of_kind}
-use Rattle.inp_words.proofs.Numerals.{number_within}
+use Rattle.inp_texts.specs.Number.{number, signed_number}
+use Rattle.inp_texts.specs.Code.{kind_word, code_word, or_number, code_of_kind}
+use Rattle.inp_texts.proofs.Numerals.{number_within}
 
 -- numbers
 

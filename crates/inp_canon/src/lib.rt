@@ -2,7 +2,7 @@
 //!
 //! This crate is for whoever writes a record. It depends on `inp_actors` for records, on `inp_caps` for descriptions,
 //! on `inp_codes` for names, and on `inp_texts` for how words are written. Its lemmas say that words and lines, written
-//! so, are cut and read again as `inp_words` cuts and reads them.
+//! so, are cut and read again as `inp_texts` cuts and reads them.
 //!
 //! Its contract: [`print`] gives exactly the bytes that `specs/Text.antt` defines of the record, line by line of the
 //! table in docs/FORMATS.md, or want of memory. The definitions are lists of lines and lines are lists of words, so

@@ -23,7 +23,7 @@ use Rattle.inp_record.specs.Meaning.{placed, item_of_words, is_later_command, is
 use Rattle.inp_record.specs.Spelling.{item_words}
 use Rattle.inp_caps.specs.declared.caps_refused.CapsRefused.{CapsRefused}
 use Rattle.inp_caps.specs.declared.caps_refused.CapsRefused.TheVariants.{BadSlots}
-use Rattle.inp_words.specs.Line.{lines_of as text_lines}
+use Rattle.inp_texts.specs.Line.{lines_of as text_lines}
 use Rattle.inp_record.specs.declared.cause.Cause.{Cause}
 use Rattle.inp_record.specs.Past.{Past, after, context_of}
 use Rattle.inp_model.specs.declared.filter.Filter as filter

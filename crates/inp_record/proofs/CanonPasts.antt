@@ -8,7 +8,7 @@ use Rattle.inp_model.specs.declared.filter.Filter.TheVariants as filters
 use Rattle.inp_actors.specs.declared.actor_text.ActorText.{ActorText}
 use Rattle.inp_actors.specs.declared.role.Role.TheVariants as roles
 use Rattle.inp_actors.specs.Record.{RecordView}
-use Rattle.inp_words.specs.Line.{is_comment, is_text, words_of, lines_of as text_lines}
+use Rattle.inp_texts.specs.Line.{is_comment, is_text, words_of, lines_of as text_lines}
 use Rattle.inp_record.specs.declared.cause.Cause.{Cause}
 use Rattle.inp_record.specs.declared.cause.Cause.TheVariants.{NotText, BadHeader, OutOfPlace}
 use Rattle.inp_record.specs.declared.refused.Refused.{Refused}

@@ -1,5 +1,5 @@
 -- The words that a worked example unfolds, in one place: `unfolding record_computing` opens all of them.
-use Rattle.inp_words.proofs.Computation.{words_computing}
+use Rattle.inp_texts.proofs.Computation.{words_computing}
 use Rattle.inp_record.specs.Keyword.{keyword_rows, filter_rows, keyword_of, has_words}
 use Rattle.inp_record.specs.Field.{clock_rows, other_clock_rows}
 use Rattle.inp_record.specs.Line.{line_row}

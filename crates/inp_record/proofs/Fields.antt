@@ -8,8 +8,8 @@ use Rattle.std.proofs.lemmas.Bool.Decides.{nat_tests}
 use Rattle.inp_actors.specs.Name.{is_name}
 use Rattle.inp_actors.specs.declared.record.TheConstants.{VERSION_MAX}
 use Rattle.inp_texts.specs.Texts.{clock_text}
-use Rattle.inp_words.specs.Number.{number}
-use Rattle.inp_words.specs.Table.{named}
+use Rattle.inp_texts.specs.Number.{number}
+use Rattle.inp_texts.specs.Table.{named}
 use Rattle.inp_canon.proofs.PlainLines.{IsPlainWord, is_plain}
 use Rattle.inp_canon.proofs.WordsAgain.{decimal_read, decimal_plain, signed_read, signed_plain, bits_read, bits_plain, kind_read, kind_plain, code_read, code_plain, clock_plain, is_plain-name, is_plain-word}
 use Rattle.inp_canon.proofs.WordsSaid.{number_most, signed_fits, kind_fits, code_fits}

@@ -4,7 +4,7 @@ use Rattle.std.specs.Prelude.{option_and_then}
 use Rattle.std.specs.List.{list_all}
 use Rattle.std.proofs.lemmas.Slice.Eq.{bytes_eq-Decides}
 use Rattle.std.proofs.lemmas.Bool.{and_parts, both_ways}
-use Rattle.inp_words.specs.Table.{named}
+use Rattle.inp_texts.specs.Table.{named}
 use Rattle.inp_record.specs.declared.keyword.Keyword as keyword
 use Rattle.inp_record.specs.declared.keyword.Keyword.TheVariants as keywords
 use Rattle.inp_record.specs.Line.{line_row}

@@ -15,7 +15,7 @@ use Rattle.inp_record.specs.declared.item.Item.TheVariants.{Header}
 use Rattle.inp_record.specs.declared.place.Place.TheVariants.{Start}
 use Rattle.std.proofs.lemmas.List.Splits.{length-slice_split}
 use Rattle.std.proofs.lemmas.List.Sums.{count_by-le-length}
-use Rattle.inp_words.specs.Line.{is_line_feed, lines_behind, lines_of}
+use Rattle.inp_texts.specs.Line.{is_line_feed, lines_behind, lines_of}
 use Rattle.inp_record.specs.Fault.{fault_at, IsParsing}
 use Rattle.inp_record.specs.Past.{Past, context_of}
 use Rattle.inp_record.specs.Meaning.{behind_line, then_lines, behind_lines, record_of_past, as_record, meaning, IsBehind, AreLinesRead}

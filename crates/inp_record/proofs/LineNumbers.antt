@@ -7,7 +7,7 @@ use Rattle.std.proofs.lemmas.Bool.Decides.{nat_tests}
 use Rattle.inp_actors.specs.declared.actor_text.ActorText.{ActorText}
 use Rattle.inp_actors.specs.declared.line.Line.{Line}
 use Rattle.inp_actors.specs.Record.{RecordView}
-use Rattle.inp_words.specs.Line.{lines_of as text_lines, words_of, is_blank, is_comment, is_text, is_word}
+use Rattle.inp_texts.specs.Line.{lines_of as text_lines, words_of, is_blank, is_comment, is_text, is_word}
 use Rattle.inp_record.specs.declared.cause.Cause.{Cause}
 use Rattle.inp_record.specs.declared.cause.Cause.TheVariants.{NotText}
 use Rattle.inp_record.specs.declared.refused.Refused.{Refused}

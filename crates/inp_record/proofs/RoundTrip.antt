@@ -10,7 +10,7 @@ use Rattle.inp_actors.specs.Record.{RecordView}
 use Rattle.inp_canon.specs.Words.{Words, lines_text}
 use Rattle.inp_canon.specs.Device.{description_lines}
 use Rattle.inp_canon.specs.Text.{actor_lines, actors_lines, device_lines, devices_lines, action_words, record_lines, record_text}
-use Rattle.inp_words.specs.Line.{lines_of as text_lines}
+use Rattle.inp_texts.specs.Line.{lines_of as text_lines}
 use Rattle.inp_record.specs.declared.context.Context.{Context}
 use Rattle.inp_record.specs.declared.item.Item.{Item}
 use Rattle.inp_record.specs.declared.item.Item.TheVariants.{Header, Device, Actor}

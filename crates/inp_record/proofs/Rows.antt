@@ -8,7 +8,7 @@ use Rattle.inp_actors.specs.declared.command.TheConstants.{READ_MAX}
 use Rattle.inp_actors.specs.Command.{is_command_of, is_count_of, is_in_range, stream_of}
 use Rattle.inp_canon.specs.Device.{fuzz_words, info_words}
 use Rattle.inp_canon.specs.Command.{command_words}
-use Rattle.inp_words.specs.Table.{named}
+use Rattle.inp_texts.specs.Table.{named}
 use Rattle.inp_record.specs.Field.{made}
 use Rattle.inp_record.specs.Past.{streams_in}
 use Rattle.inp_record.specs.Verb.{Row, command_row, verb_row, verb_rows, is_verb_of, argument_count, count_max, verbs, with_arguments, verb_of, is_stream}

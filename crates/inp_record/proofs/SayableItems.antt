@@ -14,7 +14,7 @@ use Rattle.inp_model.specs.declared.filter.Filter.TheVariants as filters
 use Rattle.inp_actors.specs.declared.role.Role as role
 use Rattle.inp_actors.specs.declared.actor_text.ActorText.{ActorText}
 use Rattle.inp_actors.specs.Name.{is_name}
-use Rattle.inp_words.specs.Line.{is_blank, is_text, is_text_byte, is_word, words_of}
+use Rattle.inp_texts.specs.Line.{is_blank, is_text, is_text_byte, is_word, words_of}
 use Rattle.inp_record.specs.declared.keyword.Keyword as keyword
 use Rattle.inp_record.specs.declared.verb.Verb as verb
 use Rattle.inp_record.specs.declared.item.Item as item

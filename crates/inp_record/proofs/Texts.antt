@@ -7,9 +7,9 @@ use Rattle.std.proofs.lemmas.Bool.Decides.{nat_tests}
 use Rattle.std.proofs.lemmas.List.Elements.{All-filter}
 use Rattle.std.proofs.lemmas.List.Sums.{AllPass-from_list_all, list_all-from_AllPass}
 use Rattle.std.proofs.lemmas.Bool.{and_parts}
-use Rattle.inp_words.specs.Line.{is_text, is_text_byte, is_blank, is_word, words_of, AreText}
+use Rattle.inp_texts.specs.Line.{is_text, is_text_byte, is_blank, is_word, words_of, AreText}
 use Rattle.inp_codes.specs.ByNumber.{texts}
-use Rattle.inp_words.proofs.NameWords.{bytes_are_ascii}
+use Rattle.inp_texts.proofs.NameWords.{bytes_are_ascii}
 
 byte_is_ascii : (b : ℕ) → is_text_byte b ≡ true → b < 128
 byte_is_ascii b h = grind (arith, nat_tests)

@@ -7,9 +7,9 @@ use Rattle.inp_model.specs.declared.event.TheConstants.{EV_ABS}
 use Rattle.inp_model.specs.declared.stamped.TheConstants.{MOMENT_MAX}
 use Rattle.inp_actors.specs.Name.{is_name}
 use Rattle.inp_texts.specs.Texts.{kind_text, code_text, bits_text, clock_text}
-use Rattle.inp_words.specs.Number.{number, signed_number}
-use Rattle.inp_words.specs.Code.{kind_word, code_word}
-use Rattle.inp_words.specs.Table.{named}
+use Rattle.inp_texts.specs.Number.{number, signed_number}
+use Rattle.inp_texts.specs.Code.{kind_word, code_word}
+use Rattle.inp_texts.specs.Table.{named}
 
 pub data Field : Type 0 where
   -- a number of at most so much

@@ -1,6 +1,6 @@
 -- The words that say what a line is (docs/FORMATS.md, "The lines").
 use Rattle.std.specs.Prelude.{ℕ, ◌+◌, length, Bool, if◌then◌else◌, nat_eq, nat_le, List, [], ◌∷◌, map, Option, Some, None, option_and_then, unwrap_or}
-use Rattle.inp_words.specs.Table.{named}
+use Rattle.inp_texts.specs.Table.{named}
 use Rattle.inp_record.specs.Line.{line_row}
 use Rattle.inp_record.specs.declared.keyword.Keyword.{Keyword}
 use Rattle.inp_record.specs.declared.keyword.Keyword.TheVariants.{Header, Device, Udevice, Hint, Log, Clock, Slots, Kind, Code, Axis, Filter, Eat, Norepeat, Chord, Bounce, Source, Client, Tap, Joy, Owner, Action}

@@ -1,6 +1,6 @@
 -- Where the action lines of a text stand.
 use Rattle.std.specs.Prelude.{ℕ, suc, Bool, if◌then◌else◌, List, [], ◌∷◌, codes}
-use Rattle.inp_words.specs.Line.{words_of}
+use Rattle.inp_texts.specs.Line.{words_of}
 use Rattle.inp_record.specs.Words.{has_word}
 
 -- the first word is do

@@ -11,7 +11,7 @@ use Rattle.inp_caps.specs.Builder.{is_code, filter_answer}
 use Rattle.inp_actors.specs.declared.role.Role.{Role}
 use Rattle.inp_actors.specs.Command.{is_source, is_owner}
 use Rattle.inp_actors.specs.Record.{RecordView}
-use Rattle.inp_words.specs.Line.{lines_of as text_lines, words_of, is_comment, is_text}
+use Rattle.inp_texts.specs.Line.{lines_of as text_lines, words_of, is_comment, is_text}
 use Rattle.inp_record.specs.declared.cause.Cause.{Cause}
 use Rattle.inp_record.specs.declared.cause.Cause.TheVariants.{NotText, BadHeader, BadLine, OutOfPlace, BadCommand, Twice, TooMany, Caps}
 use Rattle.inp_record.specs.declared.line_fault.LineFault.{LineFault}

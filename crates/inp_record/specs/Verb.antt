@@ -8,7 +8,7 @@ use Rattle.inp_actors.specs.declared.command.TheConstants.{READ_MAX}
 use Rattle.inp_actors.specs.declared.command.Command as command
 use Rattle.inp_actors.specs.declared.command.Command.TheVariants as commands
 use Rattle.inp_actors.specs.Command.{is_source, is_client, is_tap, is_joy, is_owner, is_calling, is_reading}
-use Rattle.inp_words.specs.Table.{named}
+use Rattle.inp_texts.specs.Table.{named}
 use Rattle.inp_record.specs.declared.verb.Verb.{Verb}
 use Rattle.inp_record.specs.declared.verb.Verb.TheVariants.{Event, Tick, Inhibit, Uninhibit, Stream, Stream16, Open, Close, Grab, Ungrab, Revoke, Mask, Clock, Write, SetAxis, Read, Discard, Keys, Switches, Leds, Sounds, SyncSlots, Axis, Slots, Next, Skip, Follow, Force, Feedback}
 use Rattle.inp_record.specs.declared.verb.Group.{Group}

@@ -3,8 +3,8 @@ ghost use Rattle.std.specs.Prelude.{◌≡◌, ◌+◌, ◌<◌, ◌≤◌, ◌^
 ghost use Rattle.inp_model.specs.declared.stamped.TheConstants.{MOMENT_MAX};
 ghost use Rattle.inp_actors.specs.declared.command.TheConstants.{READ_MAX};
 ghost use Rattle.inp_actors.specs.declared.role.Role.TheVariants.{Source, Client};
-ghost use Rattle.inp_words.specs.Line.{AreText, is_text};
-ghost use Rattle.inp_words.specs.Number.{number};
+ghost use Rattle.inp_texts.specs.Line.{AreText, is_text};
+ghost use Rattle.inp_texts.specs.Number.{number};
 ghost use Rattle.inp_record.specs.Fault.{IsReading};
 ghost use Rattle.inp_record.specs.declared.verb.Verb.TheVariants.{Event, Write, Mask, Clock, SetAxis};
 ghost use Rattle.inp_record.specs.Field.{field_word, Positive};
@@ -20,7 +20,7 @@ use crate::line_fault::LineFault;
 use crate::verb::{Verb, clock_word, verb_of};
 use inp_actors::{ActorText, Command, FileName, READ_MAX, Role};
 use inp_model::{AxisInfo, EV_ABS, MOMENT_MAX, NoMemory};
-use inp_words::{code_word, kind_word, number, signed_number};
+use inp_texts::{code_word, kind_word, number, signed_number};
 use std::alloc::Global;
 
 /// The moment that a word is.

@@ -1,7 +1,7 @@
 //! What the words of lines mean, actions aside.
 ghost use Rattle.std.specs.Prelude.{◌≡◌, ◌-◌, ◌<◌, ◌^◌, length, true, option_and_then};
 ghost use Rattle.inp_model.specs.declared.limits.TheConstants.{BOUNCE_MAX};
-ghost use Rattle.inp_words.specs.Number.{number};
+ghost use Rattle.inp_texts.specs.Number.{number};
 ghost use Rattle.inp_codes.specs.ByNumber.{texts};
 ghost use Rattle.inp_record.specs.declared.keyword.Keyword.TheVariants.{Code, Clock, Axis, Eat, Chord, Bounce};
 ghost use Rattle.inp_record.specs.declared.item.Item.TheVariants.{Device, Actor};
@@ -14,7 +14,7 @@ use crate::keyword::Keyword;
 use crate::verb::other_clock_word;
 use inp_actors::{Name, Role, is_name};
 use inp_model::{AxisInfo, BOUNCE_MAX, EV_ABS, EV_KEY, Filter};
-use inp_words::{code_word, kind_word, number, signed_number};
+use inp_texts::{code_word, kind_word, number, signed_number};
 
 /// The word at a place.
 pub(crate) fn word<'a>(words: &[&'a [u8]], place: usize) -> &'a [u8]

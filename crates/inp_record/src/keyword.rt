@@ -1,9 +1,9 @@
 //! The words that say what a line is.
 ghost use Rattle.std.specs.Prelude.{◌≡◌, true, IfSome};
-ghost use Rattle.inp_words.specs.Table.{rows_of};
+ghost use Rattle.inp_texts.specs.Table.{rows_of};
 ghost use Rattle.inp_record.specs.Keyword.{keyword_rows, filter_rows, filter_keyword, keyword_under, has_words, keyword_of};
 
-use inp_words::named;
+use inp_texts::named;
 
 /// What a line is, as its first word says, and in a filter line the second one.
 #[derive(Clone, Copy, Debug, PartialEq, Eq)]

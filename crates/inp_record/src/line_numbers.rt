@@ -1,9 +1,9 @@
 //! Where the action lines of a text stand.
 ghost use Rattle.std.specs.Prelude.{◌≡◌, ◌<◌, ◌^◌, length, slice_get, Some};
-ghost use Rattle.inp_words.specs.Line.{lines_of};
+ghost use Rattle.inp_texts.specs.Line.{lines_of};
 ghost use Rattle.inp_record.specs.LineNumber.{is_action_line, action_numbers};
 
-use inp_words::{first_word, strip_carriage_return};
+use inp_texts::{first_word, strip_carriage_return};
 
 /// Whether the first word of a line is `do`.
 fn is_action_line(line: &[u8]) -> bool

@@ -1,7 +1,7 @@
 //! Reading one line.
 ghost use Rattle.std.specs.Prelude.{◌≡◌, ◌+◌, ◌<◌, ◌≤◌, ◌^◌, length, take, true, OnOk, IfSome};
 ghost use Rattle.inp_actors.specs.declared.role.Role.TheVariants as roles;
-ghost use Rattle.inp_words.specs.Line.{AreText};
+ghost use Rattle.inp_texts.specs.Line.{AreText};
 ghost use Rattle.inp_record.specs.Fault.{IsReading};
 ghost use Rattle.inp_record.specs.Keyword.{has_words, keyword_of};
 ghost use Rattle.inp_codes.specs.ByNumber.{texts};
@@ -20,7 +20,7 @@ use crate::line_fault::LineFault;
 use crate::place::{Place, is_out_of_place};
 use inp_actors::{ActorText, Role};
 use inp_caps::CapsRefused;
-use inp_words::{is_comment, text_words};
+use inp_texts::{is_comment, text_words};
 use std::alloc::Global;
 
 /// The meaning of a line with this keyword, by its words.

@@ -1,6 +1,6 @@
 //! The parser of records.
 ghost use Rattle.std.specs.Prelude.{◌≡◌, ◌<◌, ◌≤◌, ◌^◌, [], Ok, length, MatchResult};
-ghost use Rattle.inp_words.specs.Line.{lines_of};
+ghost use Rattle.inp_texts.specs.Line.{lines_of};
 ghost use Rattle.inp_record.specs.Fault.{IsParsing};
 ghost use Rattle.inp_actors.specs.Record.{IsRecord};
 ghost use Rattle.inp_record.specs.Past.{Past, context_of};
@@ -12,7 +12,7 @@ use crate::place::Place;
 use crate::{Cause, ParseFault, Refused};
 use inp_actors::Record;
 use inp_model::Items;
-use inp_words::{line_end, strip_carriage_return};
+use inp_texts::{line_end, strip_carriage_return};
 use std::alloc::Global;
 
 /// For so many bytes of a text, room for one action line is asked for before the first is read.

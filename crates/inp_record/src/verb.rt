@@ -1,12 +1,12 @@
 //! The commands of actors, as words.
 ghost use Rattle.std.specs.Prelude.{◌≡◌, IfSome, Some};
-ghost use Rattle.inp_words.specs.Table.{named, rows_of};
+ghost use Rattle.inp_texts.specs.Table.{named, rows_of};
 ghost use Rattle.inp_record.specs.Field.{clock_rows, other_clock_rows};
 ghost use Rattle.inp_record.specs.Verb.{has, verb_rows, with_arguments, verb_of, argument_count};
 
 use inp_actors::Role;
 use inp_model::Clock;
-use inp_words::named;
+use inp_texts::named;
 
 /// What a word has an actor do.
 #[derive(Clone, Copy, Debug, PartialEq, Eq)]

@@ -1,2 +1,7 @@
+pub mod Code
 pub mod Digits
+pub mod Examples
+pub mod Line
+pub mod Number
+pub mod Table
 pub mod Texts

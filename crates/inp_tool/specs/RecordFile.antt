@@ -7,7 +7,7 @@ use Rattle.inp_edge.specs.declared.input.TheConstants.{INPUT_LIMIT}
 use Rattle.inp_model.specs.declared.stamped.Stamped.{Stamped}
 use Rattle.inp_actors.specs.declared.line.Line.{Line}
 use Rattle.inp_actors.specs.Record.{RecordView}
-use Rattle.inp_words.specs.Line.{lines_of as text_lines}
+use Rattle.inp_texts.specs.Line.{lines_of as text_lines}
 use Rattle.inp_record.specs.declared.refused.Refused.{Refused}
 use Rattle.inp_record.specs.declared.cause.Cause.TheVariants.{BadStream}
 use Rattle.inp_record.specs.Meaning.{meaning}

@@ -1,7 +1,7 @@
 //! Reading a record and its streams.
 ghost use Rattle.std.specs.Prelude.{◌≡◌, ◌≤◌, ◌<◌, length, is_some, MatchResult, IsSome, Ok};
 ghost use Rattle.inp_edge.specs.declared.input.TheConstants.{INPUT_LIMIT};
-ghost use Rattle.inp_words.specs.Line.{lines_of};
+ghost use Rattle.inp_texts.specs.Line.{lines_of};
 ghost use Rattle.inp_record.specs.Meaning.{meaning};
 ghost use Rattle.inp_record.specs.Stream.{stream_at};
 ghost use Rattle.inp_record.specs.LineNumber.{action_numbers};

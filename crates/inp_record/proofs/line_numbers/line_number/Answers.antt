@@ -4,7 +4,7 @@ use Rattle.std.specs.Str.Lines.{strip_carriage_return}
 use Rattle.std.proofs.lemmas.List.{length_push, drop_all}
 use Rattle.std.proofs.lemmas.Iterator.Splits.{YieldsList-from_slice_split}
 use Rattle.std.proofs.lemmas.Iterator.Consumers.{YieldsList-at, YieldsList-turn, YieldsList-end}
-use Rattle.inp_words.specs.Line.{is_line_feed, lines_of}
+use Rattle.inp_texts.specs.Line.{is_line_feed, lines_of}
 use Rattle.inp_record.specs.LineNumber.{is_action_line}
 use Rattle.inp_record.proofs.LineNumbers.{here, another, none_here, not_missed}
 use Rattle.inp_record.proofs.LineByLine.{turn_is, lines_length}

@@ -1,6 +1,6 @@
 use Rattle.std.proofs.Common.{◌≡◌, ◌+◌, ◌≤◌, length, drop}
 use Rattle.std.specs.Prelude.{slice_get}
-use Rattle.inp_words.specs.Line.{lines_of}
+use Rattle.inp_texts.specs.Line.{lines_of}
 use Rattle.inp_record.specs.LineNumber.{action_numbers}
 use Rattle.inp_record.proofs.line_numbers.line_number.Given as goal
 

@@ -1,5 +1,5 @@
 use Rattle.std.proofs.Common.{◌≡◌, true, subst, sym, List, ℕ, rules, arith}
-use Rattle.inp_words.specs.Line.{AreText, is_text, words_of}
+use Rattle.inp_texts.specs.Line.{AreText, is_text, words_of}
 use Rattle.inp_codes.specs.ByNumber.{texts}
 use Rattle.inp_record.proofs.Texts.{words_are_text}
 use Rattle.inp_record.proofs.line_parser.read_line.Goals as goal

@@ -1,6 +1,6 @@
 use Rattle.std.proofs.Common.{ℕ, length, Ok, sym, subst, rules}
 use Rattle.inp_actors.specs.Record.{IsRecord}
-use Rattle.inp_words.specs.Line.{lines_of}
+use Rattle.inp_texts.specs.Line.{lines_of}
 use Rattle.inp_record.specs.declared.context.Context.{Context}
 use Rattle.inp_record.specs.Fault.{IsParsing}
 use Rattle.inp_record.specs.Meaning.{record_of_context, as_record}

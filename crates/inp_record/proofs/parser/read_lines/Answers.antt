@@ -1,7 +1,7 @@
 use Rattle.std.proofs.Common.{◌+◌, ◌-◌, ◌≤◌, [], length, map, take, drop, sym, ap, ◌∙◌, rules, arith}
 use Rattle.std.proofs.lemmas.List.{length-take, take-take}
 use Rattle.std.specs.Str.Lines.{strip_carriage_return}
-use Rattle.inp_words.specs.Line.{lines_behind, lines_of}
+use Rattle.inp_texts.specs.Line.{lines_behind, lines_of}
 use Rattle.inp_record.specs.Meaning.{behind_line}
 use Rattle.inp_record.proofs.LineByLine.{some_line, line_and_more, line_alone, counted_more, read_more, more_read, fault_read, all_read}
 use Rattle.inp_record.proofs.parser.read_lines.Goals as goal

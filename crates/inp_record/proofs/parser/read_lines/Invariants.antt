@@ -1,5 +1,5 @@
 use Rattle.std.proofs.Common.{◌≡◌, ◌+◌, ◌≤◌, length, []}
-use Rattle.inp_words.specs.Line.{lines_of}
+use Rattle.inp_texts.specs.Line.{lines_of}
 use Rattle.inp_record.specs.Past.{Past, context_of, IsWithinCounts}
 use Rattle.inp_record.specs.Meaning.{behind_lines}
 use Rattle.inp_record.proofs.parser.read_lines.Given as goal

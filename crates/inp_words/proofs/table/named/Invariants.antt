@@ -1,6 +1,0 @@
-use Rattle.std.proofs.Common.{◌≡◌, drop}
-use Rattle.inp_words.specs.Table.{named, rows_of}
-use Rattle.inp_words.proofs.table.named.Given as goal
-
-abbrev pub invariant-loop-name : goal.invariant-loop-name
-invariant-loop-name g l = named (rows_of l.rows) l.word ≡ named (rows_of (drop l.name-index l.rows)) l.word
