@@ -11,7 +11,7 @@
 //! | `code_word(1, b"KEY_A")`, `code_word(1, b"30")` | `Some(30)` |
 //!
 //! This crate is for whoever writes a text, `inp_canon` and `inp_report`, and for whoever reads the record of a device,
-//! `inp_record`. It stands on `inp_codes` for names, on `inp_model` for clocks and for want of memory, and on `inp_actors`
+//! `inp_record`. It depends on `inp_codes` for names, on `inp_model` for clocks and for want of memory, and on `inp_actors`
 //! for roles.
 //!
 //! What is written is exactly the text that `specs/Texts.antt` defines of its value, or the formatter failed. It takes no
