@@ -164,19 +164,29 @@ decimal_no_name : (ds : List ℕ) → IsNumeral 10 ds → is_name_word ds ≡ tr
 decimal_no_name [] h n = omega (arith, h.0)
 decimal_no_name (c ∷ ds) h n = let e = (and_parts (is_ascii_uppercase c) (list_all is_word_byte ds) n).0 in let d = digit_no_name c h.1.0 in cc (e, d)
 
+-- so a table of names has no number
+number_unnamed : {A : Type 0} (found : Option A) (n : ℕ) → n < 2 ^ 64
+    → ((a : A) → found ≡ Some a → is_name_word (decimal n) ≡ true) → found ≡ None
+number_unnamed None n small named = refl
+number_unnamed (Some a) n small named =
+    absurd (decimal_no_name (decimal n) (decimal_is_IsNumeral n small).0 (named a refl))
+
 number_no_kind : (n : ℕ) → n < 2 ^ 64 → kind_of (decimal n) ≡ None
-number_no_kind n small = by_found (kind_of (decimal n)) refl
-  where
-    by_found : (found : Option ℕ) → kind_of (decimal n) ≡ found → found ≡ None
-    by_found None h = refl
-    by_found (Some kind) h = absurd (decimal_no_name (decimal n) (decimal_is_IsNumeral n small).0 (is_name_word-kind_name kind (decimal n) ((kind_name-iff_kind_of kind (decimal n)).1 h)))
+number_no_kind n small =
+    number_unnamed (kind_of (decimal n)) n small
+    (λ kind h. is_name_word-kind_name kind (decimal n) ((kind_name-iff_kind_of kind (decimal n)).1 h))
 
 number_no_code : (n : ℕ) → n < 2 ^ 64 → code_of (decimal n) ≡ None
-number_no_code n small = by_found (code_of (decimal n)) refl
-  where
-    by_found : (found : Option (ℕ × ℕ)) → code_of (decimal n) ≡ found → found ≡ None
-    by_found None h = refl
-    by_found (Some named) h = absurd (decimal_no_name (decimal n) (decimal_is_IsNumeral n small).0 (is_name_word-name_of named.0 named.1 (decimal n) ((name_of-iff_code_of named.0 named.1 (decimal n)).1 h)))
+number_no_code n small =
+    number_unnamed (code_of (decimal n)) n small (λ named h.
+    is_name_word-name_of named.0 named.1 (decimal n) ((name_of-iff_code_of named.0 named.1 (decimal n)).1 h))
+
+-- a name, or a number where there is none
+named_plain : (name : Option (List ℕ)) (n : ℕ)
+    → ((w : List ℕ) → name ≡ Some w → is_name_word w ≡ true) → n ≤ 65535
+    → is_plain (unwrap_or name (decimal n)) ≡ true
+named_plain (Some w) n named h = name_plain w (named w refl)
+named_plain None n named h = decimal_plain n (omega arith)
 
 pub kind_read : (kind : ℕ) → kind ≤ 65535 → kind_word (kind_text kind) ≡ Some kind
 unfolding kind_word kind_text
@@ -188,11 +198,7 @@ kind_read kind h = by_name (kind_name kind) refl
 
 pub kind_plain : (kind : ℕ) → kind ≤ 65535 → is_plain (kind_text kind) ≡ true
 unfolding kind_text
-kind_plain kind h = by_name (kind_name kind) refl
-  where
-    by_name : (name : Option (List ℕ)) → kind_name kind ≡ name → is_plain (unwrap_or name (decimal kind)) ≡ true
-    by_name (Some name) e = name_plain name (is_name_word-kind_name kind name e)
-    by_name None e = decimal_plain kind (omega arith)
+kind_plain kind h = named_plain (kind_name kind) kind (is_name_word-kind_name kind) h
 
 pub code_read : (kind code : ℕ) → code ≤ 65535 → code_word kind (code_text kind code) ≡ Some code
 unfolding code_word code_text
@@ -207,19 +213,14 @@ code_read kind code h = by_name (name_of kind code) refl
 
 pub code_plain : (kind code : ℕ) → code ≤ 65535 → is_plain (code_text kind code) ≡ true
 unfolding code_text
-code_plain kind code h = by_name (name_of kind code) refl
-  where
-    by_name : (name : Option (List ℕ)) → name_of kind code ≡ name → is_plain (unwrap_or name (decimal code)) ≡ true
-    by_name (Some name) e = name_plain name (is_name_word-name_of kind code name e)
-    by_name None e = decimal_plain code (omega arith)
+code_plain kind code h = named_plain (name_of kind code) code (is_name_word-name_of kind code) h
 
 -- clocks and names
 
 pub clock_plain : (k : clock.Clock) → is_plain (clock_text k) ≡ true
 unfolding clock_text
 clock_plain Realtime = refl
-clock_plain Monotonic = refl
-clock_plain Boottime = refl
+clock_plain clock = refl
 
 name_byte_visible : (b : ℕ) → is_name_byte b ≡ true → is_visible b ≡ true
 name_byte_visible b h = grind (arith, nat_tests)

@@ -2,7 +2,7 @@
 use Rattle.std.proofs.Common.{◌≡◌, ℕ, Bool, true, false, ◌&&◌, not, if◌then◌else◌, nat_eq, List, [], ◌∷◌, length, codes, decimal, Option, Some, Ok, Err, refl, ap, ◌∙◌, suc, ◌++◌, map, None, Result, sym, subst}
 use Rattle.std.specs.Prelude.{option_and_then, is_some, slice_get}
 use Rattle.std.specs.List.{list_all}
-use Rattle.std.proofs.lemmas.Bool.{not-false}
+use Rattle.std.proofs.lemmas.Bool.{cond-false, not-false}
 use Rattle.inp_model.specs.declared.event.TheConstants.{EV_ABS}
 use Rattle.inp_model.specs.declared.axis_info.AxisInfo.{AxisInfo}
 use Rattle.inp_texts.specs.Texts.{code_text, role_text}
@@ -38,6 +38,7 @@ use Rattle.inp_record.proofs.CanonLines.{is_plain, IsPlainLine, ArePlainLines, l
 use Rattle.inp_canon.proofs.WordsAgain.{is_plain-name}
 use Rattle.inp_record.proofs.Fields.{version_read}
 use Rattle.inp_record.proofs.Lines.{of_line, plain_read, plain_line}
+use Rattle.inp_record.proofs.Entries.{checked_once}
 use Rattle.inp_record.proofs.Rows.{do_words, do_keyword, command_read, command_plain}
 
 -- a line whose words are those of its keyword is read where it may stand
@@ -45,17 +46,11 @@ placed_read : (c : Context) (k : keyword.Keyword) (ws : Words) (i : Item) → ke
     → item_of c.actors c.streams k ws ≡ Ok i → item_of_words c ws ≡ Ok i
 unfolding item_of_words
 placed_read c k ws i is started within says =
-    by_start (is_first_place c.place) started
+    cond-false (is_first_place c.place && not (is_header ws)) _ _
+    (ap (λ (b : Bool). b && not (is_header ws)) started)
     ∙ ap (λ (o : Option keyword.Keyword). placed c o ws) is
-    ∙ by_place (is_out_of_place c.place c.requested k) within
-  where
-    by_start : (start : Bool) → start ≡ false → (if start && not (is_header ws) then Err BadHeader else placed c (keyword_of c.version (word 0 ws) (word 1 ws) (length ws)) ws) ≡ placed c (keyword_of c.version (word 0 ws) (word 1 ws) (length ws)) ws
-    by_start true h = absurd (cc h)
-    by_start false h = refl
-
-    by_place : (out : Bool) → out ≡ false → (if out then Err OutOfPlace else item_of c.actors c.streams k ws) ≡ Ok i
-    by_place true h = absurd (cc h)
-    by_place false h = says
+    ∙ cond-false (is_out_of_place c.place c.requested k) _ _ within
+    ∙ says
 
 module _ (actors : List ActorText) (streams : ℕ) where
   action_read : (actor : ℕ) (does : command.Command) → (s : IsSayableAction actors streams actor does) → item_of actors streams keywords.Action (do_words s.text.name does) ≡ Ok (Action actor does)
@@ -71,11 +66,9 @@ device_keyword version false name later = refl
 
 role_keyword : (version : ℕ) (r : role.Role) (name : List ℕ) → (is_later_role r && nat_eq version 1) ≡ false → keyword_of version (role_text r) name 2 ≡ Some (keyword_for_role r)
 unfolding role_text keyword_of keyword_rows has_words line_row
-role_keyword version roles.Source name later = refl
-role_keyword version roles.Client name later = refl
-role_keyword version roles.Tap name later = refl
 role_keyword version roles.Owner name later = let late : nat_eq version 1 ≡ false = later in rw late refl
 role_keyword version roles.Joy name later = let late : nat_eq version 1 ≡ false = later in rw late refl
+role_keyword version r name later = refl
 
 axis_keyword : (version code : ℕ) (i : AxisInfo) → keyword_of version (codes "axis") (code_text EV_ABS code) (length (axis_words code i)) ≡ Some keywords.Axis
 unfolding keyword_of keyword_rows has_words line_row info_text fuzz_words
@@ -83,10 +76,8 @@ axis_keyword version code i = refl
 
 filter_keyword : (version : ℕ) (f : filter.Filter) → nat_eq version 1 ≡ false → keyword_of version (word 0 (filter_words f)) (word 1 (filter_words f)) (length (filter_words f)) ≡ Some (keyword_for_filter f)
 unfolding keyword_of keyword_rows has_words line_row filter_rows filter_words
-filter_keyword version (filters.Eat kind code) later = rw later refl
 filter_keyword version filters.Norepeat later = rw later refl
-filter_keyword version (filters.Chord first second) later = rw later refl
-filter_keyword version (filters.Bounce code micros) later = rw later refl
+filter_keyword version f later = rw later refl
 
 -- the words of an action, where its actor is there
 action_said : (actors : List ActorText) (streams actor : ℕ) (does : command.Command) → (s : IsSayableAction actors streams actor does) → item_words actors (Action actor does) ≡ do_words s.text.name does
@@ -161,11 +152,9 @@ context_behind (i ∷ more) past = context_behind more (i ∷ past)
 words_behind : (past : Past) (ws : Words) (i : Item) → IsPlainLine ws → item_of_words (context_of past) ws ≡ Ok i → IsAccepted (context_of past) i → behind_words past ws ≡ Ok (i ∷ past)
 words_behind past [] i plain read a = absurd (cc plain.first)
 words_behind past (w ∷ ws) i plain read a =
-    ap (λ (r : Result Item Cause). behind past (checked (context_of past) r)) read
-    ∙ ap (behind past) (by_tests (is_later_command (context_of past) i) (is_twice (context_of past) i) (is_too_many (context_of past) i) (has_too_many_slots (context_of past) i) (builder_refusal (context_of past).builder i) a.in_version a.once a.few a.few_slots a.fits)
-  where
-    by_tests : (later twice many wide : Bool) (why : Option CapsRefused) → later ≡ false → twice ≡ false → many ≡ false → wide ≡ false → why ≡ None → (if later then Err BadCommand else if twice then Err Twice else if many then Err TooMany else if wide then Err (Caps BadSlots) else unless_refused why i) ≡ Ok i
-    by_tests later twice many wide why l t m w f = rw (l, t, m, w, f) refl
+    let c = context_of past in
+    let once = checked_once c (item_of_words c (w ∷ ws)) i read a.in_version a.once a.few a.few_slots in
+    ap (behind past) (once ∙ ap (λ (why : Option CapsRefused). unless_refused why i) a.fits)
 
 item_behind : (past : Past) (ws : Words) (i : Item) → ws ≡ item_words (context_of past).actors i → IsAccepted (context_of past) i → behind_line past (line_of ws) ≡ Ok (i ∷ past)
 item_behind past ws i same a =

@@ -1,7 +1,7 @@
 -- What a past of accepted lines keeps.
 use Rattle.std.proofs.Common.{◌≡◌, ◌≤◌, ◌+◌, ℕ, suc, Bool, true, false, ◌&&◌, not, if◌then◌else◌, nat_eq, bytes_eq, List, [], ◌∷◌, length, Option, Some, None, is_some, Result, Ok, Err, refl, sym, ap, ◌∙◌, subst, arith, inl, inr}
 use Rattle.std.specs.Prelude.{codes, option_and_then}
-use Rattle.std.proofs.lemmas.Bool.{and_parts, false_from_ne_true}
+use Rattle.std.proofs.lemmas.Bool.{and_parts, false_from_ne_true, not-false}
 use Rattle.std.proofs.lemmas.Bool.Decides.{nat_tests}
 use Rattle.std.proofs.lemmas.Slice.Eq.{bytes_eq-Decides}
 use Rattle.inp_model.specs.declared.filter.Filter.TheVariants as filters
@@ -24,8 +24,8 @@ use Rattle.inp_record.specs.Field.{version_word}
 use Rattle.inp_record.specs.Line.{line_row}
 use Rattle.inp_record.specs.Past.{Past, after, context_of}
 use Rattle.inp_record.specs.Meaning.{checked, placed, item_of_words, behind, behind_words, behind_line, then_lines, behind_lines, record_of_past, as_record, meaning}
-use Rattle.inp_record.proofs.Inversions.{IsPlaced, checked_is, words_are}
-use Rattle.inp_record.proofs.Options.{push_get}
+use Rattle.inp_record.proofs.Inversions.{IsPlaced, checked_is, words_are, or_bad_is, line_means, lines_mean}
+use Rattle.inp_record.proofs.Options.{push_get, and_then_is, unrefused}
 use Rattle.inp_record.proofs.Keywords.{is_later_keyword, keyword_is_later}
 use Rattle.inp_record.proofs.Sayable.{keyword_for, is_header_item, is_later_item, IsAccepted, WereAccepted, always}
 use Rattle.inp_record.proofs.SayableItems.{AreNamed, ArePlain, line_plain, item_is, item_said}
@@ -51,21 +51,19 @@ header_keyword version ws h =
 
 header_item : (c : Context) (ws : List (List ℕ)) (i : Item) → placed c (Some keywords.Header) ws ≡ Ok i → is_header_item i ≡ true
 unfolding item_of plain_item line_row
-header_item c ws i e = by_place (is_out_of_place c.place c.requested keywords.Header) (version_word (word 1 ws)) e
-  where
-    by_place : (out : Bool) (o : Option ℕ) → (if out then Err OutOfPlace else or_bad_word (option_and_then (λ version. Some (Header version)) o)) ≡ Ok i → is_header_item i ≡ true
-    by_place true o e = absurd (cc e)
-    by_place false None e = absurd (cc e)
-    by_place false (Some version) e = let same : Header version ≡ i = cc e in ap is_header_item (sym same)
+header_item c ws i e =
+    let placed = unrefused (is_out_of_place c.place c.requested keywords.Header) OutOfPlace _ i e in
+    let o = version_word (word 1 ws) in
+    let h = and_then_is (λ (version : ℕ). Some (Header version)) o i (or_bad_is _ i placed.1) in
+    let same : Header h.0 ≡ i = cc h.2 in ap is_header_item (sym same)
 
 first_header : (c : Context) (ws : List (List ℕ)) (i : Item) → is_first_place c.place ≡ true → item_of_words c ws ≡ Ok i → is_header_item i ≡ true
 unfolding item_of_words
-first_header c ws i start e = by_header (is_first_place c.place) (is_header ws) refl start e
-  where
-    by_header : (starts is : Bool) → is_header ws ≡ is → starts ≡ true → (if starts && not is then Err BadHeader else placed c (keyword_of c.version (word 0 ws) (word 1 ws) (length ws)) ws) ≡ Ok i → is_header_item i ≡ true
-    by_header true true h s e = header_item c ws i (subst (λ (k : Option keyword.Keyword). placed c k ws ≡ Ok i) (header_keyword c.version ws h) e)
-    by_header true false h s e = absurd (cc e)
-    by_header false is h s e = absurd (cc s)
+first_header c ws i start e =
+    let h = unrefused (is_first_place c.place && not (is_header ws)) BadHeader _ i e in
+    let is = not-false (is_header ws) (sym (ap (λ (b : Bool). b && not (is_header ws)) start) ∙ h.0) in
+    let P : Option keyword.Keyword → Type 0 = λ k. placed c k ws ≡ Ok i in
+    header_item c ws i (subst P (header_keyword c.version ws is) h.1)
 
 -- a line is read only where it may stand
 
@@ -135,25 +133,21 @@ words_behind n past now (w ∷ ws) h plain e =
     behind_accepted n past now (checked (context_of past) (item_of_words (context_of past) (w ∷ ws))) h (λ i g. words_accepted past (w ∷ ws) i h.accepted plain g) e
 
 line_accepted : (n : ℕ) (past now : Past) (line : List ℕ) → AreLines n past → behind_line past line ≡ Ok now → AreLines (suc n) now
-unfolding behind_line
-line_accepted n past now line h e = by_tests (is_comment line) (is_text line) refl e
-  where
-    by_tests : (comment text : Bool) → is_text line ≡ text → (if comment then Ok past else if not text then Err NotText else behind_words past (words_of line)) ≡ Ok now → AreLines (suc n) now
-    by_tests true text t e = stays n past now h (cc e)
-    by_tests false true t e = words_behind n past now (words_of line) h (line_plain line t) e
-    by_tests false false t e = absurd (cc e)
+line_accepted n past now line h e = elim (line_means past now line e) [
+  | inl g ↦ stays n past now h g.1
+  | inr g ↦ words_behind n past now (words_of line) h (line_plain line g.0) g.1
+]
 
 lines_accepted : (lines : List (List ℕ)) (k n : ℕ) (past now : Past) → AreLines n past → behind_lines k lines past ≡ Ok now → AreLines (n + length lines) now
 unfolding behind_lines
 lines_accepted [] k n past now h e =
     let same : past ≡ now = cc e in
     let P : Past → Type 0 = λ x. AreLines (n + 0) x in subst P same (record { accepted = h.accepted; few = omega (arith, h.few) })
-lines_accepted (line ∷ lines) k n past now h e = by_line (behind_line past line) (λ after g. line_accepted n past after line h g) (λ after g f. lines_accepted lines (suc k) (suc n) after now g f) e
-  where
-    by_line : (means : Result Past Cause) → ((after : Past) → means ≡ Ok after → AreLines (suc n) after) → ((after : Past) → AreLines (suc n) after → behind_lines (suc k) lines after ≡ Ok now → AreLines (suc n + length lines) now)
-        → then_lines k means (λ x. behind_lines (suc k) lines x) ≡ Ok now → AreLines (n + length (line ∷ lines)) now
-    by_line (Err cause) one more e = absurd (cc e)
-    by_line (Ok after) one more e = let P : ℕ → Type 0 = λ x. AreLines x now in subst P (omega arith) (more after (one after refl) e)
+lines_accepted (line ∷ lines) k n past now h e =
+    let g = lines_mean k line lines past now e in
+    let P : ℕ → Type 0 = λ x. AreLines x now in
+    let one = line_accepted n past g.0 line h g.1 in
+    subst P (omega arith) (lines_accepted lines (suc k) (suc n) g.0 now one g.2)
 
 -- the lines of a text were accepted, and are no more than its lines
 pub all_accepted : (lines : List (List ℕ)) (past : Past) → behind_lines 1 lines [] ≡ Ok past → WereAccepted past × (length past ≤ length lines)

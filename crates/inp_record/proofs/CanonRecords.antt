@@ -21,7 +21,7 @@ use Rattle.inp_record.specs.Place.{is_first_place, is_describing, is_naming, is_
 use Rattle.inp_record.specs.Past.{Past, no_given, with_latest, devices_of, first_context, describing, after, context_of}
 use Rattle.inp_record.specs.Meaning.{has_too_many_slots}
 use Rattle.inp_record.specs.Spelling.{description_items, action_item_of}
-use Rattle.inp_record.proofs.Entries.{code_slots, code_filters}
+use Rattle.inp_record.proofs.Entries.{code_leaves}
 use Rattle.inp_record.proofs.Sayable.{keyword_for_device, are_early, IsAccepted, after_all, AreAccepted, WereAccepted, always, describes_place}
 use Rattle.inp_record.proofs.Good.{IsGood, actor_place, good, closed_length}
 use Rattle.inp_record.proofs.CanonLists.{head_items, all_items, AreBelow, head_device, head_actor, all_action}
@@ -74,7 +74,7 @@ slots_after c (Header version) a s =
     subst P (sym (s.first (not-false (is_first_place c.place) a.in_place))) (and-false (nat_eq version 1))
 slots_after c (Device requested name) a s = and-false (nat_eq c.version 1)
 slots_after c (Slots count) a s = a.few_slots
-slots_after c (Code kind code) a s = ap (λ (n : ℕ). nat_eq c.version 1 && nat_lt SLOTS_OF_VERSION_1 n) (code_slots (with_kind c.builder kind) kind code) ∙ s.slots
+slots_after c (Code kind code) a s = ap (λ (n : ℕ). nat_eq c.version 1 && nat_lt SLOTS_OF_VERSION_1 n) (code_leaves (with_kind c.builder kind) kind code).2 ∙ s.slots
 slots_after c i a s = s.slots
 
 early_pushed : (version : ℕ) (fs : List filter.Filter) (f : filter.Filter) → nat_eq version 1 ≡ false → are_early version (fs ++ f ∷ []) ≡ false
@@ -86,7 +86,7 @@ filters_after c (Header version) a s =
     let P : Context → Type 0 = λ x. are_early version x.builder.filters ≡ false in
     subst P (sym (s.first (not-false (is_first_place c.place) a.in_place))) refl
 filters_after c (Device requested name) a s = refl
-filters_after c (Code kind code) a s = ap (are_early c.version) (code_filters (with_kind c.builder kind) kind code) ∙ s.filters
+filters_after c (Code kind code) a s = ap (are_early c.version) (code_leaves (with_kind c.builder kind) kind code).3 ∙ s.filters
 filters_after c (Filter filter) a s = early_pushed c.version c.builder.filters filter a.later
 filters_after c i a s = s.filters
 
@@ -198,7 +198,6 @@ kept_device c requested name g k a made s =
 
 not_acting : (p : Place) → (is_describing p || is_naming p) ≡ true → is_acting p ≡ false
 not_acting Acting e = absurd (cc e)
-not_acting Start e = refl
 not_acting p e = refl
 
 some_name : (o : Option (List ℕ)) → is_some o ≡ true → (name : List ℕ) × (o ≡ Some name)

@@ -41,22 +41,19 @@ describing_accepted c i d at said later once few_slots fits = record {
   headed = λ h. ap is_first_place at;
   in_place = describes_place c.place c.requested i d ∙ ap (λ p. not (is_describing p)) at;
   later = later;
-  in_version = known i d;
+  in_version = (free i d).0;
   once = once;
-  few = enough i d;
+  few = (free i d).1;
   few_slots = few_slots;
   fits = fits;
 }
   where
-    known : (j : Item) → is_describing_item j ≡ true → is_later_command c j ≡ false
-    known (Action actor does) d = absurd (cc d)
-    known j d = refl
-
-    enough : (j : Item) → is_describing_item j ≡ true → is_too_many c j ≡ false
-    enough (Device requested name) d = absurd (cc d)
-    enough (Actor role name) d = absurd (cc d)
-    enough (Action actor does) d = absurd (cc d)
-    enough j d = refl
+    free : (j : Item) → is_describing_item j ≡ true
+        → (is_later_command c j ≡ false) × (is_too_many c j ≡ false)
+    free (Device requested name) d = absurd (cc d)
+    free (Actor role name) d = absurd (cc d)
+    free (Action actor does) d = absurd (cc d)
+    free j d = (refl, refl)
 
 -- none of these axes has this code or a greater one
 abbrev AreBelow : ℕ → List ℕ → Type 0

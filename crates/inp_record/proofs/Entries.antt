@@ -16,17 +16,12 @@ use Rattle.inp_record.specs.declared.cause.Cause.{Cause}
 use Rattle.inp_record.specs.declared.line_fault.LineFault.{LineFault}
 use Rattle.inp_record.specs.declared.line_fault.LineFault.TheVariants as line
 
-code_realtime : (d : Description) (kind code : ℕ) → (with_code d kind code).realtime ≡ d.realtime
-code_realtime d kind code = grind (arith, nat_tests)
-
-code_boottime : (d : Description) (kind code : ℕ) → (with_code d kind code).boottime ≡ d.boottime
-code_boottime d kind code = grind (arith, nat_tests)
-
-pub code_slots : (d : Description) (kind code : ℕ) → (with_code d kind code).slots ≡ d.slots
-code_slots d kind code = grind (arith, nat_tests)
-
-pub code_filters : (d : Description) (kind code : ℕ) → (with_code d kind code).filters ≡ d.filters
-code_filters d kind code = grind (arith, nat_tests)
+-- a code more leaves the offsets, the slots and the filters
+pub code_leaves : (d : Description) (kind code : ℕ)
+    → ((with_code d kind code).realtime ≡ d.realtime) × ((with_code d kind code).boottime ≡ d.boottime)
+    × ((with_code d kind code).slots ≡ d.slots) × ((with_code d kind code).filters ≡ d.filters)
+code_leaves d kind code =
+    (grind (arith, nat_tests), grind (arith, nat_tests), grind (arith, nat_tests), grind (arith, nat_tests))
 
 -- the offsets of the latest description are those that its device gave
 offsets_are : (past : Past) → ((context_of past).builder.realtime ≡ unwrap_or (context_of past).given.realtime 0) × ((context_of past).builder.boottime ≡ unwrap_or (context_of past).given.boottime 0)
@@ -35,7 +30,8 @@ offsets_are (Device requested name ∷ past) = (refl, refl)
 offsets_are (Realtime offset ∷ past) = (refl, (offsets_are past).1)
 offsets_are (Boottime offset ∷ past) = ((offsets_are past).0, refl)
 offsets_are (Code kind code ∷ past) =
-    let d = with_kind (context_of past).builder kind in (code_realtime d kind code ∙ (offsets_are past).0, code_boottime d kind code ∙ (offsets_are past).1)
+    let left = code_leaves (with_kind (context_of past).builder kind) kind code in
+    (left.0 ∙ (offsets_are past).0, left.1 ∙ (offsets_are past).1)
 offsets_are (i ∷ past) = offsets_are past
 
 pub axis_refused : (over bad : Bool) (item : Item) (why : CapsRefused) → (if over then Err BadCode else if bad then Err BadAxis else Ok (tt {0})) ≡ Err why
@@ -69,7 +65,7 @@ pub boottime_entered : (c : Context) (past : Past) (builder : Description) (offs
 boottime_entered c past builder offset e h = rw (h, e, ← (offsets_are past).0) refl
 
 -- a line whose command its version has, that is said once, is not one too many and gives no more slots than there may be
-checked_once : (c : Context) (means : Result Item Cause) (item : Item) → means ≡ Ok item → is_later_command c item ≡ false → is_twice c item ≡ false → is_too_many c item ≡ false → has_too_many_slots c item ≡ false → checked c means ≡ unless_refused (builder_refusal c.builder item) item
+pub checked_once : (c : Context) (means : Result Item Cause) (item : Item) → means ≡ Ok item → is_later_command c item ≡ false → is_twice c item ≡ false → is_too_many c item ≡ false → has_too_many_slots c item ≡ false → checked c means ≡ unless_refused (builder_refusal c.builder item) item
 checked_once c means item e l t m w = rw (e, l, t, m, w) refl
 
 entered : (past : Past) (item : Item) (means : Result Item Cause) (result : Result (Unit {0}) LineFault) (now : Context) → means ≡ unless_refused (builder_refusal (context_of past).builder item) item → IsLineEntered result past item now → IsBehind result (behind past means) now

@@ -20,12 +20,10 @@ FitsField P Signed z = FitsSigned w32 z
 FitsField P Kind kind = kind ≤ 65535
 FitsField P Code code = code ≤ 65535
 FitsField P (CodeOf of) code = code ≤ 65535
-FitsField P Clock clock = Unit {0}
 FitsField P Name name = is_name name ≡ true
 FitsField P File file = P file
 FitsField P Version n = (1 ≤ n) × (n ≤ VERSION_MAX)
-FitsField P OtherClock boot = Unit {0}
-FitsField P Never never = Unit {0}
+FitsField P f v = Unit {0}
 
 -- a value for each field
 abbrev pub Values : List Field → Type 0

@@ -5,6 +5,7 @@ use Rattle.std.specs.List.{list_all}
 use Rattle.std.specs.Fmt.{digits}
 use Rattle.std.proofs.lemmas.Bool.{and_parts, ltb-true}
 use Rattle.std.proofs.lemmas.Bool.Decides.{nat_tests}
+use Rattle.std.proofs.lemmas.Option.{cond_some}
 use Rattle.inp_actors.specs.Name.{is_name}
 use Rattle.inp_actors.specs.declared.record.TheConstants.{VERSION_MAX}
 use Rattle.inp_texts.specs.Texts.{clock_text}
@@ -24,8 +25,7 @@ use Rattle.inp_record.proofs.FieldFits.{is_sound, FitsField, Values, FitsFields,
 clock_read : (k : clock.Clock) → named clock_rows (clock_text k) ≡ Some k
 unfolding clock_text clock_rows
 clock_read Realtime = refl
-clock_read Monotonic = refl
-clock_read Boottime = refl
+clock_read clock = refl
 
 other_clock_read : (boot : Bool) → named other_clock_rows (clock_text (other_clock boot)) ≡ Some boot
 unfolding clock_text other_clock_rows
@@ -34,10 +34,9 @@ other_clock_read false = refl
 
 pub version_read : (version : ℕ) → 1 ≤ version → version ≤ VERSION_MAX → version_word (decimal version) ≡ Some version
 unfolding digits
-version_read zero some few = absurd (omega arith)
 version_read (suc zero) some few = refl
 version_read (suc (suc zero)) some few = refl
-version_read (suc (suc (suc n))) some few = absurd (omega arith)
+version_read n some few = absurd (omega arith)
 
 name_read : (w : List ℕ) → is_name w ≡ true → name_word w ≡ Some w
 name_read w h = rw h refl
@@ -94,10 +93,6 @@ positive_is : (n m : ℕ) (none : Bool) → nat_eq n 0 ≡ none → (if none the
 positive_is n m true z e = absurd (cc e)
 positive_is n m false z e = let some : 1 ≤ n = grind (arith, nat_tests) in (some, cc e)
 
-name_is : (w n : List ℕ) (is : Bool) → is_name w ≡ is → (if is then Some w else None) ≡ Some n → is_name n ≡ true
-name_is w n true h e = let same : w ≡ n = cc e in ap is_name (sym same) ∙ h
-name_is w n false h e = absurd (cc e)
-
 -- what a word says as a field is a value that the field can say
 field_fits : (P : List ℕ → Type 0) (f : Field) (kind : ℕ) (w : List ℕ) (v : ValueOf f) → P w → field_word f kind w ≡ Some v → FitsField P f v
 field_fits P (Number most) kind w n p e = number_most most w n e
@@ -110,12 +105,10 @@ field_fits P Signed kind w z p e = signed_fits w z e
 field_fits P Kind kind w k p e = kind_fits w k e
 field_fits P Code kind w code p e = code_fits kind w code e
 field_fits P (CodeOf of) kind w code p e = code_fits of w code e
-field_fits P Clock kind w c p e = tt
-field_fits P Name kind w name p e = name_is w name (is_name w) refl e
+field_fits P Name kind w name p e = let is = cond_some (is_name w) w name e in ap is_name (sym is.1) ∙ is.0
 field_fits P File kind w file p e = let same : w ≡ file = cc e in subst P same p
 field_fits P Version kind w n p e = version_fits w n e
-field_fits P OtherClock kind w boot p e = tt
-field_fits P Never kind w never p e = tt
+field_fits P f kind w v p e = tt
 
 -- lists of fields
 

@@ -61,8 +61,7 @@ begun_room c requested name room h =
 -- an owner stands where an actor may, under a device made by requests
 pub owner_parts : (a b : Bool) → (not a || not b) ≡ false → (a ≡ true) × (b ≡ true)
 owner_parts true true e = (refl, refl)
-owner_parts true false e = absurd (cc e)
-owner_parts false b e = absurd (cc e)
+owner_parts a b e = absurd (cc e)
 
 -- Each actor is of a device, and a device has only so many. Only a device made by requests has an owner, and it has one.
 pub record AreGoodActors (name : Option (List ℕ)) (requested : Bool) (former : List DeviceText) (actors : List ActorText) (sources readers owners : ℕ) : Type 0 where
@@ -160,7 +159,6 @@ none_owned c r is enough =
 
 pub actor_place : (r : role.Role) (p : Place) (requested : Bool) → is_out_of_place p requested (keyword_for_role r) ≡ false → ((is_describing p || is_naming p) ≡ true) × (r ≡ roles.Owner → requested ≡ true)
 actor_place roles.Owner p requested e = let h = owner_parts (is_describing p || is_naming p) requested e in (h.0, λ o. h.1)
-actor_place roles.Source p requested e = (not-false (is_describing p || is_naming p) e, λ o. absurd (cc o))
 actor_place r p requested e = (not-false (is_describing p || is_naming p) e, λ o. absurd (cc o))
 
 actor_added : (c : Context) (r : role.Role) (name : List ℕ) → IsAccepted c (Actor r name) → IsGood c → IsGood (after (Actor r name) c)

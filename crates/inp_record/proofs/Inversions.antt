@@ -1,14 +1,16 @@
 -- What it takes for a line to have a meaning.
-use Rattle.std.proofs.Common.{◌≡◌, ◌≤◌, ◌<◌, ℕ, Bool, true, false, ◌&&◌, not, if◌then◌else◌, List, length, Option, Some, None, ◌+◌, ◌-◌, Result, Ok, Err, refl, sym, ap, ◌∙◌, subst, arith}
+use Rattle.std.proofs.Common.{◌≡◌, ◌≤◌, ◌<◌, ℕ, suc, ◌∷◌, ◌⊎◌, inl, inr, Bool, true, false, ◌&&◌, not, if◌then◌else◌, List, length, Option, Some, None, ◌+◌, ◌-◌, Result, Ok, Err, refl, sym, ap, ◌∙◌, subst, arith}
 use Rattle.std.specs.List.{range_with_len}
+use Rattle.std.proofs.lemmas.Bool.{not-false}
 use Rattle.inp_caps.specs.declared.caps_refused.CapsRefused.{CapsRefused}
 use Rattle.inp_caps.specs.declared.caps_refused.CapsRefused.TheVariants.{BadSlots}
+use Rattle.inp_texts.specs.Line.{is_comment, is_text, words_of}
 use Rattle.inp_actors.specs.declared.role.Role as role
 use Rattle.inp_actors.specs.declared.command.Command as command
 use Rattle.inp_actors.specs.declared.actor_text.ActorText.{ActorText}
 use Rattle.inp_actors.specs.Command.{is_command_of, is_in_range, stream_of}
 use Rattle.inp_record.specs.declared.cause.Cause.{Cause}
-use Rattle.inp_record.specs.declared.cause.Cause.TheVariants.{BadHeader, OutOfPlace, BadCommand, Twice, TooMany, Caps}
+use Rattle.inp_record.specs.declared.cause.Cause.TheVariants.{NotText, BadHeader, OutOfPlace, BadCommand, Twice, TooMany, Caps}
 use Rattle.inp_record.specs.declared.context.Context.{Context}
 use Rattle.inp_record.specs.declared.keyword.Keyword as keyword
 use Rattle.inp_record.specs.declared.verb.Verb as verb
@@ -17,10 +19,11 @@ use Rattle.inp_record.specs.declared.item.Item.TheVariants as items
 use Rattle.inp_record.specs.Keyword.{keyword_of}
 use Rattle.inp_record.specs.Place.{is_first_place, is_out_of_place}
 use Rattle.inp_record.specs.Verb.{command_row, is_verb_of, argument_count, verb_of}
-use Rattle.inp_record.specs.Words.{word, is_header, command_of, actor_from, action_of, action_by, action_with, action_item, or_bad_word, item_of}
-use Rattle.inp_record.specs.Past.{streams_in}
-use Rattle.inp_record.specs.Meaning.{is_later_command, is_twice, is_too_many, has_too_many_slots, builder_refusal, unless_refused, checked, placed, item_of_words}
+use Rattle.inp_record.specs.Words.{word, is_header, is_action, command_of, actor_from, action_of, action_by, action_with, action_item, plain_item, or_bad_word, item_of}
+use Rattle.inp_record.specs.Past.{Past, streams_in}
+use Rattle.inp_record.specs.Meaning.{is_later_command, is_twice, is_too_many, has_too_many_slots, builder_refusal, unless_refused, checked, placed, item_of_words, behind_words, behind_line, then_lines, behind_lines}
 use Rattle.inp_record.proofs.Fields.{made_fits}
+use Rattle.inp_record.proofs.Options.{unrefused, chosen}
 use Rattle.inp_record.proofs.Rows.{IsOfRow, row_count, row_read, row_role, row_range, row_stream}
 
 -- a line that is read is said once, is not one too many and describes what a device can have
@@ -32,27 +35,26 @@ pub record IsChecked (c : Context) (means : Result item.Item Cause) (i : item.It
   pub few_slots : has_too_many_slots c i ≡ false
   pub allowed : builder_refusal c.builder i ≡ None
 
-checked_by : (later twice many wide : Bool) (why : Option CapsRefused) (j i : item.Item) → (if later then Err BadCommand else if twice then Err Twice else if many then Err TooMany else if wide then Err (Caps BadSlots) else unless_refused why j) ≡ Ok i
-    → (later ≡ false) × (twice ≡ false) × (many ≡ false) × (wide ≡ false) × (why ≡ None) × (j ≡ i)
-checked_by true twice many wide why j i e = absurd (cc e)
-checked_by false true many wide why j i e = absurd (cc e)
-checked_by false false true wide why j i e = absurd (cc e)
-checked_by false false false true why j i e = absurd (cc e)
-checked_by false false false false None j i e = (refl, refl, refl, refl, refl, cc e)
-checked_by false false false false (Some why) j i e = absurd (cc e)
+let_pass : (why : Option CapsRefused) (j i : item.Item) → unless_refused why j ≡ Ok i → (why ≡ None) × (j ≡ i)
+let_pass None j i e = (refl, cc e)
+let_pass (Some why) j i e = absurd (cc e)
 
 pub checked_is : (c : Context) (means : Result item.Item Cause) (i : item.Item) → checked c means ≡ Ok i → IsChecked c means i
 checked_is c (Err cause) i e = absurd (cc e)
 checked_is c (Ok j) i e =
-    let h = checked_by (is_later_command c j) (is_twice c j) (is_too_many c j) (has_too_many_slots c j) (builder_refusal c.builder j) j i e in
-    record {
-      read = ap (λ (x : item.Item). Ok x) h.5;
-      in_version = subst (λ (x : item.Item). is_later_command c x ≡ false) h.5 h.0;
-      once = subst (λ (x : item.Item). is_twice c x ≡ false) h.5 h.1;
-      enough = subst (λ (x : item.Item). is_too_many c x ≡ false) h.5 h.2;
-      few_slots = subst (λ (x : item.Item). has_too_many_slots c x ≡ false) h.5 h.3;
-      allowed = subst (λ (x : item.Item). builder_refusal c.builder x ≡ None) h.5 h.4;
-    }
+    let later = unrefused (is_later_command c j) BadCommand _ i e in
+    let twice = unrefused (is_twice c j) Twice _ i later.1 in
+    let many = unrefused (is_too_many c j) TooMany _ i twice.1 in
+    let wide = unrefused (has_too_many_slots c j) (Caps BadSlots) _ i many.1 in
+    let none = let_pass (builder_refusal c.builder j) j i wide.1 in
+    subst (λ (x : item.Item). IsChecked c (Ok j) x) none.1 (record {
+      read = refl;
+      in_version = later.0;
+      once = twice.0;
+      enough = many.0;
+      few_slots = wide.0;
+      allowed = none.0;
+    })
 
 -- a line that is read has a keyword that may stand there
 pub record IsPlaced (c : Context) (ws : List (List ℕ)) (i : item.Item) : Type 0 where
@@ -61,23 +63,18 @@ pub record IsPlaced (c : Context) (ws : List (List ℕ)) (i : item.Item) : Type 
   pub in_place : is_out_of_place c.place c.requested keyword ≡ false
   pub item : item_of c.actors c.streams keyword ws ≡ Ok i
 
-placed_by : (c : Context) (k : keyword.Keyword) (ws : List (List ℕ)) (i : item.Item) (out : Bool) → keyword_of c.version (word 0 ws) (word 1 ws) (length ws) ≡ Some k → is_out_of_place c.place c.requested k ≡ out → (if out then Err OutOfPlace else item_of c.actors c.streams k ws) ≡ Ok i → IsPlaced c ws i
-placed_by c k ws i true n o e = absurd (cc e)
-placed_by c k ws i false n o e = record { keyword = k; named = n; in_place = o; item = e }
-
 placed_is : (c : Context) (k : Option keyword.Keyword) (ws : List (List ℕ)) (i : item.Item) → keyword_of c.version (word 0 ws) (word 1 ws) (length ws) ≡ k → placed c k ws ≡ Ok i → IsPlaced c ws i
 placed_is c None ws i n e = absurd (cc e)
-placed_is c (Some k) ws i n e = placed_by c k ws i (is_out_of_place c.place c.requested k) n refl e
-
-unheaded : (bad : Bool) (means : Result item.Item Cause) (i : item.Item) → (if bad then Err BadHeader else means) ≡ Ok i → means ≡ Ok i
-unheaded true means i e = absurd (cc e)
-unheaded false means i e = e
+placed_is c (Some k) ws i n e =
+    let h = unrefused (is_out_of_place c.place c.requested k) OutOfPlace _ i e in
+    record { keyword = k; named = n; in_place = h.0; item = h.1 }
 
 pub words_are : (c : Context) (ws : List (List ℕ)) (i : item.Item) → item_of_words c ws ≡ Ok i → IsPlaced c ws i
 unfolding item_of_words
 words_are c ws i e =
     let k : Option keyword.Keyword = keyword_of c.version (word 0 ws) (word 1 ws) (length ws) in
-    placed_is c k ws i refl (unheaded (is_first_place c.place && not (is_header ws)) (placed c k ws) i e)
+    let headed = unrefused (is_first_place c.place && not (is_header ws)) BadHeader (placed c k ws) i e in
+    placed_is c k ws i refl headed.1
 
 -- a command that was read is of a row
 pub of_row : (P : List ℕ → Type 0) (s : ℕ) (by : role.Role) (v : verb.Verb) (ws : List (List ℕ)) (c : command.Command) → is_verb_of by v ≡ true → ((k : ℕ) → 3 ≤ k → k < 3 + argument_count v → P (word k ws)) → command_of s by v ws ≡ Some c → IsOfRow P s by c
@@ -119,3 +116,38 @@ act_is actors s ws i e = by_actor (actor_from 0 actors (word 1 ws)) e
 pub or_bad_is : (o : Option item.Item) (i : item.Item) → or_bad_word o ≡ Ok i → o ≡ Some i
 or_bad_is None i e = absurd (cc e)
 or_bad_is (Some j) i e = cc e
+
+-- what a line means is an action, or a plain item
+pub read_as : (actors : List ActorText) (s : ℕ) (k : keyword.Keyword) (ws : List (List ℕ)) (i : item.Item)
+    → item_of actors s k ws ≡ Ok i
+    → ((is_action k ≡ true) × (action_item actors s ws ≡ Ok i))
+    ⊎ ((is_action k ≡ false) × (plain_item k ws ≡ Some i))
+unfolding item_of
+read_as actors s k ws i e = elim (chosen (is_action k) _ _ (Ok i) e) [
+  | inl h ↦ inl h
+  | inr h ↦ inr (h.0, or_bad_is (plain_item k ws) i h.1)
+]
+
+-- a line that was read is a comment, or words
+pub line_means : (past now : Past) (line : List ℕ) → behind_line past line ≡ Ok now
+    → ((is_comment line ≡ true) × (past ≡ now))
+    ⊎ ((is_text line ≡ true) × (behind_words past (words_of line) ≡ Ok now))
+unfolding behind_line
+line_means past now line e = elim (chosen (is_comment line) _ _ (Ok now) e) [
+  | inl h ↦ inl (h.0, cc h.1)
+  | inr h ↦
+      let text = unrefused (not (is_text line)) NotText _ now h.1 in
+      inr (not-false (is_text line) text.0, text.1)
+]
+
+-- one line of those that were read, and the others behind it
+pub lines_mean : (k : ℕ) (line : List ℕ) (lines : List (List ℕ)) (past now : Past)
+    → behind_lines k (line ∷ lines) past ≡ Ok now
+    → (mid : Past) × (behind_line past line ≡ Ok mid) × (behind_lines (suc k) lines mid ≡ Ok now)
+unfolding behind_lines
+lines_mean k line lines past now e = by_line (behind_line past line) e
+  where
+    by_line : (means : Result Past Cause) → then_lines k means (λ x. behind_lines (suc k) lines x) ≡ Ok now
+        → (mid : Past) × (means ≡ Ok mid) × (behind_lines (suc k) lines mid ≡ Ok now)
+    by_line (Err cause) e = absurd (cc e)
+    by_line (Ok mid) e = (mid, refl, e)

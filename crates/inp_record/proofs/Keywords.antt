@@ -1,29 +1,30 @@
 -- What the keyword of a line tells of its words and of the version.
-use Rattle.std.proofs.Common.{◌≡◌, ℕ, Bool, true, false, not, if◌then◌else◌, nat_eq, bytes_eq, codes, List, [], ◌∷◌, Option, Some, None, unwrap_or, refl, sym, ap, subst, ◌∙◌, ◌≤◌, nat_le, arith}
+use Rattle.std.proofs.Common.{◌≡◌, ℕ, Bool, true, false, not, if◌then◌else◌, nat_eq, bytes_eq, codes, List, [], ◌∷◌, Option, Some, None, unwrap_or, refl, sym, ap, subst, ◌∙◌, ◌≤◌, nat_le, arith, inl, inr}
 use Rattle.std.specs.Prelude.{option_and_then}
 use Rattle.std.specs.List.{list_all}
 use Rattle.std.proofs.lemmas.Slice.Eq.{bytes_eq-Decides}
-use Rattle.std.proofs.lemmas.Bool.{and_parts, both_ways}
+use Rattle.std.proofs.lemmas.Bool.{and_parts, both_ways, not-true}
+use Rattle.std.proofs.lemmas.Option.{cond_some}
 use Rattle.inp_texts.specs.Table.{named}
 use Rattle.inp_record.specs.declared.keyword.Keyword as keyword
 use Rattle.inp_record.specs.declared.keyword.Keyword.TheVariants as keywords
 use Rattle.inp_record.specs.Line.{line_row}
 use Rattle.inp_record.specs.Keyword.{keyword_rows, filter_rows, filter_keyword, keyword_under, has_words, with_words, keyword_of}
 use Rattle.inp_record.specs.Words.{is_action}
-use Rattle.inp_record.proofs.Options.{and_then_is}
+use Rattle.inp_record.proofs.Options.{and_then_is, chosen}
 use Rattle.std.proofs.lemmas.Bool.Decides.{nat_tests}
 
 -- what a table says of a word passes each test that all its rows pass
 pub named_passes : {T : Type 0} (test : List ℕ × T → Bool) (rows : List (List ℕ × T)) (word : List ℕ) (x : T) → list_all test rows ≡ true → named rows word ≡ Some x → test (word, x) ≡ true
 named_passes test [] word x all e = absurd (cc e)
-named_passes {T} test (row ∷ rows) word x all e = by_word (bytes_eq row.0 word) refl (λ g. named_passes test rows word x (and_parts _ _ all).1 g) e
-  where
-    by_word : (same : Bool) → bytes_eq row.0 word ≡ same → (named rows word ≡ Some x → test (word, x) ≡ true) → (if same then Some row.1 else named rows word) ≡ Some x → test (word, x) ≡ true
-    by_word true h more e =
-        let here : row.0 ≡ word = (bytes_eq-Decides row.0 word).0 h in
-        let says : row.1 ≡ x = cc e in
-        subst (λ (y : T). test (word, y) ≡ true) says (subst (λ (w : List ℕ). test (w, row.1) ≡ true) here (and_parts _ _ all).0)
-    by_word false h more e = more e
+named_passes {T} test (row ∷ rows) word x all e = elim (chosen (bytes_eq row.0 word) _ _ (Some x) e) [
+  | inl h ↦
+      let here : row.0 ≡ word = (bytes_eq-Decides row.0 word).0 h.0 in
+      let says : row.1 ≡ x = cc h.1 in
+      let first = subst (λ (w : List ℕ). test (w, row.1) ≡ true) here (and_parts _ _ all).0 in
+      subst (λ (y : T). test (word, y) ≡ true) says first
+  | inr h ↦ named_passes test rows word x (and_parts _ _ all).1 h.1
+]
 
 -- the word is do exactly where the keyword is that of an action
 abbrev is_do_alone : List ℕ × keyword.Keyword → Bool
@@ -35,17 +36,13 @@ rows_are_do_alone = refl
 
 do_by_tests : (a b : Bool) → (if a then b else not b) ≡ true → a ≡ b
 do_by_tests true true h = refl
-do_by_tests true false h = absurd (cc h)
-do_by_tests false true h = absurd (cc h)
 do_by_tests false false h = refl
+do_by_tests a b h = absurd (cc h)
 
 with_words_is : (count : ℕ) (o : Option keyword.Keyword) (k : keyword.Keyword) → with_words count o ≡ Some k → o ≡ Some k
 with_words_is count None k e = absurd (cc e)
-with_words_is count (Some j) k e = by_count (has_words j count) e
-  where
-    by_count : (fits : Bool) → (if fits then Some j else None) ≡ Some k → Some j ≡ Some k
-    by_count true e = e
-    by_count false e = absurd (cc e)
+with_words_is count (Some j) k e =
+    ap (λ (x : keyword.Keyword). Some x) (cond_some (has_words j count) j k e).1
 
 -- the keyword that the first word names, and what the second one makes of it
 keyword_from : (version : ℕ) (first second : List ℕ) (count : ℕ) (k : keyword.Keyword) → keyword_of version first second count ≡ Some k
@@ -62,16 +59,12 @@ kinds_do_nothing : list_all is_no_action filter_rows ≡ true
 unfolding filter_rows line_row
 kinds_do_nothing = refl
 
-no_action : (b : Bool) → not b ≡ true → b ≡ false
-no_action true h = absurd (cc h)
-no_action false h = refl
-
 kind_does_nothing : (second : List ℕ) → is_action (filter_keyword second) ≡ false
 kind_does_nothing second = by_kind (named filter_rows second) refl
   where
     by_kind : (o : Option keyword.Keyword) → named filter_rows second ≡ o → is_action (unwrap_or o keywords.Filter) ≡ false
     by_kind None h = refl
-    by_kind (Some k) h = no_action (is_action k) (named_passes is_no_action filter_rows second k kinds_do_nothing h)
+    by_kind (Some k) h = not-true (is_action k) (named_passes is_no_action filter_rows second k kinds_do_nothing h)
 
 -- the keyword of a line that no record of version 1 has
 later_is : (early : Bool) (j k : keyword.Keyword) → (if early then None else Some j) ≡ Some k → (early ≡ false) × (k ≡ j)
@@ -123,7 +116,7 @@ kept_version version first second keywords.Joy k e row h = (later_is (nat_eq ver
 kept_version version first second keywords.Owner k e row h = (later_is (nat_eq version 1) keywords.Owner k e).0
 kept_version version first second base k e row h =
     let same : base ≡ k = cc e in
-    let none : is_later_keyword base ≡ false = no_action (is_later_keyword base) row in
+    let none : is_later_keyword base ≡ false = not-true (is_later_keyword base) row in
     absurd (both_ways (is_later_keyword k) (sym (ap is_later_keyword same) ∙ none) h)
 
 pub keyword_is_later : (version : ℕ) (first second : List ℕ) (count : ℕ) (k : keyword.Keyword) → keyword_of version first second count ≡ Some k → is_later_keyword k ≡ true → nat_eq version 1 ≡ false

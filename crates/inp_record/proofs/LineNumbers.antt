@@ -1,5 +1,5 @@
 -- The numbers of action lines, line by line.
-use Rattle.std.proofs.Common.{◌≡◌, ℕ, zero, suc, ◌+◌, ◌-◌, ◌<◌, Bool, true, false, not, if◌then◌else◌, cond, nat_eq, codes, List, [], ◌∷◌, length, drop, filter, Some, None, Result, Ok, Err, refl, sym, ap, ◌∙◌, add-one, arith, length-append}
+use Rattle.std.proofs.Common.{◌≡◌, ℕ, zero, suc, ◌+◌, ◌-◌, ◌<◌, Bool, true, false, not, if◌then◌else◌, cond, nat_eq, codes, List, [], ◌∷◌, length, drop, filter, Some, None, Result, Ok, Err, refl, sym, ap, ◌∙◌, add-one, arith, length-append, inl, inr}
 use Rattle.std.specs.Prelude.{slice_get}
 use Rattle.std.specs.List.{slice_split, onto_first}
 use Rattle.std.proofs.lemmas.Option.{slice_get-get_or}
@@ -19,7 +19,7 @@ use Rattle.inp_record.specs.Words.{word, has_word, is_action, or_bad_word, actio
 use Rattle.inp_record.specs.Past.{Past, after, context_of}
 use Rattle.inp_record.specs.Meaning.{checked, item_of_words, behind, behind_words, behind_line, then_lines, behind_lines, record_of_past, as_record, meaning}
 use Rattle.inp_record.specs.LineNumber.{is_action_line, action_numbers}
-use Rattle.inp_record.proofs.Inversions.{checked_is, words_are, act_is, or_bad_is}
+use Rattle.inp_record.proofs.Inversions.{checked_is, words_are, act_is, read_as, line_means, lines_mean}
 use Rattle.inp_record.proofs.Sayable.{keyword_for, is_action_item, acts}
 use Rattle.inp_record.proofs.Lines.{plain_keyword}
 use Rattle.inp_record.proofs.Keywords.{action_is_do}
@@ -64,12 +64,10 @@ item_adds c (Action actor command) = omega (arith, length-append c.lines (record
 item_adds c i = omega arith
 
 keyword_is : (actors : List ActorText) (s : ℕ) (k : keyword.Keyword) (ws : List (List ℕ)) (i : item.Item) → item_of actors s k ws ≡ Ok i → is_action (keyword_for i) ≡ is_action k
-unfolding item_of
-keyword_is actors s k ws i e = by_action (is_action k) refl e
-  where
-    by_action : (is : Bool) → is_action k ≡ is → (if is then action_item actors s ws else or_bad_word (plain_item k ws)) ≡ Ok i → is_action (keyword_for i) ≡ is_action k
-    by_action true h e = let act = act_is actors s ws i e in ap (λ (j : item.Item). is_action (keyword_for j)) act.2 ∙ sym h
-    by_action false h e = ap is_action (plain_keyword k ws i (or_bad_is (plain_item k ws) i e))
+keyword_is actors s k ws i e = elim (read_as actors s k ws i e) [
+  | inl h ↦ ap (λ (j : item.Item). is_action (keyword_for j)) (act_is actors s ws i h.1).2 ∙ sym h.0
+  | inr h ↦ ap is_action (plain_keyword k ws i h.1)
+]
 
 words_add : (c : Context) (ws : List (List ℕ)) (i : item.Item) → item_of_words c ws ≡ Ok i → is_action (keyword_for i) ≡ has_word ws 0 (codes "do")
 words_add c ws i e = let p = words_are c ws i e in keyword_is c.actors c.streams p.keyword ws i p.item ∙ action_is_do c.version (word 0 ws) (word 1 ws) (length ws) p.keyword p.named
@@ -104,27 +102,23 @@ comment_does_nothing (b ∷ line) h = by_blank (is_blank b) (comment_does_nothin
     by_blank false more h = comment_begins (slice_split is_blank line) b h
 
 line_adds : (past now : Past) (line : List ℕ) → behind_line past line ≡ Ok now → length (context_of now).lines ≡ length (context_of past).lines + (if is_action_line line then 1 else 0)
-unfolding behind_line
-line_adds past now line e = by_tests (is_comment line) (is_text line) refl e
-  where
-    by_tests : (comment text : Bool) → is_comment line ≡ comment → (if comment then Ok past else if not text then Err NotText else behind_words past (words_of line)) ≡ Ok now → length (context_of now).lines ≡ length (context_of past).lines + (if is_action_line line then 1 else 0)
-    by_tests true text h e = let same : past ≡ now = cc e in rw (← same, comment_does_nothing line h) (omega arith)
-    by_tests false true h e = all_words_add past now (words_of line) e
-    by_tests false false h e = absurd (cc e)
+line_adds past now line e = elim (line_means past now line e) [
+  | inl h ↦ rw (← h.1, comment_does_nothing line h.0) (omega arith)
+  | inr h ↦ all_words_add past now (words_of line) h.1
+]
 
 lines_add : (lines : List (List ℕ)) (k n : ℕ) (past now : Past) → behind_lines k lines past ≡ Ok now → length (context_of now).lines ≡ length (context_of past).lines + length (action_numbers n lines)
 unfolding behind_lines action_numbers
 lines_add [] k n past now e = let same : past ≡ now = cc e in rw (← same) (omega arith)
-lines_add (line ∷ lines) k n past now e = by_line (behind_line past line) (λ after h. line_adds past after line h) (λ after h. lines_add lines (suc k) (suc n) after now h) e
+lines_add (line ∷ lines) k n past now e =
+    let h = lines_mean k line lines past now e in
+    let one = line_adds past h.0 line h.1 in
+    let more = lines_add lines (suc k) (suc n) h.0 now h.2 in
+    by_action (is_action_line line) _ _ _ one more
   where
     by_action : (does : Bool) (a b c : ℕ) → a ≡ b + (if does then 1 else 0) → c ≡ a + length (action_numbers (suc n) lines) → c ≡ b + length (if does then n ∷ action_numbers (suc n) lines else action_numbers (suc n) lines)
     by_action true a b c one more = omega arith
     by_action false a b c one more = omega arith
-
-    by_line : (means : Result Past Cause) → ((after : Past) → means ≡ Ok after → length (context_of after).lines ≡ length (context_of past).lines + (if is_action_line line then 1 else 0)) → ((after : Past) → behind_lines (suc k) lines after ≡ Ok now → length (context_of now).lines ≡ length (context_of after).lines + length (action_numbers (suc n) lines))
-        → then_lines k means (λ x. behind_lines (suc k) lines x) ≡ Ok now → length (context_of now).lines ≡ length (context_of past).lines + length (action_numbers n (line ∷ lines))
-    by_line (Err cause) one more e = absurd (cc e)
-    by_line (Ok after) one more e = by_action (is_action_line line) (length (context_of after).lines) (length (context_of past).lines) (length (context_of now).lines) (one after refl) (more after e)
 
 record_adds : (count : ℕ) (means : Result Past Refused) (r : RecordView) → as_record count means ≡ Ok r → (past : Past) × (means ≡ Ok past) × (record_of_past past ≡ r)
 record_adds count (Err refused) r e = absurd (cc e)

@@ -83,11 +83,9 @@ set_true l i k e =
     ]
 
 pub set_more : (l : List Bool) (i k : ℕ) → get_or l k false ≡ true → get_or (set l i true) k false ≡ true
-set_more [] i k e = e
 set_more (x ∷ l) zero zero e = refl
-set_more (x ∷ l) zero (suc k) e = e
-set_more (x ∷ l) (suc i) zero e = e
 set_more (x ∷ l) (suc i) (suc k) e = set_more l i k e
+set_more l i k e = e
 
 set_again : (l : List Bool) (i : ℕ) → get_or l i false ≡ true → set l i true ≡ l
 set_again l i e = ap (λ (b : Bool). set l i b) (sym e) ∙ set-get_or l i false
@@ -239,9 +237,8 @@ passes true why e = refl
 passes false why e = absurd (cc e)
 
 axis_passes : (a b : Bool) → (if a then Some BadCode else if b then Some BadAxis else None) ≡ None → (a ≡ false) × (b ≡ false)
-axis_passes true b e = absurd (cc e)
-axis_passes false true e = absurd (cc e)
 axis_passes false false e = (refl, refl)
+axis_passes a b e = absurd (cc e)
 
 gathered_numbers : (d : Description) (slots hint log_limit realtime boottime : ℕ) → IsGathered d → AreNumbers slots hint log_limit realtime boottime
     → IsGathered (record d { slots = slots; hint = hint; log_limit = log_limit; realtime = realtime; boottime = boottime })
@@ -268,9 +265,8 @@ with_described d code i g e said =
     gathered_axis (with_kind d EV_ABS) code i (gathered_kind d EV_ABS g refl) (ltb-false ABS_MAX code passed.0) passed.1 said (kind_there d EV_ABS g refl)
 
 filter_passes : (good : Bool) (full : Bool) → refused_by (if not good then Err BadCode else if full then Err BadFilter else Ok (tt {0})) ≡ None → (good ≡ true) × (full ≡ false)
-filter_passes false full e = absurd (cc e)
-filter_passes true true e = absurd (cc e)
 filter_passes true false e = (refl, refl)
+filter_passes good full e = absurd (cc e)
 
 with_filtered : (d : Description) (f : filter.Filter) → IsGathered d → refused_by (filter_answer d f) ≡ None → IsGathered (with_filter d f)
 with_filtered d f g e =

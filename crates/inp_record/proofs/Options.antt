@@ -1,11 +1,23 @@
--- What an option holds, and what a list that grew.
-use Rattle.std.proofs.Common.{◌≡◌, ℕ, zero, suc, ◌<◌, List, [], ◌∷◌, ◌++◌, length, Option, Some, None, refl, ap, arith, ◌⊎◌, inl, inr}
+-- What an option or a result holds, and what a list that grew.
+use Rattle.std.proofs.Common.{◌≡◌, ℕ, zero, suc, ◌<◌, Bool, true, false, if◌then◌else◌, List, [], ◌∷◌, ◌++◌, length, Option, Some, None, Result, Ok, Err, refl, ap, arith, ◌⊎◌, inl, inr}
 use Rattle.std.specs.Prelude.{option_and_then, slice_get}
 
 -- what an option holds that another one is made of
 pub and_then_is : {A B : Type 0} (f : A → Option B) (o : Option A) (y : B) → option_and_then f o ≡ Some y → (x : A) × (o ≡ Some x) × (f x ≡ Some y)
 and_then_is f None y e = absurd (cc)
 and_then_is f (Some x) y e = (x, refl, e)
+
+-- what a test that refuses let pass
+pub unrefused : {A E : Type 0} (b : Bool) (why : E) (r : Result A E) (a : A)
+    → (if b then Err why else r) ≡ Ok a → (b ≡ false) × (r ≡ Ok a)
+unrefused true why r a e = absurd (cc e)
+unrefused false why r a e = (refl, e)
+
+-- which one of two it is
+pub chosen : {A : Type 0} (b : Bool) (x y z : A) → (if b then x else y) ≡ z
+    → ((b ≡ true) × (x ≡ z)) ⊎ ((b ≡ false) × (y ≡ z))
+chosen true x y z e = inl (refl, e)
+chosen false x y z e = inr (refl, e)
 
 -- the item that was pushed stands at the end
 pub push_at : {X : Type 0} (xs : List X) (y : X) (i : ℕ) (a : X) → slice_get (xs ++ y ∷ []) i ≡ Some a → (slice_get xs i ≡ Some a) ⊎ ((i ≡ length xs) × (a ≡ y))

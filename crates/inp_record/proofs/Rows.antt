@@ -81,7 +81,6 @@ row_stream stream r v vs = refl
 
 count_of : (r : role.Role) (n : ℕ) → n ≤ count_max r → is_count_of r n ≡ true
 count_of roles.Joy n h = refl
-count_of roles.Source n h = le-leb n READ_MAX h
 count_of r n h = le-leb n READ_MAX h
 
 -- values that fields can say are in the ranges of the command

@@ -164,11 +164,8 @@ always P start step (i ∷ past) were = step (context_of past) i were.0 (always 
 -- an item has the keyword of an action where it is one
 pub acts : (i : Item) → is_action (keyword_for i) ≡ is_action_item i
 acts (Device true name) = refl
-acts (Device false name) = refl
 acts (Filter (filters.Eat kind code)) = refl
-acts (Filter f) = refl
 acts (Actor roles.Source name) = refl
-acts (Actor role name) = refl
 acts i = refl
 
 -- what describes a device may stand in a description alone
@@ -178,5 +175,4 @@ describes_place p requested (Device made name) d = absurd (cc d)
 describes_place p requested (Actor role name) d = absurd (cc d)
 describes_place p requested (Action actor does) d = absurd (cc d)
 describes_place p requested (Filter (filters.Eat kind code)) d = refl
-describes_place p requested (Filter f) d = refl
 describes_place p requested i d = refl

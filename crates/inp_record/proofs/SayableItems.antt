@@ -21,7 +21,7 @@ use Rattle.inp_record.specs.declared.item.Item as item
 use Rattle.inp_record.specs.declared.item.Item.TheVariants as items
 use Rattle.inp_record.specs.Verb.{verb_of}
 use Rattle.inp_record.specs.Words.{word, has_micros, plain_item, command_of, actor_from, action_by, action_with, action_item, or_bad_word, is_action, item_of}
-use Rattle.inp_record.proofs.Inversions.{of_row, action_of_is, act_is, or_bad_is}
+use Rattle.inp_record.proofs.Inversions.{of_row, action_of_is, act_is, read_as}
 use Rattle.inp_record.proofs.Texts.{words_all}
 use Rattle.inp_record.proofs.Rows.{verb_found}
 use Rattle.inp_record.proofs.Sayable.{is_visible, keyword_for, IsPlainWord, IsSayable}
@@ -103,21 +103,17 @@ action_said actors s ws i names plain e = by_actor (actor_from 0 actors (word 1 
 -- a line with a meaning is an action, or another line with its keyword
 pub item_is : (actors : List ActorText) (s : ℕ) (k : keyword.Keyword) (ws : List (List ℕ)) (i : item.Item) → item_of actors s k ws ≡ Ok i
     → ((actor : ℕ) × (c : command.Command) × (i ≡ items.Action actor c)) ⊎ (keyword_for i ≡ k)
-unfolding item_of
-item_is actors s k ws i e = by_action (is_action k) e
-  where
-    by_action : (is : Bool) → (if is then action_item actors s ws else or_bad_word (plain_item k ws)) ≡ Ok i → ((actor : ℕ) × (c : command.Command) × (i ≡ items.Action actor c)) ⊎ (keyword_for i ≡ k)
-    by_action true e = inl (act_is actors s ws i e)
-    by_action false e = inr (plain_keyword k ws i (or_bad_is (plain_item k ws) i e))
+item_is actors s k ws i e = elim (read_as actors s k ws i e) [
+  | inl h ↦ inl (act_is actors s ws i h.1)
+  | inr h ↦ inr (plain_keyword k ws i h.1)
+]
 
 -- what words mean can be said
 pub item_said : (actors : List ActorText) (s : ℕ) (k : keyword.Keyword) (ws : List (List ℕ)) (i : item.Item) → AreNamed actors → ArePlain ws → item_of actors s k ws ≡ Ok i → IsSayable actors s i
-unfolding item_of
-item_said actors s k ws i names plain e = by_action (is_action k) e
-  where
-    by_action : (is : Bool) → (if is then action_item actors s ws else or_bad_word (plain_item k ws)) ≡ Ok i → IsSayable actors s i
-    by_action true e = action_said actors s ws i names plain e
-    by_action false e = plain_said actors s k ws i (or_bad_is (plain_item k ws) i e)
+item_said actors s k ws i names plain e = elim (read_as actors s k ws i e) [
+  | inl h ↦ action_said actors s ws i names plain h.1
+  | inr h ↦ plain_said actors s k ws i h.1
+]
 
 -- the microseconds of a filter that words mean are in their range
 
@@ -129,9 +125,7 @@ sayable_micros actors s (items.Filter (filters.Bounce code micros)) h =
 sayable_micros actors s i h = refl
 
 pub has_micros-read : (actors : List ActorText) (s : ℕ) (k : keyword.Keyword) (ws : List (List ℕ)) (i : item.Item) → item_of actors s k ws ≡ Ok i → has_micros i ≡ true
-unfolding item_of
-has_micros-read actors s k ws i e = by_action (is_action k) e
-  where
-    by_action : (is : Bool) → (if is then action_item actors s ws else or_bad_word (plain_item k ws)) ≡ Ok i → has_micros i ≡ true
-    by_action true e = ap has_micros (act_is actors s ws i e).2
-    by_action false e = sayable_micros actors s i (plain_said actors s k ws i (or_bad_is (plain_item k ws) i e))
+has_micros-read actors s k ws i e = elim (read_as actors s k ws i e) [
+  | inl h ↦ ap has_micros (act_is actors s ws i h.1).2
+  | inr h ↦ sayable_micros actors s i (plain_said actors s k ws i h.1)
+]

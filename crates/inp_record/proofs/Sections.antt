@@ -81,18 +81,14 @@ mixed_set zero [] [] x d size e = refl
 mixed_set zero (y ∷ goal) (z ∷ old) x d size e = ap (λ v. v ∷ old) (sym e)
 mixed_set (suc k) [] [] x d size e = refl
 mixed_set (suc k) (y ∷ goal) (z ∷ old) x d size e = ap (λ l. y ∷ l) (mixed_set k goal old x d (omega arith) e)
-mixed_set k [] (z ∷ old) x d size e = absurd (omega arith)
-mixed_set k (y ∷ goal) [] x d size e = absurd (omega arith)
+mixed_set k goal old x d size e = absurd (omega arith)
 
 -- the same value in both lists
 pub mixed_kept : {X : Type 0} (k : ℕ) (goal old : List X) (d : X) → get_or goal k d ≡ get_or old k d → mixed k goal old ≡ mixed (suc k) goal old
 unfolding mixed
 mixed_kept zero (y ∷ goal) (z ∷ old) d e = ap (λ v. v ∷ old) (sym e)
 mixed_kept (suc k) (y ∷ goal) (z ∷ old) d e = ap (λ l. y ∷ l) (mixed_kept k goal old d e)
-mixed_kept zero [] old d e = refl
-mixed_kept zero (y ∷ goal) [] d e = refl
-mixed_kept (suc k) [] old d e = refl
-mixed_kept (suc k) (y ∷ goal) [] d e = refl
+mixed_kept k goal old d e = refl
 
 -- where the rest of both is the same, all of it is written
 pub mixed_all : {X : Type 0} (n : ℕ) (goal old : List X) (d : X) → length goal ≡ length old → ((k : ℕ) → n ≤ k → get_or goal k d ≡ get_or old k d) → mixed n goal old ≡ goal
@@ -100,5 +96,4 @@ unfolding mixed
 mixed_all zero goal old d size rest = ext_get_or d old goal (sym size) (λ k within. sym (rest k (omega arith)))
 mixed_all (suc n) [] [] d size rest = refl
 mixed_all (suc n) (y ∷ goal) (z ∷ old) d size rest = ap (λ l. y ∷ l) (mixed_all n goal old d (omega arith) (λ k past. rest (suc k) (omega arith)))
-mixed_all (suc n) [] (z ∷ old) d size rest = absurd (omega arith)
-mixed_all (suc n) (y ∷ goal) [] d size rest = absurd (omega arith)
+mixed_all n goal old d size rest = absurd (omega arith)

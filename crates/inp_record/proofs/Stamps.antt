@@ -1,12 +1,12 @@
 -- Streams, record by record.
-use Rattle.std.proofs.Common.{◌≡◌, ℕ, zero, suc, ◌+◌, ◌-◌, ◌*◌, ◌/◌, ◌<◌, ◌≤◌, Bool, true, false, ◌||◌, if◌then◌else◌, nat_eq, nat_le, nat_lt, List, [], ◌∷◌, ◌++◌, length, drop, take, Option, Some, None, option_map, Result, Ok, Err, refl, sym, ap, ◌∙◌, append_assoc, length-drop, add-one, arith, inl, inr}
+use Rattle.std.proofs.Common.{◌≡◌, ℕ, zero, suc, ◌+◌, ◌-◌, ◌*◌, ◌/◌, ◌<◌, ◌≤◌, Bool, true, false, ◌||◌, if◌then◌else◌, nat_eq, nat_le, nat_lt, List, [], ◌∷◌, ◌++◌, length, drop, take, Option, Some, None, option_map, Result, Ok, Err, refl, sym, ap, ◌∙◌, append_assoc, length-drop, add-one, subst, arith, inl, inr}
 use Rattle.std.specs.Prelude.{slice_get}
 use Rattle.std.specs.List.{list_all, range_with_len}
 use Rattle.std.proofs.lemmas.List.{append-nil, take_rest}
 use Rattle.std.proofs.Math.Nat.{add-div_right, div-le_self}
 use Rattle.std.proofs.lemmas.Bool.Decides.{nat_tests}
 use Rattle.std.proofs.lemmas.List.Folds.{list_all-append}
-use Rattle.std.proofs.lemmas.Bool.{and_parts, or_parts}
+use Rattle.std.proofs.lemmas.Bool.{and_parts, or_parts, ltb-true, ltb-false}
 use Rattle.inp_model.specs.declared.event.Event.{Event}
 use Rattle.inp_model.specs.declared.stamped.Stamped.{Stamped}
 use Rattle.inp_model.specs.declared.stamped.TheConstants.{MOMENT_MAX}
@@ -18,23 +18,18 @@ use Rattle.inp_stream.specs.declared.stream_refused.StreamRefused.{StreamRefused
 use Rattle.inp_stream.specs.declared.stream_refused.StreamRefused.TheVariants.{Short, BadTime}
 use Rattle.inp_stream.specs.Stream.{record_len, microseconds_of, moment_in, event_in, decoded}
 use Rattle.inp_record.specs.Stream.{stamped_before, stamps_from, stamps_of}
-use Rattle.inp_record.proofs.Options.{push_get}
-
-not_refused : {V : Type 0} (short bad : Bool) (v w : V) → (if short then Err Short else if bad then Err BadTime else Ok v) ≡ Ok w → (short ≡ false) × (bad ≡ false) × (v ≡ w)
-not_refused true bad v w e = absurd (cc e)
-not_refused false true v w e = absurd (cc e)
-not_refused false false v w e = (refl, refl, cc)
+use Rattle.inp_record.proofs.Options.{push_get, unrefused}
 
 -- what is read has the length of a record and a moment within its limit
 pub decoded_is : (t : ℕ) (bytes : List ℕ) (p : Event × ℕ) → decoded t bytes ≡ Ok p → (record_len t ≤ length bytes) × (p.1 ≤ MOMENT_MAX)
 decoded_is t bytes p e =
-    let h = not_refused (nat_lt (length bytes) (record_len t)) (nat_le 1000000 (microseconds_of t bytes) || nat_lt MOMENT_MAX (moment_in t bytes)) (event_in (drop (2 * t) bytes), moment_in t bytes) p e in
-    let late : nat_lt MOMENT_MAX (moment_in t bytes) ≡ false = (or_parts (nat_le 1000000 (microseconds_of t bytes)) (nat_lt MOMENT_MAX (moment_in t bytes)) h.1).1 in
-    let same : moment_in t bytes ≡ p.1 = ap (λ (q : Event × ℕ). q.1) h.2 in
-    within_is (length bytes) (record_len t) p.1 h.0 (rw same at late)
-  where
-    within_is : (count least moment : ℕ) → nat_lt count least ≡ false → nat_lt MOMENT_MAX moment ≡ false → (least ≤ count) × (moment ≤ MOMENT_MAX)
-    within_is count least moment a b = (grind (arith, nat_tests), grind (arith, nat_tests))
+    let moment : ℕ = moment_in t bytes in
+    let bad : Bool = nat_le 1000000 (microseconds_of t bytes) in
+    let long = unrefused (nat_lt (length bytes) (record_len t)) Short _ p e in
+    let good = unrefused (bad || nat_lt MOMENT_MAX moment) BadTime _ p long.1 in
+    let is : (event_in (drop (2 * t) bytes), moment) ≡ p = cc good.1 in
+    let early = ltb-false MOMENT_MAX moment (or_parts bad (nat_lt MOMENT_MAX moment) good.0).1 in
+    (ltb-false (length bytes) (record_len t) long.0, subst (λ (q : Event × ℕ). q.1 ≤ MOMENT_MAX) is early)
 
 abbrev pub stamp_of : Event × ℕ → Stamped
 stamp_of p = record { event = p.0; now = p.1 }
@@ -102,10 +97,7 @@ stream_all p (x ∷ lines) (suc i) l k g s h = stream_all p lines i l k g s (and
 pub stream_within : (lines : List Line) (n i : ℕ) (l : Line) (k : ℕ) → slice_get lines i ≡ Some l → first_of (stream_of l.command) ≡ Some k → streams_of lines ≡ range_with_len 0 n → k < n
 stream_within lines n i l k g s e =
     let all : list_all (λ j. nat_lt j (0 + n)) (streams_of lines) ≡ true = ap (list_all (λ j. nat_lt j (0 + n))) e ∙ below 0 n in
-    is_below k n (stream_all (λ j. nat_lt j (0 + n)) lines i l k g s all)
-  where
-    is_below : (k n : ℕ) → nat_lt k (0 + n) ≡ true → k < n
-    is_below k n h = grind (arith, nat_tests)
+    omega (arith, ltb-true k (0 + n) (stream_all (λ j. nat_lt j (0 + n)) lines i l k g s all))
 
 -- before the first record
 pub none_yet : (means : Option (List Stamped)) → record { read : means ≡ option_map (λ (more : List Stamped). [] ++ more) means; in_time : AreInTime [] }

@@ -1,3 +1,4 @@
+pub mod Runs
 pub mod SightCounts
 pub mod Actors
 pub mod AxisCounts

@@ -3,6 +3,7 @@ ghost use Rattle.inp_report.specs.Examples.{ShowsAPress, ShowsItsHistory, ShowsA
 
 /// What the definitions of this crate make of a few records and of their results, worked out by hand. It does nothing:
 /// its contract is the point.
+#[tactic(auto, unfolding(crate::proofs::Computation::computing))]
 pub fn examples()
     ensures press { ShowsAPress }
     ensures history { ShowsItsHistory }

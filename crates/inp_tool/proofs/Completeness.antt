@@ -53,8 +53,7 @@ each_has files [] [] streams h e = tt
 each_has files (stream ∷ its) (bytes ∷ contents) [] h e = absurd e
 each_has files (stream ∷ its) (bytes ∷ contents) (stamps ∷ streams) h e =
     (record { bytes = bytes; there = h.0; stamps = stamps; means = e.0 }, each_has files its contents streams h.1 e.1)
-each_has files [] (bytes ∷ contents) streams h e = absurd h
-each_has files (stream ∷ its) [] streams h e = absurd h
+each_has files its contents streams h e = absurd h
 
 -- what each stream file has, that of a line has
 at_line : (P : StreamFile → Type 0) (lines : List Line) (i : ℕ) (l : Line) (stream : StreamFile) → Each P (stream_files lines) → slice_get lines i ≡ Some l → file_of l.command ≡ stream ∷ [] → P stream
@@ -67,17 +66,15 @@ at_line P (line ∷ lines) (suc i) l stream h e f = at_line P lines i l stream (
 
 -- a file that is told has one content
 same_bytes : (told : Option (List File)) (files : List File) (name bytes others : List ℕ) → told ≡ Some files → bytes_of files name ≡ Some bytes → HasFile told name others → others ≡ bytes
-same_bytes None files name bytes others e f h = let never : ⊥ = cc e in absurd never
-same_bytes (Some its) files name bytes others e f h =
-    let same : its ≡ files = cc e in
-    let is : bytes_of files name ≡ Some others = subst (λ (x : List File). bytes_of x name ≡ Some others) same h in
+same_bytes told files name bytes others e f h =
+    let P : Option (List File) → Type 0 = λ t. HasFile t name others in
+    let is : bytes_of files name ≡ Some others = subst P e h in
     cc (is, f)
 
 there_is_found : (told : Option (List File)) (files : List File) (name bytes : List ℕ) → told ≡ Some files → bytes_of files name ≡ Some bytes → IsMissing told name → ⊥
-there_is_found None files name bytes e f h = h
-there_is_found (Some its) files name bytes e f h =
-    let same : its ≡ files = cc e in
-    let is : bytes_of files name ≡ None = subst (λ (x : List File). bytes_of x name ≡ None) same h in
+there_is_found told files name bytes e f h =
+    let P : Option (List File) → Type 0 = λ t. IsMissing t name in
+    let is : bytes_of files name ≡ None = subst P e h in
     cc (is, f)
 
 there_is_within : (told : Option (List File)) (files : List File) (name bytes : List ℕ) → told ≡ Some files → IsThere files name bytes → HasLongerFile told name INPUT_LIMIT → ⊥
@@ -92,10 +89,9 @@ same_contents r files (stream ∷ streams) (bytes ∷ contents) (its ∷ others)
     let first : its ≡ bytes = same_bytes r.files files stream.name bytes its e (h.0).file ((k.0).whole told) in
     let more : others ≡ contents = same_contents r files streams contents others e told h.1 k.1 in
     cc (first, more)
-same_contents r files [] (bytes ∷ contents) others e told h k = absurd h
-same_contents r files (stream ∷ streams) [] others e told h k = absurd h
 same_contents r files [] [] (its ∷ others) e told h k = absurd k
 same_contents r files (stream ∷ streams) (bytes ∷ contents) [] e told h k = absurd k
+same_contents r files streams contents others e told h k = absurd h
 
 -- files with the same contents hold the same events
 same_streams : (files : List StreamFile) (contents : List (List ℕ)) (streams others : List (List Stamped)) → HoldEvents files contents streams → HoldEvents files contents others → streams ≡ others
@@ -105,11 +101,8 @@ same_streams (f ∷ files) (b ∷ contents) (s ∷ streams) (t ∷ others) h k =
     let more = same_streams files contents streams others h.1 k.1 in
     cc (first, more)
 same_streams [] [] [] (t ∷ others) h k = absurd k
-same_streams [] [] (s ∷ streams) others h k = absurd h
-same_streams [] (b ∷ contents) streams others h k = absurd h
-same_streams (f ∷ files) [] streams others h k = absurd h
-same_streams (f ∷ files) (b ∷ contents) [] others h k = absurd h
 same_streams (f ∷ files) (b ∷ contents) (s ∷ streams) [] h k = absurd k
+same_streams files contents streams others h k = absurd h
 
 -- a count that did not rise though it can
 no_rise : (before after : ℕ) → IsFaultless before after → RoseUnlessSaturated before after → ⊥
@@ -146,11 +139,12 @@ module _ (r : Reads) (file : List ℕ) (recorded : RecordView) (readable : IsRea
       (has.bytes, subst P h.is_name has.there)
 
   not_unread : (name : List ℕ) → IsNext r file name → IsUnread r name → ⊥
-  not_unread name next h = by_fault h.fault
-    where
-      by_fault : RoseUnlessSaturated r.before.faults r.after.faults ⊎ IsMissing r.files name → ⊥
-      by_fault (inl rose) = no_rise r.before.faults r.after.faults faultless rose
-      by_fault (inr missing) = let is = next_there name next in there_is_found r.files readable.files name is.0 readable.told_files is.1.file missing
+  not_unread name next h = elim h.fault [
+    | inl rose ↦ no_rise r.before.faults r.after.faults faultless rose
+    | inr missing ↦
+        let is = next_there name next in
+        there_is_found r.files readable.files name is.0 readable.told_files is.1.file missing
+  ]
 
   not_too_long : (name : List ℕ) → IsNext r file name → IsTooLong r name → ⊥
   not_too_long name next h =
@@ -204,9 +198,7 @@ IsReached Usage = ⊥
 IsReached Unread = ⊥
 IsReached TooLong = ⊥
 IsReached (Refused refused text) = ⊥
-IsReached NoMemory = Unit {0}
-IsReached (WasPlayed played text) = Unit {0}
-IsReached (Migrated text) = Unit {0}
+IsReached _ = Unit {0}
 
 -- a record that is there was not refused
 reached : (words : Arguments) (r : Reads) (found : Outcome) (file : List ℕ) (recorded : RecordView) → NameFile words file → IsReadable r file recorded
@@ -224,18 +216,12 @@ reached words r (Refused refused text) file recorded named readable stays faultl
     let same = same_file words file h.file named h.named in
     let P : List ℕ → Type 0 = λ f. HasBadText r f refused ⊎ HasBadStream r f refused in
     not_refused r file recorded readable stays faultless refused (subst P same h.why)
-reached words r NoMemory file recorded named readable stays faultless h = tt
-reached words r (WasPlayed played text) file recorded named readable stays faultless h = tt
-reached words r (Migrated text) file recorded named readable stays faultless h = tt
+reached words r found file recorded named readable stays faultless h = tt
 
 -- a record that is there was played, or memory ran out
 by_outcome : (words : Arguments) (r : Reads) (w : Writes) (end : End) (found : Outcome) (file : List ℕ) (history : Bool) (idle : Option ℕ) (recorded : RecordView) → AskFor words file history idle → IsReadable r file recorded
     → is_some r.after.left ≡ is_some r.before.left → IsFaultless r.before.faults r.after.faults → IsReached found → HasCause words r found → IsWrittenWhole w found end
     → (end.status ≡ 5) ⊎ IsTold w idle recorded (whole_report recorded history) end
-by_outcome words r w end Usage file history idle recorded asked readable stays faultless there h whole = absurd there
-by_outcome words r w end Unread file history idle recorded asked readable stays faultless there h whole = absurd there
-by_outcome words r w end TooLong file history idle recorded asked readable stays faultless there h whole = absurd there
-by_outcome words r w end (Refused refused text) file history idle recorded asked readable stays faultless there h whole = absurd there
 by_outcome words r w end NoMemory file history idle recorded asked readable stays faultless there h whole = inl whole.ended.status
 by_outcome words r w end (WasPlayed played text) file history idle recorded asked readable stays faultless there (inl h) whole =
     let same = same_file words file h.file (plays_file words file history idle asked) (plays_file words h.file h.history h.idle h.asked) in
@@ -249,15 +235,12 @@ by_outcome words r w end (WasPlayed played text) file history idle recorded aske
     (same_played end played whole.ended.runs whole.ended.joys whole.ended.owners) whole.ended.status whole.written)
 by_outcome words r w end (WasPlayed played text) file history idle recorded asked readable stays faultless there (inr h) whole = let never : ⊥ = cc (h.asked, asked) in absurd never
 by_outcome words r w end (Migrated text) file history idle recorded asked readable stays faultless there h whole = let never : ⊥ = cc (h.asked, asked) in absurd never
+by_outcome words r w end _ file history idle recorded asked readable stays faultless there h _ = absurd there
 
 -- a record that is there was upgraded, or memory ran out
 by_outcome_migrated : (words : Arguments) (r : Reads) (w : Writes) (end : End) (found : Outcome) (file : List ℕ) (recorded : RecordView) → requested words ≡ Some (Migrate file) → IsReadable r file recorded
     → is_some r.after.left ≡ is_some r.before.left → IsFaultless r.before.faults r.after.faults → IsReached found → HasCause words r found → IsWrittenWhole w found end
     → (end.status ≡ 5) ⊎ IsRewritten w recorded end
-by_outcome_migrated words r w end Usage file recorded asked readable stays faultless there h whole = absurd there
-by_outcome_migrated words r w end Unread file recorded asked readable stays faultless there h whole = absurd there
-by_outcome_migrated words r w end TooLong file recorded asked readable stays faultless there h whole = absurd there
-by_outcome_migrated words r w end (Refused refused text) file recorded asked readable stays faultless there h whole = absurd there
 by_outcome_migrated words r w end NoMemory file recorded asked readable stays faultless there h whole = inl whole.ended.status
 by_outcome_migrated words r w end (WasPlayed played text) file recorded asked readable stays faultless there (inl h) whole = let never : ⊥ = cc (h.asked, asked) in absurd never
 by_outcome_migrated words r w end (WasPlayed played text) file recorded asked readable stays faultless there (inr h) whole = let never : ⊥ = cc (h.asked, asked) in absurd never
@@ -268,14 +251,12 @@ by_outcome_migrated words r w end (Migrated text) file recorded asked readable s
     let says : text.items ≡ record_text (upgraded recorded) = h.says ∙ ap (λ (x : RecordView). record_text (upgraded x)) its in
     let Q : List ℕ → Type 0 = λ t. Appends t w.before.written w.after.written in
     inr (record { status = whole.ended.status; runs = whole.ended.runs; joys = whole.ended.joys; owners = whole.ended.owners; written = subst Q says whole.written })
+by_outcome_migrated words r w end found file recorded asked readable stays _ there h whole = absurd there
 
 -- a record that was to be made was played, or memory ran out
 by_outcome_made : (words : Arguments) (r : Reads) (w : Writes) (end : End) (found : Outcome) (number count : ℕ) → requested words ≡ Some (Make number count) → HasCause words r found → IsWrittenWhole w found end
     → (end.status ≡ 5) ⊎ IsTold w None (generated number count) (made_summary number count) end
 by_outcome_made words r w end Usage number count asked h whole = let never : ⊥ = cc (h.refused, asked) in absurd never
-by_outcome_made words r w end Unread number count asked h whole = absurd (made_names_none words number count h.file asked h.named)
-by_outcome_made words r w end TooLong number count asked h whole = absurd (made_names_none words number count h.file asked h.named)
-by_outcome_made words r w end (Refused refused text) number count asked h whole = absurd (made_names_none words number count h.file asked h.named)
 by_outcome_made words r w end NoMemory number count asked h whole = inl whole.ended.status
 by_outcome_made words r w end (WasPlayed played text) number count asked (inl h) whole = let never : ⊥ = cc (h.asked, asked) in absurd never
 by_outcome_made words r w end (Migrated text) number count asked h whole = let never : ⊥ = cc (h.asked, asked) in absurd never
@@ -285,45 +266,50 @@ by_outcome_made words r w end (WasPlayed played text) number count asked (inr h)
     let C : ℕ → ℕ → Type 0 = λ x y. CameOf None (generated x y) played × (text.items ≡ made_summary x y played) in
     let here : C number count = subst (λ (y : ℕ). C number y) c (subst (λ (x : ℕ). C x h.count) n (h.came, h.says)) in
     inr (is_told w None (generated number count) (made_summary number count) played text.items end here.0 here.1 (same_played end played whole.ended.runs whole.ended.joys whole.ended.owners) whole.ended.status whole.written)
+by_outcome_made words r w end found number count asked h whole =
+    absurd (made_names_none words number count h.file asked h.named)
+
+-- where no write failed, what was found was written whole
+written_whole : (w : Writes) (found : Outcome) (end : End) → IsFaultless w.before.faults w.after.faults
+    → IsWritten w found end → IsWrittenWhole w found end
+written_whole w found end none (inl whole) = whole
+written_whole w found end none (inr part) = absurd (no_rise w.before.faults w.after.faults none part.fault)
 
 when_read : (words : Arguments) (r : Reads) (w : Writes) (end : End) (p : Promise words r w end) → is_some r.after.left ≡ is_some r.before.left → (file : List ℕ) (history : Bool) (idle : Option ℕ) (recorded : RecordView)
     → AskFor words file history idle → IsReadable r file recorded → IsFaultless r.before.faults r.after.faults → IsFaultless w.before.faults w.after.faults
     → (end.status ≡ 5) ⊎ IsTold w idle recorded (whole_report recorded history) end
-when_read words r w end p stays file history idle recorded asked readable no_read no_write = by_writing p.written
-  where
-    by_writing : IsWritten w p.found end → (end.status ≡ 5) ⊎ IsTold w idle recorded (whole_report recorded history) end
-    by_writing (inl whole) =
-        by_outcome words r w end p.found file history idle recorded asked readable stays no_read
-        (reached words r p.found file recorded (plays_file words file history idle asked) readable stays no_read p.cause) p.cause whole
-    by_writing (inr part) = absurd (no_rise w.before.faults w.after.faults no_write part.fault)
+when_read words r w end p stays file history idle recorded asked readable no_read no_write =
+    let named = plays_file words file history idle asked in
+    by_outcome words r w end p.found file history idle recorded asked readable stays no_read
+    (reached words r p.found file recorded named readable stays no_read p.cause) p.cause
+    (written_whole w p.found end no_write p.written)
 
 when_migrated : (words : Arguments) (r : Reads) (w : Writes) (end : End) (p : Promise words r w end) → is_some r.after.left ≡ is_some r.before.left → (file : List ℕ) (recorded : RecordView)
     → requested words ≡ Some (Migrate file) → IsReadable r file recorded → IsFaultless r.before.faults r.after.faults → IsFaultless w.before.faults w.after.faults
     → (end.status ≡ 5) ⊎ IsRewritten w recorded end
-when_migrated words r w end p stays file recorded asked readable no_read no_write = by_writing p.written
-  where
-    by_writing : IsWritten w p.found end → (end.status ≡ 5) ⊎ IsRewritten w recorded end
-    by_writing (inl whole) =
-        by_outcome_migrated words r w end p.found file recorded asked readable stays no_read
-        (reached words r p.found file recorded (migrates_file words file asked) readable stays no_read p.cause) p.cause whole
-    by_writing (inr part) = absurd (no_rise w.before.faults w.after.faults no_write part.fault)
+when_migrated words r w end p stays file recorded asked readable no_read no_write =
+    let named = migrates_file words file asked in
+    by_outcome_migrated words r w end p.found file recorded asked readable stays no_read
+    (reached words r p.found file recorded named readable stays no_read p.cause) p.cause
+    (written_whole w p.found end no_write p.written)
 
 when_made : (words : Arguments) (r : Reads) (w : Writes) (end : End) (p : Promise words r w end) → (number count : ℕ) → requested words ≡ Some (Make number count) → IsFaultless w.before.faults w.after.faults
     → (end.status ≡ 5) ⊎ IsToldWhole w number count end
-when_made words r w end p number count asked no_write = of_told (by_writing p.written)
-  where
-    of_told : (end.status ≡ 5) ⊎ IsTold w None (generated number count) (made_summary number count) end → (end.status ≡ 5) ⊎ IsToldWhole w number count end
-    of_told (inl lacks) = inl lacks
-    of_told (inr told) = inr (record {
-      told = told;
-      status = told.status ∙ ap (λ (full : Bool). if full then 6 else 0) (asked-not_full words number count (played_by end) asked (told.came.in_order refl) told.came.promised.joys_of told.came.promised.owners_of);
-      joys = made-no_joys number count end.joys told.came.promised.joys_of;
-      owners = made-no_owners number count end.owners told.came.promised.owners_of;
-    })
-
-    by_writing : IsWritten w p.found end → (end.status ≡ 5) ⊎ IsTold w None (generated number count) (made_summary number count) end
-    by_writing (inl whole) = by_outcome_made words r w end p.found number count asked p.cause whole
-    by_writing (inr part) = absurd (no_rise w.before.faults w.after.faults no_write part.fault)
+when_made words r w end p number count asked no_write =
+    let whole = written_whole w p.found end no_write p.written in
+    elim (by_outcome_made words r w end p.found number count asked p.cause whole) [
+      | inl lacks ↦ inl lacks
+      | inr told ↦
+          let promised = told.came.promised in
+          let full = asked-not_full words number count (played_by end) asked (told.came.in_order refl)
+              promised.joys_of promised.owners_of in
+          inr (record {
+            told = told;
+            status = told.status ∙ ap (λ (full : Bool). if full then 6 else 0) full;
+            joys = made-no_joys number count end.joys promised.joys_of;
+            owners = made-no_owners number count end.owners promised.owners_of;
+          })
+    ]
 
 pub complete : (words : Arguments) (r : Reads) (w : Writes) (end : End) → Promise words r w end → is_some r.after.left ≡ is_some r.before.left → IsComplete words r w end
 complete words r w end p stays = record { read = when_read words r w end p stays; migrated = when_migrated words r w end p stays; made = when_made words r w end p }

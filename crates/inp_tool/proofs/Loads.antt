@@ -37,18 +37,12 @@ events_more : (files : List StreamFile) (contents : List (List ℕ)) (streams : 
     → HoldEvents (files ++ file ∷ []) (contents ++ bytes ∷ []) (streams ++ stamps ∷ [])
 events_more [] [] [] file bytes stamps all one = (one, tt)
 events_more (f ∷ files) (b ∷ contents) (s ∷ streams) file bytes stamps all one = (all.0, events_more files contents streams file bytes stamps all.1 one)
-events_more [] [] (s ∷ streams) file bytes stamps all one = absurd all
-events_more [] (b ∷ contents) streams file bytes stamps all one = absurd all
-events_more (f ∷ files) [] streams file bytes stamps all one = absurd all
-events_more (f ∷ files) (b ∷ contents) [] file bytes stamps all one = absurd all
+events_more files contents streams file bytes stamps all one = absurd all
 
 same_length : (files : List StreamFile) (contents : List (List ℕ)) (streams : List (List Stamped)) → HoldEvents files contents streams → length contents ≡ length streams
 same_length [] [] [] all = refl
 same_length (f ∷ files) (b ∷ contents) (s ∷ streams) all = ap suc (same_length files contents streams all.1)
-same_length [] [] (s ∷ streams) all = absurd all
-same_length [] (b ∷ contents) streams all = absurd all
-same_length (f ∷ files) [] streams all = absurd all
-same_length (f ∷ files) (b ∷ contents) [] all = absurd all
+same_length files contents streams all = absurd all
 
 -- the events that a line takes are those that its file holds
 events_at-file : (r : RecordView) (line : ℕ) (file : StreamFile) (bytes : List ℕ) → TakesFiles r line (file ∷ []) → events_at r line bytes ≡ events_in file bytes

@@ -2,7 +2,8 @@
 use Rattle.std.proofs.Common.{◌≡◌, ◌≤◌, ℕ, zero, suc, ◌+◌, ◌*◌, ◌%◌, nat_eq, Bool, true, false, if◌then◌else◌, ◌||◌, List, [], ◌∷◌, ◌++◌, map, length, refl, sym, ap, subst, ◌∙◌, arith, Option, Some, None}
 use Rattle.std.specs.Prelude.{◌&&◌, codes, nat_le, filter, slice_get, flat_map, option_and_then}
 use Rattle.std.specs.List.{enumerate_from, range_with_len}
-use Rattle.std.proofs.lemmas.Bool.{ne_eqb}
+use Rattle.std.proofs.lemmas.Bool.{ne_eqb, cond_both, and_parts, leb-true}
+use Rattle.std.proofs.lemmas.Option.{option_and_then_some, cond_some}
 use Rattle.std.proofs.lemmas.Bool.Decides.{nat_tests}
 use Rattle.inp_args.specs.declared.request.Request.TheVariants.{Make}
 use Rattle.inp_args.specs.Command.{is_taken, is_given, found_text}
@@ -69,11 +70,12 @@ adds-events r frame (e ∷ es) =
     (adds-line r pad (length es) 1 (injected frame e) (map (injected frame) es) (event-bound pad (frame_moment frame) e.kind e.code e.value) (adds-events r frame es))
 
 adds-follows : (r : RecordView) (frame : ℕ) → Adds r pad 22 (follows frame)
-adds-follows r frame = adds-line r pad 11 11 (line fast command.Follow) _ following (by_flag (nat_eq (frame % 10) 9))
-  where
-    by_flag : (b : Bool) → Adds r pad 11 (if b then line mid command.Follow ∷ [] else [])
-    by_flag true = adds-line r pad 0 11 (line mid command.Follow) [] following (adds-none r pad)
-    by_flag false = adds-more r pad 0 11 [] (omega arith) (adds-none r pad)
+adds-follows r frame =
+    let mid_line : List Line = line mid command.Follow ∷ [] in
+    adds-line r pad 11 11 (line fast command.Follow) _ following
+    (cond_both (nat_eq (frame % 10) 9) mid_line [] (λ (ls : List Line). Adds r pad 11 ls)
+    (λ _. adds-line r pad 0 11 (line mid command.Follow) [] following (adds-none r pad))
+    (λ _. adds-more r pad 0 11 [] (omega arith) (adds-none r pad)))
 
 first-events : (number : ℕ) → length (frame_events number 0) ≡ 42
 unfolding frame_events touches finger_events
@@ -153,26 +155,22 @@ no_full_end a none = by_role a.role
     goes_on = ap (λ (s : Option Stop). is_stopped_full (last_stop s)) none
 
     by_role : (role : Role) → is_full_end (ended_as role a) ≡ false
-    by_role Source = goes_on
-    by_role Client = goes_on
-    by_role Tap = goes_on
-    by_role Joy = goes_on
     by_role Owner = refl
+    by_role role = goes_on
 
 -- one more that did not
 no_more_full : (ended : Ended) (ends : List Ended) → is_full_end ended ≡ false → has_full_job (jobs_among ends) ≡ false → has_full_job (jobs_among (ended ∷ ends)) ≡ false
 no_more_full (JobEnded job) ends first more = ap (λ (x : Bool). x || has_full_job (jobs_among ends)) first ∙ more
-no_more_full (JoyEnded joy) ends first more = more
-no_more_full (OwnerEnded owner) ends first more = more
+no_more_full ended ends first more = more
 
 no_full_job : (p : ActorView → Bool) (actors : List ActorView) → ((i : ℕ) (a : ActorView) → slice_get actors i ≡ Some a → a.job.stop ≡ None) → has_full_job (jobs_among (map ended_of (filter p actors))) ≡ false
 no_full_job p [] none = refl
-no_full_job p (a ∷ actors) none = by_flag (p a) (no_full_end a (none 0 a refl)) (no_full_job p actors (λ i b h. none (suc i) b h))
-  where
-    by_flag : (b : Bool) → is_full_end (ended_of a) ≡ false → has_full_job (jobs_among (map ended_of (filter p actors))) ≡ false
-        → has_full_job (jobs_among (map ended_of (if b then a ∷ filter p actors else filter p actors))) ≡ false
-    by_flag true first more = no_more_full (ended_of a) (map ended_of (filter p actors)) first more
-    by_flag false first more = more
+no_full_job p (a ∷ actors) none =
+    let P : List ActorView → Type 0 = λ xs. has_full_job (jobs_among (map ended_of xs)) ≡ false in
+    let more = no_full_job p actors (λ i b h. none (suc i) b h) in
+    cond_both (p a) (a ∷ filter p actors) (filter p actors) P
+    (λ _. no_more_full (ended_of a) (map ended_of (filter p actors)) (no_full_end a (none 0 a refl)) more)
+    (λ _. more)
 
 -- the runs of these devices
 abbrev runs_among : List DeviceEnds → List Run
@@ -203,43 +201,26 @@ made-not_full number count played least most is joys owners =
 
 made_count : (number count : ℕ) (a b : Option ℕ) → make_request a b ≡ Some (Make number count) → b ≡ Some count
 made_count number count (Some x) (Some y) h = cc
-made_count number count (Some x) None h = absurd cc
-made_count number count None b h = absurd cc
+made_count number count a b h = absurd cc
 
 read_count : (count : ℕ) (text : Option (List ℕ)) → count_of text ≡ Some count → (1 ≤ count) × (count ≤ 10000)
 read_count count None h = let same : 100 ≡ count = cc in (omega arith, omega arith)
-read_count count (Some text) h = by_number (number_of text) h
-  where
-    by_flag : (n : ℕ) (b : Bool) → (nat_le 1 n && nat_le n 10000) ≡ b → (if b then Some n else None) ≡ Some count → (1 ≤ count) × (count ≤ 10000)
-    by_flag n true is e =
-        let same : n ≡ count = cc in
-        let low : 1 ≤ n = grind (arith, nat_tests, is) in
-        let high : n ≤ 10000 = grind (arith, nat_tests, is) in
-        (omega arith, omega arith)
-    by_flag n false is e = absurd cc
-
-    by_number : (o : Option ℕ) → option_and_then (λ (n : ℕ). if nat_le 1 n && nat_le n 10000 then Some n else None) o ≡ Some count → (1 ≤ count) × (count ≤ 10000)
-    by_number None e = absurd cc
-    by_number (Some n) e = by_flag n (nat_le 1 n && nat_le n 10000) refl e
+read_count count (Some text) h =
+    let within : ℕ → Option ℕ = λ n. if nat_le 1 n && nat_le n 10000 then Some n else None in
+    option_and_then_some within (number_of text) count h (λ n is e.
+    let found = cond_some (nat_le 1 n && nat_le n 10000) n count e in
+    let range = and_parts (nat_le 1 n) (nat_le n 10000) found.0 in
+    (omega (arith, leb-true 1 n range.0, found.1), omega (arith, leb-true n 10000 range.1, found.1)))
 
 asked_count : (number count : ℕ) (file make text : Option (List ℕ)) (history : Bool) (idle : Option ℕ) → request_of file make text history idle ≡ Some (Make number count) → (1 ≤ count) × (count ≤ 10000)
 asked_count number count (Some file) None None history idle h = absurd cc
 asked_count number count None (Some make) text false None h = read_count count text (made_count number count (number_of make) (count_of text) h)
-asked_count number count None (Some make) text false (Some n) h = absurd cc
-asked_count number count None (Some make) text true idle h = absurd cc
-asked_count number count None None text history idle h = absurd cc
-asked_count number count (Some file) (Some make) text history idle h = absurd cc
-asked_count number count (Some file) None (Some text) history idle h = absurd cc
+asked_count number count file make text history idle h = absurd cc
 
 -- no record is made where one is migrated
 migrates_none : (number count : ℕ) (file make text bound : Option (List ℕ)) (history threads : Bool) → migration_of file make text bound history threads ≡ Some (Make number count) → ⊥
 migrates_none number count (Some file) None None None false false h = cc
-migrates_none number count (Some file) None None None false true h = cc
-migrates_none number count (Some file) None None None true threads h = cc
-migrates_none number count (Some file) None None (Some bound) history threads h = cc
-migrates_none number count (Some file) None (Some text) bound history threads h = cc
-migrates_none number count (Some file) (Some make) text bound history threads h = cc
-migrates_none number count None make text bound history threads h = cc
+migrates_none number count file make text bound history threads h = cc
 
 by_migrate : (number count : ℕ) (file make text bound : Option (List ℕ)) (history threads migrate : Bool) (idle : Option ℕ)
     → (if migrate then migration_of file make text bound history threads else request_of file make text history idle) ≡ Some (Make number count) → (1 ≤ count) × (count ≤ 10000)

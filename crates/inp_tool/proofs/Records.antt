@@ -34,8 +34,7 @@ ran_out_behind r name bytes h = record { no_fault = h.no_fault; within = omega (
 last_within : (r : Reads) (first : List ℕ) (streams : List StreamFile) (contents : List (List ℕ)) → length first ≤ INPUT_LIMIT → AreRead r streams contents → length (last_contents first contents) ≤ INPUT_LIMIT
 last_within r first [] [] h are = h
 last_within r first (stream ∷ streams) (next ∷ contents) h are = last_within r next streams contents are.0.within are.1
-last_within r first [] (next ∷ contents) h are = absurd are
-last_within r first (stream ∷ streams) [] h are = absurd are
+last_within r first streams contents h are = absurd are
 
 takes_files : (old : RecordView) (line : ℕ) (l : Line) (stream : StreamFile) → slice_get old.lines line ≡ Some l → file_of l.command ≡ stream ∷ [] → TakesFiles old line (stream ∷ [])
 takes_files old line l stream e f =

@@ -26,8 +26,7 @@ module _ (files : Option (List File)) (before middle after : InputView) (told : 
   pub are_read_on : (streams : List StreamFile) (contents : List (List ℕ)) → AreRead (span files before middle) streams contents → AreRead (span files before after) streams contents
   are_read_on [] [] h = tt
   are_read_on (file ∷ streams) (bytes ∷ contents) h = (is_read_on file.name bytes h.0, are_read_on streams contents h.1)
-  are_read_on [] (bytes ∷ contents) h = absurd h
-  are_read_on (file ∷ streams) [] h = absurd h
+  are_read_on streams contents h = absurd h
 
 -- what is read does not depend on what was before
 pub is_read_from : (files : Option (List File)) (before middle after : InputView) (name bytes : List ℕ) → IsRead (span files middle after) name bytes → IsRead (span files before after) name bytes
@@ -36,20 +35,17 @@ is_read_from files before middle after name bytes h = record { found = h.found; 
 pub are_read_from : (files : Option (List File)) (before middle after : InputView) (streams : List StreamFile) (contents : List (List ℕ)) → AreRead (span files middle after) streams contents → AreRead (span files before after) streams contents
 are_read_from files before middle after [] [] h = tt
 are_read_from files before middle after (file ∷ streams) (bytes ∷ contents) h = (is_read_from files before middle after file.name bytes h.0, are_read_from files before middle after streams contents h.1)
-are_read_from files before middle after [] (bytes ∷ contents) h = absurd h
-are_read_from files before middle after (file ∷ streams) [] h = absurd h
+are_read_from files before middle after streams contents h = absurd h
 
 pub are_read_push : (r : Reads) (streams : List StreamFile) (contents : List (List ℕ)) (file : StreamFile) (bytes : List ℕ) → AreRead r streams contents → IsRead r file.name bytes → AreRead r (streams ++ file ∷ []) (contents ++ bytes ∷ [])
 are_read_push r [] [] file bytes h one = (one, tt)
 are_read_push r (n ∷ streams) (b ∷ contents) file bytes h one = (h.0, are_read_push r streams contents file bytes h.1 one)
-are_read_push r [] (b ∷ contents) file bytes h one = absurd h
-are_read_push r (n ∷ streams) [] file bytes h one = absurd h
+are_read_push r streams contents file bytes h one = absurd h
 
 pub are_read_length : (r : Reads) (streams : List StreamFile) (contents : List (List ℕ)) → AreRead r streams contents → length streams ≡ length contents
 are_read_length r [] [] h = refl
 are_read_length r (n ∷ streams) (b ∷ contents) h = ap suc (are_read_length r streams contents h.1)
-are_read_length r [] (b ∷ contents) h = absurd h
-are_read_length r (n ∷ streams) [] h = absurd h
+are_read_length r streams contents h = absurd h
 
 pub last_of_push : (first : List ℕ) (contents : List (List ℕ)) (bytes : List ℕ) → last_contents first (contents ++ bytes ∷ []) ≡ bytes
 last_of_push first [] bytes = refl

@@ -21,7 +21,6 @@ use Rattle.inp_tool.specs.Streams.{StreamFile, file_of, stream_files, events_in}
 pub one_stream : (c : Command) (file : StreamFile) → file_of c ≡ file ∷ [] → (index : ℕ) × (stream_of c ≡ index ∷ [])
 one_stream (Stream name index) file h = (index, refl)
 one_stream (Stream16 name index) file h = (index, refl)
-one_stream Open file h = absurd (cc h)
 one_stream _ file h = absurd (cc h)
 
 -- a command takes the events that its file holds
@@ -30,12 +29,9 @@ stamps_of_command-file (Stream name index) file bytes h =
     let its : StreamFile = record { name = name; form = Wide } in let same : its ≡ file = cc h in ap (λ (f : StreamFile). events_in f bytes) same
 stamps_of_command-file (Stream16 name index) file bytes h =
     let its : StreamFile = record { name = name; form = Narrow } in let same : its ≡ file = cc h in ap (λ (f : StreamFile). events_in f bytes) same
-stamps_of_command-file Open file bytes h = absurd (cc h)
 stamps_of_command-file _ file bytes h = absurd (cc h)
 
 pub as_many : (c : Command) → length (stream_of c) ≡ length (file_of c)
-as_many (Stream name index) = refl
-as_many (Stream16 name index) = refl
 as_many Open = refl
 as_many _ = refl
 
