@@ -5,7 +5,7 @@ use Rattle.inp_actors.specs.declared.record.TheConstants.{VERSION_MAX}
 use Rattle.inp_script.specs.declared.run.Played.{Played}
 use Rattle.inp_runs.specs.Play.{IsPlay}
 use Rattle.inp_runs.specs.Job.{ArePromised}
-use Rattle.inp_canon.specs.Text.{record_text}
+use Rattle.inp_record.specs.canon.Text.{record_text}
 use Rattle.inp_report.specs.Whole.{whole_report}
 use Rattle.inp_c.specs.declared.kept.Kept.{Kept}
 use Rattle.inp_c.specs.declared.kept_record.KeptRecord.{KeptRecord}

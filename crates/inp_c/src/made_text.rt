@@ -1,6 +1,6 @@
 //! The texts that are made of a record, for C: its report, and the record in the newest version of its text.
 ghost use Rattle.std.specs.Prelude.{◌≡◌, ◌≢◌, IfOk, Some};
-ghost use Rattle.inp_canon.specs.Text.{record_text};
+ghost use Rattle.inp_record.specs.canon.Text.{record_text};
 ghost use Rattle.inp_c.specs.declared.made.Made.TheVariants.{Report, Newest};
 ghost use Rattle.inp_c.specs.Contents.{contents};
 ghost use Rattle.inp_c.specs.MadeText.{has_history, in_newest, IsMadeStatus, IsReport, IsTextOf, IsToldMade};

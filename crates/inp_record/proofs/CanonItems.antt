@@ -6,9 +6,9 @@ use Rattle.std.proofs.lemmas.Bool.{cond-false, not-false}
 use Rattle.inp_model.specs.declared.event.TheConstants.{EV_ABS}
 use Rattle.inp_model.specs.declared.axis_info.AxisInfo.{AxisInfo}
 use Rattle.inp_texts.specs.Texts.{code_text, role_text}
-use Rattle.inp_canon.specs.Words.{Words, lines_text}
-use Rattle.inp_canon.specs.Device.{fuzz_words, axis_words, filter_words, info_words as info_text}
-use Rattle.inp_canon.specs.Text.{device_word, name_of_actor}
+use Rattle.inp_record.specs.canon.Words.{Words, lines_text}
+use Rattle.inp_record.specs.canon.Device.{fuzz_words, axis_words, filter_words, info_words as info_text}
+use Rattle.inp_record.specs.canon.Text.{device_word, name_of_actor}
 use Rattle.inp_actors.specs.declared.actor_text.ActorText.{ActorText}
 use Rattle.inp_record.specs.declared.cause.Cause.TheVariants.{BadHeader, OutOfPlace, BadCommand, Twice, TooMany, Caps}
 use Rattle.inp_record.specs.declared.item.Item.{Item}
@@ -35,7 +35,7 @@ use Rattle.inp_record.specs.declared.keyword.Keyword as keyword
 use Rattle.inp_record.specs.declared.keyword.Keyword.TheVariants as keywords
 use Rattle.inp_record.proofs.Sayable.{keyword_for, keyword_for_role, keyword_for_device, keyword_for_filter, is_later_role, is_header_item, is_action_item, is_later_item, acts, IsSayableAction, IsSayable, IsAccepted, after_all, AreAccepted}
 use Rattle.inp_record.proofs.CanonLines.{is_plain, IsPlainLine, ArePlainLines, line_of, lines_cut, line_read, empty_read}
-use Rattle.inp_canon.proofs.WordsAgain.{is_plain-name}
+use Rattle.inp_record.proofs.WordsAgain.{is_plain-name}
 use Rattle.inp_record.proofs.Fields.{version_read}
 use Rattle.inp_record.proofs.Lines.{of_line, plain_read, plain_line}
 use Rattle.inp_record.proofs.Entries.{checked_once}

@@ -15,7 +15,7 @@ use Rattle.inp_model.specs.Description.{Description, no_info, has_kind, has_code
 use Rattle.inp_model.proofs.Descriptions.{get_or-replicate_same}
 use Rattle.inp_caps.specs.Builder.{is_code, with_code, with_axis}
 use Rattle.inp_caps.specs.declared.caps_refused.CapsRefused.TheVariants.{BadCode, BadFilter}
-use Rattle.inp_canon.specs.Device.{coded_kinds}
+use Rattle.inp_record.specs.canon.Device.{coded_kinds}
 use Rattle.inp_record.specs.declared.item.Item.{Item}
 use Rattle.inp_record.specs.declared.item.Item.TheVariants.{Device, Hint, Log, Realtime, Boottime, Slots, Kind, Code, Axis, Filter, Actor, Action}
 use Rattle.inp_record.specs.declared.place.Place.TheVariants.{Describing}

@@ -6,8 +6,8 @@ use Rattle.inp_model.specs.declared.event.TheConstants.{EV_ABS, EV_MAX, KEY_MAX,
 use Rattle.inp_model.specs.declared.filter.Filter as filter
 use Rattle.inp_model.specs.Description.{Description, has_kind, supports}
 use Rattle.inp_actors.specs.declared.actor_text.ActorText.{ActorText}
-use Rattle.inp_canon.specs.Words.{Words}
-use Rattle.inp_canon.specs.Device.{number_lines, slots_lines, kind_lines, kinds_lines, code_lines, codes_lines, coded_kinds, caps_lines, axis_lines, axes_lines, filter_words, filters_lines, plain_lines, description_lines}
+use Rattle.inp_record.specs.canon.Words.{Words}
+use Rattle.inp_record.specs.canon.Device.{number_lines, slots_lines, kind_lines, kinds_lines, code_lines, codes_lines, coded_kinds, caps_lines, axis_lines, axes_lines, filter_words, filters_lines, plain_lines, description_lines}
 use Rattle.inp_record.specs.declared.item.Item.{Item}
 use Rattle.inp_record.specs.declared.item.Item.TheVariants as items
 use Rattle.inp_record.specs.Spelling.{item_words, number_items, slots_items, kind_items, code_items, codes_items, axis_items, plain_items, filter_items, description_items}

@@ -26,3 +26,8 @@ pub mod SayableItems
 pub mod Sections
 pub mod Stamps
 pub mod Texts
+pub mod Filters
+pub mod PlainLines
+pub mod WordsAgain
+pub mod WordsSaid
+pub mod Written

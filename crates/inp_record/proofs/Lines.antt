@@ -4,8 +4,8 @@ use Rattle.std.specs.List.{list_all}
 use Rattle.std.proofs.lemmas.Bool.{and_parts, and_from}
 use Rattle.inp_model.specs.declared.filter.Filter.TheVariants as filters
 use Rattle.inp_texts.specs.Texts.{role_text}
-use Rattle.inp_canon.specs.Words.{Words}
-use Rattle.inp_canon.specs.Device.{fuzz_words, info_words, filter_words}
+use Rattle.inp_record.specs.canon.Words.{Words}
+use Rattle.inp_record.specs.canon.Device.{fuzz_words, info_words, filter_words}
 use Rattle.inp_actors.specs.declared.role.Role.TheVariants as roles
 use Rattle.inp_actors.specs.declared.actor_text.ActorText.{ActorText}
 use Rattle.inp_record.specs.declared.item.Item.{Item}

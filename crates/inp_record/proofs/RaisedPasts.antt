@@ -1,7 +1,7 @@
 -- The lines of a record, with another version in their header, are accepted again.
 use Rattle.std.proofs.Common.{◌≡◌, ℕ, false, nat_eq, [], ◌∷◌, List, Ok, refl, sym, ap, ◌∙◌, subst, arith}
 use Rattle.inp_actors.specs.Record.{RecordView}
-use Rattle.inp_canon.specs.Text.{record_text}
+use Rattle.inp_record.specs.canon.Text.{record_text}
 use Rattle.inp_record.specs.declared.context.Context.{Context}
 use Rattle.inp_record.specs.declared.item.Item.{Item}
 use Rattle.inp_record.specs.declared.item.Item.TheVariants.{Header, Slots, Action}

@@ -7,9 +7,9 @@ use Rattle.inp_actors.specs.declared.actor_text.ActorText.{ActorText}
 use Rattle.inp_actors.specs.declared.device_text.DeviceText.{DeviceText}
 use Rattle.inp_actors.specs.declared.line.Line.{Line}
 use Rattle.inp_actors.specs.Record.{RecordView}
-use Rattle.inp_canon.specs.Words.{Words, lines_text}
-use Rattle.inp_canon.specs.Device.{description_lines}
-use Rattle.inp_canon.specs.Text.{actor_lines, actors_lines, device_lines, devices_lines, action_words, record_lines, record_text}
+use Rattle.inp_record.specs.canon.Words.{Words, lines_text}
+use Rattle.inp_record.specs.canon.Device.{description_lines}
+use Rattle.inp_record.specs.canon.Text.{actor_lines, actors_lines, device_lines, devices_lines, action_words, record_lines, record_text}
 use Rattle.inp_texts.specs.Line.{lines_of as text_lines}
 use Rattle.inp_record.specs.declared.context.Context.{Context}
 use Rattle.inp_record.specs.declared.item.Item.{Item}

@@ -6,8 +6,8 @@ use Rattle.std.proofs.lemmas.Bool.Decides.{nat_tests}
 use Rattle.inp_model.specs.declared.stamped.TheConstants.{MOMENT_MAX}
 use Rattle.inp_actors.specs.declared.command.TheConstants.{READ_MAX}
 use Rattle.inp_actors.specs.Command.{is_command_of, is_count_of, is_in_range, stream_of}
-use Rattle.inp_canon.specs.Device.{fuzz_words, info_words}
-use Rattle.inp_canon.specs.Command.{command_words}
+use Rattle.inp_record.specs.canon.Device.{fuzz_words, info_words}
+use Rattle.inp_record.specs.canon.Command.{command_words}
 use Rattle.inp_texts.specs.Table.{named}
 use Rattle.inp_record.specs.Field.{made}
 use Rattle.inp_record.specs.Past.{streams_in}
@@ -20,7 +20,7 @@ use Rattle.inp_actors.specs.declared.command.Command as command
 use Rattle.inp_record.specs.declared.verb.Verb as verb
 use Rattle.inp_record.specs.declared.verb.Verb.TheVariants as verbs
 use Rattle.inp_record.proofs.FieldFits.{is_sound, Values, FitsFields, of_values, written}
-use Rattle.inp_canon.specs.Words.{Words}
+use Rattle.inp_record.specs.canon.Words.{Words}
 use Rattle.inp_actors.specs.declared.command.Command.TheVariants as commands
 use Rattle.inp_record.specs.declared.item.Item.{Item}
 use Rattle.inp_record.specs.declared.item.Item.TheVariants as items
@@ -29,7 +29,7 @@ use Rattle.inp_record.specs.Line.{line_row}
 use Rattle.inp_record.specs.Keyword.{keyword_rows, keyword_of, has_words}
 use Rattle.inp_record.specs.Words.{word, command_of, action_by, action_of}
 use Rattle.inp_record.proofs.Fields.{made_read, written_plain, length-written}
-use Rattle.inp_canon.proofs.PlainLines.{IsPlainWord, is_plain}
+use Rattle.inp_record.proofs.PlainLines.{IsPlainWord, is_plain}
 
 -- the command that a row makes of values
 abbrev pub row_command : (row : Row) → Values row.fields → command.Command

@@ -10,7 +10,7 @@ use Rattle.inp_actors.specs.declared.command.Command.TheVariants as commands
 use Rattle.inp_actors.specs.declared.role.Role.TheVariants as roles
 use Rattle.inp_actors.specs.declared.device_text.DeviceText.{DeviceText}
 use Rattle.inp_actors.specs.declared.actor_text.ActorText.{ActorText}
-use Rattle.inp_canon.specs.Examples.{device as described, actor, action, keyboard}
+use Rattle.inp_record.specs.canon.Examples.{device as described, actor, action, keyboard}
 use Rattle.inp_stream.specs.Examples.{press as press_event, press_record, press_record16}
 use Rattle.inp_texts.specs.Texts.{text_of_lines}
 use Rattle.inp_record.specs.declared.cause.Cause.{Cause}

@@ -1,3 +1,4 @@
+pub mod canon
 pub mod Cause
 pub mod Fault
 pub mod Keyword

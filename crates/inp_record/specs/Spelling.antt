@@ -10,9 +10,9 @@ use Rattle.inp_actors.specs.declared.device_text.DeviceText.{DeviceText}
 use Rattle.inp_actors.specs.declared.line.Line as line
 use Rattle.inp_actors.specs.Record.{RecordView}
 use Rattle.inp_texts.specs.Texts.{kind_text, code_text, clock_text, role_text}
-use Rattle.inp_canon.specs.Words.{Words}
-use Rattle.inp_canon.specs.Device.{axis_words, filter_words, coded_kinds}
-use Rattle.inp_canon.specs.Text.{device_word, action_words, record_text}
+use Rattle.inp_record.specs.canon.Words.{Words}
+use Rattle.inp_record.specs.canon.Device.{axis_words, filter_words, coded_kinds}
+use Rattle.inp_record.specs.canon.Text.{device_word, action_words, record_text}
 use Rattle.inp_record.specs.declared.item.Item.{Item}
 use Rattle.inp_record.specs.declared.item.Item.TheVariants.{Header, Device, Hint, Log, Realtime, Boottime, Slots, Kind, Code, Axis, Filter, Actor, Action}
 use Rattle.inp_record.specs.Meaning.{meaning}

@@ -2,8 +2,8 @@
 //!
 //! This crate is for whoever has a record as bytes and wants it as data, or the other way round. [`parse`] reads a
 //! record, or names the first line that has no meaning and its [`Cause`]. [`print`] writes one, and [`load`] gives it
-//! the events of a file. The record itself is plain data of `inp_actors`, handed on here, and its text is the one that
-//! `inp_canon` writes. `docs/FORMATS.md` has the whole form, with an example of each line.
+//! the events of a file. The record itself is plain data of `inp_actors`, handed on here. `docs/FORMATS.md` has the whole
+//! form, with an example of each line.
 //!
 //! How a line is read: [`parse`] cuts the text into lines and lends each to `read_line`, with the `Context` that the
 //! lines before it left. That is where the line stands, what the latest device gave, and which actors there are. Most
@@ -24,10 +24,16 @@
 //! loaded only where they are records. Memory may run out at both, and the record is unchanged after a refusal.
 //! [`line_number`] is the number of an action line in its text.
 //!
+//! [`print`] gives exactly the bytes that `specs/canon/Text.antt` defines of the record, or want of memory. The
+//! definitions are lists of lines, and lines are lists of words, so that a reader can be held against them. It takes time
+//! in proportion to the text, and for each device that of a look at each type and code; no clause says so.
+//! [`text_examples`](examples::text_examples) shows what they say of a few records.
+//!
 //! [`examples`] shows what the definitions say of short records. It has each cause at each line that can have it, of
 //! two causes that one line has the one that comes first, and what whole records mean.
 #![tactic(auto)]
 
+mod canon;
 mod cause;
 mod command_parser;
 mod context;
@@ -41,10 +47,10 @@ mod line_parser;
 mod loader;
 mod parser;
 mod place;
-mod printer;
 mod refused;
 mod verb;
 
+pub use canon::print;
 pub use cause::Cause;
 pub use inp_actors::{
     ActorText, Actors, Command, DeviceText, Devices, FileName, Line, Lines, Name, Record, Role,
@@ -53,5 +59,4 @@ pub use inp_actors::{
 pub use line_numbers::line_number;
 pub use loader::load;
 pub use parser::parse;
-pub use printer::print;
 pub use refused::{LoadFault, ParseFault, Refused};

@@ -10,7 +10,7 @@
 //! | `kind_word(b"EV_KEY")`, `kind_word(b"1")` | `Some(1)` |
 //! | `code_word(1, b"KEY_A")`, `code_word(1, b"30")` | `Some(30)` |
 //!
-//! This crate is for whoever writes a text, `inp_canon` and `inp_report`, and for whoever reads the record of a device,
+//! This crate is for whoever writes a text, `inp_record` and `inp_report`, and for whoever reads the record of a device,
 //! `inp_record`. It depends on `inp_codes` for names, on `inp_model` for clocks and for want of memory, and on `inp_actors`
 //! for roles.
 //!

@@ -11,7 +11,7 @@ use Rattle.inp_make.specs.Generated.{generated}
 use Rattle.inp_model.specs.declared.stamped.Stamped.{Stamped}
 use Rattle.inp_actors.specs.declared.line.Line.{Line}
 use Rattle.inp_actors.specs.Record.{RecordView}
-use Rattle.inp_canon.specs.Text.{record_text}
+use Rattle.inp_record.specs.canon.Text.{record_text}
 use Rattle.inp_record.specs.declared.refused.Refused.{Refused as Refusal}
 use Rattle.inp_record.specs.Meaning.{meaning}
 use Rattle.inp_script.specs.declared.run.Played.{Played}

@@ -1,7 +1,7 @@
 -- The text of an upgraded record, by what was read of it.
 use Rattle.std.proofs.Common.{◌≡◌, ℕ, List, Ok, refl, ap, ◌∙◌}
 use Rattle.inp_actors.specs.Record.{RecordView}
-use Rattle.inp_canon.specs.Text.{record_lines, record_text}
+use Rattle.inp_record.specs.canon.Text.{record_lines, record_text}
 use Rattle.inp_model.specs.declared.stamped.Stamped.{Stamped}
 use Rattle.inp_record.specs.Meaning.{meaning}
 use Rattle.inp_record.proofs.RaisedPasts.{reads_again}

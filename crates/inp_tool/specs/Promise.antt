@@ -10,7 +10,7 @@ use Rattle.inp_args.specs.Request.{requested, record_file}
 pub use Rattle.inp_args.specs.Request.{Arguments}
 use Rattle.inp_make.specs.Generated.{generated}
 use Rattle.inp_actors.specs.Record.{RecordView}
-use Rattle.inp_canon.specs.Text.{record_text}
+use Rattle.inp_record.specs.canon.Text.{record_text}
 use Rattle.inp_record.specs.declared.refused.Refused.{Refused}
 use Rattle.inp_record.specs.Meaning.{meaning}
 use Rattle.inp_script.specs.declared.run.Played.{Played}

@@ -1,7 +1,7 @@
 -- A record in the newest version of its text, and what stays of it (docs/FORMATS.md, "A text in the newest version").
 use Rattle.std.specs.Prelude.{◌≡◌, ◌↔◌, ℕ, List, Ok}
 use Rattle.inp_actors.specs.Record.{RecordView}
-use Rattle.inp_canon.specs.Text.{record_text}
+use Rattle.inp_record.specs.canon.Text.{record_text}
 use Rattle.inp_record.specs.Meaning.{meaning}
 use Rattle.inp_script.specs.declared.run.Played.{Played}
 use Rattle.inp_runs.specs.Play.{IsPlay}

@@ -1,6 +1,6 @@
 //! Migrating a record to the newest version of its text.
 ghost use Rattle.std.specs.Prelude.{◌≡◌, IfOk};
-ghost use Rattle.inp_canon.specs.Text.{record_text};
+ghost use Rattle.inp_record.specs.canon.Text.{record_text};
 ghost use Rattle.inp_tool.specs.Upgrade.{upgraded};
 
 use crate::upgrade::upgrade;

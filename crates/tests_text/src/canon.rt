@@ -1,5 +1,4 @@
-//! What is printed of a record, by `inp_canon` and by `inp_record`. How descriptions and commands are written is shown
-//! by `tests/test_migrate.py`.
+//! What is printed of a record. How descriptions and commands are written is shown by `tests/test_migrate.py`.
 
 use crate::common::read;
 use std::test::Fail;
@@ -27,8 +26,6 @@ do s event 16 EV_KEY KEY_A 1
 #[test]
 fn a_record_is_written(rt: HostRuntime) -> Result<(), Fail> {
     let record = read(rt.alloc(), ONE_KEY)?;
-    let written = inp_canon::print(rt.alloc(), &record)?;
-    assert_eq!(rt; written.as_slice(), ONE_KEY_PRINTED.as_bytes());
     let printed = inp_record::print(rt.alloc(), &record)?;
     assert_eq!(rt; printed.as_slice(), ONE_KEY_PRINTED.as_bytes());
     Ok(())

@@ -1,5 +1,0 @@
-pub mod Words
-pub mod Command
-pub mod Device
-pub mod Text
-pub mod Examples

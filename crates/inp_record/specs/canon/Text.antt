@@ -1,0 +1,57 @@
+-- The text of a record (docs/FORMATS.md, "The text of a record").
+use Rattle.std.specs.Prelude.{ℕ, Bool, true, false, if◌then◌else◌, nat_eq, List, [], ◌∷◌, ◌++◌, codes, decimal, flat_map, map, slice_get, Option, Some, None}
+use Rattle.std.specs.List.{enumerate_from}
+use Rattle.inp_actors.specs.declared.device_text.DeviceText.{DeviceText}
+use Rattle.inp_actors.specs.declared.actor_text.ActorText.{ActorText}
+use Rattle.inp_actors.specs.declared.line.Line.{Line}
+use Rattle.inp_actors.specs.Record.{RecordView}
+use Rattle.inp_texts.specs.Texts.{role_text}
+use Rattle.inp_record.specs.canon.Words.{Words, lines_text}
+use Rattle.inp_record.specs.canon.Command.{command_words}
+use Rattle.inp_record.specs.canon.Device.{description_lines}
+
+-- an actor, if it is one of the device with this number
+abbrev pub actor_lines : ℕ → ActorText → List Words
+actor_lines device actor =
+    if nat_eq actor.device device then (role_text actor.role ∷ actor.name ∷ []) ∷ [] else []
+
+-- the actors of the device with this number, in file order
+unfoldable pub actors_lines : List ActorText → ℕ → List Words
+actors_lines actors device = flat_map (actor_lines device) actors
+
+-- the first word of a device's line: whether it is made by requests
+abbrev pub device_word : Bool → List ℕ
+device_word true = codes "udevice"
+device_word false = codes "device"
+
+-- the line that begins a device
+abbrev pub device_words : DeviceText → Words
+device_words device = device_word device.requested ∷ device.name ∷ []
+
+-- a device with its number: its name, its description and its actors
+unfoldable pub device_lines : List ActorText → ℕ × DeviceText → List Words
+device_lines actors d =
+    device_words d.1 ∷ (description_lines d.1.caps ++ actors_lines actors d.0)
+
+-- all devices with their numbers
+unfoldable pub devices_lines : List ActorText → List DeviceText → List Words
+devices_lines actors devices = flat_map (device_lines actors) (enumerate_from 0 devices)
+
+-- the name of an actor that is there
+abbrev pub name_of_actor : Option ActorText → List ℕ
+name_of_actor (Some actor) = actor.name
+name_of_actor None = []
+
+-- what an actor does
+abbrev pub action_words : List ActorText → Line → Words
+action_words actors line =
+    codes "do" ∷ name_of_actor (slice_get actors line.actor) ∷ command_words line.command
+
+-- all lines: the header, the devices, the actions
+unfoldable pub record_lines : RecordView → List Words
+record_lines r =
+    (codes "inputrecord" ∷ decimal r.version ∷ [])
+    ∷ (devices_lines r.actors r.devices ++ map (action_words r.actors) r.lines)
+
+unfoldable pub record_text : RecordView → List ℕ
+record_text r = lines_text (record_lines r)

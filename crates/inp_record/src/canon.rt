@@ -1,0 +1,8 @@
+//! The canonical text of a record.
+
+mod commands;
+mod devices;
+mod info_text;
+mod text;
+
+pub use text::print;
