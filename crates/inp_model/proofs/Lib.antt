@@ -4,6 +4,7 @@ pub mod Descriptions
 pub mod Injection
 pub mod Leaves
 pub mod Opens
+pub mod PassesOnce
 pub mod Refused
 pub mod Removal
 pub mod Told
