@@ -3,8 +3,8 @@ pub mod Computation
 pub mod Descriptions
 pub mod Injection
 pub mod Leaves
+pub mod MultiTouchCodes
 pub mod Opens
-pub mod PassesOnce
 pub mod Refused
 pub mod Removal
 pub mod Told
