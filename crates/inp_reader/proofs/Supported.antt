@@ -186,7 +186,7 @@ left_from-of d eats k (e ∷ es) h =
     (let rest : All (IsOf d) (left_from eats (suc k) es) = left_from-of d eats (suc k) es (All-tail (IsOf d) e es h) in
     one-of (IsOf d) (is_left eats k e) (e ∷ left_from eats (suc k) es) (left_from eats (suc k) es) (All-cons (IsOf d) e _ (All-head (IsOf d) e es h) rest) rest)
 
-entries_of-of : (d : Description) (client : ℕ) (f : Frame) → IsFrameOf d f → All (IsEntryOf d) (entries_of d client f)
+entries_of-of : (d : Description) (client : ℕ) (f : Frame) → IsFrameOf d f → All (IsEntryOf d) (entries_of (eaten d) d client f)
 entries_of-of d client f h =
     let all : List Event = left (eaten d) f in
     let some : List Event = filter (admits f.before client) all in
@@ -196,7 +196,7 @@ entries_of-of d client f h =
 entries-of : (d : Description) (client : ℕ) (fs : List Frame) → All (IsFrameOf d) fs → All (IsEntryOf d) (entries d client fs)
 entries-of d client [] h = All-nil (IsEntryOf d)
 entries-of d client (f ∷ fs) h =
-    All-append (IsEntryOf d) (entries_of d client f) (entries d client fs) (entries_of-of d client f (All-head (IsFrameOf d) f fs h)) (entries-of d client fs (All-tail (IsFrameOf d) f fs h))
+    All-append (IsEntryOf d) (entries_of (eaten d) d client f) (entries d client fs) (entries_of-of d client f (All-head (IsFrameOf d) f fs h)) (entries-of d client fs (All-tail (IsFrameOf d) f fs h))
 
 put-of : (d : Description) (places : ℕ) (q : List Entry) (x : Entry) → All (IsEntryOf d) q → IsEntryOf d x → All (IsEntryOf d) (put event_of entry_dropped_at places q x)
 put-of d places q x h k = by (is_report (event_of x) && (is_empty q || ends_in_report event_of q)) (nat_lt (suc (length q)) places)

@@ -29,8 +29,8 @@ use Rattle.inp_recon.specs.declared.view.View.{View}
 use Rattle.inp_recon.specs.View.{IsSizedFor, view_after_events}
 use Rattle.inp_recon.specs.Cells.{cell_index}
 use Rattle.inp_recon.specs.ClientView.{client_view_with}
-use Rattle.inp_recon.specs.Synchronised.{Part, AllKeys, AllSwitches, AllLeds, OneAxis, AllSlots, sync_place, has_asked, has_asked_where, has_axis, taken_since_start_with, has_no_loss, is_synchronised_with}
-use Rattle.inp_recon.specs.Undisturbed.{is_whole_for, frames_since_start, steps_since_frame_before_start, is_undisturbed_with}
+use Rattle.inp_recon.specs.Synchronised.{Part, AllKeys, AllSwitches, AllLeds, OneAxis, AllSlots, sync_place, has_asked, has_asked_where, has_axis, taken_since_start, has_no_loss, is_synchronised_with}
+use Rattle.inp_recon.specs.Undisturbed.{is_whole_for, frames_since_start, steps_since_frame_before_start, is_undisturbed}
 use Rattle.inp_recon.specs.Faithful.{IsDeviceState, AreReadsFaithful}
 use Rattle.inp_recon.proofs.ReadEntries.{IsOfRead, of-read}
 use Rattle.inp_recon.proofs.Each.{Each, Each-weaker, Each-filter, and-left, and-right, Each-from_all, all-left, all-right}
@@ -89,10 +89,10 @@ Promised-item P t v (y ∷ q) (suc j) x at report none h =
 pub record IsFollowedTo (eats : Eats) (d : Description) (past : List Step) (client : ℕ) (taken : List Entry) (f : Frame) : Type 0 where
   pub synchronised : is_synchronised_with eats d past client taken ≡ true
   pub behind : sync_place past client < place f
-  pub undisturbed : is_undisturbed_with eats d past client f ≡ true
+  pub undisturbed : is_undisturbed eats d past client f ≡ true
 
 pub behind-followed : (eats : Eats) (d : Description) (past : List Step) (client : ℕ) (taken : List Entry) (f : Frame) → IsFollowedTo eats d past client taken f → IsBehind eats d (sync_place past client) client (frames_since_start d past client) f
-unfolding is_undisturbed_with
+unfolding is_undisturbed
 behind-followed eats d past client taken f h = (
   h.behind,
   Each-weaker _ _ (λ g kept ended. kept (le-leb (length g.cut.until) (length f.cut.until) ended)) (frames_since_start d past client)
@@ -107,7 +107,7 @@ pub record HasAskedForAll (eats : Eats) (d : Description) (past : List Step) (cl
   pub leds : has_asked_where (has_kind d EV_LED) AllLeds past client ≡ true
   pub axes : list_all (λ code. has_asked_where (has_axis d code) (OneAxis code) past client) (range_with_len 0 (ABS_MAX + 1)) ≡ true
   pub slots : has_asked_where (nat_lt 0 d.slots) AllSlots past client ≡ true
-  pub before : has_no_loss (taken_since_start_with eats d past client) ≡ true
+  pub before : has_no_loss (taken_since_start eats d past client) ≡ true
   pub now : has_no_loss taken ≡ true
 
 pub all-asked : (eats : Eats) (d : Description) (past : List Step) (client : ℕ) (taken : List Entry) → is_synchronised_with eats d past client taken ≡ true → HasAskedForAll eats d past client taken
@@ -124,8 +124,8 @@ all-asked eats d past client taken h =
       leds = and-right _ _ h3;
       axes = and-right _ _ h2;
       slots = and-right _ _ h1;
-      before = all-left _ (taken_since_start_with eats d past client) taken none;
-      now = all-right _ (taken_since_start_with eats d past client) taken none;
+      before = all-left _ (taken_since_start eats d past client) taken none;
+      now = all-right _ (taken_since_start eats d past client) taken none;
     }
 
 asked_where : (has asked : Bool) → has ≡ true → (not has || asked) ≡ true → asked ≡ true

@@ -19,7 +19,7 @@ use Rattle.inp_model.specs.Reply.{accepted_with}
 use Rattle.inp_recon.specs.declared.view.View.{View}
 use Rattle.inp_recon.specs.View.{IsSizedFor, with_value_at, first_view, view_after_event, view_after_events, view_after_answer}
 use Rattle.inp_recon.specs.ClientView.{client_view_with}
-use Rattle.inp_recon.specs.Synchronised.{Part, asks_for, has_asked, taken_since_start_with, has_no_loss}
+use Rattle.inp_recon.specs.Synchronised.{Part, asks_for, has_asked, taken_since_start, has_no_loss}
 use Rattle.inp_recon.specs.Undisturbed.{is_viewed}
 use Rattle.inp_recon.proofs.Each.{Each, Each-weaker, Each-map, and-left}
 use Rattle.inp_recon.proofs.Over.{over, over-idle, IsIdle}
@@ -106,7 +106,7 @@ module _ (eats : Eats) (d : Description) (client kind : ℕ) (skips : ℤ → Bo
       ∙ pending-again (sets_flag kind skips code) is_set d (λ r. on r code) flag-passes_on (λ r. true) (λ r e cut fits. refl) (λ r axis i fits. (refl, c.described r axis i code)) (raw d past) refl
 
   -- a flag that was asked for
-  pub flag-stands : code < count → (past : List Step) → Receives past client → has_no_loss (taken_since_start_with eats d past client) ≡ true → has_asked part past client ≡ true
+  pub flag-stands : code < count → (past : List Step) → Receives past client → has_no_loss (taken_since_start eats d past client) ≡ true → has_asked part past client ≡ true
       → Stands eats d client flag_after flag-unviewed (λ r. on r code) flag-passes_on (λ past. flag_of (client_view_with eats d past client)) past
   flag-stands within =
       stands eats d client flag_after flag-unviewed (λ r. on r code) flag-passes_on part spares (λ r. on r code) (λ past. flag_of (client_view_with eats d past client)) (follows within)

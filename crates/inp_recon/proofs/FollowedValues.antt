@@ -14,7 +14,7 @@ use Rattle.inp_model.specs.Raw.{raw, raw_of_step}
 use Rattle.inp_model.specs.Frame.{place, frame_of}
 use Rattle.inp_model.specs.Left.{Eats}
 use Rattle.inp_model.specs.Queue.{Entry, event_of, taken_by_with, queue_with}
-use Rattle.inp_recon.specs.Synchronised.{Part, AllKeys, AllSwitches, AllLeds, OneAxis, AllSlots, asks_for, is_query_of, is_start, sync_place, has_asked, taken_since_start_with, has_no_loss}
+use Rattle.inp_recon.specs.Synchronised.{Part, AllKeys, AllSwitches, AllLeds, OneAxis, AllSlots, asks_for, is_query_of, is_start, sync_place, has_asked, taken_since_start, has_no_loss}
 use Rattle.inp_recon.specs.Undisturbed.{is_viewed, is_whole_for, frames_since_start, steps_since_frame_before_start}
 use Rattle.inp_recon.proofs.Each.{Each, Each-append, Each-left, Each-right, Each-weaker, all-left, all-right, all-take_drop}
 use Rattle.inp_recon.proofs.Over.{over, IsIdle}
@@ -275,11 +275,11 @@ module _ (eats : Eats) (d : Description) (client : ℕ) {V : Type 0} (t : V → 
 
   module _ (part : Part) (spares : Spares client part t) (told : List RawItem → V) (b : List Step → V)
       (follows : (past : List Step) (x : Step) → b (x ∷ past) ≡ cond (asks_for part client x) (told (raw d past)) (over t (b past) (map event_of (taken_by_with eats d past client x))))
-      (fresh : (past : List Step) (x : Step) → is_start past client x ≡ false → asks_for part client x ≡ true → Receives past client → has_no_loss (taken_since_start_with eats d past client) ≡ true
+      (fresh : (past : List Step) (x : Step) → is_start past client x ≡ false → asks_for part client x ≡ true → Receives past client → has_no_loss (taken_since_start eats d past client) ≡ true
       → IsClear eats client (Since past) (Steps past) → has_no_loss (left_in_queue eats d past client x) ≡ true
       → over t (over t (told (raw d past)) (map event_of (left_in_queue eats d past client x))) (pending d (raw d past)) ≡ st (raw d past)) where
     -- the client asked for this part
-    asked_midway : (past : List Step) (x : Step) → is_start past client x ≡ false → asks_for part client x ≡ true → Receives past client → has_no_loss (taken_since_start_with eats d past client) ≡ true → Midway b past x
+    asked_midway : (past : List Step) (x : Step) → is_start past client x ≡ false → asks_for part client x ≡ true → Receives past client → has_no_loss (taken_since_start eats d past client) ≡ true → Midway b past x
     unfolding Midway
     asked_midway past x start asks receives none =
         let is : b (x ∷ past) ≡ told (raw d past) = follows past x ∙ ap (λ (c : Bool). cond c (told (raw d past)) (over t (b past) (map event_of (taken_by_with eats d past client x)))) asks in
@@ -323,22 +323,22 @@ module _ (eats : Eats) (d : Description) (client : ℕ) {V : Type 0} (t : V → 
     asked_before false false before h k e = e
 
     -- The value follows the device, once it was asked for.
-    pub stands : (past : List Step) → Receives past client → has_no_loss (taken_since_start_with eats d past client) ≡ true → has_asked part past client ≡ true → Stands b past
-    unfolding taken_since_start_with has_asked
+    pub stands : (past : List Step) → Receives past client → has_no_loss (taken_since_start eats d past client) ≡ true → has_asked part past client ≡ true → Stands b past
+    unfolding taken_since_start has_asked
     stands [] receives none asked = absurd (let e : false ≡ true = asked in cc)
     stands (x ∷ past) receives none asked = by (is_start past client x) refl (stands past)
       where
         IH : Type 0
-        IH = Receives past client → has_no_loss (taken_since_start_with eats d past client) ≡ true → has_asked part past client ≡ true → Stands b past
+        IH = Receives past client → has_no_loss (taken_since_start eats d past client) ≡ true → has_asked part past client ≡ true → Stands b past
 
-        both : is_start past client x ≡ false → has_no_loss (taken_since_start_with eats d past client ++ taken_by_with eats d past client x) ≡ true
-        both start = ap (λ (c : Bool). has_no_loss (if c then [] else taken_since_start_with eats d past client ++ taken_by_with eats d past client x)) (sym start) ∙ none
+        both : is_start past client x ≡ false → has_no_loss (taken_since_start eats d past client ++ taken_by_with eats d past client x) ≡ true
+        both start = ap (λ (c : Bool). has_no_loss (if c then [] else taken_since_start eats d past client ++ taken_by_with eats d past client x)) (sym start) ∙ none
 
         at : (start : is_start past client x ≡ false) (asks : Bool) → asks_for part client x ≡ asks → IH → Midway b past x
-        at start true asks ih = asked_midway past x start asks (receives-before past client x start receives) (all-left _ (taken_since_start_with eats d past client) (taken_by_with eats d past client x) (both start))
+        at start true asks ih = asked_midway past x start asks (receives-before past client x start receives) (all-left _ (taken_since_start eats d past client) (taken_by_with eats d past client x) (both start))
         at start false asks ih =
-            other_midway past x start asks (all-right _ (taken_since_start_with eats d past client) (taken_by_with eats d past client x) (both start))
-            (ih (receives-before past client x start receives) (all-left _ (taken_since_start_with eats d past client) (taken_by_with eats d past client x) (both start))
+            other_midway past x start asks (all-right _ (taken_since_start eats d past client) (taken_by_with eats d past client x) (both start))
+            (ih (receives-before past client x start receives) (all-left _ (taken_since_start eats d past client) (taken_by_with eats d past client x) (both start))
             (asked_before (is_start past client x) (asks_for part client x) (has_asked part past client) start asks asked))
 
         by : (c : Bool) → is_start past client x ≡ c → IH → Stands b (x ∷ past)

@@ -9,7 +9,7 @@ use Rattle.inp_model.specs.Past.{admits}
 use Rattle.inp_model.specs.Cut.{raw_after, pending, cut_for, cuts}
 use Rattle.inp_model.specs.Frame.{frame_of}
 use Rattle.inp_model.specs.Left.{Eats, left_from}
-use Rattle.inp_model.specs.Queue.{Entry, event_of, entry_dropped_at, put, put_all, entry, entries_of_with, entries_with}
+use Rattle.inp_model.specs.Queue.{Entry, event_of, entry_dropped_at, put, put_all, entry, entries_of, entries_with}
 use Rattle.inp_recon.specs.Synchronised.{has_no_loss}
 use Rattle.inp_recon.specs.Undisturbed.{is_viewed, is_whole_for}
 use Rattle.inp_recon.proofs.Each.{Each}
@@ -74,15 +74,15 @@ module _ (eats : Eats) (d : Description) (client : ℕ) {V : Type 0} (t : V → 
   -- one frame, which is whole
   frame_grown : (past : List Step) (s : Step) → Receives past client → (r : List RawItem) (x : RawItem) (q : List Entry) (h : OneCut d r x)
       → is_whole_for eats client (frame_by past s r x h.body h.report) ≡ true
-      → has_no_loss (put_all event_of entry_dropped_at (ring d) q (entries_of_with eats d client (frame_by past s r x h.body h.report))) ≡ true
-      → Grown d t r (x ∷ r) q (put_all event_of entry_dropped_at (ring d) q (entries_of_with eats d client (frame_by past s r x h.body h.report))) (passed_for d r x)
+      → has_no_loss (put_all event_of entry_dropped_at (ring d) q (entries_of eats d client (frame_by past s r x h.body h.report))) ≡ true
+      → Grown d t r (x ∷ r) q (put_all event_of entry_dropped_at (ring d) q (entries_of eats d client (frame_by past s r x h.body h.report))) (passed_for d r x)
   frame_grown past s receives r x q h whole none =
       let f : Frame = frame_by past s r x h.body h.report in
-      let g = put_all-grows t reports_idle (ring d) q (entries_of_with eats d client f) none in
+      let g = put_all-grows t reports_idle (ring d) q (entries_of eats d client f) none in
       record {
         kept = g.kept;
         same = λ v.
-            ap (over t (over t v (map event_of (put_all event_of entry_dropped_at (ring d) q (entries_of_with eats d client f))))) h.left
+            ap (over t (over t v (map event_of (put_all event_of entry_dropped_at (ring d) q (entries_of eats d client f))))) h.left
             ∙ g.same v
             ∙ over-entries t unviewed eats d client f receives whole (over t v (map event_of q))
             ∙ over-one_cut t reports_idle d r x h (over t v (map event_of q));
@@ -125,8 +125,8 @@ module _ (eats : Eats) (d : Description) (client : ℕ) {V : Type 0} (t : V → 
           })
       by (inr h) ih = subst Goal (sym h.one) (λ whole none.
           let f : Frame = frame_by past s r x h.body h.report in
-          let p : List Entry = put_all event_of entry_dropped_at (ring d) q (entries_of_with eats d client f) in
-          let same = put_all-append (ring d) q (entries_of_with eats d client f) (entries_with eats d client (map F rest)) in
+          let p : List Entry = put_all event_of entry_dropped_at (ring d) q (entries_of eats d client f) in
+          let same = put_all-append (ring d) q (entries_of eats d client f) (entries_with eats d client (map F rest)) in
           let g = ih p whole.1 (ap has_no_loss (sym same) ∙ none) in
           let one = frame_grown past s receives r x q h whole.0 g.kept in
           record {
@@ -148,14 +148,14 @@ module _ (eats : Eats) (d : Description) (client : ℕ) {V : Type 0} (t : V → 
         → (D (frame_by past s r x h.body h.report) → C × (is_whole_for eats client (frame_by past s r x h.body h.report) ≡ true))
         → (C → has_no_loss q ≡ true → IsNow r v q)
         → Promised (Says st D) t v q
-        → Promised (Says st D) t v (put_all event_of entry_dropped_at (ring d) q (entries_of_with eats d client (frame_by past s r x h.body h.report)))
+        → Promised (Says st D) t v (put_all event_of entry_dropped_at (ring d) q (entries_of eats d client (frame_by past s r x h.body h.report)))
     frame_promised past s receives r x event q v h C wants at old = by (entries_split eats d client f h.body h.report refl h.ends)
       where
         f : Frame
         f = frame_by past s r x h.body h.report
 
         xs : List Entry
-        xs = entries_of_with eats d client f
+        xs = entries_of eats d client f
 
         front : List Entry
         front = map (entry d client f) (filter (admits f.before client) (left_from (eats f) 0 h.body))
@@ -226,8 +226,8 @@ module _ (eats : Eats) (d : Description) (client : ℕ) {V : Type 0} (t : V → 
             old)
         by (inr h) ih = subst Goal (sym h.one) (λ wants.
             let f : Frame = frame_by past s r x h.body h.report in
-            let p : List Entry = put_all event_of entry_dropped_at (ring d) q (entries_of_with eats d client f) in
-            let same = put_all-append (ring d) q (entries_of_with eats d client f) (entries_with eats d client (map F rest)) in
+            let p : List Entry = put_all event_of entry_dropped_at (ring d) q (entries_of eats d client f) in
+            let same = put_all-append (ring d) q (entries_of eats d client f) (entries_with eats d client (map F rest)) in
             subst (Promised (Says st D) t v) (sym same)
             (ih p (C × (is_whole_for eats client f ≡ true)) wants.1
             (λ clear none.

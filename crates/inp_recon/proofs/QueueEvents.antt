@@ -13,7 +13,7 @@ use Rattle.inp_model.specs.Cut.{pending, cut_for, cuts}
 use Rattle.inp_model.specs.Raw.{raw, raw_of_step}
 use Rattle.inp_model.specs.Frame.{frame_of}
 use Rattle.inp_model.specs.Left.{Eats, left}
-use Rattle.inp_model.specs.Queue.{Entry, event_of, entry, entries_of_with, entries_with, is_offered, visible, queue_with, taken_by_with}
+use Rattle.inp_model.specs.Queue.{Entry, event_of, entry, entries_of, entries_with, is_offered, visible, queue_with, taken_by_with}
 use Rattle.inp_recon.specs.Synchronised.{is_dropped}
 use Rattle.inp_recon.proofs.Each.{Each, Each-append, Each-take, and-left}
 use Rattle.inp_recon.proofs.QueuedValues.{put_all-each}
@@ -74,7 +74,7 @@ module _ (eats : Eats) (d : Description) (P : Event → Type 0) (syn : (e : Even
   entries_each : (client : ℕ) (past : List Step) (s : Step) (cs : List Cut) → Each (λ c. Each P c.events) cs → Each Q (entries_with eats d client (map (frame_of past s) cs))
   entries_each client past s [] h = tt
   entries_each client past s (c ∷ cs) h =
-      Each-append Q (entries_of_with eats d client (frame_of past s c)) (entries_with eats d client (map (frame_of past s) cs))
+      Each-append Q (entries_of eats d client (frame_of past s c)) (entries_with eats d client (map (frame_of past s) cs))
       (cond_both (is_offered past client) (map (entry d client (frame_of past s c)) (filter (admits past client) (left eats (frame_of past s c)))) [] (Each Q)
       (λ offered. kept_each client (frame_of past s c) (admits past client) (left eats (frame_of past s c)) (Each-left_from P (eats (frame_of past s c)) 0 c.events h.0)) (λ other. tt))
       (entries_each client past s cs h.1)

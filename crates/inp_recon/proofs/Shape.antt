@@ -13,7 +13,7 @@ use Rattle.inp_model.specs.Raw.{raw, raw_of_step}
 use Rattle.inp_model.specs.Frame.{frame_of}
 use Rattle.inp_model.specs.Left.{Eats, left_from}
 use Rattle.inp_model.proofs.Removal.{stays, report_stays_after, flush_from, flush-walk}
-use Rattle.inp_model.specs.Queue.{Entry, event_of, entry_dropped_at, is_empty, ends_in_report, put, put_all, visible, flush, entry, entries_of_with, entries_with, queue_with}
+use Rattle.inp_model.specs.Queue.{Entry, event_of, entry_dropped_at, is_empty, ends_in_report, put, put_all, visible, flush, entry, entries_of, entries_with, queue_with}
 use Rattle.inp_recon.specs.Synchronised.{is_dropped, has_no_loss, is_start}
 use Rattle.inp_recon.proofs.Each.{and-right}
 use Rattle.inp_recon.proofs.QueuedValues.{put_all-append}
@@ -174,7 +174,7 @@ put_report places q x report = by (is_report (event_of x) && (is_empty q || ends
     by false h true = EndsInReport (ends-push q x report)
     by false h false = EndsInReport report
 
-frame-shaped : (eats : Eats) (d : Description) (client : ℕ) (f : Frame) (body : List Event) (report : Event) → f.cut.events ≡ body ++ report ∷ [] → is_report report ≡ true → (q : List Entry) → IsShaped q → IsShaped (put_all event_of entry_dropped_at (ring d) q (entries_of_with eats d client f))
+frame-shaped : (eats : Eats) (d : Description) (client : ℕ) (f : Frame) (body : List Event) (report : Event) → f.cut.events ≡ body ++ report ∷ [] → is_report report ≡ true → (q : List Entry) → IsShaped q → IsShaped (put_all event_of entry_dropped_at (ring d) q (entries_of eats d client f))
 frame-shaped eats d client f body report is ends q h = by (entries_split eats d client f body report is ends)
   where
     front : List Entry
@@ -183,7 +183,7 @@ frame-shaped eats d client f body report is ends q h = by (entries_split eats d 
     last : Entry
     last = entry d client f report
 
-    by : (entries_of_with eats d client f ≡ []) ⊎ (entries_of_with eats d client f ≡ front ++ last ∷ []) → IsShaped (put_all event_of entry_dropped_at (ring d) q (entries_of_with eats d client f))
+    by : (entries_of eats d client f ≡ []) ⊎ (entries_of eats d client f ≡ front ++ last ∷ []) → IsShaped (put_all event_of entry_dropped_at (ring d) q (entries_of eats d client f))
     by (inl none) = subst (λ (l : List Entry). IsShaped (put_all event_of entry_dropped_at (ring d) q l)) (sym none) h
     by (inr split) =
         subst (λ (l : List Entry). IsShaped (put_all event_of entry_dropped_at (ring d) q l)) (sym split)
@@ -208,8 +208,8 @@ frames-shaped eats d client past s (x ∷ xs) r q h = by (cut_cases d r x) (fram
     by (inr k) ih =
         let f : Frame = F (record { events = k.body ++ k.report ∷ []; until = x ∷ r }) in
         subst Goal (sym k.one)
-        (subst IsShaped (sym (put_all-append (ring d) q (entries_of_with eats d client f) (entries_with eats d client (map F rest))))
-        (ih (put_all event_of entry_dropped_at (ring d) q (entries_of_with eats d client f)) (frame-shaped eats d client f k.body k.report refl k.ends q h)))
+        (subst IsShaped (sym (put_all-append (ring d) q (entries_of eats d client f) (entries_with eats d client (map F rest))))
+        (ih (put_all event_of entry_dropped_at (ring d) q (entries_of eats d client f)) (frame-shaped eats d client f k.body k.report refl k.ends q h)))
 
 -- ---- every queue
 

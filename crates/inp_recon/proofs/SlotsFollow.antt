@@ -21,7 +21,7 @@ use Rattle.inp_recon.specs.declared.view.View.{View}
 use Rattle.inp_recon.specs.Cells.{cell_index, with_cell}
 use Rattle.inp_recon.specs.View.{IsSizedFor, slot_after_event, view_after_event, view_after_events, view_after_answer}
 use Rattle.inp_recon.specs.ClientView.{client_view_with}
-use Rattle.inp_recon.specs.Synchronised.{AllSlots, asks_for, has_asked, taken_since_start_with, has_no_loss}
+use Rattle.inp_recon.specs.Synchronised.{AllSlots, asks_for, has_asked, taken_since_start, has_no_loss}
 use Rattle.inp_recon.proofs.Each.{and-left, and-right}
 use Rattle.inp_recon.proofs.Over.{over, IsIdle}
 use Rattle.inp_recon.proofs.QueuedValues.{ReportsIdle, flush-idle}
@@ -104,7 +104,7 @@ module _ (eats : Eats) (d : Description) (client : ℕ) (some : nat_eq d.slots 0
       ∙ cell-pending d some (pos slot) code is_cell (raw d past)
 
   -- the slots, once they were asked for
-  pub cell-stands : (past : List Step) → Receives past client → has_no_loss (taken_since_start_with eats d past client) ≡ true → has_asked AllSlots past client ≡ true
+  pub cell-stands : (past : List Step) → Receives past client → has_no_loss (taken_since_start eats d past client) ≡ true → has_asked AllSlots past client ≡ true
       → Stands eats d client t (cell-unviewed (pos slot) code) (cell_now d some (pos slot) code is_cell) (cell-passes d some (pos slot) code is_cell) (λ past. slot_cell_of (client_view_with eats d past client)) past
   cell-stands =
       stands eats d client t (cell-unviewed (pos slot) code) (cell_now d some (pos slot) code is_cell) (cell-passes d some (pos slot) code is_cell) AllSlots spares

@@ -11,7 +11,7 @@ use Rattle.inp_model.specs.Cut.{raw_after, cut_for, cuts}
 use Rattle.inp_model.specs.Raw.{raw, raw_and_timer, raw_of_step}
 use Rattle.inp_model.specs.Frame.{place, frame_of, frames_of_step}
 use Rattle.inp_model.specs.Left.{Eats}
-use Rattle.inp_model.specs.Queue.{Entry, event_of, visible, entry, entries_of_with, entries_with, queue_with, is_offered}
+use Rattle.inp_model.specs.Queue.{Entry, event_of, visible, entry, entries_of, entries_with, queue_with, is_offered}
 use Rattle.inp_recon.specs.Synchronised.{is_dropped, is_start, is_query_of, sync_place}
 use Rattle.inp_recon.proofs.Each.{Each, Each-append, Each-weaker, Each-drop}
 use Rattle.inp_recon.proofs.QueuedValues.{put_all-each, flush-each}
@@ -106,7 +106,7 @@ left-each G loss eats d past client x h = by (is_start past client x) refl
 abbrev pub IsPlacedBelow : ℕ → Entry → Type 0
 IsPlacedBelow n x = (f : Frame) → x.frame ≡ Some f → place f < n
 
-entries_of-each : (G : Entry → Type 0) (eats : Eats) (d : Description) (client : ℕ) (f : Frame) → ((e : Event) → G (entry d client f e)) → Each G (entries_of_with eats d client f)
+entries_of-each : (G : Entry → Type 0) (eats : Eats) (d : Description) (client : ℕ) (f : Frame) → ((e : Event) → G (entry d client f e)) → Each G (entries_of eats d client f)
 entries_of-each G eats d client f h = by (is_offered f.before client) _
   where
     each : (es : List Event) → Each G (map (entry d client f) es)
@@ -120,7 +120,7 @@ entries_of-each G eats d client f h = by (is_offered f.before client) _
 pub entries-each : (G : Entry → Type 0) (eats : Eats) (d : Description) (client : ℕ) (past : List Step) (s : Step) → ((c : Cut) (e : Event) → G (entry d client (frame_of past s c) e)) → (cs : List Cut) → Each G (entries_with eats d client (map (frame_of past s) cs))
 entries-each G eats d client past s h [] = tt
 entries-each G eats d client past s h (c ∷ cs) =
-    Each-append G (entries_of_with eats d client (frame_of past s c)) (entries_with eats d client (map (frame_of past s) cs))
+    Each-append G (entries_of eats d client (frame_of past s c)) (entries_with eats d client (map (frame_of past s) cs))
     (entries_of-each G eats d client (frame_of past s c) (h c)) (entries-each G eats d client past s h cs)
 
 pub queue-placed : (eats : Eats) (d : Description) (past : List Step) (client : ℕ) → Each (IsPlacedBelow (length past)) (queue_with eats d past client)

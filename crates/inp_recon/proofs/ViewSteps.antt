@@ -18,7 +18,7 @@ use Rattle.inp_model.specs.Raw.{raw}
 use Rattle.inp_model.specs.Reply.{accepted_with, row, rows}
 use Rattle.inp_recon.specs.declared.view.View.{View}
 use Rattle.inp_recon.specs.View.{IsSizedFor, HasCells, with_value_at, view_after_event, view_after_events, view_after_answer}
-use Rattle.inp_recon.specs.ClientView.{view_after_step_with, client_view_with, client_view}
+use Rattle.inp_recon.specs.ClientView.{view_after_step, client_view_with, client_view}
 use Rattle.inp_recon.specs.Synchronised.{Part, AllKeys, AllSwitches, AllLeds, OneAxis, AllSlots, asks_for}
 use Rattle.inp_recon.proofs.Each.{and-left}
 use Rattle.inp_recon.proofs.Over.{over}
@@ -60,7 +60,7 @@ client_view_with-sized eats d (x ∷ past) client = more (client_view_with-sized
     es : List Event
     es = map event_of (taken_by_with eats d past client x)
 
-    more : IsSizedFor d.slots v → IsSizedFor d.slots (view_after_step_with eats d past client x v)
+    more : IsSizedFor d.slots v → IsSizedFor d.slots (view_after_step eats d past client x v)
     more h =
         let k : IsSizedFor d.slots (view_after_events v es) = IsSizedFor-after_events d.slots v es h in
         sized_if d.slots (is_same (client_of x) client) _ v
