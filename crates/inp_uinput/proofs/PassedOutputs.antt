@@ -25,20 +25,20 @@ if_itself : (e : Event) (passes : Bool) → IsItself e (passed_if passes e.value
 if_itself e true = refl
 if_itself e false = refl
 
-either_itself : (e : Event) (b : Bool) {x y : Option ℤ} → IsItself e x → IsItself e y → IsItself e (if b then x else y)
-either_itself e true h k = h
-either_itself e false h k = k
+either_itself : (e : Event) (b : Bool) (x y : Option ℤ) → IsItself e x → IsItself e y → IsItself e (if b then x else y)
+either_itself e true x y h k = h
+either_itself e false x y h k = k
 
 -- an output is passed as itself
 output_alone : (d : Description) (r : List RawItem) (e : Event) → is_output e ≡ true → one_passed d r e ≡ (if is_some (passes_as d r e) then e ∷ [] else [])
 output_alone d r e h =
-    either_itself e (nat_eq e.kind EV_SYN) (if_itself e (nat_lt e.code SYN_DROPPED))
-    (either_itself e (supports d e.kind e.code)
-    (either_itself e (nat_eq e.kind EV_KEY) (if_itself e (key_passes d r e))
-    (either_itself e (nat_eq e.kind EV_REL) (if_itself e (is_set e))
+    either_itself e (nat_eq e.kind EV_SYN) _ _ (if_itself e (nat_lt e.code SYN_DROPPED))
+    (either_itself e (supports d e.kind e.code) _ _
+    (either_itself e (nat_eq e.kind EV_KEY) _ _ (if_itself e (key_passes d r e))
+    (either_itself e (nat_eq e.kind EV_REL) _ _ (if_itself e (is_set e))
     (cond_both (nat_eq e.kind EV_ABS) _ _ (IsItself e) (λ axis. absurd (true≢false (sym axis ∙ no_axis e h)))
-    (λ _. either_itself e (nat_eq e.kind EV_SW || nat_eq e.kind EV_LED) (if_itself e (switch_passes d r e))
-    (either_itself e (nat_eq e.kind EV_REP) (if_itself e (setting_passes d r e)) refl))))) refl)
+    (λ _. either_itself e (nat_eq e.kind EV_SW || nat_eq e.kind EV_LED) _ _ (if_itself e (switch_passes d r e))
+    (either_itself e (nat_eq e.kind EV_REP) _ _ (if_itself e (setting_passes d r e)) refl))))) refl)
 
 -- a slot is no output
 no_announcement : (slot : ℤ) (b : Bool) → filter is_output (if b then slot_event slot ∷ [] else []) ≡ []
