@@ -7,7 +7,7 @@ use Rattle.inp_model.specs.RawItem.{RawItem, Cut, Frame}
 use Rattle.inp_model.specs.Description.{Description, ring}
 use Rattle.inp_model.specs.Step.{is_close_of, is_revoke_of, is_part_of}
 use Rattle.inp_model.specs.Past.{opens, is_opening, is_open, is_revoked}
-use Rattle.inp_model.specs.Cut.{raw_after, cut_for, cuts}
+use Rattle.inp_model.specs.Cut.{raw_after, cuts}
 use Rattle.inp_model.specs.Raw.{raw, raw_and_timer, raw_of_step}
 use Rattle.inp_model.specs.Frame.{place, frame_of, frames_of_step}
 use Rattle.inp_model.specs.Left.{Eats}
@@ -15,7 +15,7 @@ use Rattle.inp_model.specs.Queue.{Entry, event_of, visible, entry, entries_of, e
 use Rattle.inp_recon.specs.Synchronised.{is_dropped, is_start, is_query_of, sync_place}
 use Rattle.inp_recon.proofs.Each.{Each, Each-append, Each-weaker, Each-drop}
 use Rattle.inp_recon.proofs.QueuedValues.{put_all-each, flush-each}
-use Rattle.inp_recon.proofs.Cuts.{NoCut, OneCut, cut_cases}
+use Rattle.inp_recon.proofs.Cuts.{over_items}
 use Rattle.inp_recon.proofs.CallsLeft.{LeftBy, ByRead, ByLoss, ByFlush, ByNone, left_by, left_in_queue}
 use Rattle.inp_recon.proofs.FrameEntries.{Receives}
 use Rattle.inp_recon.proofs.FrameSteps.{frames_by, offered_to}
@@ -156,19 +156,9 @@ raw_after-longer r [] = omega arith
 raw_after-longer r (x ∷ xs) = let k : length (x ∷ r) ≤ length (raw_after (x ∷ r) xs) = raw_after-longer (x ∷ r) xs in omega (arith, k)
 
 frames_by-within : (d : Description) (past : List Step) (s : Step) (xs r : List RawItem) → Each (IsEndedWithin (length (raw_after r xs))) (frames_by d past s r xs)
-unfolding cuts
-frames_by-within d past s [] r = tt
-frames_by-within d past s (x ∷ xs) r = by (cut_cases d r x) (frames_by-within d past s xs (x ∷ r))
-  where
-    n : ℕ
-    n = length (raw_after (x ∷ r) xs)
-
-    rest : List Cut
-    rest = cuts d (x ∷ r) xs
-
-    by : NoCut d r x ⊎ OneCut d r x → Each (IsEndedWithin n) (map (frame_of past s) rest) → Each (IsEndedWithin n) (map (frame_of past s) (cut_for d r x ++ rest))
-    by (inl h) ih = subst (λ (cs : List Cut). Each (IsEndedWithin n) (map (frame_of past s) (cs ++ rest))) (sym h.none) ih
-    by (inr h) ih = subst (λ (cs : List Cut). Each (IsEndedWithin n) (map (frame_of past s) (cs ++ rest))) (sym h.one) (raw_after-longer (x ∷ r) xs, ih)
+frames_by-within d past s =
+    over_items d (λ r xs cs. Each (IsEndedWithin (length (raw_after r xs))) (map (frame_of past s) cs)) (λ r. tt) (λ r x xs cs h ih. ih)
+    (λ r x xs cs h ih. (raw_after-longer (x ∷ r) xs, ih))
 
 pub since-within : (d : Description) (past : List Step) (client : ℕ) → Each (IsEndedWithin (length (raw d past))) (frames_since_start d past client)
 unfolding frames_since_start

@@ -7,7 +7,7 @@ use Rattle.std.proofs.lemmas.List.FromFn.{length-map-range_with_len}
 use Rattle.inp_model.specs.declared.multi_touch.TheConstants.{ABS_MT_TOUCH_MAJOR}
 use Rattle.inp_model.specs.declared.event.Event.{Event}
 use Rattle.inp_model.specs.declared.step.Step.{Step}
-use Rattle.inp_model.specs.declared.step.Step.TheVariants.{GetKeys, GetSwitches, GetLeds, GetAxis, SyncSlots}
+use Rattle.inp_model.specs.declared.step.Step.TheVariants.{SyncSlots}
 use Rattle.inp_model.specs.Description.{Description}
 use Rattle.inp_model.specs.RawItem.{RawItem}
 use Rattle.inp_model.specs.State.{cell}
@@ -19,11 +19,10 @@ use Rattle.inp_model.specs.Reply.{accepted_with, row, rows}
 use Rattle.inp_recon.specs.declared.view.View.{View}
 use Rattle.inp_recon.specs.View.{IsSizedFor, HasCells, with_value_at, view_after_event, view_after_events, view_after_answer}
 use Rattle.inp_recon.specs.ClientView.{view_after_step, client_view_with, client_view}
-use Rattle.inp_recon.specs.Synchronised.{Part, AllKeys, AllSwitches, AllLeds, OneAxis, AllSlots, asks_for}
-use Rattle.inp_recon.proofs.Each.{and-left}
+use Rattle.inp_recon.specs.Synchronised.{Part, asks_for}
 use Rattle.inp_recon.proofs.Over.{over}
 use Rattle.inp_recon.proofs.Sizes.{IsSizedFor-first_view, IsSizedFor-after_event, IsSizedFor-after_events, IsSizedFor-after_answer}
-use Rattle.inp_recon.proofs.CallsLeft.{not_taken}
+use Rattle.inp_recon.proofs.CallsLeft.{not_taken, part-asked}
 
 -- ---- sizes
 
@@ -71,15 +70,6 @@ client_view-sized d = client_view_with-sized (eaten d) d
 
 -- ---- one value of a view
 
--- a query is the client's own
-pub asks-own : (part : Part) (client : ℕ) (x : Step) → asks_for part client x ≡ true → is_same (client_of x) client ≡ true
-asks-own AllKeys client (GetKeys named) h = h
-asks-own AllSwitches client (GetSwitches named) h = h
-asks-own AllLeds client (GetLeds named) h = h
-asks-own (OneAxis code) client (GetAxis named asked) h = and-left _ _ h
-asks-own AllSlots client (SyncSlots named) h = h
-asks-own part client _ h = absurd (let e : false ≡ true = h in cc)
-
 -- A value of the view follows the client's steps, where events change it by t and an answer tells it whole.
 module _ (eats : Eats) (d : Description) (client : ℕ) {V : Type 0} (t : V → Event → V) (part : Part) (told : List RawItem → V) (get : View → V)
     (events : (v : View) (e : Event) → IsSizedFor d.slots v → get (view_after_event v e) ≡ t (get v) e)
@@ -94,7 +84,7 @@ module _ (eats : Eats) (d : Description) (client : ℕ) {V : Type 0} (t : V → 
   not_asked x h = by (asks_for part client x) refl
     where
       by : (b : Bool) → asks_for part client x ≡ b → b ≡ false
-      by true e = absurd (let bad : true ≡ false = sym (asks-own part client x e) ∙ h in cc)
+      by true e = absurd (let bad : true ≡ false = sym (part-asked part client x e).own ∙ h in cc)
       by false e = refl
 
   pub get-follows : (past : List Step) (x : Step) → get (client_view_with eats d (x ∷ past) client) ≡ cond (asks_for part client x) (told (raw d past)) (over t (get (client_view_with eats d past client)) (map event_of (taken_by_with eats d past client x)))
