@@ -9,7 +9,7 @@ use Rattle.inp_model.specs.declared.event.Event.{Event}
 use Rattle.inp_model.specs.declared.axis_info.AxisInfo.{AxisInfo}
 use Rattle.inp_model.proofs.MultiTouchCodes.{slot_code-multi_touch, single_touch-no_value}
 use Rattle.inp_model.specs.RawItem.{RawItem, Occurred, Described}
-use Rattle.inp_model.specs.Description.{Description, is_slot_code, is_multi_touch_code}
+use Rattle.inp_model.specs.Description.{Description, is_multi_touch_code}
 use Rattle.inp_model.specs.Event.{is_on, is_multi_touch, is_slot_value}
 use Rattle.inp_model.specs.State.{staged, cell}
 use Rattle.inp_model.specs.Passed.{passes_as, announced}

@@ -1,15 +1,14 @@
 -- Under which value a multi-touch event is passed, and with which flags.
-use Rattle.std.proofs.Common.{◌≡◌, ℕ, Bool, true, false, ◌&&◌, not, if◌then◌else◌, nat_eq, ℤ, List, ◌∷◌, refl, ap, ◌∙◌, arith, Option, Some, None}
+use Rattle.std.proofs.Common.{◌≡◌, ℕ, Bool, true, false, ◌&&◌, not, if◌then◌else◌, nat_eq, ℤ, List, refl, ap, ◌∙◌, Option, Some, None}
 use Rattle.std.proofs.lemmas.Bool.{cond-true, cond-false}
-use Rattle.std.proofs.lemmas.Bool.Decides.{nat_tests}
 use Rattle.std.specs.Prelude.{is_some}
 use Rattle.std.specs.Ordering.{int_eq}
 use Rattle.inp_model.specs.declared.event.TheConstants.{EV_ABS}
 use Rattle.inp_model.specs.declared.multi_touch.TheConstants.{ABS_MT_SLOT}
 use Rattle.inp_model.proofs.MultiTouchCodes.{slot_code-multi_touch, slot_code-not_slot}
-use Rattle.inp_model.specs.RawItem.{RawItem, Occurred}
+use Rattle.inp_model.specs.RawItem.{RawItem}
 use Rattle.inp_model.specs.Description.{Description, supports, is_multi_touch_code, is_slot_code}
-use Rattle.inp_model.specs.State.{staged, cell, axis_value}
+use Rattle.inp_model.specs.State.{staged, cell}
 use Rattle.inp_model.specs.Passed.{announced, passes_as, code_passes_as, multi_touch_passes_as, axis_passes_as, moved_to, cell_after}
 use Rattle.inp_caps.specs.Disposition.{flags, flags_after}
 use Rattle.inp_slots.specs.Slots.{touch}

@@ -1,14 +1,12 @@
 -- What becomes of an event that is about no slot, by whether it is passed.
-use Rattle.std.proofs.Common.{◌≡◌, Bool, true, false, ◌&&◌, not, refl, sym, ap, ◌∙◌, arith, List, is_some}
-use Rattle.std.specs.Ordering.{int_eq}
+use Rattle.std.proofs.Common.{◌≡◌, Bool, true, false, ◌&&◌, refl, sym, ap, ◌∙◌, List, is_some}
 use Rattle.std.proofs.lemmas.Bool.{and_left}
 use Rattle.inp_model.specs.declared.event.Event.{Event}
 use Rattle.inp_model.proofs.MultiTouchCodes.{single_touch-no_value}
 use Rattle.inp_model.specs.RawItem.{RawItem}
 use Rattle.inp_model.specs.Description.{Description}
 use Rattle.inp_model.specs.Event.{is_report, is_multi_touch, is_slot_value}
-use Rattle.inp_model.specs.State.{staged}
-use Rattle.inp_model.specs.Passed.{passes_as, is_output, announced, announces}
+use Rattle.inp_model.specs.Passed.{passes_as, is_output, announces}
 use Rattle.inp_caps.specs.Disposition.{flags, flags_after}
 use Rattle.inp_state.specs.State.{flags_by}
 
