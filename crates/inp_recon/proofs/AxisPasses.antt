@@ -1,7 +1,7 @@
 -- An axis with a value of its own: what is passed for a raw event leads from its value before to its value behind.
-use Rattle.std.proofs.Common.{◌≡◌, ℕ, ℤ, Bool, true, false, ◌&&◌, not, if◌then◌else◌, nat_eq, List, [], ◌∷◌, ◌++◌, refl, sym, ap, subst, ◌∙◌, Option, Some, None, option_to_list, option_map, is_some}
+use Rattle.std.proofs.Common.{◌≡◌, ℕ, ℤ, Bool, true, false, ◌&&◌, not, if◌then◌else◌, nat_eq, List, [], ◌∷◌, ◌++◌, refl, sym, ap, ◌∙◌, Option, Some, None, option_to_list, option_map, is_some}
 use Rattle.std.specs.Ordering.{int_eq}
-use Rattle.std.proofs.lemmas.Bool.{cond-true, cond-false, eqb-true, eq-eqb, not-true, and_left, and_right}
+use Rattle.std.proofs.lemmas.Bool.{cond-true, cond-false, eq-eqb, not-true, and_left, and_right}
 use Rattle.std.proofs.lemmas.Bool.Decides.{Decides-int_eq}
 use Rattle.inp_model.specs.declared.event.TheConstants.{EV_ABS}
 use Rattle.inp_model.proofs.MultiTouchCodes.{plain-no_slot_code}
@@ -17,7 +17,7 @@ use Rattle.inp_recon.specs.Undisturbed.{is_viewed}
 use Rattle.inp_recon.proofs.Each.{Each, and-left, and-right}
 use Rattle.inp_recon.proofs.Over.{over, over-idle, IsIdle}
 use Rattle.inp_recon.proofs.LastWrite.{set_by}
-use Rattle.inp_recon.proofs.EventKinds.{event, is_event, unviewed-other}
+use Rattle.inp_recon.proofs.EventKinds.{event, on_or_off, unviewed-other}
 use Rattle.inp_recon.proofs.FlagPasses.{passed-each}
 
 -- the event sets this axis
@@ -95,15 +95,6 @@ module _ (d : Description) (code : ℕ) (has : has_axis d code ≡ true) where
       by false h = cond-true (sets_axis code (event EV_ABS code new)) new old mine
 
   pub axis-passes : (r : List RawItem) (e : Event) → over (axis_after code) (axis_value d r code) (passed d r e) ≡ axis_value d (Occurred e ∷ r) code
-  axis-passes r e = by (nat_eq e.kind EV_ABS) refl (nat_eq e.code code) refl
-    where
-      Goal : Event → Type 0
-      Goal e = over (axis_after code) (axis_value d r code) (passed d r e) ≡ axis_value d (Occurred e ∷ r) code
-
-      other : (nat_eq e.kind EV_ABS && nat_eq e.code code) ≡ false → Goal e
-      other h = over-idle (axis_after code) (axis_value d r code) (passed d r e) (other-each r e h) ∙ sym (other-same r e h)
-
-      by : (a : Bool) → nat_eq e.kind EV_ABS ≡ a → (b : Bool) → nat_eq e.code code ≡ b → Goal e
-      by true h true k = subst Goal (sym (is_event e EV_ABS code (eqb-true e.kind EV_ABS h) (eqb-true e.code code k))) (at_axis r e.value)
-      by true h false k = other (and_right _ _ k)
-      by false h b k = other (ap (λ (x : Bool). x && nat_eq e.code code) h)
+  axis-passes r e =
+      on_or_off (λ e. over (axis_after code) (axis_value d r code) (passed d r e) ≡ axis_value d (Occurred e ∷ r) code) EV_ABS code e (at_axis r)
+      (λ h. over-idle (axis_after code) (axis_value d r code) (passed d r e) (other-each r e h) ∙ sym (other-same r e h))
