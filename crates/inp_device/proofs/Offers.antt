@@ -59,7 +59,7 @@ is_offered-open past client is = ap (λ b. b && not (is_revoked past client) && 
 
 -- one frame
 after_offer-with : (d : Description) (client : ℕ) (f : Frame) (q : List Entry) → is_open f.before client ≡ true → EndsSet (mask_bit f.before client)
-    → read_after_offer d (left (eaten d) f) (moment f) (place f) (holder f.before) (client_with d f.before client q) ≡ client_with d f.before client (put_all model.event_of entry_dropped_at (ring d) q (entries_of d client f))
+    → read_after_offer d (left (eaten d) f) (moment f) (place f) (holder f.before) (client_with d f.before client q) ≡ client_with d f.before client (put_all model.event_of entry_dropped_at (ring d) q (entries_of (eaten d) d client f))
 after_offer-with d client f q is ends =
     let es : List Entry = map (entry d client f) (filter (admits f.before client) (left (eaten d) f)) in
     offer_by d f.before client q es (admitted_events d (left (eaten d) f) (moment f) (place f) (client_with d f.before client q)) (is_offered_to (holder f.before) (client_with d f.before client q)) (admitted-entries d client f q ends)
@@ -74,7 +74,7 @@ pub after_offers-with : (d : Description) (past : List Step) (client : ℕ) (x :
     → after_offers d (map (frame_of past x) cs) (client_with d past client q) ≡ client_with d past client (put_all model.event_of entry_dropped_at (ring d) q (entries d client (map (frame_of past x) cs)))
 after_offers-with d past client x [] q is ends = refl
 after_offers-with d past client x (c ∷ cs) q is ends =
-    let first : List Entry = entries_of d client (frame_of past x c) in
+    let first : List Entry = entries_of (eaten d) d client (frame_of past x c) in
     ap (after_offers d (map (frame_of past x) cs)) (after_offer-with d client (frame_of past x c) q is ends)
     ∙ after_offers-with d past client x cs (put_all model.event_of entry_dropped_at (ring d) q first) is ends
     ∙ ap (client_with d past client) (sym (put_all-append (ring d) q first (entries d client (map (frame_of past x) cs))))

@@ -17,7 +17,7 @@ use Rattle.inp_model.specs.Event.{is_report}
 use Rattle.inp_model.specs.Step.{Query, Codes, client_of, query_of, is_open_step, is_close_of, is_end_step, is_same}
 use Rattle.inp_model.specs.Past.{opens, is_open, open_clients, is_revoked, holder, clock_of, mask_bit, ends}
 use Rattle.inp_model.specs.Raw.{raw}
-use Rattle.inp_model.specs.Left.{given_in}
+use Rattle.inp_model.specs.Left.{given_in, eaten}
 use Rattle.inp_model.specs.Queue as model
 use Rattle.inp_model.specs.Queue.{Entry, visible, queue, taken_by}
 use Rattle.inp_model.specs.Reply.{Answer, alone, accepted, done_answer, bits_answer, cells_answer, took_answer, bitmap_of, code_on, axis_answer, taken_of, written, is_bad_client, is_no_device, finds_nothing}
@@ -410,13 +410,13 @@ no_device d past p x client is stands named there test other =
     ∙ sym (ap (is_no_device past x) named)
 
 pub nothing_found : (d : Description) (past : List Step) (p : Present) (x : Step) (client count seen : ℕ) → PresentStandsFor d past p → x ≡ Read client count → has_client client p.handler.clients.list ≡ true → seen ≡ visible event_of_cell (events_of client p.handler.clients.list)
-    → nat_eq seen 0 ≡ finds_nothing d past x
+    → nat_eq seen 0 ≡ finds_nothing (eaten d) d past x
 nothing_found d past p x client count seen stands is there test =
     ap (λ (n : ℕ). nat_eq n 0)
     (test ∙ sym (visible-on_clock d client p.handler.clients.list) ∙ ap (λ cs. visible taken_event (events_of client cs)) stands.handler.clients
     ∙ ap (visible taken_event) (events_of-after d past client (open_there d past p client stands there))
     ∙ visible-map (queue d past client))
-    ∙ sym (ap (finds_nothing d past) is)
+    ∙ sym (ap (finds_nothing (eaten d) d past) is)
 
 -- Before any step
 

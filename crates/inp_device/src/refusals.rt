@@ -5,6 +5,7 @@ ghost use Rattle.inp_model.specs.declared.limits.TheConstants.{LOG_MAX};
 ghost use Rattle.inp_model.specs.Description.{Description, is_fixed_axis, is_bad_fuzz};
 ghost use Rattle.inp_model.specs.Step.{client_of, is_same};
 ghost use Rattle.inp_model.specs.Past.{has_mask, mask_words};
+ghost use Rattle.inp_model.specs.Left.{eaten};
 ghost use Rattle.inp_model.specs.Reply.{refused, is_bad_client, is_no_device, is_bad_kind, is_bad_code, is_bad_info, finds_nothing, is_busy, is_not_grabber, is_one_too_many, is_full};
 ghost use Rattle.inp_device.specs.Present.{PresentStandsFor, NamesOpen};
 
@@ -117,7 +118,7 @@ impl Present {
     fn finds_nothing(&self, step: Step) -> bool
         requires open { NamesOpen self.now.handler.clients.list (client_of step) }
         ensures exact { (d : Description) (past : List Step) → PresentStandsFor d past self.now
-            → result ≡ finds_nothing d past step }
+            → result ≡ finds_nothing (eaten d) d past step }
     {
         match step {
             Step::Read { client, .. } => self.handler.clients.visible(client) == 0,

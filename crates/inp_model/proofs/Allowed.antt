@@ -12,6 +12,7 @@ use Rattle.inp_model.specs.declared.axis_info.AxisInfo.{AxisInfo}
 use Rattle.inp_model.specs.Description.{Description, supports, is_multi_touch_code, is_slot_code}
 use Rattle.inp_model.specs.Step.{client_of}
 use Rattle.inp_model.specs.Past.{is_open, has_mask, mask_words, ends}
+use Rattle.inp_model.specs.Left.{eaten}
 use Rattle.inp_model.specs.Reply.{Case, refusal, first_reply, refused, is_bad_client, is_no_device, is_bad_kind, is_bad_code, is_bad_info, finds_nothing, is_busy, is_not_grabber, is_one_too_many, is_full}
 
 -- no cause of a refusal is there
@@ -21,7 +22,7 @@ pub record IsAllowed (d : Description) (past : List Step) (x : Step) : Type 0 wh
   pub kind : is_bad_kind d x ≡ false
   pub code : is_bad_code d x ≡ false
   pub info : is_bad_info x ≡ false
-  pub found : finds_nothing d past x ≡ false
+  pub found : finds_nothing (eaten d) d past x ≡ false
   pub free : is_busy past x ≡ false
   pub held : is_not_grabber past x ≡ false
   pub few : is_one_too_many past x ≡ false
@@ -46,7 +47,7 @@ allowed d past x h =
     let c2 : Case = refusal (is_bad_kind d x) (Refused (length past) BadKind) in
     let c3 : Case = refusal (is_bad_code d x) (Refused (length past) BadCode) in
     let c4 : Case = refusal (is_bad_info x) (Refused (length past) BadInfo) in
-    let c5 : Case = refusal (finds_nothing d past x) (Again (length past) (ends past)) in
+    let c5 : Case = refusal (finds_nothing (eaten d) d past x) (Again (length past) (ends past)) in
     let c6 : Case = refusal (is_busy past x) (Refused (length past) Busy) in
     let c7 : Case = refusal (is_not_grabber past x) (Refused (length past) NotGrabber) in
     let c8 : Case = refusal (is_one_too_many past x) (Refused (length past) TooMany) in

@@ -3,6 +3,7 @@ pub mod Computation
 pub mod Descriptions
 pub mod Injection
 pub mod Leaves
+pub mod MultiTouchCodes
 pub mod Opens
 pub mod Refused
 pub mod Removal

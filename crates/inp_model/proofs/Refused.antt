@@ -4,6 +4,7 @@ use Rattle.std.proofs.lemmas.Bool.{true≢false}
 use Rattle.inp_model.specs.declared.step.Step.{Step}
 use Rattle.inp_model.specs.declared.reply.Reply.{Reply}
 use Rattle.inp_model.specs.Description.{Description}
+use Rattle.inp_model.specs.Left.{eaten}
 use Rattle.inp_model.specs.Reply.{Answer, Case, IsAnswer, first_reply, refusals, refused, accepted, answer_by, is_accepted}
 
 -- no case has the reply of an accepted step
@@ -21,7 +22,7 @@ first_reply-refuses (case ∷ cases) reply h e = first_if case.holds case.reply 
 
 pub refused-not_accepted : (d : Description) (past : List Step) (x : Step) (reply : Reply) → refused d past x ≡ Some reply → is_accepted reply ≡ false
 refused-not_accepted d past x reply h =
-    first_reply-refuses (refusals d past x) reply (refl, (refl, (refl, (refl, (refl, (refl, (refl, (refl, (refl, (refl, tt)))))))))) h
+    first_reply-refuses (refusals (eaten d) d past x) reply (refl, (refl, (refl, (refl, (refl, (refl, (refl, (refl, (refl, (refl, tt)))))))))) h
 
 pub unrefused_by : (d : Description) (past : List Step) (x : Step) (o : Option Reply) → refused d past x ≡ o → is_accepted (answer_by o (accepted d past x)).reply ≡ true → o ≡ None
 unrefused_by d past x None h is = refl

@@ -11,6 +11,7 @@ use Rattle.inp_model.specs.declared.reply.Reply.{Reply}
 use Rattle.inp_model.specs.Description.{Description}
 use Rattle.inp_model.specs.Past.{past_at}
 use Rattle.inp_model.specs.DeviceView.{DeviceView, evdev_view}
+use Rattle.inp_model.specs.Left.{eaten}
 use Rattle.inp_model.specs.Reply.{Answer, IsAnswer, Case, first_reply, refusals, refused, accepted, answer_by, is_accepted, past_after, IsDeviceStep}
 use Rattle.inp_model.specs.Run.{Call, place_of}
 use Rattle.inp_model.specs.Evdev.{agains_after, IsCall, IsEvdevCall}
@@ -41,7 +42,7 @@ accepted-place d past x = refl
 
 answer_place : (d : Description) (past : List Step) (x : Step) (o : Option Reply) → o ≡ refused d past x → place_of (answer_by o (accepted d past x)).reply ≡ length past
 answer_place d past x None h = accepted-place d past x
-answer_place d past x (Some reply) h = first_place (length past) (refusals d past x) reply (refl, (refl, (refl, (refl, (refl, (refl, (refl, (refl, (refl, (refl, tt)))))))))) (sym h)
+answer_place d past x (Some reply) h = first_place (length past) (refusals (eaten d) d past x) reply (refl, (refl, (refl, (refl, (refl, (refl, (refl, (refl, (refl, (refl, tt)))))))))) (sym h)
 
 pub given_place : (d : Description) (past : List Step) (x : Step) (given : Answer) → IsAnswer d past x given → place_of given.reply ≡ length past
 given_place d past x given (inl e) = ap (λ (a : Answer). place_of a.reply) e ∙ answer_place d past x (refused d past x) refl

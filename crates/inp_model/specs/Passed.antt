@@ -26,47 +26,45 @@ switch_passes d r e = differ (turned_on d r e.kind e.code) (turned_on d (Occurre
 abbrev pub setting_passes : Description → List RawItem → Event → Bool
 setting_passes d r e = not (int_eq (repeat_setting d r e.code) (repeat_setting d (Occurred e ∷ r) e.code))
 
--- an axis is passed where it moves
-abbrev pub axis_passes : Description → List RawItem → Event → Bool
-axis_passes d r e = not (int_eq (axis_value d r e.code) (axis_value d (Occurred e ∷ r) e.code))
-
 -- the value of the staged slot that an event is about, after it (docs/RULES.md, "Multi-touch slots")
 abbrev pub cell_after : Description → List RawItem → Event → ℤ
 cell_after d r e = cell d (Occurred e ∷ r) (staged d r) e.code
 
+-- a value is passed as it is, where it is passed
+abbrev pub passed_if : Bool → ℤ → Option ℤ
+passed_if passes value = if passes then Some value else None
+
+-- a value is passed where it moves, as the one that it moves to
+abbrev pub moved_to : ℤ → ℤ → Option ℤ
+moved_to before after = if int_eq before after then None else Some after
+
+abbrev pub axis_passes_as : Description → List RawItem → Event → Option ℤ
+axis_passes_as d r e = moved_to (axis_value d r e.code) (axis_value d (Occurred e ∷ r) e.code)
+
 -- The naming of a slot is not passed itself. A multi-touch value is passed where it moves the value of the staged slot;
--- without slots it is always passed, and kept nowhere (docs/RULES.md, "Multi-touch slots").
-abbrev pub multi_touch_passes : Description → List RawItem → Event → Bool
-multi_touch_passes d r e =
-    if nat_eq e.code ABS_MT_SLOT then false
-    else if nat_eq d.slots 0 then true
-    else not (int_eq (cell d r (staged d r) e.code) (cell_after d r e))
+-- without slots it is always passed as it was injected, and kept nowhere (docs/RULES.md, "Multi-touch slots").
+abbrev pub multi_touch_passes_as : Description → List RawItem → Event → Option ℤ
+multi_touch_passes_as d r e =
+    if nat_eq e.code ABS_MT_SLOT then None
+    else if nat_eq d.slots 0 then Some e.value
+    else moved_to (cell d r (staged d r) e.code) (cell_after d r e)
 
--- an event of a supported code is passed
-abbrev pub code_passes : Description → List RawItem → Event → Bool
-code_passes d r e =
-    if nat_eq e.kind EV_KEY then key_passes d r e
-    else if nat_eq e.kind EV_REL then is_set e
-    else if nat_eq e.kind EV_ABS then (if is_multi_touch_code e.code then multi_touch_passes d r e else axis_passes d r e)
-    else if nat_eq e.kind EV_SW || nat_eq e.kind EV_LED then switch_passes d r e
-    else if nat_eq e.kind EV_REP then setting_passes d r e
-    else true
-
--- a multi-touch value is passed as the one that the slot takes (docs/RULES.md, "Multi-touch slots")
-abbrev pub multi_touch_value : Description → List RawItem → Event → ℤ
-multi_touch_value d r e = if nat_eq d.slots 0 then e.value else cell_after d r e
-
--- an axis is passed as the value that it takes, and all else as it was injected
-abbrev pub value_passed : Description → List RawItem → Event → ℤ
-value_passed d r e =
-    if nat_eq e.kind EV_ABS then (if is_multi_touch_code e.code then multi_touch_value d r e else axis_value d (Occurred e ∷ r) e.code)
-    else e.value
+-- the value under which an event of a supported code is passed, if it is: of an axis the one that it takes, and of all
+-- else the one that was injected
+abbrev pub code_passes_as : Description → List RawItem → Event → Option ℤ
+code_passes_as d r e =
+    if nat_eq e.kind EV_KEY then passed_if (key_passes d r e) e.value
+    else if nat_eq e.kind EV_REL then passed_if (is_set e) e.value
+    else if nat_eq e.kind EV_ABS then (if is_multi_touch_code e.code then multi_touch_passes_as d r e else axis_passes_as d r e)
+    else if nat_eq e.kind EV_SW || nat_eq e.kind EV_LED then passed_if (switch_passes d r e) e.value
+    else if nat_eq e.kind EV_REP then passed_if (setting_passes d r e) e.value
+    else Some e.value
 
 -- the value under which an event is passed after the items r, if it is passed
 abbrev pub passes_as : Description → List RawItem → Event → Option ℤ
 passes_as d r e =
-    if nat_eq e.kind EV_SYN then (if nat_lt e.code SYN_DROPPED then Some e.value else None)
-    else if supports d e.kind e.code && code_passes d r e then Some (value_passed d r e)
+    if nat_eq e.kind EV_SYN then passed_if (nat_lt e.code SYN_DROPPED) e.value
+    else if supports d e.kind e.code then code_passes_as d r e
     else None
 
 -- a value of a slot that is passed

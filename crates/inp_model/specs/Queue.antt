@@ -94,16 +94,13 @@ entry d client f e = record {
 -- What comes to a client of a frame: what is left of it that the client admits, where it is offered the frame
 -- (docs/RULES.md, "A client's queue" and "Masks").
 --
--- This definition, and each that ends in _with, speaks of any choice of what is left of a frame. The one of the same name
--- without it speaks of the device's own.
-abbrev pub entries_of_with : Eats → Description → ℕ → Frame → List Entry
-entries_of_with eats d client f = if is_offered f.before client then map (entry d client f) (filter (admits f.before client) (left eats f)) else []
+-- This definition, and each that has `eats` for its first argument, speaks of any choice of what is left of a frame. The
+-- device's own is `eaten d`. A name that ends in _with has beside it the same name without, which speaks of the device's own.
+abbrev pub entries_of : Eats → Description → ℕ → Frame → List Entry
+entries_of eats d client f = if is_offered f.before client then map (entry d client f) (filter (admits f.before client) (left eats f)) else []
 
 abbrev pub entries_with : Eats → Description → ℕ → List Frame → List Entry
-entries_with eats d client fs = flat_map (entries_of_with eats d client) fs
-
-abbrev pub entries_of : Description → ℕ → Frame → List Entry
-entries_of d client f = entries_of_with (eaten d) d client f
+entries_with eats d client fs = flat_map (entries_of eats d client) fs
 
 abbrev pub entries : Description → ℕ → List Frame → List Entry
 entries d client fs = entries_with (eaten d) d client fs
@@ -137,15 +134,15 @@ left_by_call d past (ToClock client clock now) q =
 left_by_call d past x q = flush_for event_of (query_of x) q
 
 -- what a step leaves in a client's queue: its own call first, then what comes of the frames that the step ends
-abbrev pub queue_after_with : Eats → Description → List Step → ℕ → Step → List Entry → List Entry
-queue_after_with eats d past client x q =
+abbrev pub queue_after : Eats → Description → List Step → ℕ → Step → List Entry → List Entry
+queue_after eats d past client x q =
     put_all event_of entry_dropped_at (ring d)
     (if is_call_of past client x then left_by_call d past x q else q)
     (entries_with eats d client (frames_of_step d past x))
 
 unfoldable pub queue_with : Eats → Description → List Step → ℕ → List Entry
 queue_with eats d [] client = []
-queue_with eats d (x ∷ past) client = queue_after_with eats d past client x (queue_with eats d past client)
+queue_with eats d (x ∷ past) client = queue_after eats d past client x (queue_with eats d past client)
 
 -- what a step takes from a client's queue
 abbrev pub taken_by_with : Eats → Description → List Step → ℕ → Step → List Entry
@@ -160,9 +157,6 @@ took_with eats d [] client = []
 took_with eats d (x ∷ past) client = took_with eats d past client ++ taken_by_with eats d past client x
 
 -- of the device's own
-
-abbrev pub queue_after : Description → List Step → ℕ → Step → List Entry → List Entry
-queue_after d past client x q = queue_after_with (eaten d) d past client x q
 
 abbrev pub queue : Description → List Step → ℕ → List Entry
 queue d past client = queue_with (eaten d) d past client

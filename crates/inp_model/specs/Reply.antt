@@ -67,12 +67,9 @@ is_bad_info (SetAxis client code axis) = is_bad_fuzz axis
 is_bad_info _ = false
 
 -- a read that finds nothing visible
-abbrev pub finds_nothing_with : Eats → Description → List Step → Step → Bool
-finds_nothing_with eats d past (Read client count) = nat_eq (visible event_of (queue_with eats d past client)) 0
-finds_nothing_with eats d past _ = false
-
-abbrev pub finds_nothing : Description → List Step → Step → Bool
-finds_nothing d past x = finds_nothing_with (eaten d) d past x
+abbrev pub finds_nothing : Eats → Description → List Step → Step → Bool
+finds_nothing eats d past (Read client count) = nat_eq (visible event_of (queue_with eats d past client)) 0
+finds_nothing eats d past _ = false
 
 -- the grab is taken while a client holds it (docs/RULES.md, "The grab")
 abbrev pub is_busy : List Step → Step → Bool
@@ -107,14 +104,14 @@ abbrev pub refusal : Bool → Reply → Case
 refusal holds reply = record { holds = holds; reply = reply }
 
 -- what may refuse a step, in the order in which it is tried (docs/RULES.md, "The order of refusals")
-abbrev pub refusals_with : Eats → Description → List Step → Step → List Case
-refusals_with eats d past x =
+abbrev pub refusals : Eats → Description → List Step → Step → List Case
+refusals eats d past x =
     refusal (is_bad_client past (client_of x)) (Refused (length past) BadClient)
     ∷ refusal (is_no_device past x (client_of x)) (Refused (length past) NoDevice)
     ∷ refusal (is_bad_kind d x) (Refused (length past) BadKind)
     ∷ refusal (is_bad_code d x) (Refused (length past) BadCode)
     ∷ refusal (is_bad_info x) (Refused (length past) BadInfo)
-    ∷ refusal (finds_nothing_with eats d past x) (Again (length past) (ends past))
+    ∷ refusal (finds_nothing eats d past x) (Again (length past) (ends past))
     ∷ refusal (is_busy past x) (Refused (length past) Busy)
     ∷ refusal (is_not_grabber past x) (Refused (length past) NotGrabber)
     ∷ refusal (is_one_too_many past x) (Refused (length past) TooMany)
@@ -123,10 +120,7 @@ refusals_with eats d past x =
 
 -- the first refusal that holds, if one does
 abbrev pub refused_with : Eats → Description → List Step → Step → Option Reply
-refused_with eats d past x = first_reply (refusals_with eats d past x)
-
-abbrev pub refusals : Description → List Step → Step → List Case
-refusals d past x = refusals_with (eaten d) d past x
+refused_with eats d past x = first_reply (refusals eats d past x)
 
 abbrev pub refused : Description → List Step → Step → Option Reply
 refused d past x = refused_with (eaten d) d past x

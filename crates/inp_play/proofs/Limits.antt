@@ -8,6 +8,7 @@ use Rattle.inp_model.specs.declared.reply.Reply.{Reply}
 use Rattle.inp_model.specs.declared.reply.Reply.TheVariants.{Refused as StepRefused}
 use Rattle.inp_model.specs.declared.reply.Refusal.TheVariants.{NoDevice as Revoked, LogFull}
 use Rattle.inp_model.specs.Description.{Description}
+use Rattle.inp_model.specs.Left.{eaten}
 use Rattle.inp_model.specs.Reply.{Answer, Case, answer, answer_by, accepted, first_reply, refusals, is_full, past_after, is_accepted}
 use Rattle.inp_joy.specs.Joy.{Joying, joy_start, joy_started}
 use Rattle.inp_recon.specs.declared.view.View.{View}
@@ -56,7 +57,7 @@ not_full d past reply room h = absurd (grind (arith, nat_tests, h, room))
 -- a history that is shorter than its limit refuses no step as full
 answer-room : (d : Description) (past : List Step) (x : Step) → length past < d.log_limit → is_log_full (answer d past x).reply ≡ false
 answer-room d past x room =
-    by_cases (refusals d past x) (accepted d past x)
+    by_cases (refusals (eaten d) d past x) (accepted d past x)
     (λ e. refl, (λ e. refl, (λ e. refl, (λ e. refl, (λ e. refl, (λ e. refl, (λ e. refl, (λ e. refl, (λ e. refl, (λ e. not_full d past (StepRefused (length past) LogFull) room e, tt))))))))))
     (room_when_accepted d past x)
 

@@ -10,6 +10,7 @@ use Rattle.inp_model.specs.declared.reply.Refusal.TheVariants.{NoDevice as Revok
 use Rattle.inp_model.specs.Description.{Description}
 use Rattle.inp_model.specs.Evdev.{EvdevView, is_again, agains_after}
 use Rattle.inp_model.specs.Past.{past_at}
+use Rattle.inp_model.specs.Left.{eaten}
 use Rattle.inp_model.specs.Reply.{Answer, Case, IsAnswer, answer_by, accepted, refused, refusals, first_reply, is_accepted, finds_nothing}
 use Rattle.inp_model.specs.Run.{place_of}
 use Rattle.inp_recon.specs.declared.view.View.{View}
@@ -39,13 +40,13 @@ first_reply-not_again : (cases : List Case) (reply : Reply) → NoneIsAgain case
 first_reply-not_again [] reply h e = absurd cc
 first_reply-not_again (case ∷ cases) reply h e = first_if case.holds case.reply reply (first_reply cases) h.0 (first_reply-not_again cases reply h.1) e
 
-finds_something : (d : Description) (past : List Step) (x : Step) → is_read x ≡ false → finds_nothing d past x ≡ true → ⊥
+finds_something : (d : Description) (past : List Step) (x : Step) → is_read x ≡ false → finds_nothing (eaten d) d past x ≡ true → ⊥
 finds_something d past (Read client count) h k = true≢false h
 finds_something d past _ h k = false≢true k
 
 refused-not_again : (d : Description) (past : List Step) (x : Step) (reply : Reply) → is_read x ≡ false → refused d past x ≡ Some reply → is_again reply ≡ false
 refused-not_again d past x reply no_read h =
-    first_reply-not_again (refusals d past x) reply
+    first_reply-not_again (refusals (eaten d) d past x) reply
     (λ k. refl, (λ k. refl, (λ k. refl, (λ k. refl, (λ k. refl, (λ k. absurd (finds_something d past x no_read k), (λ k. refl, (λ k. refl, (λ k. refl, (λ k. refl, tt)))))))))) h
 
 accepted-not_again : (d : Description) (past : List Step) (x : Step) → is_again (accepted d past x).reply ≡ false

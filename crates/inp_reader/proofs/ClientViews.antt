@@ -74,7 +74,7 @@ idle-own d past client (GetAxis named code) v h = absurd (true≢false h)
 idle-own d past client (SyncSlots named) v h = absurd (true≢false h)
 idle-own d past client _ v h = no-events v
 
-pub idle-step : (d : Description) (past : List Step) (client : ℕ) (x : Step) (v : View) → is_use_of client x ≡ false → view_after_step d past client x v ≡ v
+pub idle-step : (d : Description) (past : List Step) (client : ℕ) (x : Step) (v : View) → is_use_of client x ≡ false → view_after_step (eaten d) d past client x v ≡ v
 idle-step d past client x v h =
     cond_both (is_same (client_of x) client) _ _ (λ (w : View). w ≡ v)
     (λ same. idle-own d past client x v (false_from_ne_true (is_use x) (λ used.
@@ -96,14 +96,14 @@ start_of true c h = inl refl
 start_of false c h = inr h
 
 -- a start changes nothing of the view, and takes nothing
-start-idle : (d : Description) (past : List Step) (client : ℕ) (x : Step) (v : View) → is_start past client x ≡ true → (view_after_step d past client x v ≡ v) × (taken_by d past client x ≡ [])
+start-idle : (d : Description) (past : List Step) (client : ℕ) (x : Step) (v : View) → is_start past client x ≡ true → (view_after_step (eaten d) d past client x v ≡ v) × (taken_by d past client x ≡ [])
 unfolding view_after_answer
 start-idle d past client Open v h = (refl, refl)
 start-idle d past client (Discard named) v h = (cond_both (nat_eq named client) _ _ (λ x. x ≡ v) (λ _. no-events v) (λ _. refl), refl)
 start-idle d past client _ v h = absurd (false≢true h)
 
 pub used-view : (d : Description) (past : List Step) (client : ℕ) (x : Step) (v : View) → refused d past x ≡ None → is_use_of client x ≡ true
-    → view_after_step d past client x v ≡ view_after_answer (view_after_events v (taken_events (answer d past x).events)) x (answer d past x).reply (answer d past x).cells
+    → view_after_step (eaten d) d past client x v ≡ view_after_answer (view_after_events v (taken_events (answer d past x).events)) x (answer d past x).reply (answer d past x).cells
 used-view d past client x v accepts used =
     let told : answer d past x ≡ accepted d past x = accepted-answer d past x accepts in
     let events : map event_of (taken_by d past client x) ≡ taken_events (answer d past x).events =
@@ -126,7 +126,7 @@ client_view-since d (x ∷ past) client h = by (is_start past client x) (is_use_
     v = client_view d past client
 
     by : (starts used : Bool) → is_start past client x ≡ starts → is_use_of client x ≡ used → client_view d past client ≡ fold_calls (view_at_start d past client) (calls_since d past client)
-        → view_after_step d past client x v ≡ fold_calls (if starts then v else view_at_start d past client) (if starts then [] else if used then calls_since d past client ++ call ∷ [] else calls_since d past client)
+        → view_after_step (eaten d) d past client x v ≡ fold_calls (if starts then v else view_at_start d past client) (if starts then [] else if used then calls_since d past client ++ call ∷ [] else calls_since d past client)
     by true used s u rest = (start-idle d past client x v s).0
     by false true s u rest =
         used-view d past client x v h.1 u

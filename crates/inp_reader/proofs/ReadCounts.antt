@@ -10,6 +10,7 @@ use Rattle.inp_model.specs.declared.reply.Reply.{Reply}
 use Rattle.inp_model.specs.Description.{Description}
 use Rattle.inp_model.specs.Evdev.{EvdevView}
 use Rattle.inp_model.specs.Past.{past_at}
+use Rattle.inp_model.specs.Left.{eaten}
 use Rattle.inp_model.specs.Queue.{Entry, event_of, queue, visible, taken_by}
 use Rattle.inp_model.specs.Reply.{Answer, IsAnswer, accepted, is_accepted, finds_nothing, taken_of}
 use Rattle.inp_model.specs.Run.{place_of}
@@ -54,7 +55,7 @@ length-some count (x ∷ q) some found =
     above_zero : (n : ℕ) → nat_eq n 0 ≡ false → 0 < n
     above_zero n h = grind (arith, nat_tests, h)
 
-some-accepted : (d : Description) (past : List Step) (client count : ℕ) → 0 < count → finds_nothing d past (Read client count) ≡ false → 0 < length (accepted d past (Read client count)).events
+some-accepted : (d : Description) (past : List Step) (client count : ℕ) → 0 < count → finds_nothing (eaten d) d past (Read client count) ≡ false → 0 < length (accepted d past (Read client count)).events
 some-accepted d past client count some found =
     let q : List Entry = queue d past client in
     let own : taken_by d past client (Read client count) ≡ take (min count (visible event_of q)) q = ap (λ (b : Bool). if b then take (min count (visible event_of q)) q else []) (eq-eqb client client refl) in
@@ -62,7 +63,7 @@ some-accepted d past client count some found =
 
 some-taken : (d : Description) (past : List Step) (client count : ℕ) (given : Answer) → 0 < count → IsAnswer d past (Read client count) given → is_accepted given.reply ≡ true → 0 < length given.events
 some-taken d past client count given some h is =
-    let found : finds_nothing d past (Read client count) ≡ false = (allowed d past (Read client count) (accepted-unrefused d past (Read client count) given h is)).found in
+    let found : finds_nothing (eaten d) d past (Read client count) ≡ false = (allowed d past (Read client count) (accepted-unrefused d past (Read client count) given h is)).found in
     omega (arith, ap (λ (a : Answer). length a.events) (read-answer d past client count given h is), some-accepted d past client count some found)
 
 -- a reader's read that is accepted has queued an event

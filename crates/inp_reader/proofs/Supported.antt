@@ -17,7 +17,7 @@ use Rattle.inp_model.specs.RawItem.{RawItem, Occurred, Described, Cut, Frame}
 use Rattle.inp_model.specs.Description.{Description, supports, ring}
 use Rattle.inp_model.specs.Event.{is_report, is_on, core_report, slot_event}
 use Rattle.inp_model.specs.State.{staged, is_slot}
-use Rattle.inp_model.specs.Passed.{passed, passes_as, code_passes, value_passed, passes_slot_value, announced, announces, announcement}
+use Rattle.inp_model.specs.Passed.{passed, passes_as, passed_if, code_passes_as, passes_slot_value, announced, announces, announcement}
 use Rattle.inp_model.specs.Cut.{pending, cut_events, cut_for, cuts}
 use Rattle.inp_model.specs.Frame.{frame_of, frames_of_step, cuts_of_step}
 use Rattle.inp_model.specs.Raw.{raw, raw_of_step}
@@ -75,17 +75,17 @@ announcement-of d r e =
 
 -- What is passed
 
-slot-not-passed : (d : Description) (r : List RawItem) (v : ℤ) → code_passes d r (record { kind = EV_ABS; code = ABS_MT_SLOT; value = v }) ≡ false
+slot-not-passed : (d : Description) (r : List RawItem) (v : ℤ) → is_some (code_passes_as d r (record { kind = EV_ABS; code = ABS_MT_SLOT; value = v })) ≡ false
 slot-not-passed d r v = refl
 
-slot-code-not-passed : (d : Description) (r : List RawItem) (e : Event) → e.kind ≡ EV_ABS → e.code ≡ ABS_MT_SLOT → code_passes d r e ≡ false
+slot-code-not-passed : (d : Description) (r : List RawItem) (e : Event) → e.kind ≡ EV_ABS → e.code ≡ ABS_MT_SLOT → is_some (code_passes_as d r e) ≡ false
 slot-code-not-passed d r e h k =
     let same : e ≡ record { kind = EV_ABS; code = ABS_MT_SLOT; value = e.value } =
     ap (λ (n : ℕ). record e { kind = n }) h ∙ ap (λ (n : ℕ). record { kind = EV_ABS; code = n; value = e.value }) k in
-    ap (λ (x : Event). code_passes d r x) same ∙ slot-not-passed d r e.value
+    ap (λ (x : Event). is_some (code_passes_as d r x)) same ∙ slot-not-passed d r e.value
 
 -- the event is of the device where it is supported and passes
-supported-of : (d : Description) (r : List RawItem) (e : Event) → supports d e.kind e.code ≡ true → code_passes d r e ≡ true → (if nat_eq e.kind EV_ABS && nat_eq e.code ABS_MT_SLOT then nat_lt 0 d.slots else supports d e.kind e.code) ≡ true
+supported-of : (d : Description) (r : List RawItem) (e : Event) → supports d e.kind e.code ≡ true → is_some (code_passes_as d r e) ≡ true → (if nat_eq e.kind EV_ABS && nat_eq e.code ABS_MT_SLOT then nat_lt 0 d.slots else supports d e.kind e.code) ≡ true
 supported-of d r e h k = by (nat_eq e.kind EV_ABS && nat_eq e.code ABS_MT_SLOT) refl
   where
     by : (b : Bool) → (nat_eq e.kind EV_ABS && nat_eq e.code ABS_MT_SLOT) ≡ b → (if b then nat_lt 0 d.slots else supports d e.kind e.code) ≡ true
@@ -100,16 +100,15 @@ passes-of d r e = by (nat_eq e.kind EV_SYN)
     slot_or : Bool
     slot_or = if nat_eq e.kind EV_ABS && nat_eq e.code ABS_MT_SLOT then nat_lt 0 d.slots else supports d e.kind e.code
 
-    of_pass : (s c : Bool) → supports d e.kind e.code ≡ s → code_passes d r e ≡ c → is_some (if s && c then Some (value_passed d r e) else None) ≡ true → slot_or ≡ true
-    of_pass true true h k is = supported-of d r e h k
-    of_pass true false h k is = absurd (false≢true is)
-    of_pass false c h k is = absurd (false≢true is)
+    of_pass : (s : Bool) → supports d e.kind e.code ≡ s → is_some (if s then code_passes_as d r e else None) ≡ true → slot_or ≡ true
+    of_pass true h is = supported-of d r e h is
+    of_pass false h is = absurd (false≢true is)
 
     by : (syn : Bool)
-        → is_some (if syn then (if nat_lt e.code 3 then Some e.value else None) else if supports d e.kind e.code && code_passes d r e then Some (value_passed d r e) else None) ≡ true
+        → is_some (if syn then passed_if (nat_lt e.code 3) e.value else if supports d e.kind e.code then code_passes_as d r e else None) ≡ true
         → (if syn then true else slot_or) ≡ true
     by true is = refl
-    by false is = of_pass (supports d e.kind e.code) (code_passes d r e) refl refl is
+    by false is = of_pass (supports d e.kind e.code) refl is
 
 passed-value-of : (d : Description) (e : Event) (o : Option ℤ) → (is_some o ≡ true → is_event_of d e ≡ true) → All (IsOf d) (option_to_list (option_map (λ v. record e { value = v }) o))
 passed-value-of d e None h = All-nil (IsOf d)
@@ -187,7 +186,7 @@ left_from-of d eats k (e ∷ es) h =
     (let rest : All (IsOf d) (left_from eats (suc k) es) = left_from-of d eats (suc k) es (All-tail (IsOf d) e es h) in
     one-of (IsOf d) (is_left eats k e) (e ∷ left_from eats (suc k) es) (left_from eats (suc k) es) (All-cons (IsOf d) e _ (All-head (IsOf d) e es h) rest) rest)
 
-entries_of-of : (d : Description) (client : ℕ) (f : Frame) → IsFrameOf d f → All (IsEntryOf d) (entries_of d client f)
+entries_of-of : (d : Description) (client : ℕ) (f : Frame) → IsFrameOf d f → All (IsEntryOf d) (entries_of (eaten d) d client f)
 entries_of-of d client f h =
     let all : List Event = left (eaten d) f in
     let some : List Event = filter (admits f.before client) all in
@@ -197,7 +196,7 @@ entries_of-of d client f h =
 entries-of : (d : Description) (client : ℕ) (fs : List Frame) → All (IsFrameOf d) fs → All (IsEntryOf d) (entries d client fs)
 entries-of d client [] h = All-nil (IsEntryOf d)
 entries-of d client (f ∷ fs) h =
-    All-append (IsEntryOf d) (entries_of d client f) (entries d client fs) (entries_of-of d client f (All-head (IsFrameOf d) f fs h)) (entries-of d client fs (All-tail (IsFrameOf d) f fs h))
+    All-append (IsEntryOf d) (entries_of (eaten d) d client f) (entries d client fs) (entries_of-of d client f (All-head (IsFrameOf d) f fs h)) (entries-of d client fs (All-tail (IsFrameOf d) f fs h))
 
 put-of : (d : Description) (places : ℕ) (q : List Entry) (x : Entry) → All (IsEntryOf d) q → IsEntryOf d x → All (IsEntryOf d) (put event_of entry_dropped_at places q x)
 put-of d places q x h k = by (is_report (event_of x) && (is_empty q || ends_in_report event_of q)) (nat_lt (suc (length q)) places)

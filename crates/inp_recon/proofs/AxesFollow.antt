@@ -1,7 +1,7 @@
 -- The axes of a view follow the device. A query of an axis removes nothing from the queue: what is queued of it leads
 -- to its present value.
 use Rattle.std.proofs.Common.{◌≡◌, ◌<◌, ℕ, ℤ, pos, Bool, true, false, ◌&&◌, not, if◌then◌else◌, cond, nat_eq, List, [], ◌∷◌, ◌++◌, map, get_or, refl, sym, ap, subst, ◌∙◌, Some, arith}
-use Rattle.std.proofs.lemmas.Bool.{eqb-true, not-true, cond_both}
+use Rattle.std.proofs.lemmas.Bool.{eqb-true, not-true}
 use Rattle.inp_model.specs.declared.event.TheConstants.{EV_ABS}
 use Rattle.inp_model.specs.declared.multi_touch.TheConstants.{ABS_MT_SLOT}
 use Rattle.inp_model.specs.declared.event.Event.{Event}
@@ -22,18 +22,17 @@ use Rattle.inp_model.specs.Reply.{accepted_with, present_value, axis_answer}
 use Rattle.inp_recon.specs.declared.view.View.{View}
 use Rattle.inp_recon.specs.View.{IsSizedFor, with_value_at, view_after_event, view_after_events, view_after_answer}
 use Rattle.inp_recon.specs.ClientView.{client_view_with}
-use Rattle.inp_recon.specs.Synchronised.{OneAxis, asks_for, is_start, has_axis, taken_since_start_with, has_no_loss, has_asked}
+use Rattle.inp_recon.specs.Synchronised.{OneAxis, asks_for, is_start, has_axis, taken_since_start, has_no_loss, has_asked}
 use Rattle.inp_recon.specs.Undisturbed.{is_whole_for, frames_since_start, steps_since_frame_before_start}
 use Rattle.inp_recon.proofs.Each.{Each, Each-left, Each-right, and-left, and-right, all-left, all-right}
 use Rattle.inp_recon.proofs.Over.{over, over-append, IsIdle}
 use Rattle.inp_recon.proofs.LastWrite.{again, suffix-same, pending-again}
-use Rattle.inp_recon.proofs.CallsLeft.{left_in_queue, left_by}
+use Rattle.inp_recon.proofs.CallsLeft.{left_in_queue, left_by, part-asked, kind_asked}
 use Rattle.inp_recon.proofs.FrameEntries.{Receives}
 use Rattle.inp_recon.proofs.FrameSteps.{frames_by, offered_to, passed_by, passes_all, all_grown}
 use Rattle.inp_recon.proofs.Shape.{start-empties}
 use Rattle.inp_recon.proofs.DescriptionSteps.{AreUndescribed, items-are_events, steps-step, steps-start, is_settled, raw-settled}
 use Rattle.inp_recon.proofs.Steps.{raw-step, queue-step, since-step, receives-before}
-use Rattle.inp_recon.proofs.FlagClasses.{kind_asked}
 use Rattle.inp_recon.proofs.AxisPasses.{sets_axis, value_of, axis_after, unkind-idle, multi_touch-idle, axis-unviewed, axis-passes}
 use Rattle.inp_recon.proofs.FollowedValues.{Spares, AreWhole, IsClear, call-keeps, Stands, stands}
 use Rattle.inp_recon.proofs.ViewSteps.{get-after_events, get-follows, get_or-with_value_at}
@@ -177,12 +176,6 @@ module _ (eats : Eats) (d : Description) (client code : ℕ) (has : has_axis d c
       sym (over-append t (present r) (map event_of left) (pending d r))
       ∙ suffix-same (sets_axis code) value_of (present r) (over t (present r) (map event_of taken)) (map event_of left ++ pending d r) whole
 
-  -- a query of the axis leaves the queue
-  query_leaves : (past : List Step) (x : Step) → asks_for (OneAxis code) client x ≡ true → left_in_queue eats d past client x ≡ queue_with eats d past client
-  query_leaves past (GetAxis named asked) h =
-      cond_both (nat_eq named client) _ _ (λ x. x ≡ queue_with eats d past client) (λ _. refl) (λ _. refl)
-  query_leaves past x h = let bad : false ≡ true = h in absurd cc
-
   -- the batch leads back, where no axis was described anew since the last frame
   pending_leads : (r : List RawItem) → is_settled d r ≡ true → over (axis_after code) (present r) (pending d r) ≡ present r
   unfolding is_settled
@@ -204,8 +197,8 @@ module _ (eats : Eats) (d : Description) (client code : ℕ) (has : has_axis d c
       subst (LeadsBack (raw d (x ∷ past))) (sym empty)
       (pending_leads (raw d (x ∷ past)) (ap (is_settled d) same_raw ∙ raw-settled d past (subst AreUndescribed (steps-start d past client x start) early).1))
 
-  pub axis-leads : (past : List Step) → Receives past client → has_no_loss (taken_since_start_with eats d past client) ≡ true → IsClear eats client (frames_since_start d past client) (steps_since_frame_before_start d past client) → has_no_loss (queue_with eats d past client) ≡ true → LeadsBack (raw d past) (queue_with eats d past client)
-  unfolding taken_since_start_with is_open
+  pub axis-leads : (past : List Step) → Receives past client → has_no_loss (taken_since_start eats d past client) ≡ true → IsClear eats client (frames_since_start d past client) (steps_since_frame_before_start d past client) → has_no_loss (queue_with eats d past client) ≡ true → LeadsBack (raw d past) (queue_with eats d past client)
+  unfolding taken_since_start is_open
   axis-leads [] receives none clear kept = let bad : false ≡ true = receives.is_there in absurd cc
   axis-leads (x ∷ past) receives none clear kept = by (is_start past client x) refl (axis-leads past)
     where
@@ -222,25 +215,25 @@ module _ (eats : Eats) (d : Description) (client code : ℕ) (has : has_axis d c
       left = left_in_queue eats d past client x
 
       IH : Type 0
-      IH = Receives past client → has_no_loss (taken_since_start_with eats d past client) ≡ true → IsClear eats client (frames_since_start d past client) (steps_since_frame_before_start d past client) → has_no_loss (queue_with eats d past client) ≡ true → LeadsBack r (queue_with eats d past client)
+      IH = Receives past client → has_no_loss (taken_since_start eats d past client) ≡ true → IsClear eats client (frames_since_start d past client) (steps_since_frame_before_start d past client) → has_no_loss (queue_with eats d past client) ≡ true → LeadsBack r (queue_with eats d past client)
 
       other : is_start past client x ≡ false → IH → LeadsBack (raw d (x ∷ past)) (queue_with eats d (x ∷ past) client)
       other start ih =
           let before : Receives past client = receives-before past client x start receives in
           let steps : AreUndescribed (x ∷ steps_since_frame_before_start d past client) = subst AreUndescribed (steps-step d past client x start) clear.1 in
           let undescribed : is_description x ≡ false = not-true _ steps.0 in
-          let took : has_no_loss (taken_since_start_with eats d past client ++ taken_by_with eats d past client x) ≡ true =
-          ap (λ (c : Bool). has_no_loss (if c then [] else taken_since_start_with eats d past client ++ taken_by_with eats d past client x)) (sym start) ∙ none in
+          let took : has_no_loss (taken_since_start eats d past client ++ taken_by_with eats d past client x) ≡ true =
+          ap (λ (c : Bool). has_no_loss (if c then [] else taken_since_start eats d past client ++ taken_by_with eats d past client x)) (sym start) ∙ none in
           let all : AreWhole eats client (frames_since_start d past client ++ fs) = subst (AreWhole eats client) (since-step d past client x start) clear.0 in
           let mine : AreWhole eats client fs = Each-right _ (frames_since_start d past client) fs all in
-          let there = ih before (all-left _ (taken_since_start_with eats d past client) (taken_by_with eats d past client x) took) (Each-left _ (frames_since_start d past client) fs all, steps.1) in
+          let there = ih before (all-left _ (taken_since_start eats d past client) (taken_by_with eats d past client x) took) (Each-left _ (frames_since_start d past client) fs all, steps.1) in
           subst (λ (l : List RawItem). LeadsBack l (queue_with eats d (x ∷ past) client)) (sym (raw-step d past x))
           (subst (LeadsBack (raw_after r xs)) (sym (queue-step eats d past client x))
           (frames_lead past x left undescribed before mine (ap has_no_loss (sym (queue-step eats d past client x)) ∙ kept)
-          (at (asks_for (OneAxis code) client x) refl (all-right _ (taken_since_start_with eats d past client) (taken_by_with eats d past client x) took) there)))
+          (at (asks_for (OneAxis code) client x) refl (all-right _ (taken_since_start eats d past client) (taken_by_with eats d past client x) took) there)))
         where
           at : (b : Bool) → asks_for (OneAxis code) client x ≡ b → has_no_loss (taken_by_with eats d past client x) ≡ true → (has_no_loss (queue_with eats d past client) ≡ true → LeadsBack r (queue_with eats d past client)) → has_no_loss left ≡ true → LeadsBack r left
-          at true asks took there kept = subst (LeadsBack r) (sym (query_leaves past x asks)) (there (ap has_no_loss (sym (query_leaves past x asks)) ∙ kept))
+          at true asks took there kept = subst (LeadsBack r) (sym ((part-asked (OneAxis code) client x asks).flushes eats d past)) (there (ap has_no_loss (sym ((part-asked (OneAxis code) client x asks).flushes eats d past)) ∙ kept))
           at false asks took there kept = call_leads past x start asks took kept there
 
       by : (c : Bool) → is_start past client x ≡ c → IH → LeadsBack (raw d (x ∷ past)) (queue_with eats d (x ∷ past) client)
@@ -249,13 +242,13 @@ module _ (eats : Eats) (d : Description) (client code : ℕ) (has : has_axis d c
 
   -- ---- an axis that was asked for
 
-  fresh : (past : List Step) (x : Step) → is_start past client x ≡ false → asks_for (OneAxis code) client x ≡ true → Receives past client → has_no_loss (taken_since_start_with eats d past client) ≡ true
+  fresh : (past : List Step) (x : Step) → is_start past client x ≡ false → asks_for (OneAxis code) client x ≡ true → Receives past client → has_no_loss (taken_since_start eats d past client) ≡ true
       → IsClear eats client (frames_since_start d past client) (steps_since_frame_before_start d past client) → has_no_loss (left_in_queue eats d past client x) ≡ true
       → LeadsBack (raw d past) (left_in_queue eats d past client x)
   fresh past x start asks receives none clear kept =
-      subst (LeadsBack (raw d past)) (sym (query_leaves past x asks)) (axis-leads past receives none clear (ap has_no_loss (sym (query_leaves past x asks)) ∙ kept))
+      subst (LeadsBack (raw d past)) (sym ((part-asked (OneAxis code) client x asks).flushes eats d past)) (axis-leads past receives none clear (ap has_no_loss (sym ((part-asked (OneAxis code) client x asks).flushes eats d past)) ∙ kept))
 
-  pub axis-stands : (past : List Step) → Receives past client → has_no_loss (taken_since_start_with eats d past client) ≡ true → has_asked (OneAxis code) past client ≡ true
+  pub axis-stands : (past : List Step) → Receives past client → has_no_loss (taken_since_start eats d past client) ≡ true → has_asked (OneAxis code) past client ≡ true
       → Stands eats d client (axis_after code) (axis-unviewed code) present (axis-passes d code has) (λ past. axis_of (client_view_with eats d past client)) past
   axis-stands =
       stands eats d client (axis_after code) (axis-unviewed code) present (axis-passes d code has) (OneAxis code) axis-spares present (λ past. axis_of (client_view_with eats d past client)) axis_follows fresh

@@ -1,23 +1,23 @@
 -- An axis with a value of its own: what is passed for a raw event leads from its value before to its value behind.
-use Rattle.std.proofs.Common.{◌≡◌, ◌≤◌, ℕ, ℤ, Bool, true, false, ◌&&◌, not, if◌then◌else◌, nat_eq, nat_le, List, [], ◌∷◌, ◌++◌, refl, sym, ap, subst, ◌∙◌, Some, None, option_to_list, option_map, is_some, arith}
+use Rattle.std.proofs.Common.{◌≡◌, ℕ, ℤ, Bool, true, false, ◌&&◌, not, if◌then◌else◌, nat_eq, List, [], ◌∷◌, ◌++◌, refl, sym, ap, ◌∙◌, Option, Some, None, option_to_list, option_map, is_some}
 use Rattle.std.specs.Ordering.{int_eq}
-use Rattle.std.proofs.lemmas.Bool.{eqb-true, eq-eqb, leb-true, le-leb, not-true, and_left, and_right}
+use Rattle.std.proofs.lemmas.Bool.{cond-true, cond-false, eq-eqb, not-true, and_left, and_right}
 use Rattle.std.proofs.lemmas.Bool.Decides.{Decides-int_eq}
 use Rattle.inp_model.specs.declared.event.TheConstants.{EV_ABS}
-use Rattle.inp_model.specs.declared.multi_touch.TheConstants.{ABS_MT_SLOT, ABS_MT_TOUCH_MAJOR, ABS_MT_TOOL_Y}
+use Rattle.inp_model.proofs.MultiTouchCodes.{plain-no_slot_code}
 use Rattle.inp_model.specs.declared.event.Event.{Event}
-use Rattle.inp_model.specs.Description.{Description, supports, is_multi_touch_code, is_slot_code}
+use Rattle.inp_model.specs.Description.{Description, supports, is_multi_touch_code}
 use Rattle.inp_model.specs.Event.{is_multi_touch, slot_event}
 use Rattle.inp_model.specs.RawItem.{RawItem, Occurred}
 use Rattle.inp_model.specs.Defuzz.{defuzz}
 use Rattle.inp_model.specs.State.{axis_info, axis_value, staged}
-use Rattle.inp_model.specs.Passed.{passes_as, axis_passes, multi_touch_passes, multi_touch_value, announced, passed}
+use Rattle.inp_model.specs.Passed.{passes_as, code_passes_as, axis_passes_as, multi_touch_passes_as, announced, passed}
 use Rattle.inp_recon.specs.Synchronised.{has_axis}
 use Rattle.inp_recon.specs.Undisturbed.{is_viewed}
 use Rattle.inp_recon.proofs.Each.{Each, and-left, and-right}
 use Rattle.inp_recon.proofs.Over.{over, over-idle, IsIdle}
 use Rattle.inp_recon.proofs.LastWrite.{set_by}
-use Rattle.inp_recon.proofs.EventKinds.{event, is_event, unviewed-other}
+use Rattle.inp_recon.proofs.EventKinds.{event, on_or_off, unviewed-other}
 use Rattle.inp_recon.proofs.FlagPasses.{passed-each}
 
 -- the event sets this axis
@@ -48,18 +48,6 @@ multi_touch-idle code e h = unset-idle code e (ap (λ (b : Bool). (nat_eq e.kind
 pub axis-unviewed : (code : ℕ) (e : Event) → is_viewed e.kind ≡ false → IsIdle (axis_after code) e
 axis-unviewed code e h = unkind-idle code e (unviewed-other e.kind EV_ABS refl h)
 
--- an axis with a value of its own is none of those of slots
-plain-slot : (code : ℕ) → is_multi_touch_code code ≡ false → is_slot_code code ≡ false
-plain-slot code h = by (is_slot_code code) refl
-  where
-    by : (b : Bool) → is_slot_code code ≡ b → b ≡ false
-    by true k =
-        let low : ABS_MT_TOUCH_MAJOR ≤ code = leb-true ABS_MT_TOUCH_MAJOR code (and-left _ _ k) in
-        let low2 : nat_le ABS_MT_SLOT code ≡ true = le-leb ABS_MT_SLOT code (omega (arith, low)) in
-        let bad : true ≡ false = sym (and-right (nat_le ABS_MT_TOUCH_MAJOR code) (nat_le code ABS_MT_TOOL_Y) k) ∙ ap (λ (b : Bool). b && nat_le code ABS_MT_TOOL_Y) (sym low2) ∙ h in
-        absurd cc
-    by false k = refl
-
 module _ (d : Description) (code : ℕ) (has : has_axis d code ≡ true) where
   plain : is_multi_touch_code code ≡ false
   plain = not-true (is_multi_touch_code code) (and-right (supports d EV_ABS code) _ has)
@@ -80,14 +68,13 @@ module _ (d : Description) (code : ℕ) (has : has_axis d code ≡ true) where
 
   -- an event on the axis is passed as the value that the axis takes, where that is another one
   passed_at : (r : List RawItem) (value : ℤ) → let e : Event = event EV_ABS code value in
-      passed d r e ≡ option_to_list (option_map (λ v. event EV_ABS code v) (if not (int_eq (axis_value d r code) (axis_value d (Occurred e ∷ r) code)) then Some (axis_value d (Occurred e ∷ r) code) else None))
+      passed d r e ≡ option_to_list (option_map (λ v. event EV_ABS code v) (axis_passes_as d r e))
   passed_at r value =
       let e : Event = event EV_ABS code value in
-      let old : ℤ = axis_value d r code in
-      let new : ℤ = axis_value d (Occurred e ∷ r) code in
-      ap (λ (b : Bool). (if (b && is_some (passes_as d r e)) && not (int_eq (staged d r) (announced d r)) then slot_event (staged d r) ∷ [] else []) ++ option_to_list (option_map (λ v. event EV_ABS code v) (passes_as d r e))) (plain-slot code plain)
-      ∙ ap (λ (b : Bool). option_to_list (option_map (λ v. event EV_ABS code v) (if supports d EV_ABS code && (if b then multi_touch_passes d r e else axis_passes d r e) then Some (if b then multi_touch_value d r e else new) else None))) plain
-      ∙ ap (λ (b : Bool). option_to_list (option_map (λ v. event EV_ABS code v) (if b && not (int_eq old new) then Some new else None))) supported
+      ap (λ (b : Bool). (if (b && is_some (passes_as d r e)) && not (int_eq (staged d r) (announced d r)) then slot_event (staged d r) ∷ [] else []) ++ option_to_list (option_map (λ v. event EV_ABS code v) (passes_as d r e))) (plain-no_slot_code code plain)
+      ∙ ap (λ (o : Option ℤ). option_to_list (option_map (λ v. event EV_ABS code v) o))
+      (cond-true (supports d EV_ABS code) (code_passes_as d r e) None supported
+      ∙ cond-false (is_multi_touch_code code) (multi_touch_passes_as d r e) (axis_passes_as d r e) plain)
 
   at_axis : (r : List RawItem) (value : ℤ) → over (axis_after code) (axis_value d r code) (passed d r (event EV_ABS code value)) ≡ axis_value d (Occurred (event EV_ABS code value) ∷ r) code
   at_axis r value =
@@ -103,24 +90,11 @@ module _ (d : Description) (code : ℕ) (has : has_axis d code ≡ true) where
       mine : sets_axis code (event EV_ABS code new) ≡ true
       mine = ap (λ (b : Bool). not b && nat_eq code code) plain ∙ eq-eqb code code refl
 
-      by : (b : Bool) → int_eq old new ≡ b → over (axis_after code) old (option_to_list (option_map (λ v. event EV_ABS code v) (if not (int_eq old new) then Some new else None))) ≡ new
-      by true h =
-          ap (λ (b : Bool). over (axis_after code) old (option_to_list (option_map (λ v. event EV_ABS code v) (if not b then Some new else None)))) h
-          ∙ (Decides-int_eq old new).0 h
-      by false h =
-          ap (λ (b : Bool). over (axis_after code) old (option_to_list (option_map (λ v. event EV_ABS code v) (if not b then Some new else None)))) h
-          ∙ ap (λ (b : Bool). if b then new else old) mine
+      by : (b : Bool) → int_eq old new ≡ b → over (axis_after code) old (option_to_list (option_map (λ v. event EV_ABS code v) (if b then None else Some new))) ≡ new
+      by true h = (Decides-int_eq old new).0 h
+      by false h = cond-true (sets_axis code (event EV_ABS code new)) new old mine
 
   pub axis-passes : (r : List RawItem) (e : Event) → over (axis_after code) (axis_value d r code) (passed d r e) ≡ axis_value d (Occurred e ∷ r) code
-  axis-passes r e = by (nat_eq e.kind EV_ABS) refl (nat_eq e.code code) refl
-    where
-      Goal : Event → Type 0
-      Goal e = over (axis_after code) (axis_value d r code) (passed d r e) ≡ axis_value d (Occurred e ∷ r) code
-
-      other : (nat_eq e.kind EV_ABS && nat_eq e.code code) ≡ false → Goal e
-      other h = over-idle (axis_after code) (axis_value d r code) (passed d r e) (other-each r e h) ∙ sym (other-same r e h)
-
-      by : (a : Bool) → nat_eq e.kind EV_ABS ≡ a → (b : Bool) → nat_eq e.code code ≡ b → Goal e
-      by true h true k = subst Goal (sym (is_event e EV_ABS code (eqb-true e.kind EV_ABS h) (eqb-true e.code code k))) (at_axis r e.value)
-      by true h false k = other (and_right _ _ k)
-      by false h b k = other (ap (λ (x : Bool). x && nat_eq e.code code) h)
+  axis-passes r e =
+      on_or_off (λ e. over (axis_after code) (axis_value d r code) (passed d r e) ≡ axis_value d (Occurred e ∷ r) code) EV_ABS code e (at_axis r)
+      (λ h. over-idle (axis_after code) (axis_value d r code) (passed d r e) (other-each r e h) ∙ sym (other-same r e h))

@@ -1,17 +1,19 @@
--- What a step leaves in a client's queue before its frames come: what the client reads, loses or flushes.
-use Rattle.std.proofs.Common.{◌≡◌, ◌⊎◌, ℕ, ℤ, Bool, true, false, if◌then◌else◌, nat_eq, min, List, [], ◌∷◌, take, drop, refl, sym, ap, subst, ◌∙◌, Some, None, inl, inr}
+-- What a step leaves in a client's queue before its frames come: what the client reads, loses or flushes, and what it asks
+-- for.
+use Rattle.std.proofs.Common.{◌≡◌, ◌⊎◌, ℕ, ℤ, Bool, true, false, if◌then◌else◌, nat_eq, min, List, [], ◌∷◌, take, drop, refl, sym, ap, subst, ◌∙◌, Option, Some, None, inl, inr, arith}
 use Rattle.std.proofs.lemmas.Bool.{or_parts}
 use Rattle.inp_model.specs.declared.event.TheConstants.{EV_KEY, EV_SW, EV_LED, EV_SND}
 use Rattle.inp_model.specs.declared.event.Event.{Event}
 use Rattle.inp_model.specs.declared.step.Step.{Step}
-use Rattle.inp_model.specs.declared.step.Step.TheVariants.{Open, Read, Discard, GetKeys, GetSwitches, GetLeds, GetSounds, SyncSlots, Clock as ToClock}
+use Rattle.inp_model.specs.declared.step.Step.TheVariants.{Open, Read, Discard, GetKeys, GetSwitches, GetLeds, GetSounds, GetAxis, SyncSlots, Clock as ToClock}
 use Rattle.inp_model.specs.Description.{Description}
 use Rattle.inp_model.specs.Event.{is_report}
 use Rattle.inp_model.specs.Step.{Query, Codes, Slots, client_of, is_same, query_of, is_part_of}
 use Rattle.inp_model.specs.Past.{is_opening, is_call_of, clock_of}
 use Rattle.inp_model.specs.Left.{Eats}
-use Rattle.inp_model.specs.Queue.{Entry, event_of, visible, flush, queue_with, is_same_clock, clock_entry, clock_changed, left_by_call, taken_by_with}
-use Rattle.inp_recon.specs.Synchronised.{is_dropped, is_start, is_query_of}
+use Rattle.inp_model.specs.Queue.{Entry, event_of, visible, flush, queue_with, flush_for, is_same_clock, clock_entry, clock_changed, left_by_call, taken_by_with}
+use Rattle.inp_recon.specs.Synchronised.{Part, AllKeys, AllSwitches, AllLeds, OneAxis, AllSlots, asks_for, is_dropped, is_start, is_query_of}
+use Rattle.inp_recon.proofs.Each.{and-left}
 use Rattle.inp_recon.proofs.EventKinds.{of_losses}
 
 -- a loss is no part of what is asked for, and no report
@@ -78,3 +80,49 @@ left_by eats d past client x start = by (is_same (client_of x) client) refl
     by : (b : Bool) → is_same (client_of x) client ≡ b → LeftBy x client q (taken_by_with eats d past client x) (left_in_queue eats d past client x)
     by true e = subst (λ l. LeftBy x client q (taken_by_with eats d past client x) l) (sym (left true e)) (own_left eats d past client x e start)
     by false e = ByNone (not_taken eats d past client x e) (left false e)
+
+-- ---- what a client asks for
+
+-- the query that asks for a part, where it flushes what it tells
+abbrev pub query_for : Part → Option Query
+query_for AllKeys = Some (Codes EV_KEY)
+query_for AllSwitches = Some (Codes EV_SW)
+query_for AllLeds = Some (Codes EV_LED)
+query_for (OneAxis code) = None
+query_for AllSlots = Some Slots
+
+-- a step that asks for the part is the client's own query, and flushes what it tells
+pub record Asks (part : Part) (client : ℕ) (x : Step) : Type 0 where
+  pub own : is_same (client_of x) client ≡ true
+  pub queries : is_query_of client x ≡ true
+  pub flushes : (eats : Eats) (d : Description) (past : List Step) → left_in_queue eats d past client x ≡ flush_for event_of (query_for part) (queue_with eats d past client)
+
+flushed : Eats → Description → List Step → ℕ → Part → Bool → List Entry
+flushed eats d past client part called = if called then flush_for event_of (query_for part) (queue_with eats d past client) else queue_with eats d past client
+
+pub part-asked : (part : Part) (client : ℕ) (x : Step) → asks_for part client x ≡ true → Asks part client x
+unfolding flushed
+part-asked AllKeys client (GetKeys named) h = record { own = h; queries = h; flushes = λ eats d past. ap (flushed eats d past client AllKeys) h }
+part-asked AllSwitches client (GetSwitches named) h = record { own = h; queries = h; flushes = λ eats d past. ap (flushed eats d past client AllSwitches) h }
+part-asked AllLeds client (GetLeds named) h = record { own = h; queries = h; flushes = λ eats d past. ap (flushed eats d past client AllLeds) h }
+part-asked (OneAxis code) client (GetAxis named asked) h =
+    let own : nat_eq named client ≡ true = and-left _ _ h in
+    record { own = own; queries = own; flushes = λ eats d past. ap (flushed eats d past client (OneAxis code)) own }
+part-asked AllSlots client (SyncSlots named) h = record { own = h; queries = h; flushes = λ eats d past. ap (flushed eats d past client AllSlots) h }
+part-asked part client _ h = absurd (let e : false ≡ true = h in cc)
+
+-- the type that a query tells
+unfoldable pub kind_asked : Option Query → ℕ
+kind_asked None = 100
+kind_asked (Some Slots) = 101
+kind_asked (Some (Codes kind)) = kind
+
+-- no other step of the client makes that query
+pub asked-only : (part : Part) (client : ℕ) (x : Step) (query : Query) → query_for part ≡ Some query → asks_for part client x ≡ false → is_same (client_of x) client ≡ true → query_of x ≡ Some query → ⊥
+unfolding kind_asked
+asked-only AllKeys client (GetKeys named) query q other own e = let bad : true ≡ false = sym own ∙ other in cc
+asked-only AllSwitches client (GetSwitches named) query q other own e = let bad : true ≡ false = sym own ∙ other in cc
+asked-only AllLeds client (GetLeds named) query q other own e = let bad : true ≡ false = sym own ∙ other in cc
+asked-only AllSlots client (SyncSlots named) query q other own e = let bad : true ≡ false = sym own ∙ other in cc
+asked-only (OneAxis code) client x query q other own e = let bad : None ≡ Some query = q in cc
+asked-only part client x query q other own e = omega (arith, ap kind_asked (e ∙ sym q))

@@ -1,5 +1,5 @@
 -- What one item makes of the batch: no frame, or one that is the batch and a report.
-use Rattle.std.proofs.Common.{◌≡◌, ◌⊎◌, ◌<◌, ℕ, ℤ, Bool, true, false, if◌then◌else◌, nat_lt, nat_le, List, [], ◌∷◌, ◌++◌, length, refl, sym, ap, ◌∙◌, Option, Some, None, option_to_list, option_map, inl, inr, arith, length-append}
+use Rattle.std.proofs.Common.{◌≡◌, ◌⊎◌, ◌<◌, ℕ, ℤ, Bool, true, false, if◌then◌else◌, nat_lt, nat_le, List, [], ◌∷◌, ◌++◌, length, refl, sym, ap, subst, ◌∙◌, Option, Some, None, option_to_list, option_map, inl, inr, arith, length-append}
 use Rattle.std.proofs.lemmas.Bool.{lt-ltb}
 use Rattle.std.proofs.lemmas.List.{append-nil}
 use Rattle.inp_model.specs.declared.event.Event.{Event}
@@ -9,7 +9,7 @@ use Rattle.inp_model.specs.Event.{is_report, core_report, slot_event}
 use Rattle.inp_model.specs.RawItem.{RawItem, Occurred, Described, Cut}
 use Rattle.inp_model.specs.Passed.{passes_as, announces, announcement, passed, passed_for}
 use Rattle.inp_model.specs.State.{staged}
-use Rattle.inp_model.specs.Cut.{pending, cut_events, cut_for}
+use Rattle.inp_model.specs.Cut.{pending, cut_events, cut_for, cuts}
 use Rattle.inp_recon.proofs.Each.{Each, Each-append}
 use Rattle.inp_recon.proofs.Over.{over, over-append}
 use Rattle.inp_recon.proofs.QueuedValues.{ReportsIdle}
@@ -182,3 +182,21 @@ over-one_cut {V} t idle d r x h v = by h.same
         over-append t v h.body (h.report ∷ [])
         ∙ idle h.report h.ends (over t v h.body)
         ∙ ap (over t v) body ∙ over-append t v (pending d r) (passed_for d r x)
+
+-- the cut of a batch that ends at an item
+abbrev pub cut_at : List RawItem → RawItem → List Event → Event → Cut
+cut_at r x body report = record { events = body ++ report ∷ []; until = x ∷ r }
+
+-- what holds of no items, and goes on over each, whether a batch waits or ends there, holds of the cuts of all
+pub over_items {ℓ} : (d : Description) (P : List RawItem → List RawItem → List Cut → Type ℓ) → ((r : List RawItem) → P r [] [])
+    → ((r : List RawItem) (x : RawItem) (xs : List RawItem) (cs : List Cut) → NoCut d r x → P (x ∷ r) xs cs → P r (x ∷ xs) cs)
+    → ((r : List RawItem) (x : RawItem) (xs : List RawItem) (cs : List Cut) (h : OneCut d r x) → P (x ∷ r) xs cs → P r (x ∷ xs) (cut_at r x h.body h.report ∷ cs))
+    → (xs r : List RawItem) → P r xs (cuts d r xs)
+unfolding cuts
+over_items d P none waits ends [] r = none r
+over_items d P none waits ends (x ∷ xs) r =
+    let rest : P (x ∷ r) xs (cuts d (x ∷ r) xs) = over_items d P none waits ends xs (x ∷ r) in
+    elim (cut_cases d r x) [
+      | inl h ↦ subst (λ (cs : List Cut). P r (x ∷ xs) (cs ++ cuts d (x ∷ r) xs)) (sym h.none) (waits r x xs (cuts d (x ∷ r) xs) h rest)
+      | inr h ↦ subst (λ (cs : List Cut). P r (x ∷ xs) (cs ++ cuts d (x ∷ r) xs)) (sym h.one) (ends r x xs (cuts d (x ∷ r) xs) h rest)
+    ]

@@ -1,6 +1,6 @@
 -- Events by their types and codes.
-use Rattle.std.proofs.Common.{◌≡◌, ℕ, ℤ, Bool, true, false, nat_eq, refl, sym, ap, subst, ◌∙◌}
-use Rattle.std.proofs.lemmas.Bool.{eqb-true}
+use Rattle.std.proofs.Common.{◌≡◌, ℕ, ℤ, true, false, ◌&&◌, nat_eq, refl, sym, ap, subst, ◌∙◌, inl, inr}
+use Rattle.std.proofs.lemmas.Bool.{eqb-true, ne_eqb, cases_Bool}
 use Rattle.inp_model.specs.declared.event.TheConstants.{EV_SYN, SYN_REPORT, SYN_DROPPED}
 use Rattle.inp_model.specs.declared.event.Event.{Event}
 use Rattle.inp_model.specs.Event.{is_report}
@@ -33,8 +33,11 @@ report-unviewed = of_reports (λ e. is_viewed e.kind ≡ false) (λ value. refl)
 
 -- an event of a type that is not viewed is of none of these
 pub unviewed-other : (kind k : ℕ) → is_viewed k ≡ true → is_viewed kind ≡ false → nat_eq kind k ≡ false
-unviewed-other kind k h n = by (nat_eq kind k) refl
-  where
-    by : (b : Bool) → nat_eq kind k ≡ b → b ≡ false
-    by true e = absurd (let same : kind ≡ k = eqb-true kind k e in let bad : false ≡ true = sym n ∙ ap is_viewed same ∙ h in cc)
-    by false e = refl
+unviewed-other kind k h n = ne_eqb kind k (λ same. (let bad : false ≡ true = sym n ∙ ap is_viewed same ∙ h in cc))
+
+-- what holds of each event on a code, and of each that is not on it, holds of all
+pub on_or_off : (P : Event → Type 0) (kind code : ℕ) (e : Event) → ((value : ℤ) → P (event kind code value)) → ((nat_eq e.kind kind && nat_eq e.code code) ≡ false → P e) → P e
+on_or_off P kind code e on off = elim (cases_Bool (nat_eq e.kind kind && nat_eq e.code code)) [
+  | inl is ↦ subst P (sym (is_event e kind code (eqb-true e.kind kind (and-left _ _ is)) (eqb-true e.code code (and-right _ _ is)))) (on e.value)
+  | inr other ↦ off other
+]

@@ -1,5 +1,5 @@
 -- What a client reads is faithful: at each report that is followed, each value is the device's.
-use Rattle.std.proofs.Common.{◌≡◌, ◌<◌, ◌≤◌, ℕ, zero, suc, ◌+◌, ◌/◌, ◌%◌, ℤ, pos, Bool, true, false, ◌&&◌, ◌||◌, not, if◌then◌else◌, nat_eq, nat_lt, nat_le, min, List, [], ◌∷◌, length, map, take, get_or, refl, sym, ap, subst, ◌∙◌, arith, Option, Some, None, inl, inr}
+use Rattle.std.proofs.Common.{◌≡◌, ◌<◌, ◌≤◌, ℕ, zero, suc, ◌+◌, ◌*◌, ◌/◌, ◌%◌, ℤ, pos, Bool, true, false, ◌&&◌, ◌||◌, not, if◌then◌else◌, nat_eq, nat_lt, nat_le, min, List, [], ◌∷◌, length, map, take, get_or, refl, sym, ap, subst, ◌∙◌, arith, Option, Some, None, inl, inr}
 use Rattle.std.specs.Prelude.{slice_get}
 use Rattle.std.specs.List.{list_all, range_with_len}
 use Rattle.std.proofs.Math.Bool.{and-true}
@@ -29,8 +29,8 @@ use Rattle.inp_recon.specs.declared.view.View.{View}
 use Rattle.inp_recon.specs.View.{IsSizedFor, view_after_events}
 use Rattle.inp_recon.specs.Cells.{cell_index}
 use Rattle.inp_recon.specs.ClientView.{client_view_with}
-use Rattle.inp_recon.specs.Synchronised.{Part, AllKeys, AllSwitches, AllLeds, OneAxis, AllSlots, sync_place, has_asked, has_asked_where, has_axis, taken_since_start_with, has_no_loss, is_synchronised_with}
-use Rattle.inp_recon.specs.Undisturbed.{is_whole_for, frames_since_start, steps_since_frame_before_start, is_undisturbed_with}
+use Rattle.inp_recon.specs.Synchronised.{Part, AllKeys, AllSwitches, AllLeds, OneAxis, AllSlots, sync_place, has_asked, has_asked_where, has_axis, taken_since_start, has_no_loss, is_synchronised_with}
+use Rattle.inp_recon.specs.Undisturbed.{is_whole_for, frames_since_start, steps_since_frame_before_start, is_undisturbed}
 use Rattle.inp_recon.specs.Faithful.{IsDeviceState, AreReadsFaithful}
 use Rattle.inp_recon.proofs.ReadEntries.{IsOfRead, of-read}
 use Rattle.inp_recon.proofs.Each.{Each, Each-weaker, Each-filter, and-left, and-right, Each-from_all, all-left, all-right}
@@ -89,10 +89,10 @@ Promised-item P t v (y ∷ q) (suc j) x at report none h =
 pub record IsFollowedTo (eats : Eats) (d : Description) (past : List Step) (client : ℕ) (taken : List Entry) (f : Frame) : Type 0 where
   pub synchronised : is_synchronised_with eats d past client taken ≡ true
   pub behind : sync_place past client < place f
-  pub undisturbed : is_undisturbed_with eats d past client f ≡ true
+  pub undisturbed : is_undisturbed eats d past client f ≡ true
 
 pub behind-followed : (eats : Eats) (d : Description) (past : List Step) (client : ℕ) (taken : List Entry) (f : Frame) → IsFollowedTo eats d past client taken f → IsBehind eats d (sync_place past client) client (frames_since_start d past client) f
-unfolding is_undisturbed_with
+unfolding is_undisturbed
 behind-followed eats d past client taken f h = (
   h.behind,
   Each-weaker _ _ (λ g kept ended. kept (le-leb (length g.cut.until) (length f.cut.until) ended)) (frames_since_start d past client)
@@ -107,7 +107,7 @@ pub record HasAskedForAll (eats : Eats) (d : Description) (past : List Step) (cl
   pub leds : has_asked_where (has_kind d EV_LED) AllLeds past client ≡ true
   pub axes : list_all (λ code. has_asked_where (has_axis d code) (OneAxis code) past client) (range_with_len 0 (ABS_MAX + 1)) ≡ true
   pub slots : has_asked_where (nat_lt 0 d.slots) AllSlots past client ≡ true
-  pub before : has_no_loss (taken_since_start_with eats d past client) ≡ true
+  pub before : has_no_loss (taken_since_start eats d past client) ≡ true
   pub now : has_no_loss taken ≡ true
 
 pub all-asked : (eats : Eats) (d : Description) (past : List Step) (client : ℕ) (taken : List Entry) → is_synchronised_with eats d past client taken ≡ true → HasAskedForAll eats d past client taken
@@ -124,42 +124,13 @@ all-asked eats d past client taken h =
       leds = and-right _ _ h3;
       axes = and-right _ _ h2;
       slots = and-right _ _ h1;
-      before = all-left _ (taken_since_start_with eats d past client) taken none;
-      now = all-right _ (taken_since_start_with eats d past client) taken none;
+      before = all-left _ (taken_since_start eats d past client) taken none;
+      now = all-right _ (taken_since_start eats d past client) taken none;
     }
 
 asked_where : (has asked : Bool) → has ≡ true → (not has || asked) ≡ true → asked ≡ true
 asked_where true asked e h = h
 asked_where false asked e h = cc
-
--- ---- one value, at a report that is read
-
--- item j of these entries is a report of this frame
-record IsReportAt (entries : List Entry) (j : ℕ) (f : Frame) : Type 0 where
-  entry : Entry
-  at : slice_get entries j ≡ Some entry
-  report : is_report (event_of entry) ≡ true
-  frame : entry.frame ≡ Some f
-
--- a report of a frame, in what a read takes
-read-says : {V : Type 0} (eats : Eats) (d : Description) (past : List Step) (client count : ℕ) (t : V → Event → V) (st : List RawItem → V) (v : V)
-    → FollowsReports eats d client t st (sync_place past client) (frames_since_start d past client) (steps_since_frame_before_start d past client) (raw d past) v (queue_with eats d past client)
-    → (j : ℕ) (f : Frame) → IsReportAt (taken_by_with eats d past client (Read client count)) j f
-    → IsFollowedTo eats d past client (take (suc j) (taken_by_with eats d past client (Read client count))) f
-    → over t v (map event_of (take (suc j) (taken_by_with eats d past client (Read client count)))) ≡ st f.cut.until
-read-says {V} eats d past client count t st v h j f report followed =
-    Promised-item P t v taken j report.entry report.at report.report none
-    (subst (Promised P t v) (sym (taken-read eats d past client count)) (Promised-take P t v (min count (visible event_of (queue_with eats d past client))) (queue_with eats d past client) h.reports))
-    f report.frame (behind-followed eats d past client (take (suc j) taken) f followed)
-  where
-    taken : List Entry
-    taken = taken_by_with eats d past client (Read client count)
-
-    P : Entry → V → Type 0
-    P = Says st (IsBehind eats d (sync_place past client) client (frames_since_start d past client))
-
-    none : has_no_loss (take (suc j) taken) ≡ true
-    none = (all-asked eats d past client (take (suc j) taken) followed.synchronised).now
 
 -- a code past its list is not supported
 unsupported-past : (kind greatest count : ℕ) (d : Description) (codes : List Bool) → ((code : ℕ) → has_code d kind code ≡ get_or codes code false) → AreCodes count greatest codes → (code : ℕ) → count ≤ code → supports d kind code ≡ false
@@ -170,49 +141,6 @@ Each-map_take : (t : Bool → Event → Bool) (n : ℕ) (xs : List Entry) → Ea
 Each-map_take t zero xs h = tt
 Each-map_take t (suc n) [] h = tt
 Each-map_take t (suc n) (x ∷ xs) h = (h.0, Each-map_take t n xs h.1)
-
--- a flag of any class
-flag-read : (eats : Eats) (d : Description) (past : List Step) (client count : ℕ) (kind : ℕ) (skips : ℤ → Bool) (on : List RawItem → ℕ → Bool) (flags_count : ℕ) (part : Part) (flags : View → List Bool)
-    → (c : IsFlagClass eats d client kind skips on flags_count part flags)
-    → Receives past client → has_asked_where (has_kind d kind) part past client ≡ true
-    → ((code : ℕ) → flags_count ≤ code → supports d kind code ≡ false)
-    → (j : ℕ) (f : Frame) → IsReportAt (taken_by_with eats d past client (Read client count)) j f
-    → IsFollowedTo eats d past client (take (suc j) (taken_by_with eats d past client (Read client count))) f
-    → (code : ℕ) → get_or (flags (view_after_events (client_view_with eats d past client) (map event_of (take (suc j) (taken_by_with eats d past client (Read client count)))))) code false ≡ on f.cut.until code
-flag-read eats d past client count kind skips on flags_count part flags c receives asked beyond j f report followed code =
-    elim (cases_lt code flags_count) [
-      | inl within ↦ within_list within (supports d kind code) refl
-      | inr past_it ↦
-          get_or_past (flags after) code false (omega (arith, past_it, c.long after sized_after))
-          ∙ sym (unsupported-off eats d client kind skips on flags_count part flags c code (beyond code past_it) f.cut.until)
-    ]
-  where
-    taken : List Entry
-    taken = take (suc j) (taken_by_with eats d past client (Read client count))
-
-    v : View
-    v = client_view_with eats d past client
-
-    after : View
-    after = view_after_events v (map event_of taken)
-
-    sized_after : IsSizedFor d.slots after
-    sized_after = IsSizedFor-after_events d.slots v (map event_of taken) (client_view_with-sized eats d past client)
-
-    within_list : code < flags_count → (b : Bool) → supports d kind code ≡ b → get_or (flags after) code false ≡ on f.cut.until code
-    within_list within true e =
-        flag-after_events eats d client kind skips on flags_count part flags c code within v (map event_of taken) (client_view_with-sized eats d past client)
-        ∙ read-says eats d past client count (flag_after eats d client kind skips on flags_count part flags c code) (λ r. on r code) (get_or (flags v) code false)
-        (flag-stands eats d client kind skips on flags_count part flags c code within past receives (all-asked eats d past client taken followed.synchronised).before (asked_where (has_kind d kind) (has_asked part past client) (and-left _ _ e) asked))
-        j f report followed
-    within_list within false e =
-        flag-after_events eats d client kind skips on flags_count part flags c code within v (map event_of taken) (client_view_with-sized eats d past client)
-        ∙ over-idle (flag_after eats d client kind skips on flags_count part flags c code) (get_or (flags v) code false) (map event_of taken)
-        (Each-map_take (flag_after eats d client kind skips on flags_count part flags c code) (suc j) (taken_by_with eats d past client (Read client count)) (unsupported-taken eats d client kind skips on flags_count part flags c code e past (Read client count)))
-        ∙ unsupported-unseen eats d client kind skips on flags_count part flags c code within e past
-        ∙ sym (unsupported-off eats d client kind skips on flags_count part flags c code e f.cut.until)
-
--- ---- axes
 
 -- a supported axis is one of the first 64
 axis-within : (d : Description) → IsDescription d → (code : ℕ) → has_axis d code ≡ true → code < 64
@@ -225,105 +153,140 @@ axis-within d described code has = elim (cases_lt code 64) [
       absurd cc)
 ]
 
-axis-read : (eats : Eats) (d : Description) (past : List Step) (client count : ℕ) → IsDescription d → Receives past client
-    → (j : ℕ) (f : Frame) → IsReportAt (taken_by_with eats d past client (Read client count)) j f
-    → IsFollowedTo eats d past client (take (suc j) (taken_by_with eats d past client (Read client count))) f
-    → (code : ℕ) → has_axis d code ≡ true
-    → get_or (view_after_events (client_view_with eats d past client) (map event_of (take (suc j) (taken_by_with eats d past client (Read client count))))).axes code (pos 0) ≡ axis_value d f.cut.until code
-axis-read eats d past client count described receives j f report followed code has =
-    let within : code < 64 = axis-within d described code has in
-    let v : View = client_view_with eats d past client in
-    let taken : List Entry = take (suc j) (taken_by_with eats d past client (Read client count)) in
-    let all = all-asked eats d past client taken followed.synchronised in
-    let axes : List ℕ = range_with_len 0 64 in
-    let here : get_or axes code 0 ≡ code = get_or-range_with_len 0 64 code 0 within ∙ omega arith in
-    let where_has : ℕ → Bool = λ c. has_asked_where (has_axis d c) (OneAxis c) past client in
-    let each = AllPass-from_list_all where_has axes all.axes in
-    let asked : has_asked (OneAxis code) past client ≡ true =
-    asked_where (has_axis d code) (has_asked (OneAxis code) past client) has
-    (ap where_has (sym here)
-    ∙ All-get_or (λ c. where_has c ≡ true) axes code 0 (omega (arith, length-range_with_len 0 64)) each) in
-    axis-after_events eats d client code has within v (map event_of taken) (client_view_with-sized eats d past client)
-    ∙ read-says eats d past client count (axis_after code) (λ r. axis_value d r code) (get_or v.axes code (pos 0))
-    (axis-stands eats d client code has within past receives all.before asked) j f report followed
-
--- ---- slots
-
 pub slot_code : (k : ℕ) → k < 14 → is_slot_code (48 + k) ≡ true
 slot_code k h = and_from _ _ (le-leb ABS_MT_TOUCH_MAJOR (48 + k) (omega arith)) (le-leb (48 + k) ABS_MT_TOOL_Y (omega arith))
 
-cell-read : (eats : Eats) (d : Description) (past : List Step) (client count : ℕ) → Receives past client
-    → (j : ℕ) (f : Frame) → IsReportAt (taken_by_with eats d past client (Read client count)) j f
-    → IsFollowedTo eats d past client (take (suc j) (taken_by_with eats d past client (Read client count))) f
-    → (slot k : ℕ) → (within : slot < d.slots) (h : k < 14)
-    → let v = view_after_events (client_view_with eats d past client) (map event_of (take (suc j) (taken_by_with eats d past client (Read client count)))) in
-    pair v.slot (get_or v.cells (cell_index (pos slot) (48 + k)) (pos 0)) ≡ pair (announced d f.cut.until) (cell d f.cut.until (pos slot) (48 + k))
-cell-read eats d past client count receives j f report followed slot k within h =
-    let some : nat_eq d.slots 0 ≡ false = ne_eqb d.slots 0 (λ e. omega (arith, e, within)) in
-    let is_cell : is_slot_code (48 + k) ≡ true = slot_code k h in
-    let v : View = client_view_with eats d past client in
-    let taken : List Entry = take (suc j) (taken_by_with eats d past client (Read client count)) in
-    let all = all-asked eats d past client taken followed.synchronised in
-    let asked : has_asked AllSlots past client ≡ true =
-    asked_where (nat_lt 0 d.slots) (has_asked AllSlots past client) (lt-ltb 0 d.slots (omega (arith, within))) all.slots in
-    cell-after_events eats d client some slot (48 + k) within is_cell v (map event_of taken) (client_view_with-sized eats d past client)
-    ∙ read-says eats d past client count (cell_then (pos slot) (48 + k)) (cell_now d some (pos slot) (48 + k) is_cell) (pair v.slot (get_or v.cells (cell_index (pos slot) (48 + k)) (pos 0)))
-    (cell-stands eats d client some slot (48 + k) within is_cell past receives all.before asked) j f report followed
+-- ---- at item j of what a read takes
 
-cells-read : (eats : Eats) (d : Description) (past : List Step) (client count : ℕ) → Receives past client
-    → (j : ℕ) (f : Frame) → IsReportAt (taken_by_with eats d past client (Read client count)) j f
-    → IsFollowedTo eats d past client (take (suc j) (taken_by_with eats d past client (Read client count))) f
-    → (view_after_events (client_view_with eats d past client) (map event_of (take (suc j) (taken_by_with eats d past client (Read client count))))).cells ≡ rows d f.cut.until
-cells-read eats d past client count receives j f report followed =
-    ext_get_or (pos 0) after.cells (rows d f.cut.until) (sized.cells ∙ sym (length-rows d f.cut.until)) each
-  where
-    taken : List Entry
-    taken = take (suc j) (taken_by_with eats d past client (Read client count))
+module _ (eats : Eats) (d : Description) (past : List Step) (client count : ℕ) (receives : Receives past client) (j : ℕ) (f : Frame) where
+  -- what the read takes up to it, and the view before the read and at it
+  abbrev taken : List Entry
+  taken = take (suc j) (taken_by_with eats d past client (Read client count))
 
-    after : View
-    after = view_after_events (client_view_with eats d past client) (map event_of taken)
+  abbrev before : View
+  before = client_view_with eats d past client
 
-    sized : IsSizedFor d.slots after
-    sized = IsSizedFor-after_events d.slots (client_view_with eats d past client) (map event_of taken) (client_view_with-sized eats d past client)
+  abbrev at_item : View
+  at_item = view_after_events before (map event_of taken)
 
-    each : (q : ℕ) → q < length after.cells → get_or after.cells q (pos 0) ≡ get_or (rows d f.cut.until) q (pos 0)
-    each q h =
+  sized_before : IsSizedFor d.slots before
+  sized_before = client_view_with-sized eats d past client
+
+  sized : IsSizedFor d.slots at_item
+  sized = IsSizedFor-after_events d.slots before (map event_of taken) sized_before
+
+  -- it is a report of this frame, up to which the client follows
+  record IsFollowedReport : Type 0 where
+    entry : Entry
+    at : slice_get (taken_by_with eats d past client (Read client count)) j ≡ Some entry
+    report : is_report (event_of entry) ≡ true
+    frame : entry.frame ≡ Some f
+    followed : IsFollowedTo eats d past client taken f
+
+  module _ (h : IsFollowedReport) where
+    asked : HasAskedForAll eats d past client taken
+    asked = all-asked eats d past client taken h.followed.synchronised
+
+    -- one value, which what is taken makes of the one before
+    value-read : {V : Type 0} (t : V → Event → V) (st : List RawItem → V) (v : V)
+        → FollowsReports eats d client t st (sync_place past client) (frames_since_start d past client) (steps_since_frame_before_start d past client) (raw d past) v (queue_with eats d past client)
+        → over t v (map event_of taken) ≡ st f.cut.until
+    value-read t st v stands =
+        let says = Says st (IsBehind eats d (sync_place past client) client (frames_since_start d past client)) in
+        let q : List Entry = queue_with eats d past client in
+        Promised-item says t v (taken_by_with eats d past client (Read client count)) j h.entry h.at h.report asked.now
+        (subst (Promised says t v) (sym (taken-read eats d past client count)) (Promised-take says t v (min count (visible event_of q)) q stands.reports))
+        f h.frame (behind-followed eats d past client taken f h.followed)
+
+    -- a flag of any class
+    flag-read : (kind : ℕ) (skips : ℤ → Bool) (on : List RawItem → ℕ → Bool) (flags_count : ℕ) (part : Part) (flags : View → List Bool)
+        → (c : IsFlagClass eats d client kind skips on flags_count part flags)
+        → has_asked_where (has_kind d kind) part past client ≡ true
+        → ((code : ℕ) → flags_count ≤ code → supports d kind code ≡ false)
+        → (code : ℕ) → get_or (flags at_item) code false ≡ on f.cut.until code
+    flag-read kind skips on flags_count part flags c told beyond code =
+        elim (cases_lt code flags_count) [
+          | inl within ↦ within_list within (supports d kind code) refl
+          | inr past_it ↦
+              get_or_past (flags at_item) code false (omega (arith, past_it, c.long at_item sized))
+              ∙ sym (unsupported-off eats d client kind skips on flags_count part flags c code (beyond code past_it) f.cut.until)
+        ]
+      where
+        t : Bool → Event → Bool
+        t = flag_after eats d client kind skips on flags_count part flags c code
+
+        flag_then : code < flags_count → get_or (flags at_item) code false ≡ over t (get_or (flags before) code false) (map event_of taken)
+        flag_then within = flag-after_events eats d client kind skips on flags_count part flags c code within before (map event_of taken) sized_before
+
+        within_list : code < flags_count → (b : Bool) → supports d kind code ≡ b → get_or (flags at_item) code false ≡ on f.cut.until code
+        within_list within true e =
+            flag_then within
+            ∙ value-read t (λ r. on r code) (get_or (flags before) code false)
+            (flag-stands eats d client kind skips on flags_count part flags c code within past receives asked.before (asked_where (has_kind d kind) (has_asked part past client) (and-left _ _ e) told))
+        within_list within false e =
+            flag_then within
+            ∙ over-idle t (get_or (flags before) code false) (map event_of taken)
+            (Each-map_take t (suc j) (taken_by_with eats d past client (Read client count)) (unsupported-taken eats d client kind skips on flags_count part flags c code e past (Read client count)))
+            ∙ unsupported-unseen eats d client kind skips on flags_count part flags c code within e past
+            ∙ sym (unsupported-off eats d client kind skips on flags_count part flags c code e f.cut.until)
+
+    axis-read : IsDescription d → (code : ℕ) → has_axis d code ≡ true → get_or at_item.axes code (pos 0) ≡ axis_value d f.cut.until code
+    axis-read described code has =
+        let within : code < 64 = axis-within d described code has in
+        let axes : List ℕ = range_with_len 0 64 in
+        let here : get_or axes code 0 ≡ code = get_or-range_with_len 0 64 code 0 within ∙ omega arith in
+        let where_has : ℕ → Bool = λ c. has_asked_where (has_axis d c) (OneAxis c) past client in
+        let each = AllPass-from_list_all where_has axes asked.axes in
+        let told : has_asked (OneAxis code) past client ≡ true =
+        asked_where (has_axis d code) (has_asked (OneAxis code) past client) has
+        (ap where_has (sym here)
+        ∙ All-get_or (λ c. where_has c ≡ true) axes code 0 (omega (arith, length-range_with_len 0 64)) each) in
+        axis-after_events eats d client code has within before (map event_of taken) sized_before
+        ∙ value-read (axis_after code) (λ r. axis_value d r code) (get_or before.axes code (pos 0)) (axis-stands eats d client code has within past receives asked.before told)
+
+    cell-read : (slot k : ℕ) → slot < d.slots → k < 14
+        → pair at_item.slot (get_or at_item.cells (cell_index (pos slot) (48 + k)) (pos 0)) ≡ pair (announced d f.cut.until) (cell d f.cut.until (pos slot) (48 + k))
+    cell-read slot k within less =
+        let some : nat_eq d.slots 0 ≡ false = ne_eqb d.slots 0 (λ e. omega (arith, e, within)) in
+        let is_cell : is_slot_code (48 + k) ≡ true = slot_code k less in
+        let told : has_asked AllSlots past client ≡ true =
+        asked_where (nat_lt 0 d.slots) (has_asked AllSlots past client) (lt-ltb 0 d.slots (omega (arith, within))) asked.slots in
+        cell-after_events eats d client some slot (48 + k) within is_cell before (map event_of taken) sized_before
+        ∙ value-read (cell_then (pos slot) (48 + k)) (cell_now d some (pos slot) (48 + k) is_cell) (pair before.slot (get_or before.cells (cell_index (pos slot) (48 + k)) (pos 0)))
+        (cell-stands eats d client some slot (48 + k) within is_cell past receives asked.before told)
+
+    cells-read : (q : ℕ) → q < length at_item.cells → get_or at_item.cells q (pos 0) ≡ get_or (rows d f.cut.until) q (pos 0)
+    cells-read q less =
         let slot : ℕ = q / 14 in
         let k : ℕ = q % 14 in
-        let within : slot < d.slots = omega (arith, h, sized.cells) in
-        let less : k < 14 = omega arith in
+        let long : length at_item.cells ≡ 14 * d.slots = sized.cells in
+        let within : slot < d.slots = omega (arith, less, long) in
+        let low : k < 14 = omega arith in
         let place : cell_index (pos slot) (48 + k) ≡ q = omega arith in
-        ap (λ (i : ℕ). get_or after.cells i (pos 0)) (sym place)
-        ∙ ap (λ (u : SlotCell). u.1) (cell-read eats d past client count receives j f report followed slot k within less)
-        ∙ sym (rows-cell d f.cut.until slot (48 + k) within (slot_code k less))
+        ap (λ (i : ℕ). get_or at_item.cells i (pos 0)) (sym place)
+        ∙ ap (λ (u : SlotCell). u.1) (cell-read slot k within low)
+        ∙ sym (rows-cell d f.cut.until slot (48 + k) within (slot_code k low))
         ∙ ap (λ (i : ℕ). get_or (rows d f.cut.until) i (pos 0)) place
 
--- ---- the law
-
--- all of the view, at an item of what a read takes
-state-read : (eats : Eats) (d : Description) (past : List Step) (client count : ℕ) → IsDescription d → Receives past client
-    → (j : ℕ) (f : Frame) → IsReportAt (taken_by_with eats d past client (Read client count)) j f
-    → IsFollowedTo eats d past client (take (suc j) (taken_by_with eats d past client (Read client count))) f
-    → IsDeviceState d f.cut.until (view_after_events (client_view_with eats d past client) (map event_of (take (suc j) (taken_by_with eats d past client (Read client count)))))
-state-read eats d past client count described receives j f report followed =
-    let asked = all-asked eats d past client (take (suc j) (taken_by_with eats d past client (Read client count))) followed.synchronised in
-    record {
-      keys = flag-read eats d past client count EV_KEY is_repeat_value (key_down d) 768 AllKeys (λ v. v.keys) (keys-class eats d client) receives asked.keys (unsupported-past EV_KEY KEY_MAX 768 d d.keys (λ code. refl) described.keys) j f report followed;
-      switches = flag-read eats d past client count EV_SW is_never (λ r code. turned_on d r EV_SW code) 64 AllSwitches (λ v. v.switches) (switches-class eats d client) receives asked.switches (unsupported-past EV_SW SW_MAX 64 d d.switches (λ code. refl) described.switches) j f report followed;
-      leds = flag-read eats d past client count EV_LED is_never (λ r code. turned_on d r EV_LED code) 64 AllLeds (λ v. v.leds) (leds-class eats d client) receives asked.leds (unsupported-past EV_LED LED_MAX 64 d d.leds (λ code. refl) described.leds) j f report followed;
-      axes = axis-read eats d past client count described receives j f report followed;
-      cells = cells-read eats d past client count receives j f report followed;
-      slot = λ some. ap (λ (u : SlotCell). u.0) (cell-read eats d past client count receives j f report followed 0 0 some (omega arith));
+    -- all of the view
+    state-read : IsDescription d → IsDeviceState d f.cut.until at_item
+    state-read described = record {
+      keys = flag-read EV_KEY is_repeat_value (key_down d) 768 AllKeys (λ v. v.keys) (keys-class eats d client) asked.keys (unsupported-past EV_KEY KEY_MAX 768 d d.keys (λ code. refl) described.keys);
+      switches = flag-read EV_SW is_never (λ r code. turned_on d r EV_SW code) 64 AllSwitches (λ v. v.switches) (switches-class eats d client) asked.switches (unsupported-past EV_SW SW_MAX 64 d d.switches (λ code. refl) described.switches);
+      leds = flag-read EV_LED is_never (λ r code. turned_on d r EV_LED code) 64 AllLeds (λ v. v.leds) (leds-class eats d client) asked.leds (unsupported-past EV_LED LED_MAX 64 d d.leds (λ code. refl) described.leds);
+      axes = axis-read described;
+      cells = ext_get_or (pos 0) at_item.cells (rows d f.cut.until) (sized.cells ∙ sym (length-rows d f.cut.until)) cells-read;
+      slot = λ some. ap (λ (u : SlotCell). u.0) (cell-read 0 0 some (omega arith));
     }
 
 pub reads-faithful : AreReadsFaithful
 reads-faithful eats d past client count described accepted j at f is report followed =
     let es : List Entry = taken_by_with eats d past client (Read client count) in
     let h : IsOfRead past [] es j at = of-read past [] es j at is in
-    let there : IsReportAt es j f = record { entry = at.entry; at = h.is_entry; report = report.report; frame = report.frame } in
     let follows : IsFollowedTo eats d past client (take (suc j) es) f =
     subst (λ (l : List Entry). IsFollowedTo eats d past client l f) h.is_taken
     (subst (λ (p : List Step). IsFollowedTo eats d p client at.taken f) h.is_before (record { synchronised = followed.synchronised; behind = followed.behind; undisturbed = followed.undisturbed })) in
     subst (λ (p : List Step). IsDeviceState d f.cut.until (view_after_events (client_view_with eats d p client) (map event_of at.taken))) (sym h.is_before)
     (subst (λ (l : List Entry). IsDeviceState d f.cut.until (view_after_events (client_view_with eats d past client) (map event_of l))) (sym h.is_taken)
-    (state-read eats d past client count described (receives-read eats d past client count accepted.1) j f there follows))
+    (state-read eats d past client count (receives-read eats d past client count accepted.1) j f
+    (record { entry = at.entry; at = h.is_entry; report = report.report; frame = report.frame; followed = follows }) described))

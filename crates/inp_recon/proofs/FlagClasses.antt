@@ -1,5 +1,5 @@
 -- Keys, switches and LEDs are classes of flags.
-use Rattle.std.proofs.Common.{◌≡◌, ◌<◌, ℕ, ℤ, pos, Bool, true, false, ◌&&◌, if◌then◌else◌, cond, nat_eq, List, get_or, refl, sym, ap, ◌∙◌, arith, Option, Some, None}
+use Rattle.std.proofs.Common.{◌≡◌, ◌<◌, ℕ, ℤ, pos, Bool, true, false, ◌&&◌, if◌then◌else◌, cond, nat_eq, List, get_or, refl, sym, ap, ◌∙◌, arith}
 use Rattle.std.proofs.Math.Bool.{and-true}
 use Rattle.std.specs.Ordering.{int_eq}
 use Rattle.inp_model.proofs.Descriptions.{get_or-replicate_same}
@@ -8,25 +8,17 @@ use Rattle.inp_model.specs.declared.step.Step.{Step}
 use Rattle.inp_model.specs.declared.step.Step.TheVariants.{GetKeys, GetSwitches, GetLeds}
 use Rattle.inp_model.specs.Description.{Description, supports}
 use Rattle.inp_model.specs.Event.{is_set}
-use Rattle.inp_model.specs.Step.{Query, Codes, Slots, client_of, is_same, query_of, is_part_of}
+use Rattle.inp_model.specs.Step.{client_of, is_same}
 use Rattle.inp_model.specs.State.{key_down, turned_on}
 use Rattle.inp_model.specs.Raw.{raw}
 use Rattle.inp_model.specs.Left.{Eats}
-use Rattle.inp_model.specs.Queue.{event_of, flush, queue_with}
 use Rattle.inp_model.specs.Reply.{accepted_with, code_on}
 use Rattle.inp_recon.specs.declared.view.View.{View}
 use Rattle.inp_recon.specs.View.{with_value_at, first_view, view_after_event, view_after_answer}
 use Rattle.inp_recon.specs.Synchronised.{AllKeys, AllSwitches, AllLeds, asks_for}
-use Rattle.inp_recon.proofs.CallsLeft.{left_in_queue}
 use Rattle.inp_recon.proofs.ToldBits.{told_flag}
 use Rattle.inp_recon.proofs.FlagPasses.{StepsFlag}
 use Rattle.inp_recon.proofs.FlagsFollow.{IsFlagClass}
-
--- the type that a query tells
-unfoldable pub kind_asked : Option Query → ℕ
-kind_asked None = 100
-kind_asked (Some Slots) = 101
-kind_asked (Some (Codes kind)) = kind
 
 -- ---- keys
 
@@ -40,15 +32,6 @@ key_answer eats d client code within past (GetKeys named) v own =
     told_flag 768 (code_on d (raw d past) EV_KEY) code within within
     ∙ ap (λ (b : Bool). cond b (key_down d (raw d past) code) (get_or v.keys code false)) (sym own)
 key_answer eats d client code within past x v own = refl
-
-key_asked : (eats : Eats) (d : Description) (client : ℕ) (past : List Step) (x : Step) → asks_for AllKeys client x ≡ true → left_in_queue eats d past client x ≡ flush event_of (is_part_of (Codes EV_KEY)) (queue_with eats d past client)
-key_asked eats d client past (GetKeys named) h = ap (λ (b : Bool). if b then flush event_of (is_part_of (Codes EV_KEY)) (queue_with eats d past client) else queue_with eats d past client) h
-key_asked eats d client past x h = absurd (let bad : false ≡ true = h in cc)
-
-key_only : (client : ℕ) (x : Step) → asks_for AllKeys client x ≡ false → is_same (client_of x) client ≡ true → query_of x ≡ Some (Codes EV_KEY) → ⊥
-unfolding kind_asked
-key_only client (GetKeys named) asks own e = let bad : true ≡ false = sym own ∙ asks in cc
-key_only client x asks own e = omega (arith, ap kind_asked e)
 
 pub keys-class : (eats : Eats) (d : Description) (client : ℕ) → IsFlagClass eats d client EV_KEY is_repeat_value (key_down d) 768 AllKeys (λ v. v.keys)
 unfolding key_down first_view view_after_event
@@ -64,8 +47,7 @@ keys-class eats d client = record {
   first = λ code. get_or-replicate_same 768 code false;
   event = λ v e. refl;
   answer = λ code within. key_answer eats d client code within;
-  asked = key_asked eats d client;
-  only = key_only client;
+  query = refl;
 }
 
 -- ---- switches and LEDs
@@ -85,15 +67,6 @@ switch_answer eats d client code within past (GetSwitches named) v own =
     ∙ ap (λ (b : Bool). cond b (turned_on d (raw d past) EV_SW code) (get_or v.switches code false)) (sym own)
 switch_answer eats d client code within past x v own = refl
 
-switch_asked : (eats : Eats) (d : Description) (client : ℕ) (past : List Step) (x : Step) → asks_for AllSwitches client x ≡ true → left_in_queue eats d past client x ≡ flush event_of (is_part_of (Codes EV_SW)) (queue_with eats d past client)
-switch_asked eats d client past (GetSwitches named) h = ap (λ (b : Bool). if b then flush event_of (is_part_of (Codes EV_SW)) (queue_with eats d past client) else queue_with eats d past client) h
-switch_asked eats d client past x h = absurd (let bad : false ≡ true = h in cc)
-
-switch_only : (client : ℕ) (x : Step) → asks_for AllSwitches client x ≡ false → is_same (client_of x) client ≡ true → query_of x ≡ Some (Codes EV_SW) → ⊥
-unfolding kind_asked
-switch_only client (GetSwitches named) asks own e = let bad : true ≡ false = sym own ∙ asks in cc
-switch_only client x asks own e = omega (arith, ap kind_asked e)
-
 pub switches-class : (eats : Eats) (d : Description) (client : ℕ) → IsFlagClass eats d client EV_SW is_never (λ r code. turned_on d r EV_SW code) 64 AllSwitches (λ v. v.switches)
 unfolding turned_on first_view view_after_event
 switches-class eats d client = record {
@@ -108,8 +81,7 @@ switches-class eats d client = record {
   first = λ code. get_or-replicate_same 64 code false;
   event = λ v e. ap (λ (b : Bool). if b then with_value_at 64 v.switches e.code (is_set e) else v.switches) (sym (and-true (nat_eq e.kind EV_SW)));
   answer = λ code within. switch_answer eats d client code within;
-  asked = switch_asked eats d client;
-  only = switch_only client;
+  query = refl;
 }
 
 led_answer : (eats : Eats) (d : Description) (client code : ℕ) → code < 64 → (past : List Step) (x : Step) (v : View) → is_same (client_of x) client ≡ true
@@ -119,15 +91,6 @@ led_answer eats d client code within past (GetLeds named) v own =
     told_flag 64 (code_on d (raw d past) EV_LED) code within (omega arith)
     ∙ ap (λ (b : Bool). cond b (turned_on d (raw d past) EV_LED code) (get_or v.leds code false)) (sym own)
 led_answer eats d client code within past x v own = refl
-
-led_asked : (eats : Eats) (d : Description) (client : ℕ) (past : List Step) (x : Step) → asks_for AllLeds client x ≡ true → left_in_queue eats d past client x ≡ flush event_of (is_part_of (Codes EV_LED)) (queue_with eats d past client)
-led_asked eats d client past (GetLeds named) h = ap (λ (b : Bool). if b then flush event_of (is_part_of (Codes EV_LED)) (queue_with eats d past client) else queue_with eats d past client) h
-led_asked eats d client past x h = absurd (let bad : false ≡ true = h in cc)
-
-led_only : (client : ℕ) (x : Step) → asks_for AllLeds client x ≡ false → is_same (client_of x) client ≡ true → query_of x ≡ Some (Codes EV_LED) → ⊥
-unfolding kind_asked
-led_only client (GetLeds named) asks own e = let bad : true ≡ false = sym own ∙ asks in cc
-led_only client x asks own e = omega (arith, ap kind_asked e)
 
 pub leds-class : (eats : Eats) (d : Description) (client : ℕ) → IsFlagClass eats d client EV_LED is_never (λ r code. turned_on d r EV_LED code) 64 AllLeds (λ v. v.leds)
 unfolding turned_on first_view view_after_event
@@ -143,6 +106,5 @@ leds-class eats d client = record {
   first = λ code. get_or-replicate_same 64 code false;
   event = λ v e. ap (λ (b : Bool). if b then with_value_at 64 v.leds e.code (is_set e) else v.leds) (sym (and-true (nat_eq e.kind EV_LED)));
   answer = λ code within. led_answer eats d client code within;
-  asked = led_asked eats d client;
-  only = led_only client;
+  query = refl;
 }

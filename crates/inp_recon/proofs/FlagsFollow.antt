@@ -1,5 +1,5 @@
 -- The keys, switches or LEDs of a view follow the device, for any of the three.
-use Rattle.std.proofs.Common.{◌≡◌, ◌<◌, ℕ, ℤ, Bool, true, false, ◌&&◌, not, if◌then◌else◌, cond, nat_eq, List, [], ◌∷◌, length, map, get_or, refl, sym, ap, ◌∙◌, Some}
+use Rattle.std.proofs.Common.{◌≡◌, ◌<◌, ℕ, ℤ, Bool, true, false, ◌&&◌, not, if◌then◌else◌, cond, nat_eq, List, [], ◌∷◌, length, map, get_or, refl, sym, ap, ◌∙◌, Option, Some}
 use Rattle.std.proofs.Math.Bool.{and-true}
 use Rattle.std.proofs.lemmas.Bool.{eqb-true, and_left, and_right}
 use Rattle.inp_model.specs.declared.event.TheConstants.{EV_ABS}
@@ -9,24 +9,24 @@ use Rattle.inp_model.specs.declared.step.Step.{Step}
 use Rattle.inp_model.specs.Description.{Description, supports}
 use Rattle.inp_model.specs.RawItem.{RawItem, Occurred, Described}
 use Rattle.inp_model.specs.Event.{is_set}
-use Rattle.inp_model.specs.Step.{Codes, Slots, client_of, is_same, query_of, is_part_of}
+use Rattle.inp_model.specs.Step.{Query, Codes, Slots, client_of, is_same, is_part_of}
 use Rattle.inp_model.specs.Passed.{passed}
 use Rattle.inp_model.specs.Cut.{pending}
 use Rattle.inp_model.specs.Raw.{raw}
 use Rattle.inp_model.specs.Left.{Eats}
-use Rattle.inp_model.specs.Queue.{Entry, event_of, flush, queue_with, taken_by_with}
+use Rattle.inp_model.specs.Queue.{Entry, event_of, flush_for, queue_with, taken_by_with}
 use Rattle.inp_model.specs.Reply.{accepted_with}
 use Rattle.inp_recon.specs.declared.view.View.{View}
 use Rattle.inp_recon.specs.View.{IsSizedFor, with_value_at, first_view, view_after_event, view_after_events, view_after_answer}
 use Rattle.inp_recon.specs.ClientView.{client_view_with}
-use Rattle.inp_recon.specs.Synchronised.{Part, asks_for, has_asked, taken_since_start_with, has_no_loss}
+use Rattle.inp_recon.specs.Synchronised.{Part, asks_for, has_asked, taken_since_start, has_no_loss}
 use Rattle.inp_recon.specs.Undisturbed.{is_viewed}
 use Rattle.inp_recon.proofs.Each.{Each, Each-weaker, Each-map, and-left}
 use Rattle.inp_recon.proofs.Over.{over, over-idle, IsIdle}
 use Rattle.inp_recon.proofs.QueuedValues.{ReportsIdle, flush-idle}
 use Rattle.inp_recon.proofs.EventKinds.{report-unviewed, unviewed-other}
 use Rattle.inp_recon.proofs.LastWrite.{set_by, pending-again}
-use Rattle.inp_recon.proofs.CallsLeft.{left_in_queue}
+use Rattle.inp_recon.proofs.CallsLeft.{left_in_queue, query_for, part-asked, asked-only}
 use Rattle.inp_recon.proofs.FrameEntries.{Receives}
 use Rattle.inp_recon.proofs.FlagPasses.{sets_flag, PassesFlag, StepsFlag, flag-passes, unsupported-same, unsupported-each}
 use Rattle.inp_recon.proofs.QueueEvents.{taken-events}
@@ -47,8 +47,7 @@ pub record IsFlagClass (eats : Eats) (d : Description) (client kind : ℕ) (skip
   pub event : (v : View) (e : Event) → flags (view_after_event v e) ≡ (if nat_eq e.kind kind && not (skips e.value) then with_value_at count (flags v) e.code (is_set e) else flags v)
   pub answer : (code : ℕ) → code < count → (past : List Step) (x : Step) (v : View) → is_same (client_of x) client ≡ true
       → get_or (flags (view_after_answer v x (accepted_with eats d past x).reply (accepted_with eats d past x).cells)) code false ≡ cond (asks_for part client x) (on (raw d past) code) (get_or (flags v) code false)
-  pub asked : (past : List Step) (x : Step) → asks_for part client x ≡ true → left_in_queue eats d past client x ≡ flush event_of (is_part_of (Codes kind)) (queue_with eats d past client)
-  pub only : (x : Step) → asks_for part client x ≡ false → is_same (client_of x) client ≡ true → query_of x ≡ Some (Codes kind) → ⊥
+  pub query : query_for part ≡ Some (Codes kind)
 
 module _ (eats : Eats) (d : Description) (client kind : ℕ) (skips : ℤ → Bool) (on : List RawItem → ℕ → Bool) (count : ℕ) (part : Part) (flags : View → List Bool) (c : IsFlagClass eats d client kind skips on count part flags) (code : ℕ) where
   -- how an event changes the flag, and the flag of a view
@@ -91,22 +90,23 @@ module _ (eats : Eats) (d : Description) (client kind : ℕ) (skips : ℤ → Bo
   reports_idle e h = flag-unviewed e (report-unviewed e h)
 
   spares : Spares client part flag_after
-  spares x asks own (Codes k) asked e part = by (nat_eq k kind) refl
+  spares x asks own (Codes k) asked e of_kind = by (nat_eq k kind) refl
     where
       by : (b : Bool) → nat_eq k kind ≡ b → IsIdle flag_after e
-      by true h = absurd (c.only x asks own (asked ∙ ap (λ (n : ℕ). Some (Codes n)) (eqb-true k kind h)))
-      by false h = kind_idle e (ap (λ (n : ℕ). nat_eq n kind) (eqb-true e.kind k part) ∙ h)
+      by true h = absurd (asked-only part client x (Codes kind) c.query asks own (asked ∙ ap (λ (n : ℕ). Some (Codes n)) (eqb-true k kind h)))
+      by false h = kind_idle e (ap (λ (n : ℕ). nat_eq n kind) (eqb-true e.kind k of_kind) ∙ h)
   spares x asks own Slots asked e part = kind_idle e (ap (λ (n : ℕ). nat_eq n kind) (eqb-true e.kind EV_ABS (and-left _ _ part)) ∙ c.not_abs)
 
   fresh : (past : List Step) (x : Step) → asks_for part client x ≡ true
       → over flag_after (over flag_after (on (raw d past) code) (map event_of (left_in_queue eats d past client x))) (pending d (raw d past)) ≡ on (raw d past) code
   fresh past x asks =
-      ap (λ (l : List Entry). over flag_after (over flag_after (on (raw d past) code) (map event_of l)) (pending d (raw d past))) (c.asked past x asks)
+      ap (λ (l : List Entry). over flag_after (over flag_after (on (raw d past) code) (map event_of l)) (pending d (raw d past)))
+      ((part-asked part client x asks).flushes eats d past ∙ ap (λ (o : Option Query). flush_for event_of o (queue_with eats d past client)) c.query)
       ∙ ap (λ b. over flag_after b (pending d (raw d past))) (flush-idle flag_after reports_idle (is_part_of (Codes kind)) (λ e h. kind_idle e h) (queue_with eats d past client) (on (raw d past) code))
       ∙ pending-again (sets_flag kind skips code) is_set d (λ r. on r code) flag-passes_on (λ r. true) (λ r e cut fits. refl) (λ r axis i fits. (refl, c.described r axis i code)) (raw d past) refl
 
   -- a flag that was asked for
-  pub flag-stands : code < count → (past : List Step) → Receives past client → has_no_loss (taken_since_start_with eats d past client) ≡ true → has_asked part past client ≡ true
+  pub flag-stands : code < count → (past : List Step) → Receives past client → has_no_loss (taken_since_start eats d past client) ≡ true → has_asked part past client ≡ true
       → Stands eats d client flag_after flag-unviewed (λ r. on r code) flag-passes_on (λ past. flag_of (client_view_with eats d past client)) past
   flag-stands within =
       stands eats d client flag_after flag-unviewed (λ r. on r code) flag-passes_on part spares (λ r. on r code) (λ past. flag_of (client_view_with eats d past client)) (follows within)

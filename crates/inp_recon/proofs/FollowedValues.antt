@@ -1,27 +1,26 @@
 -- One value of a view follows the device: by one induction over the past, for any value that events and answers change.
-use Rattle.std.proofs.Common.{◌≡◌, ◌⊎◌, ◌<◌, ◌≤◌, ℕ, suc, zero, Bool, true, false, ◌&&◌, ◌||◌, not, if◌then◌else◌, cond, List, [], ◌∷◌, ◌++◌, length, map, take, drop, refl, sym, ap, subst, ◌∙◌, Some, None, inl, inr, arith, append_assoc}
-use Rattle.std.proofs.lemmas.Bool.{eqb-true, and_parts, not-true}
+use Rattle.std.proofs.Common.{◌≡◌, ◌<◌, ◌≤◌, ℕ, suc, zero, Bool, true, false, ◌&&◌, ◌||◌, not, if◌then◌else◌, cond, List, [], ◌∷◌, ◌++◌, length, map, take, drop, refl, sym, ap, subst, ◌∙◌, Some, None, inl, inr, arith, append_assoc}
+use Rattle.std.proofs.lemmas.Bool.{eqb-true, not-true}
 use Rattle.inp_model.specs.declared.event.TheConstants.{EV_SND}
 use Rattle.inp_model.specs.declared.event.Event.{Event}
 use Rattle.inp_model.specs.declared.step.Step.{Step}
-use Rattle.inp_model.specs.declared.step.Step.TheVariants.{GetKeys, GetSwitches, GetLeds, GetAxis, SyncSlots}
-use Rattle.inp_model.specs.RawItem.{RawItem, Occurred, Cut, Frame}
+use Rattle.inp_model.specs.RawItem.{RawItem, Occurred, Frame}
 use Rattle.inp_model.specs.Description.{Description}
 use Rattle.inp_model.specs.Step.{Query, Codes, client_of, is_same, query_of, is_part_of, is_description}
 use Rattle.inp_model.specs.Passed.{passed}
-use Rattle.inp_model.specs.Cut.{raw_after, pending, cut_for, cuts}
+use Rattle.inp_model.specs.Cut.{raw_after, pending}
 use Rattle.inp_model.specs.Raw.{raw, raw_of_step}
 use Rattle.inp_model.specs.Frame.{place, frame_of}
 use Rattle.inp_model.specs.Left.{Eats}
 use Rattle.inp_model.specs.Queue.{Entry, event_of, taken_by_with, queue_with}
-use Rattle.inp_recon.specs.Synchronised.{Part, AllKeys, AllSwitches, AllLeds, OneAxis, AllSlots, asks_for, is_query_of, is_start, sync_place, has_asked, taken_since_start_with, has_no_loss}
+use Rattle.inp_recon.specs.Synchronised.{Part, asks_for, is_query_of, is_start, sync_place, has_asked, taken_since_start, has_no_loss}
 use Rattle.inp_recon.specs.Undisturbed.{is_viewed, is_whole_for, frames_since_start, steps_since_frame_before_start}
 use Rattle.inp_recon.proofs.Each.{Each, Each-append, Each-left, Each-right, Each-weaker, all-left, all-right, all-take_drop}
 use Rattle.inp_recon.proofs.Over.{over, IsIdle}
 use Rattle.inp_recon.proofs.QueuedValues.{ReportsIdle, flush-same, flush-no_loss, Promised, Promised-weaker, Promised-from_each, Promised-drop, Promised-flush}
 use Rattle.inp_recon.proofs.EventKinds.{report-unviewed}
-use Rattle.inp_recon.proofs.Cuts.{NoCut, OneCut, cut_cases}
-use Rattle.inp_recon.proofs.CallsLeft.{LeftBy, ByRead, ByLoss, ByFlush, ByNone, left_by, left_in_queue}
+use Rattle.inp_recon.proofs.Cuts.{cut_at, over_items}
+use Rattle.inp_recon.proofs.CallsLeft.{LeftBy, ByRead, ByLoss, ByFlush, ByNone, left_by, left_in_queue, part-asked}
 use Rattle.inp_recon.proofs.FrameEntries.{Receives}
 use Rattle.inp_recon.proofs.FrameSteps.{IsEventItem, frames_by, offered_to, passed_by, passes_all, Says, Wants, all_grown, all_promised}
 use Rattle.inp_recon.proofs.DescriptionSteps.{AreUndescribed, items-are_events, since-described, queue-described, steps-step}
@@ -49,51 +48,31 @@ IsBehind eats d sync client fs f = (sync < place f) × AreWholeTo eats client f 
 frames-wanted : (eats : Eats) (d : Description) (client sync : ℕ) (past : List Step) (s : Step) (all : List Frame) → (xs r : List RawItem) (before : List Frame) (C : Type 0)
     → all ≡ before ++ frames_by d past s r xs → Each (IsEndedWithin (length r)) before → (IsClear eats client before (steps_since_frame_before_start d past client) → C)
     → Wants eats client (IsBehind eats d sync client all) C (frames_by d past s r xs)
-unfolding cuts
-frames-wanted eats d client sync past s all [] r before C is ended clear = tt
-frames-wanted eats d client sync past s all (x ∷ xs) r before C is ended clear =
-    by (cut_cases d r x) (λ bs K. frames-wanted eats d client sync past s all xs (x ∷ r) bs K) is
+frames-wanted eats d client sync past s all =
+    over_items d (λ r xs cs. (before : List Frame) (C : Type 0)
+    → all ≡ before ++ map (frame_of past s) cs → Each (IsEndedWithin (length r)) before → (IsClear eats client before (steps_since_frame_before_start d past client) → C)
+    → Wants eats client (IsBehind eats d sync client all) C (map (frame_of past s) cs))
+    (λ r before C is ended clear. tt)
+    (λ r x xs cs h ih before C is ended clear. ih before C is (longer r before ended) clear)
+    (λ r x xs cs h ih before C is ended clear.
+    let f : Frame = frame_of past s (cut_at r x h.body h.report) in
+    let rest : List Frame = map (frame_of past s) cs in
+    let wants : IsBehind eats d sync client all f → C × (is_whole_for eats client f ≡ true) = λ here.
+    let w : AreWholeTo eats client f (before ++ f ∷ rest) = subst (AreWholeTo eats client f) is here.1 in
+    (clear (fronts f before (longer r before ended) (Each-left _ before (f ∷ rest) w), here.2), (Each-right _ before (f ∷ rest) w).0 (omega arith)) in (
+      wants,
+      ih (before ++ f ∷ []) (C × (is_whole_for eats client f ≡ true))
+          (is ∙ sym (append_assoc before (f ∷ []) rest))
+          (Each-append (IsEndedWithin (suc (length r))) before (f ∷ []) (longer r before ended) (omega arith, tt))
+          (λ w. (clear (Each-left _ before (f ∷ []) w.0, w.1), (Each-right _ before (f ∷ []) w.0).0)),
+    ))
   where
-    F : Cut → Frame
-    F = frame_of past s
+    longer : (r : List RawItem) (fs : List Frame) → Each (IsEndedWithin (length r)) fs → Each (IsEndedWithin (suc (length r))) fs
+    longer r = Each-weaker (IsEndedWithin (length r)) (IsEndedWithin (suc (length r))) (λ f k. omega (arith, k))
 
-    rest : List Cut
-    rest = cuts d (x ∷ r) xs
-
-    D : Frame → Type 0
-    D = IsBehind eats d sync client all
-
-    steps : List Step
-    steps = steps_since_frame_before_start d past client
-
-    longer : Each (IsEndedWithin (suc (length r))) before
-    longer = Each-weaker (IsEndedWithin (length r)) (IsEndedWithin (suc (length r))) (λ f k. omega (arith, k)) before ended
-
-    Goal : List Cut → Type 0
-    Goal cs = all ≡ before ++ map F (cs ++ rest) → Wants eats client D C (map F (cs ++ rest))
-
-    IH : Type 1
-    IH =
-        (bs : List Frame) (K : Type 0) → all ≡ bs ++ map F rest → Each (IsEndedWithin (suc (length r))) bs → (IsClear eats client bs steps → K)
-        → Wants eats client D K (map F rest)
-
-    by : NoCut d r x ⊎ OneCut d r x → IH → Goal (cut_for d r x)
-    by (inl h) ih = subst Goal (sym h.none) (λ is. ih before C is longer clear)
-    by (inr h) ih = subst Goal (sym h.one) (λ is.
-        let f : Frame = F (record { events = h.body ++ h.report ∷ []; until = x ∷ r }) in
-        let wants : D f → C × (is_whole_for eats client f ≡ true) = λ here.
-        let w : AreWholeTo eats client f (before ++ f ∷ map F rest) = subst (AreWholeTo eats client f) is here.1 in
-        (clear (fronts f before longer (Each-left _ before (f ∷ map F rest) w), here.2), (Each-right _ before (f ∷ map F rest) w).0 (omega arith)) in (
-          wants,
-          ih (before ++ f ∷ []) (C × (is_whole_for eats client f ≡ true))
-              (is ∙ sym (append_assoc before (f ∷ []) (map F rest)))
-              (Each-append (IsEndedWithin (suc (length r))) before (f ∷ []) longer (omega arith, tt))
-              (λ w. (clear (Each-left _ before (f ∷ []) w.0, w.1), (Each-right _ before (f ∷ []) w.0).0)),
-        ))
-      where
-        fronts : (f : Frame) (bs : List Frame) → Each (IsEndedWithin (length f.cut.until)) bs → AreWholeTo eats client f bs → AreWhole eats client bs
-        fronts f [] h k = tt
-        fronts f (g ∷ bs) h k = (k.0 h.0, fronts f bs h.1 k.1)
+    fronts : (f : Frame) (bs : List Frame) → Each (IsEndedWithin (length f.cut.until)) bs → AreWholeTo eats client f bs → AreWhole eats client bs
+    fronts f [] h k = tt
+    fronts f (g ∷ bs) h k = (k.0 h.0, fronts f bs h.1 k.1)
 
 -- ---- what stands between two steps
 
@@ -108,14 +87,6 @@ over-take_drop : {V : Type 0} (t : V → Event → V) (v : V) (n : ℕ) (q : Lis
 over-take_drop t v zero q = refl
 over-take_drop t v (suc n) [] = refl
 over-take_drop t v (suc n) (x ∷ q) = over-take_drop t (t v (event_of x)) n q
-
-asks-query : (part : Part) (client : ℕ) (x : Step) → asks_for part client x ≡ true → is_query_of client x ≡ true
-asks-query AllKeys client (GetKeys named) h = h
-asks-query AllSwitches client (GetSwitches named) h = h
-asks-query AllLeds client (GetLeds named) h = h
-asks-query (OneAxis code) client (GetAxis named asked) h = (and_parts _ _ h).0
-asks-query AllSlots client (SyncSlots named) h = h
-asks-query part client _ h = absurd (let e : false ≡ true = h in cc)
 
 sound-unviewed : (e : Event) → is_part_of (Codes EV_SND) e ≡ true → is_viewed e.kind ≡ false
 sound-unviewed e h = let is : e.kind ≡ EV_SND = eqb-true e.kind EV_SND h in ap is_viewed is
@@ -275,17 +246,17 @@ module _ (eats : Eats) (d : Description) (client : ℕ) {V : Type 0} (t : V → 
 
   module _ (part : Part) (spares : Spares client part t) (told : List RawItem → V) (b : List Step → V)
       (follows : (past : List Step) (x : Step) → b (x ∷ past) ≡ cond (asks_for part client x) (told (raw d past)) (over t (b past) (map event_of (taken_by_with eats d past client x))))
-      (fresh : (past : List Step) (x : Step) → is_start past client x ≡ false → asks_for part client x ≡ true → Receives past client → has_no_loss (taken_since_start_with eats d past client) ≡ true
+      (fresh : (past : List Step) (x : Step) → is_start past client x ≡ false → asks_for part client x ≡ true → Receives past client → has_no_loss (taken_since_start eats d past client) ≡ true
       → IsClear eats client (Since past) (Steps past) → has_no_loss (left_in_queue eats d past client x) ≡ true
       → over t (over t (told (raw d past)) (map event_of (left_in_queue eats d past client x))) (pending d (raw d past)) ≡ st (raw d past)) where
     -- the client asked for this part
-    asked_midway : (past : List Step) (x : Step) → is_start past client x ≡ false → asks_for part client x ≡ true → Receives past client → has_no_loss (taken_since_start_with eats d past client) ≡ true → Midway b past x
+    asked_midway : (past : List Step) (x : Step) → is_start past client x ≡ false → asks_for part client x ≡ true → Receives past client → has_no_loss (taken_since_start eats d past client) ≡ true → Midway b past x
     unfolding Midway
     asked_midway past x start asks receives none =
         let is : b (x ∷ past) ≡ told (raw d past) = follows past x ∙ ap (λ (c : Bool). cond c (told (raw d past)) (over t (b past) (map event_of (taken_by_with eats d past client x)))) asks in
         record {
           now = λ clear kept. ap (λ w. over t (over t w (map event_of (left_in_queue eats d past client x))) (pending d (raw d past))) is ∙ fresh past x start asks receives none clear kept;
-          reports = none_behind past x (b (x ∷ past)) (asks-query part client x asks) (Since past);
+          reports = none_behind past x (b (x ∷ past)) (part-asked part client x asks).queries (Since past);
         }
 
     -- it made another step, or another made one
@@ -323,22 +294,22 @@ module _ (eats : Eats) (d : Description) (client : ℕ) {V : Type 0} (t : V → 
     asked_before false false before h k e = e
 
     -- The value follows the device, once it was asked for.
-    pub stands : (past : List Step) → Receives past client → has_no_loss (taken_since_start_with eats d past client) ≡ true → has_asked part past client ≡ true → Stands b past
-    unfolding taken_since_start_with has_asked
+    pub stands : (past : List Step) → Receives past client → has_no_loss (taken_since_start eats d past client) ≡ true → has_asked part past client ≡ true → Stands b past
+    unfolding taken_since_start has_asked
     stands [] receives none asked = absurd (let e : false ≡ true = asked in cc)
     stands (x ∷ past) receives none asked = by (is_start past client x) refl (stands past)
       where
         IH : Type 0
-        IH = Receives past client → has_no_loss (taken_since_start_with eats d past client) ≡ true → has_asked part past client ≡ true → Stands b past
+        IH = Receives past client → has_no_loss (taken_since_start eats d past client) ≡ true → has_asked part past client ≡ true → Stands b past
 
-        both : is_start past client x ≡ false → has_no_loss (taken_since_start_with eats d past client ++ taken_by_with eats d past client x) ≡ true
-        both start = ap (λ (c : Bool). has_no_loss (if c then [] else taken_since_start_with eats d past client ++ taken_by_with eats d past client x)) (sym start) ∙ none
+        both : is_start past client x ≡ false → has_no_loss (taken_since_start eats d past client ++ taken_by_with eats d past client x) ≡ true
+        both start = ap (λ (c : Bool). has_no_loss (if c then [] else taken_since_start eats d past client ++ taken_by_with eats d past client x)) (sym start) ∙ none
 
         at : (start : is_start past client x ≡ false) (asks : Bool) → asks_for part client x ≡ asks → IH → Midway b past x
-        at start true asks ih = asked_midway past x start asks (receives-before past client x start receives) (all-left _ (taken_since_start_with eats d past client) (taken_by_with eats d past client x) (both start))
+        at start true asks ih = asked_midway past x start asks (receives-before past client x start receives) (all-left _ (taken_since_start eats d past client) (taken_by_with eats d past client x) (both start))
         at start false asks ih =
-            other_midway past x start asks (all-right _ (taken_since_start_with eats d past client) (taken_by_with eats d past client x) (both start))
-            (ih (receives-before past client x start receives) (all-left _ (taken_since_start_with eats d past client) (taken_by_with eats d past client x) (both start))
+            other_midway past x start asks (all-right _ (taken_since_start eats d past client) (taken_by_with eats d past client x) (both start))
+            (ih (receives-before past client x start receives) (all-left _ (taken_since_start eats d past client) (taken_by_with eats d past client x) (both start))
             (asked_before (is_start past client x) (asks_for part client x) (has_asked part past client) start asks asked))
 
         by : (c : Bool) → is_start past client x ≡ c → IH → Stands b (x ∷ past)

@@ -9,7 +9,7 @@ use Rattle.inp_model.specs.Event.{is_report}
 use Rattle.inp_model.specs.Past.{is_open, is_revoked, holder, is_other, admits}
 use Rattle.inp_model.specs.RawItem.{Frame}
 use Rattle.inp_model.specs.Left.{Eats, is_left, left_from, left}
-use Rattle.inp_model.specs.Queue.{Entry, event_of, is_offered, entry, entries_of_with}
+use Rattle.inp_model.specs.Queue.{Entry, event_of, is_offered, entry, entries_of}
 use Rattle.inp_recon.specs.Undisturbed.{is_viewed, all_come, is_whole_for}
 use Rattle.inp_recon.proofs.Each.{Each, and-left, and-right}
 use Rattle.inp_recon.proofs.Over.{over, IsIdle}
@@ -86,7 +86,7 @@ over-left {V} t unviewed eats p k (e ∷ es) h v = by (is_left eats k e) refl (p
         ap if_left l ∙ ih v ∙ ap (λ (w : V). over t w es) (idle (ap (λ (c : Bool). c && p e) l) v)
 
 -- the entries of a frame that is whole change a value as the frame does
-pub over-entries : {V : Type 0} (t : V → Event → V) → ((e : Event) → is_viewed e.kind ≡ false → IsIdle t e) → (eats : Eats) (d : Description) (client : ℕ) (f : Frame) → Receives f.before client → is_whole_for eats client f ≡ true → (v : V) → over t v (map event_of (entries_of_with eats d client f)) ≡ over t v f.cut.events
+pub over-entries : {V : Type 0} (t : V → Event → V) → ((e : Event) → is_viewed e.kind ≡ false → IsIdle t e) → (eats : Eats) (d : Description) (client : ℕ) (f : Frame) → Receives f.before client → is_whole_for eats client f ≡ true → (v : V) → over t v (map event_of (entries_of eats d client f)) ≡ over t v f.cut.events
 over-entries t unviewed eats d client f receives whole v =
     let es : List Event = filter (admits f.before client) (left eats f) in
     let free : is_other (holder f.before) client ≡ false = not-true _ (and-left _ _ whole) in
@@ -122,7 +122,7 @@ report-admitted past client = of_reports (λ e. admits past client e ≡ true) (
 
 -- a frame that is not offered brings nothing, and else the report comes last
 pub entries_split : (eats : Eats) (d : Description) (client : ℕ) (f : Frame) (body : List Event) (report : Event) → f.cut.events ≡ body ++ report ∷ [] → is_report report ≡ true
-    → (entries_of_with eats d client f ≡ []) ⊎ (entries_of_with eats d client f ≡ map (entry d client f) (filter (admits f.before client) (left_from (eats f) 0 body)) ++ entry d client f report ∷ [])
+    → (entries_of eats d client f ≡ []) ⊎ (entries_of eats d client f ≡ map (entry d client f) (filter (admits f.before client) (left_from (eats f) 0 body)) ++ entry d client f report ∷ [])
 entries_split eats d client f body report is ends = by (is_offered f.before client) refl
   where
     p : Event → Bool
@@ -140,6 +140,6 @@ entries_split eats d client f body report is ends = by (is_offered f.before clie
         ∙ ap (λ (es : List Event). map (entry d client f) es) (filter-append p front (report ∷ []) ∙ ap (λ (es : List Event). filter p front ++ es) last)
         ∙ map-append (entry d client f) (filter p front) (report ∷ [])
 
-    by : (b : Bool) → is_offered f.before client ≡ b → (entries_of_with eats d client f ≡ []) ⊎ (entries_of_with eats d client f ≡ map (entry d client f) (filter p front) ++ entry d client f report ∷ [])
+    by : (b : Bool) → is_offered f.before client ≡ b → (entries_of eats d client f ≡ []) ⊎ (entries_of eats d client f ≡ map (entry d client f) (filter p front) ++ entry d client f report ∷ [])
     by true e = inr (ap (λ (o : Bool). unless o (map (entry d client f) (filter p (left eats f)))) e ∙ all)
     by false e = inl (ap (λ (o : Bool). unless o (map (entry d client f) (filter p (left eats f)))) e)

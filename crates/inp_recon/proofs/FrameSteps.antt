@@ -2,21 +2,21 @@
 use Rattle.std.proofs.Common.{◌≡◌, ◌⊎◌, ℕ, true, false, List, [], ◌∷◌, ◌++◌, map, filter, refl, sym, ap, subst, ◌∙◌, Some, inl, inr}
 use Rattle.inp_model.specs.declared.event.Event.{Event}
 use Rattle.inp_model.specs.declared.step.Step.{Step}
-use Rattle.inp_model.specs.RawItem.{RawItem, Occurred, Described, is_event_item, Cut, Frame}
+use Rattle.inp_model.specs.RawItem.{RawItem, Occurred, Described, is_event_item, Frame}
 use Rattle.inp_model.specs.Description.{Description, ring}
 use Rattle.inp_model.specs.Passed.{passed, passed_for}
 use Rattle.inp_model.specs.Past.{admits}
-use Rattle.inp_model.specs.Cut.{raw_after, pending, cut_for, cuts}
+use Rattle.inp_model.specs.Cut.{raw_after, pending, cuts}
 use Rattle.inp_model.specs.Frame.{frame_of}
 use Rattle.inp_model.specs.Left.{Eats, left_from}
-use Rattle.inp_model.specs.Queue.{Entry, event_of, entry_dropped_at, put, put_all, entry, entries_of_with, entries_with}
+use Rattle.inp_model.specs.Queue.{Entry, event_of, entry_dropped_at, put, put_all, entry, entries_of, entries_with}
 use Rattle.inp_recon.specs.Synchronised.{has_no_loss}
 use Rattle.inp_recon.specs.Undisturbed.{is_viewed, is_whole_for}
 use Rattle.inp_recon.proofs.Each.{Each}
 use Rattle.inp_recon.proofs.Over.{over, over-append, IsIdle}
 use Rattle.inp_recon.proofs.QueuedValues.{ReportsIdle, put_all-grows, put_all-append, Promised, Promised-put, Promised-put_all}
 use Rattle.inp_recon.proofs.EventKinds.{report-unviewed}
-use Rattle.inp_recon.proofs.Cuts.{IsNoReport, NoCut, OneCut, cut_cases, over-no_cut, over-one_cut}
+use Rattle.inp_recon.proofs.Cuts.{IsNoReport, OneCut, cut_at, over_items, over-no_cut, over-one_cut}
 use Rattle.inp_recon.proofs.FrameEntries.{Receives, Each-left_from, over-entries, quiet_entries, entries_split}
 
 -- all that is passed for items
@@ -65,7 +65,7 @@ passes_all d t st passes (x ∷ xs) r h =
     ∙ passes_all d t st passes xs (x ∷ r) h.1
 
 abbrev frame_by : List Step → Step → (r : List RawItem) (x : RawItem) → List Event → Event → Frame
-frame_by past s r x body report = frame_of past s (record { events = body ++ report ∷ []; until = x ∷ r })
+frame_by past s r x body report = frame_of past s (cut_at r x body report)
 
 module _ (eats : Eats) (d : Description) (client : ℕ) {V : Type 0} (t : V → Event → V) (unviewed : (e : Event) → is_viewed e.kind ≡ false → IsIdle t e) where
   reports_idle : ReportsIdle t
@@ -74,15 +74,15 @@ module _ (eats : Eats) (d : Description) (client : ℕ) {V : Type 0} (t : V → 
   -- one frame, which is whole
   frame_grown : (past : List Step) (s : Step) → Receives past client → (r : List RawItem) (x : RawItem) (q : List Entry) (h : OneCut d r x)
       → is_whole_for eats client (frame_by past s r x h.body h.report) ≡ true
-      → has_no_loss (put_all event_of entry_dropped_at (ring d) q (entries_of_with eats d client (frame_by past s r x h.body h.report))) ≡ true
-      → Grown d t r (x ∷ r) q (put_all event_of entry_dropped_at (ring d) q (entries_of_with eats d client (frame_by past s r x h.body h.report))) (passed_for d r x)
+      → has_no_loss (put_all event_of entry_dropped_at (ring d) q (entries_of eats d client (frame_by past s r x h.body h.report))) ≡ true
+      → Grown d t r (x ∷ r) q (put_all event_of entry_dropped_at (ring d) q (entries_of eats d client (frame_by past s r x h.body h.report))) (passed_for d r x)
   frame_grown past s receives r x q h whole none =
       let f : Frame = frame_by past s r x h.body h.report in
-      let g = put_all-grows t reports_idle (ring d) q (entries_of_with eats d client f) none in
+      let g = put_all-grows t reports_idle (ring d) q (entries_of eats d client f) none in
       record {
         kept = g.kept;
         same = λ v.
-            ap (over t (over t v (map event_of (put_all event_of entry_dropped_at (ring d) q (entries_of_with eats d client f))))) h.left
+            ap (over t (over t v (map event_of (put_all event_of entry_dropped_at (ring d) q (entries_of eats d client f))))) h.left
             ∙ g.same v
             ∙ over-entries t unviewed eats d client f receives whole (over t v (map event_of q))
             ∙ over-one_cut t reports_idle d r x h (over t v (map event_of q));
@@ -93,50 +93,34 @@ module _ (eats : Eats) (d : Description) (client : ℕ) {V : Type 0} (t : V → 
       → Each (λ f. is_whole_for eats client f ≡ true) (frames_by d past s r xs)
       → has_no_loss (offered_to eats d client q (frames_by d past s r xs)) ≡ true
       → Grown d t r (raw_after r xs) q (offered_to eats d client q (frames_by d past s r xs)) (passed_by d r xs)
-  unfolding cuts
-  all_grown past s receives [] r q whole none = record { kept = none; same = λ v. refl }
-  all_grown past s receives (x ∷ xs) r q whole none = by (cut_cases d r x) (all_grown past s receives xs (x ∷ r)) whole none
-    where
-      F : Cut → Frame
-      F = frame_of past s
-
-      rest : List Cut
-      rest = cuts d (x ∷ r) xs
-
-      Goal : List Cut → Type 0
-      Goal cs =
-          Each (λ f. is_whole_for eats client f ≡ true) (map F (cs ++ rest)) → has_no_loss (offered_to eats d client q (map F (cs ++ rest))) ≡ true
-          → Grown d t r (raw_after (x ∷ r) xs) q (offered_to eats d client q (map F (cs ++ rest))) (passed_for d r x ++ passed_by d (x ∷ r) xs)
-
-      IH : Type 0
-      IH =
-          (p : List Entry) → Each (λ f. is_whole_for eats client f ≡ true) (map F rest) → has_no_loss (offered_to eats d client p (map F rest)) ≡ true
-          → Grown d t (x ∷ r) (raw_after (x ∷ r) xs) p (offered_to eats d client p (map F rest)) (passed_by d (x ∷ r) xs)
-
-      by : NoCut d r x ⊎ OneCut d r x → IH → Goal (cut_for d r x)
-      by (inl h) ih = subst Goal (sym h.none) (λ whole none.
-          let g = ih q whole none in
-          record {
-            kept = g.kept;
-            same = λ v.
-                g.same v
-                ∙ ap (λ w. over t w (passed_by d (x ∷ r) xs)) (over-no_cut t reports_idle d r x h (over t v (map event_of q)))
-                ∙ sym (over-append t (over t (over t v (map event_of q)) (pending d r)) (passed_for d r x) (passed_by d (x ∷ r) xs));
-          })
-      by (inr h) ih = subst Goal (sym h.one) (λ whole none.
-          let f : Frame = frame_by past s r x h.body h.report in
-          let p : List Entry = put_all event_of entry_dropped_at (ring d) q (entries_of_with eats d client f) in
-          let same = put_all-append (ring d) q (entries_of_with eats d client f) (entries_with eats d client (map F rest)) in
-          let g = ih p whole.1 (ap has_no_loss (sym same) ∙ none) in
-          let one = frame_grown past s receives r x q h whole.0 g.kept in
-          record {
-            kept = one.kept;
-            same = λ v.
-                ap (λ (l : List Entry). over t (over t v (map event_of l)) (pending d (raw_after (x ∷ r) xs))) same
-                ∙ g.same v
-                ∙ ap (λ w. over t w (passed_by d (x ∷ r) xs)) (one.same v)
-                ∙ sym (over-append t (over t (over t v (map event_of q)) (pending d r)) (passed_for d r x) (passed_by d (x ∷ r) xs));
-          })
+  all_grown past s receives =
+      over_items d (λ r xs cs. (q : List Entry)
+      → Each (λ f. is_whole_for eats client f ≡ true) (map (frame_of past s) cs) → has_no_loss (offered_to eats d client q (map (frame_of past s) cs)) ≡ true
+      → Grown d t r (raw_after r xs) q (offered_to eats d client q (map (frame_of past s) cs)) (passed_by d r xs))
+      (λ r q whole none. record { kept = none; same = λ v. refl })
+      (λ r x xs cs h ih q whole none.
+      let g = ih q whole none in
+      record {
+        kept = g.kept;
+        same = λ v.
+            g.same v
+            ∙ ap (λ w. over t w (passed_by d (x ∷ r) xs)) (over-no_cut t reports_idle d r x h (over t v (map event_of q)))
+            ∙ sym (over-append t (over t (over t v (map event_of q)) (pending d r)) (passed_for d r x) (passed_by d (x ∷ r) xs));
+      })
+      (λ r x xs cs h ih q whole none.
+      let f : Frame = frame_by past s r x h.body h.report in
+      let p : List Entry = put_all event_of entry_dropped_at (ring d) q (entries_of eats d client f) in
+      let same = put_all-append (ring d) q (entries_of eats d client f) (entries_with eats d client (map (frame_of past s) cs)) in
+      let g = ih p whole.1 (ap has_no_loss (sym same) ∙ none) in
+      let one = frame_grown past s receives r x q h whole.0 g.kept in
+      record {
+        kept = one.kept;
+        same = λ v.
+            ap (λ (l : List Entry). over t (over t v (map event_of l)) (pending d (raw_after (x ∷ r) xs))) same
+            ∙ g.same v
+            ∙ ap (λ w. over t w (passed_by d (x ∷ r) xs)) (one.same v)
+            ∙ sym (over-append t (over t (over t v (map event_of q)) (pending d r)) (passed_for d r x) (passed_by d (x ∷ r) xs));
+      })
 
   module _ (st : List RawItem → V) (passes : (r : List RawItem) (e : Event) → over t (st r) (passed d r e) ≡ st (Occurred e ∷ r)) (D : Frame → Type 0) where
     -- the value of the state now, by the queue and the batch
@@ -148,14 +132,14 @@ module _ (eats : Eats) (d : Description) (client : ℕ) {V : Type 0} (t : V → 
         → (D (frame_by past s r x h.body h.report) → C × (is_whole_for eats client (frame_by past s r x h.body h.report) ≡ true))
         → (C → has_no_loss q ≡ true → IsNow r v q)
         → Promised (Says st D) t v q
-        → Promised (Says st D) t v (put_all event_of entry_dropped_at (ring d) q (entries_of_with eats d client (frame_by past s r x h.body h.report)))
+        → Promised (Says st D) t v (put_all event_of entry_dropped_at (ring d) q (entries_of eats d client (frame_by past s r x h.body h.report)))
     frame_promised past s receives r x event q v h C wants at old = by (entries_split eats d client f h.body h.report refl h.ends)
       where
         f : Frame
         f = frame_by past s r x h.body h.report
 
         xs : List Entry
-        xs = entries_of_with eats d client f
+        xs = entries_of eats d client f
 
         front : List Entry
         front = map (entry d client f) (filter (admits f.before client) (left_from (eats f) 0 h.body))
@@ -198,39 +182,19 @@ module _ (eats : Eats) (d : Description) (client : ℕ) {V : Type 0} (t : V → 
         → (C → has_no_loss q ≡ true → IsNow r v q)
         → Promised (Says st D) t v q
         → Promised (Says st D) t v (offered_to eats d client q (frames_by d past s r xs))
-    unfolding cuts
-    all_promised past s receives [] r events q v C wants at old = old
-    all_promised past s receives (x ∷ xs) r events q v C wants at old = by (cut_cases d r x) (λ p K. all_promised past s receives xs (x ∷ r) events.1 p v K) wants
-      where
-        event : IsEventItem x
-        event = events.0
-
-        F : Cut → Frame
-        F = frame_of past s
-
-        rest : List Cut
-        rest = cuts d (x ∷ r) xs
-
-        Goal : List Cut → Type 0
-        Goal cs = Wants eats client D C (map F (cs ++ rest)) → Promised (Says st D) t v (offered_to eats d client q (map F (cs ++ rest)))
-
-        IH : Type 1
-        IH =
-            (p : List Entry) (K : Type 0) → Wants eats client D K (map F rest) → (K → has_no_loss p ≡ true → IsNow (x ∷ r) v p)
-            → Promised (Says st D) t v p → Promised (Says st D) t v (offered_to eats d client p (map F rest))
-
-        by : NoCut d r x ⊎ OneCut d r x → IH → Goal (cut_for d r x)
-        by (inl h) ih = subst Goal (sym h.none) (λ wants.
-            ih q C wants
-            (λ clear none. over-no_cut t reports_idle d r x h (over t v (map event_of q)) ∙ ap (λ u. over t u (passed_for d r x)) (at clear none) ∙ passes_item d t st passes r x event)
-            old)
-        by (inr h) ih = subst Goal (sym h.one) (λ wants.
-            let f : Frame = frame_by past s r x h.body h.report in
-            let p : List Entry = put_all event_of entry_dropped_at (ring d) q (entries_of_with eats d client f) in
-            let same = put_all-append (ring d) q (entries_of_with eats d client f) (entries_with eats d client (map F rest)) in
-            subst (Promised (Says st D) t v) (sym same)
-            (ih p (C × (is_whole_for eats client f ≡ true)) wants.1
-            (λ clear none.
-            let g = frame_grown past s receives r x q h clear.1 none in
-            g.same v ∙ ap (λ u. over t u (passed_for d r x)) (at clear.0 g.kept) ∙ passes_item d t st passes r x event)
-            (frame_promised past s receives r x event q v h C wants.0 at old)))
+    all_promised past s receives =
+        over_items d (λ r xs cs. Each IsEventItem xs → (q : List Entry) (v : V) (C : Type 0) → Wants eats client D C (map (frame_of past s) cs) → (C → has_no_loss q ≡ true → IsNow r v q)
+        → Promised (Says st D) t v q → Promised (Says st D) t v (offered_to eats d client q (map (frame_of past s) cs)))
+        (λ r events q v C wants at old. old)
+        (λ r x xs cs h ih events q v C wants at old.
+        ih events.1 q v C wants
+        (λ clear none. over-no_cut t reports_idle d r x h (over t v (map event_of q)) ∙ ap (λ u. over t u (passed_for d r x)) (at clear none) ∙ passes_item d t st passes r x events.0)
+        old)
+        (λ r x xs cs h ih events q v C wants at old.
+        let f : Frame = frame_by past s r x h.body h.report in
+        subst (Promised (Says st D) t v) (sym (put_all-append (ring d) q (entries_of eats d client f) (entries_with eats d client (map (frame_of past s) cs))))
+        (ih events.1 (put_all event_of entry_dropped_at (ring d) q (entries_of eats d client f)) v (C × (is_whole_for eats client f ≡ true)) wants.1
+        (λ clear none.
+        let g = frame_grown past s receives r x q h clear.1 none in
+        g.same v ∙ ap (λ u. over t u (passed_for d r x)) (at clear.0 g.kept) ∙ passes_item d t st passes r x events.0)
+        (frame_promised past s receives r x events.0 q v h C wants.0 at old)))

@@ -4,11 +4,10 @@ use Rattle.inp_model.specs.declared.event.Event.{Event}
 use Rattle.inp_model.specs.declared.axis_info.AxisInfo.{AxisInfo}
 use Rattle.inp_model.specs.RawItem.{RawItem, Occurred, Described}
 use Rattle.inp_model.specs.Description.{Description}
-use Rattle.inp_model.specs.Event.{is_report}
 use Rattle.inp_model.specs.Passed.{passed}
 use Rattle.inp_model.specs.Cut.{pending}
 use Rattle.inp_recon.proofs.Over.{over, over-append}
-use Rattle.inp_recon.proofs.Cuts.{NoCut, OneCut, cut_cases}
+use Rattle.inp_recon.proofs.Cuts.{NoCut, cut_cases}
 
 -- an event on the value sets it
 abbrev pub set_by : {V : Type 0} → (Event → Bool) → (Event → V) → V → Event → V
@@ -30,25 +29,17 @@ module _ {V : Type 0} (is_on : Event → Bool) (value : Event → V) where
 
   -- Events that leave the value as it is, with more events behind them: they leave what those make of it, too.
   pub again : (v : V) (es more : List Event) → over (set_by is_on value) v es ≡ v → over (set_by is_on value) (over (set_by is_on value) v more) (es ++ more) ≡ over (set_by is_on value) v more
-  again v es more h = by (settles more)
-    where
-      t : V → Event → V
-      t = set_by is_on value
-
-      by : ((v w : V) → over t v more ≡ over t w more) ⊎ ((v : V) → over t v more ≡ v) → over t (over t v more) (es ++ more) ≡ over t v more
-      by (inl sets) = over-append t (over t v more) es more ∙ sets (over t (over t v more) es) v
-      by (inr leaves) =
-          over-append t (over t v more) es more
-          ∙ ap (λ w. over t (over t w es) more) (leaves v)
-          ∙ ap (λ w. over t w more) h
+  again v es more h =
+      let t : V → Event → V = set_by is_on value in
+      over-append t (over t v more) es more
+      ∙ elim (settles more) [
+        | inl sets ↦ sets (over t (over t v more) es) v
+        | inr leaves ↦ ap (λ w. over t (over t w es) more) (leaves v) ∙ ap (λ w. over t w more) h
+      ]
 
   -- events that leave the value as it is end in some that do
   pub suffix-same : (v w : V) (es : List Event) → over (set_by is_on value) w es ≡ v → over (set_by is_on value) v es ≡ v
-  suffix-same v w es h = by (settles es)
-    where
-      by : ((v w : V) → over (set_by is_on value) v es ≡ over (set_by is_on value) w es) ⊎ ((v : V) → over (set_by is_on value) v es ≡ v) → over (set_by is_on value) v es ≡ v
-      by (inl sets) = sets v w ∙ h
-      by (inr leaves) = leaves v
+  suffix-same v w es h = elim (settles es) [ inl sets ↦ sets v w ∙ h | inr leaves ↦ leaves v ]
 
   -- The state now with the batch behind it is the state now, where a description does not change it. Which descriptions
   -- do may depend on the items before: `fits` tells, of those up to now.
@@ -61,31 +52,18 @@ module _ {V : Type 0} (is_on : Event → Bool) (value : Event → V) where
   pending-again d st passes fits waiting described (Described code axis ∷ r) fit =
       let before = described r code axis fit in
       ap (λ (v : V). over (set_by is_on value) v (pending d r)) before.1 ∙ pending-again d st passes fits waiting described r before.0 ∙ sym before.1
-  pending-again d st passes fits waiting described (Occurred e ∷ r) fit = by (cut_cases d r (Occurred e)) (pending-again d st passes fits waiting described r)
+  pending-again d st passes fits waiting described (Occurred e ∷ r) fit =
+      elim (cut_cases d r (Occurred e)) [
+        | inr cut ↦ ap (over t (st (Occurred e ∷ r))) cut.left
+        | inl cut ↦ elim cut.left [
+          | inr report ↦ ap (over t (st (Occurred e ∷ r))) report.0
+          | inl more ↦
+              ap (over t (st (Occurred e ∷ r))) more
+              ∙ ap (λ w. over t w (pending d r ++ passed d r e)) (sym (passes r e))
+              ∙ again (st r) (pending d r) (passed d r e) (pending-again d st passes fits waiting described r (waiting r e cut fit))
+              ∙ passes r e
+        ]
+      ]
     where
       t : V → Event → V
       t = set_by is_on value
-
-      Goal : Type 0
-      Goal = over t (st (Occurred e ∷ r)) (pending d (Occurred e ∷ r)) ≡ st (Occurred e ∷ r)
-
-      IH : Type 0
-      IH = fits r ≡ true → over t (st r) (pending d r) ≡ st r
-
-      none : pending d (Occurred e ∷ r) ≡ [] → Goal
-      none h = ap (over t (st (Occurred e ∷ r))) h
-
-      waits : (pending d (Occurred e ∷ r) ≡ pending d r ++ passed d r e) → over t (st r) (pending d r) ≡ st r → Goal
-      waits more ih =
-          ap (over t (st (Occurred e ∷ r))) more
-          ∙ ap (λ w. over t w (pending d r ++ passed d r e)) (sym (passes r e))
-          ∙ again (st r) (pending d r) (passed d r e) ih
-          ∙ passes r e
-
-      by : NoCut d r (Occurred e) ⊎ OneCut d r (Occurred e) → IH → Goal
-      by (inr h) ih = none h.left
-      by (inl h) ih = left h.left
-        where
-          left : (pending d (Occurred e ∷ r) ≡ pending d r ++ passed d r e) ⊎ ((pending d (Occurred e ∷ r) ≡ []) × (pending d r ≡ []) × (is_report e ≡ true)) → Goal
-          left (inl more) = waits more (ih (waiting r e h fit))
-          left (inr report) = none report.0

@@ -9,16 +9,16 @@ use Rattle.inp_model.specs.Description.{Description, ring}
 use Rattle.inp_model.specs.Event.{is_report, syn_dropped}
 use Rattle.inp_model.specs.Passed.{passed, passed_for}
 use Rattle.inp_model.specs.Past.{admits}
-use Rattle.inp_model.specs.Cut.{pending, cut_for, cuts}
+use Rattle.inp_model.specs.Cut.{pending, cuts}
 use Rattle.inp_model.specs.Raw.{raw, raw_of_step}
 use Rattle.inp_model.specs.Frame.{frame_of}
 use Rattle.inp_model.specs.Left.{Eats, left}
-use Rattle.inp_model.specs.Queue.{Entry, event_of, entry, entries_of_with, entries_with, is_offered, visible, queue_with, taken_by_with}
+use Rattle.inp_model.specs.Queue.{Entry, event_of, entry, entries_of, entries_with, is_offered, visible, queue_with, taken_by_with}
 use Rattle.inp_recon.specs.Synchronised.{is_dropped}
 use Rattle.inp_recon.proofs.Each.{Each, Each-append, Each-take, and-left}
 use Rattle.inp_recon.proofs.QueuedValues.{put_all-each}
 use Rattle.inp_recon.proofs.EventKinds.{of_losses}
-use Rattle.inp_recon.proofs.Cuts.{NoCut, OneCut, cut_cases}
+use Rattle.inp_recon.proofs.Cuts.{OneCut, over_items}
 use Rattle.inp_recon.proofs.CallsLeft.{left_in_queue}
 use Rattle.inp_recon.proofs.FrameEntries.{Each-left_from}
 use Rattle.inp_recon.proofs.Steps.{queue-step, left-each}
@@ -53,13 +53,7 @@ module _ (eats : Eats) (d : Description) (P : Event → Type 0) (syn : (e : Even
       by (inr body) = Each-append P h.body (h.report ∷ []) (subst (Each P) (sym body) (batch_each r x (pending_each r))) (report h.ends, tt)
 
   cuts_each : (xs r : List RawItem) → Each (λ c. Each P c.events) (cuts d r xs)
-  unfolding cuts
-  cuts_each [] r = tt
-  cuts_each (x ∷ xs) r = by (cut_cases d r x) (cuts_each xs (x ∷ r))
-    where
-      by : NoCut d r x ⊎ OneCut d r x → Each (λ (c : Cut). Each P c.events) (cuts d (x ∷ r) xs) → Each (λ (c : Cut). Each P c.events) (cut_for d r x ++ cuts d (x ∷ r) xs)
-      by (inl h) ih = subst (λ (cs : List Cut). Each (λ (c : Cut). Each P c.events) (cs ++ cuts d (x ∷ r) xs)) (sym h.none) ih
-      by (inr h) ih = subst (λ (cs : List Cut). Each (λ (c : Cut). Each P c.events) (cs ++ cuts d (x ∷ r) xs)) (sym h.one) (cut_each r x h, ih)
+  cuts_each = over_items d (λ r xs cs. Each (λ (c : Cut). Each P c.events) cs) (λ r. tt) (λ r x xs cs h ih. ih) (λ r x xs cs h ih. (cut_each r x h, ih))
 
   -- the entry's event
   abbrev Q : Entry → Type 0
@@ -74,7 +68,7 @@ module _ (eats : Eats) (d : Description) (P : Event → Type 0) (syn : (e : Even
   entries_each : (client : ℕ) (past : List Step) (s : Step) (cs : List Cut) → Each (λ c. Each P c.events) cs → Each Q (entries_with eats d client (map (frame_of past s) cs))
   entries_each client past s [] h = tt
   entries_each client past s (c ∷ cs) h =
-      Each-append Q (entries_of_with eats d client (frame_of past s c)) (entries_with eats d client (map (frame_of past s) cs))
+      Each-append Q (entries_of eats d client (frame_of past s c)) (entries_with eats d client (map (frame_of past s) cs))
       (cond_both (is_offered past client) (map (entry d client (frame_of past s c)) (filter (admits past client) (left eats (frame_of past s c)))) [] (Each Q)
       (λ offered. kept_each client (frame_of past s c) (admits past client) (left eats (frame_of past s c)) (Each-left_from P (eats (frame_of past s c)) 0 c.events h.0)) (λ other. tt))
       (entries_each client past s cs h.1)

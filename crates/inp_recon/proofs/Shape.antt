@@ -3,21 +3,20 @@ use Rattle.std.proofs.Common.{◌≡◌, ◌⊎◌, ℕ, zero, suc, Bool, true, 
 use Rattle.std.proofs.lemmas.Bool.{ne_eqb}
 use Rattle.inp_model.specs.declared.event.Event.{Event}
 use Rattle.inp_model.specs.declared.step.Step.{Step}
-use Rattle.inp_model.specs.RawItem.{RawItem, Cut, Frame}
+use Rattle.inp_model.specs.RawItem.{RawItem, Frame}
 use Rattle.inp_model.specs.Description.{Description, ring}
 use Rattle.inp_model.specs.Event.{is_report}
 use Rattle.inp_model.specs.Step.{is_part_of}
 use Rattle.inp_model.specs.Past.{admits}
-use Rattle.inp_model.specs.Cut.{cut_for, cuts}
 use Rattle.inp_model.specs.Raw.{raw, raw_of_step}
 use Rattle.inp_model.specs.Frame.{frame_of}
 use Rattle.inp_model.specs.Left.{Eats, left_from}
 use Rattle.inp_model.proofs.Removal.{stays, report_stays_after, flush_from, flush-walk}
-use Rattle.inp_model.specs.Queue.{Entry, event_of, entry_dropped_at, is_empty, ends_in_report, put, put_all, visible, flush, entry, entries_of_with, entries_with, queue_with}
+use Rattle.inp_model.specs.Queue.{Entry, event_of, entry_dropped_at, is_empty, ends_in_report, put, put_all, visible, flush, entry, entries_of, entries_with, queue_with}
 use Rattle.inp_recon.specs.Synchronised.{is_dropped, has_no_loss, is_start}
 use Rattle.inp_recon.proofs.Each.{and-right}
 use Rattle.inp_recon.proofs.QueuedValues.{put_all-append}
-use Rattle.inp_recon.proofs.Cuts.{NoCut, OneCut, cut_cases}
+use Rattle.inp_recon.proofs.Cuts.{cut_at, over_items}
 use Rattle.inp_recon.proofs.CallsLeft.{LeftBy, ByRead, ByLoss, ByFlush, ByNone, KeepsLosses, left_by, left_in_queue}
 use Rattle.inp_recon.proofs.FrameEntries.{entries_split}
 use Rattle.inp_recon.proofs.FrameSteps.{frames_by, offered_to}
@@ -67,17 +66,11 @@ drop-all (x ∷ q) = drop-all q
 pub discarded : (q : List Entry) → IsShaped q → (drop (visible event_of q) q ≡ []) ⊎ (has_no_loss (drop (visible event_of q) q) ≡ false)
 discarded q (IsEmpty is) = inl (ap (λ (l : List Entry). drop (visible event_of l) l) is)
 discarded q (EndsInReport ends) = inl (ap (λ (n : ℕ). drop n q) (visible-ends q ends) ∙ drop-all q)
-discarded q (IsLoss e is loss) = by (is_report (event_of e))
+discarded q (IsLoss e is loss) = at (is_report (event_of e)) (ap (λ (l : List Entry). drop (visible event_of l) l) is)
   where
-    left : Bool → List Entry
-    left b = drop (if b then 1 else 0) (e ∷ [])
-
-    by : (b : Bool) → (drop (visible event_of q) q ≡ []) ⊎ (has_no_loss (drop (visible event_of q) q) ≡ false)
-    by b = at (is_report (event_of e)) (ap (λ (l : List Entry). drop (visible event_of l) l) is)
-      where
-        at : (b : Bool) → drop (visible event_of q) q ≡ left b → (drop (visible event_of q) q ≡ []) ⊎ (has_no_loss (drop (visible event_of q) q) ≡ false)
-        at true h = inl h
-        at false h = inr (ap has_no_loss h ∙ ap (λ (b : Bool). not b && true) loss)
+    at : (b : Bool) → drop (visible event_of q) q ≡ drop (if b then 1 else 0) (e ∷ []) → (drop (visible event_of q) q ≡ []) ⊎ (has_no_loss (drop (visible event_of q) q) ≡ false)
+    at true h = inl h
+    at false h = inr (ap has_no_loss h ∙ ap (λ (b : Bool). not b && true) loss)
 
 -- ---- a flushed queue
 
@@ -93,58 +86,32 @@ AllGoes flag flushed = (flushed ≡ []) × (flag ≡ false)
 FlushesWell : Bool → List Entry → Type 0
 FlushesWell flag flushed = AllGoes flag flushed ⊎ (ends_in_report event_of flushed ≡ true)
 
-flush_last : (drops : Event → Bool) (flag : Bool) (x : Entry) → is_report (event_of x) ≡ true → FlushesWell flag ((if stays event_of drops flag x then x ∷ [] else []) ++ [])
+flush_step : (flag : Bool) (x : Entry) (rest : List Entry) (report dropped : Bool) → is_report (event_of x) ≡ report → FlushesWell (if report then false else if dropped then flag else true) rest → FlushesWell flag ((if (if report then flag else not dropped) then x ∷ [] else []) ++ rest)
 unfolding FlushesWell AllGoes
-flush_last drops flag x report = by (flag) refl
-  where
-    kept : (b : Bool) → flag ≡ b → stays event_of drops flag x ≡ b
-    kept b h = ap (λ (c : Bool). if c then flag else not (drops (event_of x))) report ∙ h
-
-    by : (b : Bool) → flag ≡ b → FlushesWell flag ((if stays event_of drops flag x then x ∷ [] else []) ++ [])
-    by true h = inr (ap (λ (b : Bool). ends_in_report event_of ((if b then x ∷ [] else []) ++ [])) (kept true h) ∙ report)
-    by false h = inl (ap (λ (b : Bool). (if b then x ∷ [] else []) ++ []) (kept false h), h)
-
-flush_more : (drops : Event → Bool) (flag : Bool) (x : Entry) (rest : List Entry) → FlushesWell (report_stays_after event_of drops flag x) rest → FlushesWell flag ((if stays event_of drops flag x then x ∷ [] else []) ++ rest)
-unfolding FlushesWell AllGoes
-flush_more drops flag x rest (inr ends) = inr (ends-more (stays event_of drops flag x) x rest ends)
-flush_more drops flag x rest (inl goes) = by (is_report (event_of x)) refl
-  where
-    all : FlushesWell flag ((if stays event_of drops flag x then x ∷ [] else []) ++ []) → FlushesWell flag ((if stays event_of drops flag x then x ∷ [] else []) ++ rest)
-    all h = subst (λ (l : List Entry). FlushesWell flag ((if stays event_of drops flag x then x ∷ [] else []) ++ l)) (sym goes.0) h
-
-    -- it is no report, and nothing was kept up to it: it goes, and so did what was before it
-    other : is_report (event_of x) ≡ false → (b : Bool) → drops (event_of x) ≡ b → FlushesWell flag ((if stays event_of drops flag x then x ∷ [] else []) ++ [])
-    other no_report true h =
-        let none : stays event_of drops flag x ≡ false = ap (λ (c : Bool). if c then flag else not (drops (event_of x))) no_report ∙ ap not h in
-        let before_it : flag ≡ false =
-        ap (λ (c : Bool). if c then flag else true) (sym h)
-        ∙ ap (λ (c : Bool). if c then false else if drops (event_of x) then flag else true) (sym no_report)
-        ∙ goes.1 in
-        inl (ap (λ (c : Bool). (if c then x ∷ [] else []) ++ []) none, before_it)
-    other no_report false h =
-        let bad : true ≡ false =
-        ap (λ (c : Bool). if c then flag else true) (sym h)
-        ∙ ap (λ (c : Bool). if c then false else if drops (event_of x) then flag else true) (sym no_report)
-        ∙ goes.1 in
-        absurd cc
-
-    by : (b : Bool) → is_report (event_of x) ≡ b → FlushesWell flag ((if stays event_of drops flag x then x ∷ [] else []) ++ rest)
-    by true h = all (flush_last drops flag x h)
-    by false h = all (other h (drops (event_of x)) refl)
+flush_step flag x rest report dropped is (inr ends) = inr (ends-more (if report then flag else not dropped) x rest ends)
+flush_step true x rest true dropped is (inl goes) = inr (ap (λ (l : List Entry). ends_in_report event_of (x ∷ l)) goes.0 ∙ is)
+flush_step false x rest true dropped is (inl goes) = inl goes
+-- it is no report, and nothing was kept up to it: it goes, and so did what was before it
+flush_step flag x rest false true is (inl goes) = inl goes
+flush_step flag x rest false false is (inl goes) = let bad : true ≡ false = goes.1 in absurd cc
 
 flush_from-well : (drops : Event → Bool) (flag : Bool) (q : List Entry) → ends_in_report event_of q ≡ true → FlushesWell flag (flush_from event_of drops flag q)
+unfolding FlushesWell AllGoes
 flush_from-well drops flag [] h = let bad : false ≡ true = h in absurd cc
-flush_from-well drops flag (x ∷ []) h = flush_last drops flag x h
-flush_from-well drops flag (x ∷ y ∷ q) h = flush_more drops flag x (flush_from event_of drops (report_stays_after event_of drops flag x) (y ∷ q)) (flush_from-well drops (report_stays_after event_of drops flag x) (y ∷ q) h)
+flush_from-well drops flag (x ∷ []) h =
+    flush_step flag x [] (is_report (event_of x)) (drops (event_of x)) refl
+    (inl (refl, ap (λ (b : Bool). if b then false else if drops (event_of x) then flag else true) h))
+flush_from-well drops flag (x ∷ y ∷ q) h =
+    flush_step flag x (flush_from event_of drops (report_stays_after event_of drops flag x) (y ∷ q)) (is_report (event_of x)) (drops (event_of x)) refl
+    (flush_from-well drops (report_stays_after event_of drops flag x) (y ∷ q) h)
 
 flush-shaped : (drops : Event → Bool) → KeepsLosses drops → (q : List Entry) → IsShaped q → IsShaped (flush event_of drops q)
 unfolding FlushesWell AllGoes
 flush-shaped drops keeps q (IsEmpty is) = IsEmpty (ap (flush event_of drops) is)
-flush-shaped drops keeps q (EndsInReport ends) = by (flush_from-well drops true q ends)
-  where
-    by : FlushesWell true (flush_from event_of drops true q) → IsShaped (flush event_of drops q)
-    by (inl goes) = let bad : true ≡ false = goes.1 in absurd cc
-    by (inr ends) = EndsInReport (ap (ends_in_report event_of) (flush-walk event_of drops q) ∙ ends)
+flush-shaped drops keeps q (EndsInReport ends) = elim (flush_from-well drops true q ends) [
+  | inl goes ↦ (let bad : true ≡ false = goes.1 in absurd cc)
+  | inr well ↦ EndsInReport (ap (ends_in_report event_of) (flush-walk event_of drops q) ∙ well)
+]
 flush-shaped drops keeps q (IsLoss e is loss) =
     let k = keeps (event_of e) loss in
     let stays_there : stays event_of drops true e ≡ true = ap (λ (c : Bool). if c then true else not (drops (event_of e))) k.0 ∙ ap not k.1 in
@@ -157,59 +124,37 @@ ends-push [] x h = h
 ends-push (y ∷ []) x h = h
 ends-push (y ∷ z ∷ q) x h = ends-push (z ∷ q) x h
 
+left_out : (q : List Entry) → (is_empty q || ends_in_report event_of q) ≡ true → IsShaped q
+left_out [] h = IsEmpty refl
+left_out (y ∷ q) h = EndsInReport h
+
 -- a report is put, whatever was there
 put_report : (places : ℕ) (q : List Entry) (x : Entry) → is_report (event_of x) ≡ true → IsShaped (put event_of entry_dropped_at places q x)
 put_report places q x report = by (is_report (event_of x) && (is_empty q || ends_in_report event_of q)) refl (nat_lt (suc (length q)) places)
   where
-    left_out : (a b : Bool) → is_empty q ≡ a → ends_in_report event_of q ≡ b → (a || b) ≡ true → IsShaped q
-    left_out true b h k e = IsEmpty (none q h)
-      where
-        none : (l : List Entry) → is_empty l ≡ true → l ≡ []
-        none [] h = refl
-        none (y ∷ l) h = let bad : false ≡ true = h in absurd cc
-    left_out false b h k e = EndsInReport (k ∙ e)
-
     by : (out : Bool) → (is_report (event_of x) && (is_empty q || ends_in_report event_of q)) ≡ out → (fits : Bool) → IsShaped (if out then q else if fits then q ++ x ∷ [] else entry_dropped_at x ∷ x ∷ [])
-    by true h fits = left_out (is_empty q) (ends_in_report event_of q) refl refl (and-right _ _ h)
+    by true h fits = left_out q (and-right _ _ h)
     by false h true = EndsInReport (ends-push q x report)
     by false h false = EndsInReport report
 
-frame-shaped : (eats : Eats) (d : Description) (client : ℕ) (f : Frame) (body : List Event) (report : Event) → f.cut.events ≡ body ++ report ∷ [] → is_report report ≡ true → (q : List Entry) → IsShaped q → IsShaped (put_all event_of entry_dropped_at (ring d) q (entries_of_with eats d client f))
-frame-shaped eats d client f body report is ends q h = by (entries_split eats d client f body report is ends)
-  where
-    front : List Entry
-    front = map (entry d client f) (filter (admits f.before client) (left_from (eats f) 0 body))
-
-    last : Entry
-    last = entry d client f report
-
-    by : (entries_of_with eats d client f ≡ []) ⊎ (entries_of_with eats d client f ≡ front ++ last ∷ []) → IsShaped (put_all event_of entry_dropped_at (ring d) q (entries_of_with eats d client f))
-    by (inl none) = subst (λ (l : List Entry). IsShaped (put_all event_of entry_dropped_at (ring d) q l)) (sym none) h
-    by (inr split) =
-        subst (λ (l : List Entry). IsShaped (put_all event_of entry_dropped_at (ring d) q l)) (sym split)
-        (subst IsShaped (sym (put_all-append (ring d) q front (last ∷ []))) (put_report (ring d) (put_all event_of entry_dropped_at (ring d) q front) last ends))
+frame-shaped : (eats : Eats) (d : Description) (client : ℕ) (f : Frame) (body : List Event) (report : Event) → f.cut.events ≡ body ++ report ∷ [] → is_report report ≡ true → (q : List Entry) → IsShaped q → IsShaped (put_all event_of entry_dropped_at (ring d) q (entries_of eats d client f))
+frame-shaped eats d client f body report is ends q h =
+    elim (entries_split eats d client f body report is ends) [
+      | inl none ↦ subst (λ (l : List Entry). IsShaped (put_all event_of entry_dropped_at (ring d) q l)) (sym none) h
+      | inr split ↦
+          (let front : List Entry = map (entry d client f) (filter (admits f.before client) (left_from (eats f) 0 body)) in
+          let last : Entry = entry d client f report in
+          subst (λ (l : List Entry). IsShaped (put_all event_of entry_dropped_at (ring d) q l)) (sym split)
+          (subst IsShaped (sym (put_all-append (ring d) q front (last ∷ []))) (put_report (ring d) (put_all event_of entry_dropped_at (ring d) q front) last ends)))
+    ]
 
 frames-shaped : (eats : Eats) (d : Description) (client : ℕ) (past : List Step) (s : Step) (xs r : List RawItem) (q : List Entry) → IsShaped q → IsShaped (offered_to eats d client q (frames_by d past s r xs))
-unfolding cuts
-frames-shaped eats d client past s [] r q h = h
-frames-shaped eats d client past s (x ∷ xs) r q h = by (cut_cases d r x) (frames-shaped eats d client past s xs (x ∷ r))
-  where
-    F : Cut → Frame
-    F = frame_of past s
-
-    rest : List Cut
-    rest = cuts d (x ∷ r) xs
-
-    Goal : List Cut → Type 0
-    Goal cs = IsShaped (offered_to eats d client q (map F (cs ++ rest)))
-
-    by : NoCut d r x ⊎ OneCut d r x → ((p : List Entry) → IsShaped p → IsShaped (offered_to eats d client p (map F rest))) → Goal (cut_for d r x)
-    by (inl k) ih = subst Goal (sym k.none) (ih q h)
-    by (inr k) ih =
-        let f : Frame = F (record { events = k.body ++ k.report ∷ []; until = x ∷ r }) in
-        subst Goal (sym k.one)
-        (subst IsShaped (sym (put_all-append (ring d) q (entries_of_with eats d client f) (entries_with eats d client (map F rest))))
-        (ih (put_all event_of entry_dropped_at (ring d) q (entries_of_with eats d client f)) (frame-shaped eats d client f k.body k.report refl k.ends q h)))
+frames-shaped eats d client past s =
+    over_items d (λ r xs cs. (q : List Entry) → IsShaped q → IsShaped (offered_to eats d client q (map (frame_of past s) cs))) (λ r q h. h) (λ r x xs cs k ih. ih)
+    (λ r x xs cs k ih q h.
+    let f : Frame = frame_of past s (cut_at r x k.body k.report) in
+    subst IsShaped (sym (put_all-append (ring d) q (entries_of eats d client f) (entries_with eats d client (map (frame_of past s) cs))))
+    (ih (put_all event_of entry_dropped_at (ring d) q (entries_of eats d client f)) (frame-shaped eats d client f k.body k.report refl k.ends q h)))
 
 -- ---- every queue
 
@@ -245,15 +190,11 @@ queue-shaped eats d (x ∷ past) client = more (queue-shaped eats d past client)
 
 -- a start leaves nothing in the queue, or a loss
 pub start-empties : (eats : Eats) (d : Description) (past : List Step) (client : ℕ) (x : Step) → is_start past client x ≡ true → has_no_loss (left_in_queue eats d past client x) ≡ true → left_in_queue eats d past client x ≡ []
-start-empties eats d past client x start none = by (start_left eats d past client x start)
-  where
-    q : List Entry
-    q = queue_with eats d past client
-
-    at : left_in_queue eats d past client x ≡ drop (visible event_of q) q → (drop (visible event_of q) q ≡ []) ⊎ (has_no_loss (drop (visible event_of q) q) ≡ false) → left_in_queue eats d past client x ≡ []
-    at e (inl empty) = e ∙ empty
-    at e (inr loss) = let bad : true ≡ false = sym none ∙ ap has_no_loss e ∙ loss in absurd cc
-
-    by : (left_in_queue eats d past client x ≡ []) ⊎ (left_in_queue eats d past client x ≡ drop (visible event_of q) q) → left_in_queue eats d past client x ≡ []
-    by (inl e) = e
-    by (inr e) = at e (discarded q (queue-shaped eats d past client))
+start-empties eats d past client x start none =
+    elim (start_left eats d past client x start) [
+      | inl e ↦ e
+      | inr e ↦ elim (discarded (queue_with eats d past client) (queue-shaped eats d past client)) [
+        | inl empty ↦ e ∙ empty
+        | inr loss ↦ (let bad : true ≡ false = sym none ∙ ap has_no_loss e ∙ loss in absurd cc)
+      ]
+    ]

@@ -10,40 +10,30 @@ use Rattle.inp_model.specs.declared.step.Step.{Step}
 use Rattle.inp_model.specs.declared.step.Step.TheVariants.{SyncSlots}
 use Rattle.inp_model.specs.Description.{Description, is_slot_code}
 use Rattle.inp_model.specs.Event.{is_slot_value}
-use Rattle.inp_model.specs.Step.{Codes, Slots, client_of, is_same, query_of, is_part_of}
+use Rattle.inp_model.specs.Step.{Codes, Slots, client_of, is_same, is_part_of}
 use Rattle.inp_model.specs.State.{cell}
 use Rattle.inp_model.specs.Cut.{pending, at_frame}
 use Rattle.inp_model.specs.Raw.{raw}
 use Rattle.inp_model.specs.Left.{Eats}
-use Rattle.inp_model.specs.Queue.{Entry, event_of, flush, queue_with}
+use Rattle.inp_model.specs.Queue.{Entry, event_of, queue_with}
 use Rattle.inp_model.specs.Reply.{accepted_with, rows}
 use Rattle.inp_recon.specs.declared.view.View.{View}
 use Rattle.inp_recon.specs.Cells.{cell_index, with_cell}
 use Rattle.inp_recon.specs.View.{IsSizedFor, slot_after_event, view_after_event, view_after_events, view_after_answer}
 use Rattle.inp_recon.specs.ClientView.{client_view_with}
-use Rattle.inp_recon.specs.Synchronised.{AllSlots, asks_for, has_asked, taken_since_start_with, has_no_loss}
+use Rattle.inp_recon.specs.Synchronised.{AllSlots, asks_for, has_asked, taken_since_start, has_no_loss}
 use Rattle.inp_recon.proofs.Each.{and-left, and-right}
 use Rattle.inp_recon.proofs.Over.{over, IsIdle}
 use Rattle.inp_recon.proofs.QueuedValues.{ReportsIdle, flush-idle}
 use Rattle.inp_recon.proofs.EventKinds.{report-unviewed}
-use Rattle.inp_recon.proofs.CallsLeft.{left_in_queue}
+use Rattle.inp_recon.proofs.CallsLeft.{left_in_queue, part-asked, asked-only}
 use Rattle.inp_recon.proofs.FrameEntries.{Receives}
-use Rattle.inp_recon.proofs.FlagClasses.{kind_asked}
 use Rattle.inp_recon.proofs.AxesFollow.{no_abs_query}
 use Rattle.inp_recon.proofs.SlotPasses.{SlotCell, both, cell_then, single_touch-idle, kind-idle, cell-unviewed, cell_now, cell-passes}
 use Rattle.inp_recon.proofs.SlotCells.{rows-cell, get-with_cell}
 use Rattle.inp_recon.proofs.SlotBatch.{pair, cell_told, cell-pending}
 use Rattle.inp_recon.proofs.FollowedValues.{Spares, Stands, stands}
 use Rattle.inp_recon.proofs.ViewSteps.{get-after_events, get-follows}
-
-slots_only : (client : ℕ) (x : Step) → asks_for AllSlots client x ≡ false → is_same (client_of x) client ≡ true → query_of x ≡ Some Slots → ⊥
-unfolding kind_asked
-slots_only client (SyncSlots named) asks own e = let bad : true ≡ false = sym own ∙ asks in cc
-slots_only client x asks own e = omega (arith, ap kind_asked e)
-
-slots_asked : (eats : Eats) (d : Description) (client : ℕ) (past : List Step) (x : Step) → asks_for AllSlots client x ≡ true → left_in_queue eats d past client x ≡ flush event_of (is_part_of Slots) (queue_with eats d past client)
-slots_asked eats d client past (SyncSlots named) h = ap (λ (b : Bool). if b then flush event_of (is_part_of Slots) (queue_with eats d past client) else queue_with eats d past client) h
-slots_asked eats d client past x h = let bad : false ≡ true = h in absurd cc
 
 module _ (eats : Eats) (d : Description) (client : ℕ) (some : nat_eq d.slots 0 ≡ false) (slot code : ℕ) (within : slot < d.slots) (is_cell : is_slot_code code ≡ true) where
   abbrev pub slot_cell_of : View → SlotCell
@@ -61,7 +51,7 @@ module _ (eats : Eats) (d : Description) (client : ℕ) (some : nat_eq d.slots 0
       by : (b : Bool) → nat_eq k EV_ABS ≡ b → IsIdle t e
       by true h = absurd (no_abs_query x (asked ∙ ap (λ (n : ℕ). Some (Codes n)) (eqb-true k EV_ABS h)))
       by false h = kind-idle (pos slot) code e (ap (λ (n : ℕ). nat_eq n EV_ABS) (eqb-true e.kind k part) ∙ h)
-  spares x asks own Slots asked e part = absurd (slots_only client x asks own asked)
+  spares x asks own Slots asked e part = absurd (asked-only AllSlots client x Slots refl asks own asked)
 
   cell_event : (v : View) (e : Event) → IsSizedFor d.slots v → slot_cell_of (view_after_event v e) ≡ t (slot_cell_of v) e
   unfolding view_after_event
@@ -99,12 +89,12 @@ module _ (eats : Eats) (d : Description) (client : ℕ) (some : nat_eq d.slots 0
       → over t (over t (cell_told d some (pos slot) code is_cell (raw d past)) (map event_of (left_in_queue eats d past client x))) (pending d (raw d past)) ≡ cell_now d some (pos slot) code is_cell (raw d past)
   fresh past x asks =
       let v : SlotCell = cell_told d some (pos slot) code is_cell (raw d past) in
-      ap (λ (l : List Entry). over t (over t v (map event_of l)) (pending d (raw d past))) (slots_asked eats d client past x asks)
+      ap (λ (l : List Entry). over t (over t v (map event_of l)) (pending d (raw d past))) ((part-asked AllSlots client x asks).flushes eats d past)
       ∙ ap (λ (u : SlotCell). over t u (pending d (raw d past))) (flush-idle t reports_idle (is_part_of Slots) (λ e h. single_touch-idle (pos slot) code e h) (queue_with eats d past client) v)
       ∙ cell-pending d some (pos slot) code is_cell (raw d past)
 
   -- the slots, once they were asked for
-  pub cell-stands : (past : List Step) → Receives past client → has_no_loss (taken_since_start_with eats d past client) ≡ true → has_asked AllSlots past client ≡ true
+  pub cell-stands : (past : List Step) → Receives past client → has_no_loss (taken_since_start eats d past client) ≡ true → has_asked AllSlots past client ≡ true
       → Stands eats d client t (cell-unviewed (pos slot) code) (cell_now d some (pos slot) code is_cell) (cell-passes d some (pos slot) code is_cell) (λ past. slot_cell_of (client_view_with eats d past client)) past
   cell-stands =
       stands eats d client t (cell-unviewed (pos slot) code) (cell_now d some (pos slot) code is_cell) (cell-passes d some (pos slot) code is_cell) AllSlots spares

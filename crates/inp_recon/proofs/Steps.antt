@@ -7,15 +7,15 @@ use Rattle.inp_model.specs.RawItem.{RawItem, Cut, Frame}
 use Rattle.inp_model.specs.Description.{Description, ring}
 use Rattle.inp_model.specs.Step.{is_close_of, is_revoke_of, is_part_of}
 use Rattle.inp_model.specs.Past.{opens, is_opening, is_open, is_revoked}
-use Rattle.inp_model.specs.Cut.{raw_after, cut_for, cuts}
+use Rattle.inp_model.specs.Cut.{raw_after, cuts}
 use Rattle.inp_model.specs.Raw.{raw, raw_and_timer, raw_of_step}
 use Rattle.inp_model.specs.Frame.{place, frame_of, frames_of_step}
 use Rattle.inp_model.specs.Left.{Eats}
-use Rattle.inp_model.specs.Queue.{Entry, event_of, visible, entry, entries_of_with, entries_with, queue_with, is_offered}
+use Rattle.inp_model.specs.Queue.{Entry, event_of, visible, entry, entries_of, entries_with, queue_with, is_offered}
 use Rattle.inp_recon.specs.Synchronised.{is_dropped, is_start, is_query_of, sync_place}
 use Rattle.inp_recon.proofs.Each.{Each, Each-append, Each-weaker, Each-drop}
 use Rattle.inp_recon.proofs.QueuedValues.{put_all-each, flush-each}
-use Rattle.inp_recon.proofs.Cuts.{NoCut, OneCut, cut_cases}
+use Rattle.inp_recon.proofs.Cuts.{over_items}
 use Rattle.inp_recon.proofs.CallsLeft.{LeftBy, ByRead, ByLoss, ByFlush, ByNone, left_by, left_in_queue}
 use Rattle.inp_recon.proofs.FrameEntries.{Receives}
 use Rattle.inp_recon.proofs.FrameSteps.{frames_by, offered_to}
@@ -106,7 +106,7 @@ left-each G loss eats d past client x h = by (is_start past client x) refl
 abbrev pub IsPlacedBelow : ℕ → Entry → Type 0
 IsPlacedBelow n x = (f : Frame) → x.frame ≡ Some f → place f < n
 
-entries_of-each : (G : Entry → Type 0) (eats : Eats) (d : Description) (client : ℕ) (f : Frame) → ((e : Event) → G (entry d client f e)) → Each G (entries_of_with eats d client f)
+entries_of-each : (G : Entry → Type 0) (eats : Eats) (d : Description) (client : ℕ) (f : Frame) → ((e : Event) → G (entry d client f e)) → Each G (entries_of eats d client f)
 entries_of-each G eats d client f h = by (is_offered f.before client) _
   where
     each : (es : List Event) → Each G (map (entry d client f) es)
@@ -120,7 +120,7 @@ entries_of-each G eats d client f h = by (is_offered f.before client) _
 pub entries-each : (G : Entry → Type 0) (eats : Eats) (d : Description) (client : ℕ) (past : List Step) (s : Step) → ((c : Cut) (e : Event) → G (entry d client (frame_of past s c) e)) → (cs : List Cut) → Each G (entries_with eats d client (map (frame_of past s) cs))
 entries-each G eats d client past s h [] = tt
 entries-each G eats d client past s h (c ∷ cs) =
-    Each-append G (entries_of_with eats d client (frame_of past s c)) (entries_with eats d client (map (frame_of past s) cs))
+    Each-append G (entries_of eats d client (frame_of past s c)) (entries_with eats d client (map (frame_of past s) cs))
     (entries_of-each G eats d client (frame_of past s c) (h c)) (entries-each G eats d client past s h cs)
 
 pub queue-placed : (eats : Eats) (d : Description) (past : List Step) (client : ℕ) → Each (IsPlacedBelow (length past)) (queue_with eats d past client)
@@ -156,19 +156,9 @@ raw_after-longer r [] = omega arith
 raw_after-longer r (x ∷ xs) = let k : length (x ∷ r) ≤ length (raw_after (x ∷ r) xs) = raw_after-longer (x ∷ r) xs in omega (arith, k)
 
 frames_by-within : (d : Description) (past : List Step) (s : Step) (xs r : List RawItem) → Each (IsEndedWithin (length (raw_after r xs))) (frames_by d past s r xs)
-unfolding cuts
-frames_by-within d past s [] r = tt
-frames_by-within d past s (x ∷ xs) r = by (cut_cases d r x) (frames_by-within d past s xs (x ∷ r))
-  where
-    n : ℕ
-    n = length (raw_after (x ∷ r) xs)
-
-    rest : List Cut
-    rest = cuts d (x ∷ r) xs
-
-    by : NoCut d r x ⊎ OneCut d r x → Each (IsEndedWithin n) (map (frame_of past s) rest) → Each (IsEndedWithin n) (map (frame_of past s) (cut_for d r x ++ rest))
-    by (inl h) ih = subst (λ (cs : List Cut). Each (IsEndedWithin n) (map (frame_of past s) (cs ++ rest))) (sym h.none) ih
-    by (inr h) ih = subst (λ (cs : List Cut). Each (IsEndedWithin n) (map (frame_of past s) (cs ++ rest))) (sym h.one) (raw_after-longer (x ∷ r) xs, ih)
+frames_by-within d past s =
+    over_items d (λ r xs cs. Each (IsEndedWithin (length (raw_after r xs))) (map (frame_of past s) cs)) (λ r. tt) (λ r x xs cs h ih. ih)
+    (λ r x xs cs h ih. (raw_after-longer (x ∷ r) xs, ih))
 
 pub since-within : (d : Description) (past : List Step) (client : ℕ) → Each (IsEndedWithin (length (raw d past))) (frames_since_start d past client)
 unfolding frames_since_start

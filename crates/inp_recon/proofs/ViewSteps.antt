@@ -1,13 +1,13 @@
 -- What a step makes of the view of a client: its sizes, and one of its values at a time.
 use Rattle.std.proofs.Common.{◌≡◌, ◌<◌, ℕ, suc, ◌*◌, ◌+◌, ℤ, pos, Bool, true, false, if◌then◌else◌, cond, nat_eq, nat_lt, List, [], ◌∷◌, length, map, get_or, set, refl, sym, ap, ◌∙◌, arith, length-append, zero, inl, inr}
 use Rattle.std.specs.List.{flat_map, range_with_len}
-use Rattle.std.proofs.lemmas.Bool.{eqb-true, eqb-false, lt-ltb, le-ltb, cases_lt}
+use Rattle.std.proofs.lemmas.Bool.{cond_both, false_from_ne_true, eqb-true, eqb-false, lt-ltb, le-ltb, cases_lt}
 use Rattle.std.proofs.lemmas.List.{get_or-set_same, get_or-set_other}
 use Rattle.std.proofs.lemmas.List.FromFn.{length-map-range_with_len}
 use Rattle.inp_model.specs.declared.multi_touch.TheConstants.{ABS_MT_TOUCH_MAJOR}
 use Rattle.inp_model.specs.declared.event.Event.{Event}
 use Rattle.inp_model.specs.declared.step.Step.{Step}
-use Rattle.inp_model.specs.declared.step.Step.TheVariants.{GetKeys, GetSwitches, GetLeds, GetAxis, SyncSlots}
+use Rattle.inp_model.specs.declared.step.Step.TheVariants.{SyncSlots}
 use Rattle.inp_model.specs.Description.{Description}
 use Rattle.inp_model.specs.RawItem.{RawItem}
 use Rattle.inp_model.specs.State.{cell}
@@ -18,12 +18,11 @@ use Rattle.inp_model.specs.Raw.{raw}
 use Rattle.inp_model.specs.Reply.{accepted_with, row, rows}
 use Rattle.inp_recon.specs.declared.view.View.{View}
 use Rattle.inp_recon.specs.View.{IsSizedFor, HasCells, with_value_at, view_after_event, view_after_events, view_after_answer}
-use Rattle.inp_recon.specs.ClientView.{view_after_step_with, client_view_with, client_view}
-use Rattle.inp_recon.specs.Synchronised.{Part, AllKeys, AllSwitches, AllLeds, OneAxis, AllSlots, asks_for}
-use Rattle.inp_recon.proofs.Each.{and-left}
+use Rattle.inp_recon.specs.ClientView.{view_after_step, client_view_with, client_view}
+use Rattle.inp_recon.specs.Synchronised.{Part, asks_for}
 use Rattle.inp_recon.proofs.Over.{over}
 use Rattle.inp_recon.proofs.Sizes.{IsSizedFor-first_view, IsSizedFor-after_event, IsSizedFor-after_events, IsSizedFor-after_answer}
-use Rattle.inp_recon.proofs.CallsLeft.{not_taken}
+use Rattle.inp_recon.proofs.CallsLeft.{not_taken, part-asked}
 
 -- ---- sizes
 
@@ -45,10 +44,6 @@ room : (eats : Eats) (d : Description) (past : List Step) (client : ℕ) (x : St
 room eats d past client (SyncSlots named) cells h = omega (arith, h, length-rows d (raw d past))
 room eats d past client x cells h = tt
 
-sized_if : (slots : ℕ) (b : Bool) (v w : View) → IsSizedFor slots v → IsSizedFor slots w → IsSizedFor slots (if b then v else w)
-sized_if slots true v w h k = h
-sized_if slots false v w h k = k
-
 pub client_view_with-sized : (eats : Eats) (d : Description) (past : List Step) (client : ℕ) → IsSizedFor d.slots (client_view_with eats d past client)
 unfolding client_view_with
 client_view_with-sized eats d [] client = IsSizedFor-first_view d
@@ -60,25 +55,16 @@ client_view_with-sized eats d (x ∷ past) client = more (client_view_with-sized
     es : List Event
     es = map event_of (taken_by_with eats d past client x)
 
-    more : IsSizedFor d.slots v → IsSizedFor d.slots (view_after_step_with eats d past client x v)
+    more : IsSizedFor d.slots v → IsSizedFor d.slots (view_after_step eats d past client x v)
     more h =
         let k : IsSizedFor d.slots (view_after_events v es) = IsSizedFor-after_events d.slots v es h in
-        sized_if d.slots (is_same (client_of x) client) _ v
-        (IsSizedFor-after_answer d.slots (view_after_events v es) x (accepted_with eats d past x).reply (accepted_with eats d past x).cells (room eats d past client x (view_after_events v es).cells k.cells) k) h
+        cond_both (is_same (client_of x) client) _ v (IsSizedFor d.slots)
+        (λ _. IsSizedFor-after_answer d.slots (view_after_events v es) x (accepted_with eats d past x).reply (accepted_with eats d past x).cells (room eats d past client x (view_after_events v es).cells k.cells) k) (λ _. h)
 
 pub client_view-sized : (d : Description) (past : List Step) (client : ℕ) → IsSizedFor d.slots (client_view d past client)
 client_view-sized d = client_view_with-sized (eaten d) d
 
 -- ---- one value of a view
-
--- a query is the client's own
-pub asks-own : (part : Part) (client : ℕ) (x : Step) → asks_for part client x ≡ true → is_same (client_of x) client ≡ true
-asks-own AllKeys client (GetKeys named) h = h
-asks-own AllSwitches client (GetSwitches named) h = h
-asks-own AllLeds client (GetLeds named) h = h
-asks-own (OneAxis code) client (GetAxis named asked) h = and-left _ _ h
-asks-own AllSlots client (SyncSlots named) h = h
-asks-own part client _ h = absurd (let e : false ≡ true = h in cc)
 
 -- A value of the view follows the client's steps, where events change it by t and an answer tells it whole.
 module _ (eats : Eats) (d : Description) (client : ℕ) {V : Type 0} (t : V → Event → V) (part : Part) (told : List RawItem → V) (get : View → V)
@@ -91,11 +77,7 @@ module _ (eats : Eats) (d : Description) (client : ℕ) {V : Type 0} (t : V → 
   get-after_events v (e ∷ es) h = get-after_events (view_after_event v e) es (IsSizedFor-after_event d.slots v e h) ∙ ap (λ w. over t w es) (events v e h)
 
   not_asked : (x : Step) → is_same (client_of x) client ≡ false → asks_for part client x ≡ false
-  not_asked x h = by (asks_for part client x) refl
-    where
-      by : (b : Bool) → asks_for part client x ≡ b → b ≡ false
-      by true e = absurd (let bad : true ≡ false = sym (asks-own part client x e) ∙ h in cc)
-      by false e = refl
+  not_asked x h = false_from_ne_true (asks_for part client x) (λ e. (let bad : true ≡ false = sym (part-asked part client x e).own ∙ h in cc))
 
   pub get-follows : (past : List Step) (x : Step) → get (client_view_with eats d (x ∷ past) client) ≡ cond (asks_for part client x) (told (raw d past)) (over t (get (client_view_with eats d past client)) (map event_of (taken_by_with eats d past client x)))
   unfolding client_view_with

@@ -1,6 +1,7 @@
 -- The view that a client makes of a history: a fold over its answers and the events that it took
--- (docs/READER.md, "Faithful views"). A history is written newest first, and is called a past. What ends in _with speaks of
--- any choice of what is left of a frame, and the one of the same name without it of the device's own.
+-- (docs/READER.md, "Faithful views"). A history is written newest first, and is called a past. What has `eats` for its
+-- first argument speaks of any choice of what is left of a frame. The device's own is `eaten d`, and where a name ends in
+-- _with, the same name without it speaks of that one.
 use Rattle.std.specs.Prelude.{ℕ, if◌then◌else◌, List, [], ◌∷◌, ◌++◌, map}
 use Rattle.inp_model.specs.declared.step.Step.{Step}
 use Rattle.inp_model.specs.Description.{Description}
@@ -13,8 +14,8 @@ use Rattle.inp_recon.specs.View.{first_view, view_after_events, view_after_answe
 
 -- What a step makes of a client's view: of its own step first the events that it takes, then the answer. Steps that
 -- others make leave the view.
-abbrev pub view_after_step_with : Eats → Description → List Step → ℕ → Step → View → View
-view_after_step_with eats d past client x v =
+abbrev pub view_after_step : Eats → Description → List Step → ℕ → Step → View → View
+view_after_step eats d past client x v =
     if is_same (client_of x) client
     then view_after_answer (view_after_events v (map event_of (taken_by_with eats d past client x))) x (accepted_with eats d past x).reply (accepted_with eats d past x).cells
     else v
@@ -22,7 +23,7 @@ view_after_step_with eats d past client x v =
 -- the view of a client after a past
 unfoldable pub client_view_with : Eats → Description → List Step → ℕ → View
 client_view_with eats d [] client = first_view d
-client_view_with eats d (x ∷ past) client = view_after_step_with eats d past client x (client_view_with eats d past client)
+client_view_with eats d (x ∷ past) client = view_after_step eats d past client x (client_view_with eats d past client)
 
 -- an entry that a read of a client took
 pub record ReadEntry : Type 0 where
@@ -51,9 +52,6 @@ view_at_with eats d client at =
     view_after_events (client_view_with eats d at.before client) (map event_of at.taken)
 
 -- of the device's own
-
-abbrev pub view_after_step : Description → List Step → ℕ → Step → View → View
-view_after_step d past client x v = view_after_step_with (eaten d) d past client x v
 
 abbrev pub client_view : Description → List Step → ℕ → View
 client_view d past client = client_view_with (eaten d) d past client

@@ -15,7 +15,7 @@ use Rattle.inp_model.specs.Reply.{rows}
 use Rattle.inp_recon.specs.declared.view.View.{View}
 use Rattle.inp_recon.specs.ClientView.{ReadEntry, entries_of_read, read_entries_with, view_at_with}
 use Rattle.inp_recon.specs.Synchronised.{has_axis, sync_place, is_synchronised_with}
-use Rattle.inp_recon.specs.Undisturbed.{is_undisturbed_with}
+use Rattle.inp_recon.specs.Undisturbed.{is_undisturbed}
 
 -- the view shows the device's state after the items r
 pub record IsDeviceState (d : Description) (r : List RawItem) (v : View) : Type 0 where
@@ -39,7 +39,7 @@ pub record IsReportOf (entry : Entry) (f : Frame) : Type 0 where
 pub record IsFollowedWith (eats : Eats) (d : Description) (client : ℕ) (at : ReadEntry) (f : Frame) : Type 0 where
   pub synchronised : is_synchronised_with eats d at.before client at.taken ≡ true
   pub behind : sync_place at.before client < place f
-  pub undisturbed : is_undisturbed_with eats d at.before client f ≡ true
+  pub undisturbed : is_undisturbed eats d at.before client f ≡ true
 
 -- The view at each report that a client took is the device's state at the end of its frame, where it is followed.
 abbrev pub IsFaithfulWith : Eats → Description → List Step → ℕ → Type 0
@@ -49,8 +49,8 @@ IsFaithfulWith eats d past client =
     → IsDeviceState d f.cut.until (view_at_with eats d client at)
 
 -- the same of what a read takes after this past
-abbrev pub IsFaithfulReadWith : Eats → Description → List Step → ℕ → ℕ → Type 0
-IsFaithfulReadWith eats d past client count =
+abbrev pub IsFaithfulRead : Eats → Description → List Step → ℕ → ℕ → Type 0
+IsFaithfulRead eats d past client count =
     let taken : List Entry = taken_by_with eats d past client (Read client count) in
     (j : ℕ) (at : ReadEntry) (f : Frame) → slice_get (entries_of_read past [] taken) j ≡ Some at → IsReportOf at.entry f
     → IsFollowedWith eats d client at f
@@ -65,7 +65,7 @@ AreFaithful =
 abbrev pub AreReadsFaithful : Type 0
 AreReadsFaithful =
     (eats : Eats) (d : Description) (past : List Step) (client count : ℕ) → IsDescription d → IsHistoryWith eats d (Read client count ∷ past)
-    → IsFaithfulReadWith eats d past client count
+    → IsFaithfulRead eats d past client count
 
 -- of the device's own choice of what is left
 

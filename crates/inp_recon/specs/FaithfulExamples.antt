@@ -13,6 +13,7 @@ use Rattle.inp_model.specs.Description.{Description, IsDescription, one_key, no_
 use Rattle.inp_model.specs.State.{key_down, axis_value}
 use Rattle.inp_model.specs.Passed.{announced}
 use Rattle.inp_model.specs.Frame.{place}
+use Rattle.inp_model.specs.Left.{eaten}
 use Rattle.inp_model.specs.Queue.{Entry, event_of, taken_by}
 use Rattle.inp_model.specs.Reply.{refused, rows, alone}
 use Rattle.inp_model.specs.examples.Frames.{key, report, of_kind}
@@ -74,7 +75,7 @@ Judges d steps synchronised behind undisturbed =
     (are_accepted d (Read 0 64 ∷ reverse steps) ≡ true)
     × (is_synchronised d (reverse steps) 0 (taken_after d steps) ≡ synchronised)
     × (nat_lt (sync_place (reverse steps) 0) (place (frame_then d steps)) ≡ behind)
-    × (is_undisturbed d (reverse steps) 0 (frame_then d steps) ≡ undisturbed)
+    × (is_undisturbed (eaten d) d (reverse steps) 0 (frame_then d steps) ≡ undisturbed)
 
 -- whether the view and the device at the frame's end have this key down
 abbrev pub ShowsKey : Description → List Step → ℕ → Bool → Bool → Type 0

@@ -61,14 +61,11 @@ has_asked part (x ∷ past) client =
     if is_start past client x then false else asks_for part client x || before
 
 -- the entries that the client took since its start
-unfoldable pub taken_since_start_with : Eats → Description → List Step → ℕ → List Entry
-taken_since_start_with eats d [] client = []
-taken_since_start_with eats d (x ∷ past) client =
-    let before = taken_since_start_with eats d past client in
+unfoldable pub taken_since_start : Eats → Description → List Step → ℕ → List Entry
+taken_since_start eats d [] client = []
+taken_since_start eats d (x ∷ past) client =
+    let before = taken_since_start eats d past client in
     if is_start past client x then [] else before ++ taken_by_with eats d past client x
-
-abbrev pub taken_since_start : Description → List Step → ℕ → List Entry
-taken_since_start d past client = taken_since_start_with (eaten d) d past client
 
 -- it tells a client that it lost events
 abbrev pub is_dropped : Event → Bool
@@ -95,7 +92,7 @@ is_synchronised_with eats d past client taken =
     && has_asked_where (has_kind d EV_LED) AllLeds past client
     && list_all (λ code. has_asked_where (has_axis d code) (OneAxis code) past client) (range_with_len 0 (ABS_MAX + 1))
     && has_asked_where (nat_lt 0 d.slots) AllSlots past client
-    && has_no_loss (taken_since_start_with eats d past client ++ taken)
+    && has_no_loss (taken_since_start eats d past client ++ taken)
 
 abbrev pub is_synchronised : Description → List Step → ℕ → List Entry → Bool
 is_synchronised d past client taken = is_synchronised_with (eaten d) d past client taken

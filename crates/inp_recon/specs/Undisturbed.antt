@@ -9,7 +9,7 @@ use Rattle.inp_model.specs.Description.{Description}
 use Rattle.inp_model.specs.Step.{is_description}
 use Rattle.inp_model.specs.Past.{holder, is_other, admits}
 use Rattle.inp_model.specs.Frame.{frames_of_step}
-use Rattle.inp_model.specs.Left.{Eats, eaten, is_left}
+use Rattle.inp_model.specs.Left.{Eats, is_left}
 use Rattle.inp_model.specs.Queue.{is_empty}
 use Rattle.inp_recon.specs.Synchronised.{is_start}
 
@@ -58,10 +58,7 @@ steps_since_frame_before_start d (x ∷ past) client =
 
 -- Since the client's start, up to this frame, each frame was whole for it; and no axis was described anew since the last
 -- frame before the start, up to this one.
-unfoldable pub is_undisturbed_with : Eats → Description → List Step → ℕ → Frame → Bool
-is_undisturbed_with eats d past client f =
+unfoldable pub is_undisturbed : Eats → Description → List Step → ℕ → Frame → Bool
+is_undisturbed eats d past client f =
     list_all (is_whole_for eats client) (frames_up_to f (frames_since_start d past client))
     && list_all (λ x. not (is_description x)) (steps_since_frame_before_start d f.before client)
-
-abbrev pub is_undisturbed : Description → List Step → ℕ → Frame → Bool
-is_undisturbed d past client f = is_undisturbed_with (eaten d) d past client f

@@ -9,6 +9,7 @@ use Rattle.inp_model.specs.declared.reply.Refusal.{Refusal}
 use Rattle.inp_model.specs.declared.reply.Refusal.TheVariants.{BadClient, NoDevice, BadKind, BadCode, BadInfo, Busy, NotGrabber, TooMany, LogFull}
 use Rattle.inp_model.specs.Description.{Description}
 use Rattle.inp_model.specs.Past.{ends}
+use Rattle.inp_model.specs.Left.{eaten}
 use Rattle.inp_model.specs.Queue.{taken_by}
 use Rattle.inp_model.specs.Reply.{Answer, Case, answer, answer_by, refused, first_reply, refusals, accepted, alone, taken_of, is_accepted, IsAnswer}
 use Rattle.inp_script.specs.Notes.{count_taken}
@@ -36,7 +37,7 @@ infixr 10 ◌▸◌
 abbrev ◌▸◌ : {P Q : Type 0} → P → Q → P × Q
 p ▸ q = (p, q)
 
-are_refusals : (d : Description) (past : List Step) (x : Step) → AreRefusals (refusals d past x)
+are_refusals : (d : Description) (past : List Step) (x : Step) → AreRefusals (refusals (eaten d) d past x)
 are_refusals d past x =
     let at = length past in
     refused_as at BadClient refl
@@ -62,7 +63,7 @@ by_cases P (case ∷ cases) given are each p = by_flag case.holds (λ same q. by
 
 -- what each refusal has, and the answer to an accepted step, the answer has
 pub answer_has : (P : Answer → Type 0) (d : Description) (past : List Step) (x : Step) → ((refusal : Answer) → IsRefusal refusal → P refusal) → (refused d past x ≡ None → P (accepted d past x)) → P (answer d past x)
-answer_has P d past x each p = by_cases P (refusals d past x) (accepted d past x) (are_refusals d past x) each p
+answer_has P d past x each p = by_cases P (refusals (eaten d) d past x) (accepted d past x) (are_refusals d past x) each p
 
 -- the same of what any evdev answers, where it holds of the want of memory at an Open too
 pub is_answer_has : (P : Answer → Type 0) (d : Description) (past : List Step) (x : Step) (given : Answer) → IsAnswer d past x given → ((refusal : Answer) → IsRefusal refusal → P refusal) → (refused d past x ≡ None → P (accepted d past x)) → (x ≡ Open → lacks_memory given.reply ≡ true → is_accepted given.reply ≡ false → given.events ≡ [] → P given) → P given

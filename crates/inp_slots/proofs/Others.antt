@@ -7,8 +7,9 @@ use Rattle.inp_model.specs.declared.event.TheConstants.{EV_ABS}
 use Rattle.inp_model.specs.declared.multi_touch.TheConstants.{ABS_MT_SLOT}
 use Rattle.inp_model.specs.declared.event.Event.{Event}
 use Rattle.inp_model.specs.declared.axis_info.AxisInfo.{AxisInfo}
+use Rattle.inp_model.proofs.MultiTouchCodes.{slot_code-multi_touch, single_touch-no_value}
 use Rattle.inp_model.specs.RawItem.{RawItem, Occurred, Described}
-use Rattle.inp_model.specs.Description.{Description, is_slot_code, is_multi_touch_code}
+use Rattle.inp_model.specs.Description.{Description, is_multi_touch_code}
 use Rattle.inp_model.specs.Event.{is_on, is_multi_touch, is_slot_value}
 use Rattle.inp_model.specs.State.{staged, cell}
 use Rattle.inp_model.specs.Passed.{passes_as, announced}
@@ -20,20 +21,13 @@ use Rattle.std.proofs.lemmas.Bool.{and_left}
 off_multi_touch : (d : Description) (code : ℕ) (e : Event) → is_multi_touch e ≡ false → is_multi_touch_code code ≡ true → is_on d EV_ABS code e ≡ false
 off_multi_touch d code e h k = grind (arith, nat_tests)
 
--- it is no value of a slot
-no_slot_value : (e : Event) → is_multi_touch e ≡ false → is_slot_value e ≡ false
-no_slot_value e h = grind (arith, nat_tests)
-
-multi_touch-slot : (code : ℕ) → is_slot_code code ≡ true → is_multi_touch_code code ≡ true
-multi_touch-slot code h = grind (arith, nat_tests)
-
 -- what stood for the events before it stands for them with it
 pub SlotsStandFor-other : (d : Description) (r : List RawItem) (s : SlotValues) (e : Event) → is_multi_touch e ≡ false → SlotsStandFor d r s → SlotsStandFor d (Occurred e ∷ r) s
 SlotsStandFor-other d r s e m h = record {
   count = h.count;
   staged = h.staged ∙ sym (staged-stays d r e (off_multi_touch d ABS_MT_SLOT e m refl));
-  announced = h.announced ∙ sym (announced-stays d r e (and_left (is_slot_value e) (is_some (passes_as d r e)) (no_slot_value e m)));
-  values = λ slot code l k. h.values slot code l k ∙ sym (cell-stays d r e (pos slot) code (off_multi_touch d code e m (multi_touch-slot code k)));
+  announced = h.announced ∙ sym (announced-stays d r e (and_left (is_slot_value e) (is_some (passes_as d r e)) (single_touch-no_value e m)));
+  values = λ slot code l k. h.values slot code l k ∙ sym (cell-stays d r e (pos slot) code (off_multi_touch d code e m (slot_code-multi_touch code k)));
 }
 
 -- the same of an axis that is described anew

@@ -1,26 +1,18 @@
 -- What becomes of an event that is about no slot, by whether it is passed.
-use Rattle.std.proofs.Common.{◌≡◌, Bool, true, false, ◌&&◌, not, refl, sym, ap, ◌∙◌, arith, List, is_some}
-use Rattle.std.specs.Ordering.{int_eq}
-use Rattle.std.proofs.lemmas.Bool.Decides.{nat_tests}
+use Rattle.std.proofs.Common.{◌≡◌, Bool, true, false, ◌&&◌, refl, sym, ap, ◌∙◌, List, is_some}
+use Rattle.std.proofs.lemmas.Bool.{and_left}
 use Rattle.inp_model.specs.declared.event.Event.{Event}
+use Rattle.inp_model.proofs.MultiTouchCodes.{single_touch-no_value}
 use Rattle.inp_model.specs.RawItem.{RawItem}
 use Rattle.inp_model.specs.Description.{Description}
 use Rattle.inp_model.specs.Event.{is_report, is_multi_touch, is_slot_value}
-use Rattle.inp_model.specs.State.{staged}
-use Rattle.inp_model.specs.Passed.{passes_as, is_output, announced, announces}
+use Rattle.inp_model.specs.Passed.{passes_as, is_output, announces}
 use Rattle.inp_caps.specs.Disposition.{flags, flags_after}
 use Rattle.inp_state.specs.State.{flags_by}
 
-no_slot_value : (e : Event) → is_multi_touch e ≡ false → is_slot_value e ≡ false
-no_slot_value e h = grind (arith, nat_tests)
-
-none_of : (a b c : Bool) → a ≡ false → ((a && b) && c) ≡ false
-none_of true b c h = absurd (cc h)
-none_of false b c h = refl
-
 -- no slot is announced before it
 pub announces-other : (d : Description) (r : List RawItem) (e : Event) → is_multi_touch e ≡ false → announces d r e ≡ false
-announces-other d r e h = none_of (is_slot_value e) (is_some (passes_as d r e)) (not (int_eq (staged d r) (announced d r))) (no_slot_value e h)
+announces-other d r e h = and_left _ _ (and_left (is_slot_value e) (is_some (passes_as d r e)) (single_touch-no_value e h))
 
 either_order : (a b : Bool) → (a && b) ≡ (b && a)
 either_order true true = refl

@@ -9,7 +9,7 @@ use Rattle.inp_model.specs.Event.{is_set, is_negative}
 use Rattle.inp_model.specs.Passed.{passes_as, is_output, goes_to_device, differ}
 use Rattle.inp_state.specs.State.{Values, StateStandsFor}
 use Rattle.inp_state.proofs.Steps.{at_kind}
-use Rattle.inp_state.proofs.Passes.{turned}
+use Rattle.inp_state.proofs.Passes.{changed}
 use Rattle.inp_state.proofs.Arms.{led-passes, delay-passes, period-passes}
 
 abbrev value_if : Event → Bool → Option ℤ
@@ -24,7 +24,7 @@ by_value : (d : Description) (r : List RawItem) (e : Event) (b : Bool) → is_ou
 by_value d r e b out passes = told e b ∙ ap (λ (o : Option ℤ). is_some o) passes ∙ ap (λ o. o && is_some (passes_as d r e)) (sym out)
 
 by_change : (e : Event) (setting : ℤ) (b : Bool) → b ≡ not (int_eq setting (if is_negative e then setting else e.value)) → value_if e b ≡ (if int_eq setting (if is_negative e then setting else e.value) then None else Some e.value)
-by_change e setting b is = ap (value_if e) is ∙ sym (turned (int_eq setting (if is_negative e then setting else e.value)) (Some e.value) None)
+by_change e setting b is = ap (value_if e) is ∙ sym (changed (int_eq setting (if is_negative e then setting else e.value)) e.value)
 
 pub led-goes : (d : Description) (r : List RawItem) (s : Values) (e : Event) (b : Bool) → e.kind ≡ EV_LED → supports d e.kind e.code ≡ true → b ≡ differ (get_or s.leds e.code false) (is_set e) → StateStandsFor d r s → b ≡ goes_to_device d r e
 led-goes d r s e b p u is h = by_value d r e b (at_kind (λ x. is_output x ≡ true) e EV_LED p refl) (led-passes d r s e (value_if e b) p u (ap (value_if e) is) h)

@@ -1,7 +1,7 @@
 -- What an event leaves of a state, part by part.
 use Rattle.std.proofs.Common.{◌≡◌, ℕ, ◌<◌, ◌≤◌, Bool, true, false, ◌&&◌, not, if◌then◌else◌, nat_eq, ℤ, pos, List, ◌∷◌, length, set, get_or, refl, sym, ap, subst, ◌∙◌, arith, inl, inr}
 use Rattle.std.proofs.lemmas.List.{get_or-set_same, get_or-set_other}
-use Rattle.std.proofs.lemmas.Bool.{cases_eq, eqb-true, cond-false, cond-true, and_left}
+use Rattle.std.proofs.lemmas.Bool.{cases_eq, eqb-true, eq-eqb, ne_eqb, cond-false, cond-true, cond_both, and_from, and_left, and_right, and_parts}
 use Rattle.std.proofs.lemmas.Bool.Decides.{nat_tests}
 use Rattle.inp_model.specs.declared.event.TheConstants.{EV_KEY, EV_ABS, EV_SW, EV_LED, EV_SND, EV_REP, REP_DELAY, REP_PERIOD, ABS_MAX}
 use Rattle.inp_model.specs.declared.event.Event.{Event}
@@ -30,15 +30,9 @@ off_kind d kind code e h = grind arith
 pub off_code : (d : Description) (kind code : ℕ) (e : Event) → (code ≡ e.code → ⊥) → is_on d kind code e ≡ false
 off_code d kind code e h = grind (arith, nat_tests)
 
-eq_self : (n : ℕ) → nat_eq n n ≡ true
-eq_self n = grind (arith, nat_tests)
-
-all_true : (a b c : Bool) → a ≡ true → b ≡ true → c ≡ true → (a && (b && c)) ≡ true
-all_true a b c x y z = grind arith
-
 -- on its own, where it is supported
 pub on_code : (d : Description) (kind code : ℕ) (value : ℤ) → supports d kind code ≡ true → is_on d kind code (event kind code value) ≡ true
-on_code d kind code value h = all_true (supports d kind code) (nat_eq kind kind) (nat_eq code code) h (eq_self kind) (eq_self code)
+on_code d kind code value h = and_from (supports d kind code) _ h (and_from (nat_eq kind kind) (nat_eq code code) (eq-eqb kind kind refl) (eq-eqb code code refl))
 
 -- not on any, where its own is not supported
 pub off_all : (d : Description) (kind code : ℕ) (e : Event) → supports d e.kind e.code ≡ false → is_on d kind code e ≡ false
@@ -53,39 +47,17 @@ off_all d kind code e h =
 
 -- ---- one part, at an event that is on no code of it
 
-no_first : {X : Type 0} → (a b : Bool) (x y : X) → a ≡ false → (if a && b then x else y) ≡ y
-no_first true b x y h = absurd (cc h)
-no_first false b x y h = refl
-
-no_second : {X : Type 0} → (a b : Bool) (x y : X) → b ≡ false → (if a && b then x else y) ≡ y
-no_second true true x y h = absurd (cc h)
-no_second true false x y h = refl
-no_second false b x y h = refl
-
-yes_both : {X : Type 0} → (a b : Bool) (x y : X) → a ≡ true → b ≡ true → (if a && b then x else y) ≡ x
-yes_both true true x y h k = refl
-yes_both true false x y h k = absurd (cc k)
-yes_both false b x y h k = absurd (cc h)
-
-not_of : (b : Bool) → b ≡ false → not b ≡ true
-not_of true h = absurd (cc h)
-not_of false h = refl
-
-not_so : (b : Bool) → b ≡ true → not b ≡ false
-not_so true h = refl
-not_so false h = absurd (cc h)
-
 pub key_down-stays : (d : Description) (r : List RawItem) (e : Event) (code : ℕ) → is_on d EV_KEY code e ≡ false → key_down d (Occurred e ∷ r) code ≡ key_down d r code
 unfolding key_down
-key_down-stays d r e code h = no_first (is_on d EV_KEY code e) (not (is_repeat e)) (is_set e) (key_down d r code) h
+key_down-stays d r e code h = cond-false _ (is_set e) (key_down d r code) (and_left (is_on d EV_KEY code e) (not (is_repeat e)) h)
 
 pub key_down-repeat : (d : Description) (r : List RawItem) (e : Event) (code : ℕ) → is_repeat e ≡ true → key_down d (Occurred e ∷ r) code ≡ key_down d r code
 unfolding key_down
-key_down-repeat d r e code h = no_second (is_on d EV_KEY code e) (not (is_repeat e)) (is_set e) (key_down d r code) (not_so (is_repeat e) h)
+key_down-repeat d r e code h = cond-false _ (is_set e) (key_down d r code) (and_right (is_on d EV_KEY code e) (not (is_repeat e)) (ap not h))
 
 pub key_down-set : (d : Description) (r : List RawItem) (e : Event) (code : ℕ) → is_on d EV_KEY code e ≡ true → is_repeat e ≡ false → key_down d (Occurred e ∷ r) code ≡ is_set e
 unfolding key_down
-key_down-set d r e code h k = yes_both (is_on d EV_KEY code e) (not (is_repeat e)) (is_set e) (key_down d r code) h (not_of (is_repeat e) k)
+key_down-set d r e code h k = cond-true _ (is_set e) (key_down d r code) (and_from (is_on d EV_KEY code e) (not (is_repeat e)) h (ap not k))
 
 pub turned_on-stays : (d : Description) (r : List RawItem) (e : Event) (kind code : ℕ) → is_on d kind code e ≡ false → turned_on d (Occurred e ∷ r) kind code ≡ turned_on d r kind code
 unfolding turned_on
@@ -97,23 +69,23 @@ turned_on-set d r e kind code h = cond-true (is_on d kind code e) (is_set e) (tu
 
 pub repeat_setting-stays : (d : Description) (r : List RawItem) (e : Event) (code : ℕ) → is_on d EV_REP code e ≡ false → repeat_setting d (Occurred e ∷ r) code ≡ repeat_setting d r code
 unfolding repeat_setting
-repeat_setting-stays d r e code h = no_first (is_on d EV_REP code e) (not (is_negative e)) e.value (repeat_setting d r code) h
+repeat_setting-stays d r e code h = cond-false _ e.value (repeat_setting d r code) (and_left (is_on d EV_REP code e) (not (is_negative e)) h)
 
 pub repeat_setting-negative : (d : Description) (r : List RawItem) (e : Event) (code : ℕ) → is_negative e ≡ true → repeat_setting d (Occurred e ∷ r) code ≡ repeat_setting d r code
 unfolding repeat_setting
-repeat_setting-negative d r e code h = no_second (is_on d EV_REP code e) (not (is_negative e)) e.value (repeat_setting d r code) (not_so (is_negative e) h)
+repeat_setting-negative d r e code h = cond-false _ e.value (repeat_setting d r code) (and_right (is_on d EV_REP code e) (not (is_negative e)) (ap not h))
 
 pub repeat_setting-set : (d : Description) (r : List RawItem) (e : Event) (code : ℕ) → is_on d EV_REP code e ≡ true → is_negative e ≡ false → repeat_setting d (Occurred e ∷ r) code ≡ e.value
 unfolding repeat_setting
-repeat_setting-set d r e code h k = yes_both (is_on d EV_REP code e) (not (is_negative e)) e.value (repeat_setting d r code) h (not_of (is_negative e) k)
+repeat_setting-set d r e code h k = cond-true _ e.value (repeat_setting d r code) (and_from (is_on d EV_REP code e) (not (is_negative e)) h (ap not k))
 
 pub axis_value-stays : (d : Description) (r : List RawItem) (e : Event) (code : ℕ) → is_on d EV_ABS code e ≡ false → axis_value d (Occurred e ∷ r) code ≡ axis_value d r code
 unfolding axis_value
-axis_value-stays d r e code h = no_first (is_on d EV_ABS code e) (not (is_multi_touch e)) (defuzz e.value (axis_value d r code) (axis_info d r code).fuzz) (axis_value d r code) h
+axis_value-stays d r e code h = cond-false _ (defuzz e.value (axis_value d r code) (axis_info d r code).fuzz) (axis_value d r code) (and_left (is_on d EV_ABS code e) (not (is_multi_touch e)) h)
 
 pub axis_value-moves : (d : Description) (r : List RawItem) (e : Event) (code : ℕ) → is_on d EV_ABS code e ≡ true → is_multi_touch e ≡ false → axis_value d (Occurred e ∷ r) code ≡ defuzz e.value (axis_value d r code) (axis_info d r code).fuzz
 unfolding axis_value
-axis_value-moves d r e code h k = yes_both (is_on d EV_ABS code e) (not (is_multi_touch e)) (defuzz e.value (axis_value d r code) (axis_info d r code).fuzz) (axis_value d r code) h (not_of (is_multi_touch e) k)
+axis_value-moves d r e code h k = cond-true _ (defuzz e.value (axis_value d r code) (axis_info d r code).fuzz) (axis_value d r code) (and_from (is_on d EV_ABS code e) (not (is_multi_touch e)) h (ap not k))
 
 pub infos_kept : (d : Description) (r : List RawItem) (s : Values) (e : Event) → ((k : ℕ) → k ≤ ABS_MAX → get_or s.infos k no_info ≡ axis_info d r k) → (k : ℕ) → k ≤ ABS_MAX → get_or s.infos k no_info ≡ axis_info d (Occurred e ∷ r) k
 unfolding axis_info
@@ -121,17 +93,15 @@ infos_kept d r s e h k b = h k b
 
 -- ---- one part, at an event on a code of it
 
-keys_by : (d : Description) (r : List RawItem) (keys : List Bool) (code : ℕ) (value : ℤ) (repeat : Bool) → is_repeat (event EV_KEY code value) ≡ repeat → ((k : ℕ) → get_or keys k false ≡ key_down d r k) → supports d EV_KEY code ≡ true → code < length keys → (k : ℕ) → get_or (if repeat then keys else set keys code (is_set (event EV_KEY code value))) k false ≡ key_down d (Occurred (event EV_KEY code value) ∷ r) k
-keys_by d r keys code value true p h s l k = h k ∙ sym (key_down-repeat d r (event EV_KEY code value) k p)
-keys_by d r keys code value false p h s l k =
+pub keys_after : (d : Description) (r : List RawItem) (keys : List Bool) (code : ℕ) (value : ℤ) → ((k : ℕ) → get_or keys k false ≡ key_down d r k) → supports d EV_KEY code ≡ true → code < length keys → (k : ℕ) → get_or (if is_repeat (event EV_KEY code value) then keys else set keys code (is_set (event EV_KEY code value))) k false ≡ key_down d (Occurred (event EV_KEY code value) ∷ r) k
+keys_after d r keys code value h s l k =
     let e : Event = event EV_KEY code value in
-    elim (cases_eq k code) [
+    cond_both (is_repeat e) keys (set keys code (is_set e)) (λ xs. get_or xs k false ≡ key_down d (Occurred e ∷ r) k)
+    (λ p. h k ∙ sym (key_down-repeat d r e k p))
+    (λ p. elim (cases_eq k code) [
       | inl same ↦ ap (λ (n : ℕ). get_or (set keys code (is_set e)) n false) same ∙ get_or-set_same keys code (is_set e) false l ∙ sym (key_down-set d r e code (on_code d EV_KEY code value s) p) ∙ ap (key_down d (Occurred e ∷ r)) (sym same)
       | inr other ↦ get_or-set_other keys code k (is_set e) false other ∙ h k ∙ sym (key_down-stays d r e k (off_code d EV_KEY k e other))
-    ]
-
-pub keys_after : (d : Description) (r : List RawItem) (keys : List Bool) (code : ℕ) (value : ℤ) → ((k : ℕ) → get_or keys k false ≡ key_down d r k) → supports d EV_KEY code ≡ true → code < length keys → (k : ℕ) → get_or (if is_repeat (event EV_KEY code value) then keys else set keys code (is_set (event EV_KEY code value))) k false ≡ key_down d (Occurred (event EV_KEY code value) ∷ r) k
-keys_after d r keys code value h s l k = keys_by d r keys code value (is_repeat (event EV_KEY code value)) refl h s l k
+    ])
 
 pub bits_after : (d : Description) (r : List RawItem) (bits : List Bool) (kind code : ℕ) (value : ℤ) → ((k : ℕ) → get_or bits k false ≡ turned_on d r kind k) → supports d kind code ≡ true → code < length bits → (k : ℕ) → get_or (set bits code (is_set (event kind code value))) k false ≡ turned_on d (Occurred (event kind code value) ∷ r) kind k
 bits_after d r bits kind code value h s l k =
@@ -150,12 +120,11 @@ axes_after d r axes code value h s m w l k b =
       | inr other ↦ get_or-set_other axes code k after (pos 0) other ∙ h k b ∙ sym (axis_value-stays d r e k (off_code d EV_ABS k e other))
     ]
 
-setting_by : (d : Description) (r : List RawItem) (setting : ℤ) (code : ℕ) (value : ℤ) (negative : Bool) → is_negative (event EV_REP code value) ≡ negative → setting ≡ repeat_setting d r code → supports d EV_REP code ≡ true → (if negative then setting else value) ≡ repeat_setting d (Occurred (event EV_REP code value) ∷ r) code
-setting_by d r setting code value true p h s = h ∙ sym (repeat_setting-negative d r (event EV_REP code value) code p)
-setting_by d r setting code value false p h s = sym (repeat_setting-set d r (event EV_REP code value) code (on_code d EV_REP code value s) p)
-
 pub setting_after : (d : Description) (r : List RawItem) (setting : ℤ) (code : ℕ) (value : ℤ) → setting ≡ repeat_setting d r code → supports d EV_REP code ≡ true → (if is_negative (event EV_REP code value) then setting else value) ≡ repeat_setting d (Occurred (event EV_REP code value) ∷ r) code
-setting_after d r setting code value h s = setting_by d r setting code value (is_negative (event EV_REP code value)) refl h s
+setting_after d r setting code value h s =
+    let e : Event = event EV_REP code value in
+    cond_both (is_negative e) setting value (λ z. z ≡ repeat_setting d (Occurred e ∷ r) code)
+    (λ p. h ∙ sym (repeat_setting-negative d r e code p)) (λ p. sym (repeat_setting-set d r e code (on_code d EV_REP code value s) p))
 
 -- ---- the whole state
 
@@ -276,18 +245,14 @@ StateStandsFor-period d r s value u h =
 
 -- ---- a multi-touch event, which belongs to the slots
 
-first : (a b : Bool) → (a && b) ≡ true → a ≡ true
-first true b h = refl
-first false b h = absurd (cc h)
-
 axis_value-multi_touch : (d : Description) (r : List RawItem) (e : Event) (code : ℕ) → is_multi_touch e ≡ true → axis_value d (Occurred e ∷ r) code ≡ axis_value d r code
 unfolding axis_value
-axis_value-multi_touch d r e code h = no_second (is_on d EV_ABS code e) (not (is_multi_touch e)) (defuzz e.value (axis_value d r code) (axis_info d r code).fuzz) (axis_value d r code) (not_so (is_multi_touch e) h)
+axis_value-multi_touch d r e code h = cond-false _ (defuzz e.value (axis_value d r code) (axis_info d r code).fuzz) (axis_value d r code) (and_right (is_on d EV_ABS code e) (not (is_multi_touch e)) (ap not h))
 
 -- it changes nothing here; for whoever keeps slots beside a state
 pub StateStandsFor-multi_touch : (d : Description) (r : List RawItem) (s : Values) (e : Event) → is_multi_touch e ≡ true → StateStandsFor d r s → StateStandsFor d (Occurred e ∷ r) s
 StateStandsFor-multi_touch d r s e m h =
-    let axis : e.kind ≡ EV_ABS = eqb-true e.kind EV_ABS (first (nat_eq e.kind EV_ABS) (is_multi_touch_code e.code) m) in
+    let axis : e.kind ≡ EV_ABS = eqb-true e.kind EV_ABS (and_parts (nat_eq e.kind EV_ABS) (is_multi_touch_code e.code) m).0 in
     let other : (kind code : ℕ) → nat_eq EV_ABS kind ≡ false → is_on d kind code e ≡ false = λ kind code n. off_kind d kind code e (ap (λ (k : ℕ). nat_eq k kind) axis ∙ n) in
     record {
       keys = λ k. h.keys k ∙ sym (key_down-stays d r e k (other EV_KEY k refl));
@@ -301,15 +266,6 @@ StateStandsFor-multi_touch d r s e m h =
     }
 
 -- ---- an axis that is described anew
-
-at_axis : {X : Type 0} → (a c : ℕ) (x y : X) → c ≡ a → (if nat_eq a c then x else y) ≡ x
-at_axis a c x y h = ap (λ (b : Bool). if b then x else y) (ap (nat_eq a) h ∙ eq_self a)
-
-not_eq : (a c : ℕ) → (c ≡ a → ⊥) → nat_eq a c ≡ false
-not_eq a c h = grind (arith, nat_tests)
-
-at_other : {X : Type 0} → (a c : ℕ) (x y : X) → (c ≡ a → ⊥) → (if nat_eq a c then x else y) ≡ y
-at_other a c x y h = ap (λ (b : Bool). if b then x else y) (not_eq a c h)
 
 axis_value-described : (d : Description) (r : List RawItem) (code : ℕ) (i : AxisInfo) (k : ℕ) → axis_value d (Described code i ∷ r) k ≡ (if nat_eq code k then i.value else axis_value d r k)
 unfolding axis_value
@@ -328,12 +284,12 @@ StateStandsFor-described d r s code i within there h = record {
   leds = h.leds;
   sounds = h.sounds;
   axes = λ k b. elim (cases_eq k code) [
-    | inl same ↦ ap (λ (n : ℕ). get_or (set s.axes code i.value) n (pos 0)) same ∙ get_or-set_same s.axes code i.value (pos 0) within ∙ sym (axis_value-described d r code i k ∙ at_axis code k i.value (axis_value d r k) same)
-    | inr other ↦ get_or-set_other s.axes code k i.value (pos 0) other ∙ h.axes k b ∙ sym (axis_value-described d r code i k ∙ at_other code k i.value (axis_value d r k) other)
+    | inl same ↦ ap (λ (n : ℕ). get_or (set s.axes code i.value) n (pos 0)) same ∙ get_or-set_same s.axes code i.value (pos 0) within ∙ sym (axis_value-described d r code i k ∙ cond-true (nat_eq code k) i.value (axis_value d r k) (eq-eqb code k (sym same)))
+    | inr other ↦ get_or-set_other s.axes code k i.value (pos 0) other ∙ h.axes k b ∙ sym (axis_value-described d r code i k ∙ cond-false (nat_eq code k) i.value (axis_value d r k) (ne_eqb code k (λ e. other (sym e))))
   ];
   infos = λ k b. elim (cases_eq k code) [
-    | inl same ↦ ap (λ (n : ℕ). get_or (set s.infos code i) n no_info) same ∙ get_or-set_same s.infos code i no_info there ∙ sym (axis_info-described d r code i k ∙ at_axis code k i (axis_info d r k) same)
-    | inr other ↦ get_or-set_other s.infos code k i no_info other ∙ h.infos k b ∙ sym (axis_info-described d r code i k ∙ at_other code k i (axis_info d r k) other)
+    | inl same ↦ ap (λ (n : ℕ). get_or (set s.infos code i) n no_info) same ∙ get_or-set_same s.infos code i no_info there ∙ sym (axis_info-described d r code i k ∙ cond-true (nat_eq code k) i (axis_info d r k) (eq-eqb code k (sym same)))
+    | inr other ↦ get_or-set_other s.infos code k i no_info other ∙ h.infos k b ∙ sym (axis_info-described d r code i k ∙ cond-false (nat_eq code k) i (axis_info d r k) (ne_eqb code k (λ e. other (sym e))))
   ];
   delay = h.delay;
   period = h.period;

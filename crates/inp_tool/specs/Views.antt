@@ -10,6 +10,7 @@ use Rattle.inp_model.specs.Description.{Description, one_key}
 use Rattle.inp_model.specs.State.{key_down}
 use Rattle.inp_model.specs.RawItem.{Frame}
 use Rattle.inp_model.specs.Frame.{place}
+use Rattle.inp_model.specs.Left.{eaten}
 use Rattle.inp_model.specs.Queue.{Entry, event_of, taken_by}
 use Rattle.inp_model.specs.examples.Frames.{report}
 use Rattle.inp_recon.specs.ClientView.{ReadEntry, entries_of_read, view_at}
@@ -79,7 +80,7 @@ abbrev pub speaks : ℕ → ReadEntry → Frame → Bool
 speaks client item f =
     is_synchronised keyboard item.before client item.taken
     && nat_lt (sync_place item.before client) (place f)
-    && is_undisturbed keyboard item.before client f
+    && is_undisturbed (eaten keyboard) keyboard item.before client f
 
 -- which of the keys A and B are down
 abbrev pub down : (ℕ → Bool) → List ℕ

@@ -1,15 +1,15 @@
 -- A raw event sends itself, or nothing.
-use Rattle.std.proofs.Common.{◌≡◌, Bool, true, false, ◌&&◌, if◌then◌else◌, ℤ, List, [], ◌∷◌, ◌++◌, refl, ap, ◌∙◌, arith, Option, Some, None, is_some, option_to_list, option_map}
+use Rattle.std.proofs.Common.{◌≡◌, Bool, true, false, ◌&&◌, ◌||◌, if◌then◌else◌, ℤ, List, [], ◌∷◌, ◌++◌, refl, sym, ap, ◌∙◌, arith, Option, Some, None, is_some, option_to_list, option_map}
 use Rattle.std.specs.Prelude.{filter, nat_eq, nat_lt}
+use Rattle.std.proofs.lemmas.Bool.{cond_both, true≢false}
 use Rattle.std.proofs.lemmas.Bool.Decides.{nat_tests}
 use Rattle.std.proofs.lemmas.List.Elements.{filter-append}
-use Rattle.inp_model.specs.declared.event.TheConstants.{EV_SYN, EV_ABS, SYN_DROPPED}
+use Rattle.inp_model.specs.declared.event.TheConstants.{EV_SYN, EV_KEY, EV_REL, EV_ABS, EV_SW, EV_LED, EV_REP, SYN_DROPPED}
 use Rattle.inp_model.specs.declared.event.Event.{Event}
 use Rattle.inp_model.specs.RawItem.{RawItem, Occurred}
-use Rattle.inp_model.specs.Description.{Description, supports, is_multi_touch_code}
-use Rattle.inp_model.specs.Event.{slot_event}
-use Rattle.inp_model.specs.State.{axis_value}
-use Rattle.inp_model.specs.Passed.{passes_as, code_passes, multi_touch_value, announces, announcement, is_output, goes_to_device}
+use Rattle.inp_model.specs.Description.{Description, supports}
+use Rattle.inp_model.specs.Event.{is_set, slot_event}
+use Rattle.inp_model.specs.Passed.{passed_if, key_passes, switch_passes, setting_passes, passes_as, announces, announcement, is_output, goes_to_device}
 use Rattle.inp_feedback.specs.Sent.{sent_for}
 
 abbrev one_passed : Description → List RawItem → Event → List Event
@@ -18,18 +18,27 @@ one_passed d r e = option_to_list (option_map (λ v. record e { value = v }) (pa
 no_axis : (e : Event) → is_output e ≡ true → nat_eq e.kind EV_ABS ≡ false
 no_axis e h = grind (arith, nat_tests)
 
-itself : (e : Event) (syn low ok axis : Bool) (moved : ℤ) → axis ≡ false
-    → (let o : Option ℤ = (if syn then (if low then Some e.value else None) else if ok then Some (if axis then moved else e.value) else None) in option_to_list (option_map (λ v. record e { value = v }) o) ≡ (if is_some o then e ∷ [] else []))
-itself e true true ok axis moved h = refl
-itself e true false ok axis moved h = refl
-itself e false low true axis moved h = ap (λ (b : Bool). record e { value = if b then moved else e.value } ∷ []) h
-itself e false low false axis moved h = refl
+abbrev IsItself : Event → Option ℤ → Type 0
+IsItself e o = option_to_list (option_map (λ v. record e { value = v }) o) ≡ (if is_some o then e ∷ [] else [])
+
+if_itself : (e : Event) (passes : Bool) → IsItself e (passed_if passes e.value)
+if_itself e true = refl
+if_itself e false = refl
+
+either_itself : (e : Event) (b : Bool) (x y : Option ℤ) → IsItself e x → IsItself e y → IsItself e (if b then x else y)
+either_itself e true x y h k = h
+either_itself e false x y h k = k
 
 -- an output is passed as itself
 output_alone : (d : Description) (r : List RawItem) (e : Event) → is_output e ≡ true → one_passed d r e ≡ (if is_some (passes_as d r e) then e ∷ [] else [])
 output_alone d r e h =
-    itself e (nat_eq e.kind EV_SYN) (nat_lt e.code SYN_DROPPED) (supports d e.kind e.code && code_passes d r e) (nat_eq e.kind EV_ABS)
-    (if is_multi_touch_code e.code then multi_touch_value d r e else axis_value d (Occurred e ∷ r) e.code) (no_axis e h)
+    either_itself e (nat_eq e.kind EV_SYN) _ _ (if_itself e (nat_lt e.code SYN_DROPPED))
+    (either_itself e (supports d e.kind e.code) _ _
+    (either_itself e (nat_eq e.kind EV_KEY) _ _ (if_itself e (key_passes d r e))
+    (either_itself e (nat_eq e.kind EV_REL) _ _ (if_itself e (is_set e))
+    (cond_both (nat_eq e.kind EV_ABS) _ _ (IsItself e) (λ axis. absurd (true≢false (sym axis ∙ no_axis e h)))
+    (λ _. either_itself e (nat_eq e.kind EV_SW || nat_eq e.kind EV_LED) _ _ (if_itself e (switch_passes d r e))
+    (either_itself e (nat_eq e.kind EV_REP) _ _ (if_itself e (setting_passes d r e)) refl))))) refl)
 
 -- a slot is no output
 no_announcement : (slot : ℤ) (b : Bool) → filter is_output (if b then slot_event slot ∷ [] else []) ≡ []

@@ -88,7 +88,7 @@ admitted-come d client past s c p (e ∷ es) h =
 pub entries-come : (d : Description) (client : ℕ) (past : List Step) (s : Step) (cs : List Cut) → Each (λ (c : Cut). Each IsNoLoss c.events) cs → Each (ComesAt (length past)) (entries d client (map (frame_of past s) cs))
 entries-come d client past s [] h = tt
 entries-come d client past s (c ∷ cs) h =
-    Each-append (ComesAt (length past)) (entries_of d client (frame_of past s c)) (entries d client (map (frame_of past s) cs))
+    Each-append (ComesAt (length past)) (entries_of (eaten d) d client (frame_of past s c)) (entries d client (map (frame_of past s) cs))
     (by (is_offered past client)) (entries-come d client past s cs h.1)
   where
     by : (b : Bool) → Each (ComesAt (length past)) (if b then map (entry d client (frame_of past s c)) (filter (admits past client) (left (eaten d) (frame_of past s c))) else [])

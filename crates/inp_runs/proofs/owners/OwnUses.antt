@@ -7,6 +7,7 @@ use Rattle.inp_model.specs.declared.stamped.Stamped.{Stamped}
 use Rattle.inp_model.specs.declared.step.Step.{Step}
 use Rattle.inp_model.specs.Description.{Description}
 use Rattle.inp_model.specs.Past.{opens, is_open}
+use Rattle.inp_model.specs.Left.{eaten}
 use Rattle.inp_model.specs.Reply.{Case, refusals, first_reply, refused, is_bad_client}
 use Rattle.inp_model.specs.Run.{Call, IsLegalRun}
 use Rattle.inp_model.specs.Step.{client_of, is_same}
@@ -59,7 +60,7 @@ first-none (case ∷ cases) h = by case.holds h
 -- a step that names a client and is not refused has one that is open
 pub names-open : (d : Description) (past : List Step) (x : Step) (client : ℕ) → refused d past x ≡ None → client_of x ≡ Some client → is_open past client ≡ true
 names-open d past x client accepts names =
-    let good : is_bad_client past (client_of x) ≡ false = first-none (refusals d past x) accepts in
+    let good : is_bad_client past (client_of x) ≡ false = first-none (refusals (eaten d) d past x) accepts in
     by (is_open past client) (sym (ap (λ (o : Option ℕ). is_bad_client past o) names) ∙ good)
   where
     by : (b : Bool) → not b ≡ false → b ≡ true

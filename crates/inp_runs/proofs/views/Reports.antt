@@ -189,7 +189,7 @@ no-others-client d (x ∷ past) client h = by (is_use_of client x) refl (no-othe
     v : View
     v = client_view d past client
 
-    by : (b : Bool) → is_use_of client x ≡ b → HasNoOthers d v → HasNoOthers d (view_after_step d past client x v)
+    by : (b : Bool) → is_use_of client x ≡ b → HasNoOthers d v → HasNoOthers d (view_after_step (eaten d) d past client x v)
     by true used s =
         let given : Answer = answer d past x in
         subst (HasNoOthers d) (sym (used-view d past client x v h.1 used))
