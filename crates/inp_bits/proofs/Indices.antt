@@ -73,12 +73,6 @@ is_on_at-replicate_false zero i = refl
 is_on_at-replicate_false (suc n) zero = refl
 is_on_at-replicate_false (suc n) (suc i) = is_on_at-replicate_false n i
 
--- within the list `is_on_at` is what `slice_get` gives
-pub slice_get-is_on_at : (bits : List Bool) (i : ℕ) → i < length bits → slice_get bits i ≡ Some (is_on_at bits i)
-slice_get-is_on_at [] i l = absurd (omega arith)
-slice_get-is_on_at (bit ∷ bits) zero l = refl
-slice_get-is_on_at (bit ∷ bits) (suc i) l = slice_get-is_on_at bits i (omega arith)
-
 -- ---- `true_indices`
 
 -- each index is below the list's length
@@ -166,14 +160,3 @@ pub differing_indices-replicate_false : (xs : List Bool) (n : ℕ) → differing
 unfolding differing_indices true_indices
 differing_indices-replicate_false xs n =
     filter_same (λ i. bits_differ (is_on_at xs i) (is_on_at (replicate n false) i)) (is_on_at xs) 0 (length xs) (λ k l m. ap (bits_differ (is_on_at xs k)) (is_on_at-replicate_false n k) ∙ differ_false (is_on_at xs k))
-
-same_unless : (x y : Bool) → ((x ≡ y → ⊥) → ⊥) → x ≡ y
-same_unless true true h = refl
-same_unless true false h = absurd (h (λ e. cc))
-same_unless false true h = absurd (h (λ e. cc))
-same_unless false false h = refl
-
--- two lists of one length that differ nowhere are one list
-pub same_from_no_differing : (xs ys : List Bool) → length xs ≡ length ys → differing_indices xs ys ≡ [] → xs ≡ ys
-same_from_no_differing xs ys e none =
-    ext_get_or false xs ys e (λ i l. same_unless (is_on_at xs i) (is_on_at ys i) (λ apart. let place = subst (λ (indices : List ℕ). Contains indices i) none (Contains-differing_indices xs ys i l apart) in absurd (omega (arith, place.1))))

@@ -110,11 +110,6 @@ all_pairs_insert R xs i y within pairs before behind = λ a b d lower in_b.
     (λ n b_is n_above. insert_read (λ z. R z (get_or xs n d)) xs i y a d within
     (λ a_below. pairs a n d (omega arith) (omega (arith, b_is))) (λ same. behind n d n_above (omega (arith, b_is))) (λ m e le. pairs m n d (omega (arith, e, b_is)) (omega (arith, b_is))))
 
--- a filter that every element passes
-pub filter_all : {X : Type 0} (p : X → Bool) → ((x : X) → p x ≡ true) → (xs : List X) → filter p xs ≡ xs
-filter_all p passes [] = refl
-filter_all p passes (x ∷ xs) = rw (passes x) (ap (λ ys. x ∷ ys) (filter_all p passes xs))
-
 -- two tests that agree at each element
 pub filter_same : {X : Type 0} (p q : X → Bool) (xs : List X) → All (λ x. p x ≡ q x) xs → filter p xs ≡ filter q xs
 filter_same p q [] each = refl

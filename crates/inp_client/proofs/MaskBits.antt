@@ -36,7 +36,7 @@ admits_of-full_masks e =
 -- Masks that are made of a function to their bits.
 
 -- a fact that holds for each type that has a mask
-by_kind : (P : ℕ → Type 0) → P EV_SYN → P EV_KEY → P EV_REL → P EV_ABS → P EV_MSC → P EV_SW → P EV_LED → P EV_SND → (kind : ℕ) → has_mask kind ≡ true → P kind
+pub by_kind : (P : ℕ → Type 0) → P EV_SYN → P EV_KEY → P EV_REL → P EV_ABS → P EV_MSC → P EV_SW → P EV_LED → P EV_SND → (kind : ℕ) → has_mask kind ≡ true → P kind
 by_kind P syn key rel axis msc switch led snd kind has =
     elim (or_cases _ _ has) [
       | inl first ↦ elim (or_cases _ _ first) [
@@ -224,32 +224,3 @@ module _ (bit : ℕ → ℕ → Bool) (set : (k i : ℕ) → bit k i ≡ true) w
   pub full_masks-masks_with : full_masks ≡ masks_with bit
   unfolding full_masks masks_with
   full_masks-masks_with = full_parts 64 768
-
--- What a device can pass is within the masks.
-
-code_within : (count greatest code : ℕ) (codes : List Bool) → AreCodes count greatest codes → get_or codes code false ≡ true → code ≤ greatest
-code_within count greatest code codes are on =
-    elim (cases_lt greatest code) [
-      | inl above ↦ absurd (false≢true (sym (are.within code above) ∙ on))
-      | inr within ↦ within
-    ]
-
--- an event that a device supports is of a type that a device can have, and its mask has a bit for its code
-pub code_in_mask : (d : Description) (kind code : ℕ) → IsDescription d → supports d kind code ≡ true → (is_kind kind ≡ true) × (has_mask kind ≡ true → code < 64 * mask_words kind)
-code_in_mask d kind code is on =
-    let both = and_parts (has_kind d kind) (has_code d kind code) on in (
-      elim (cases_Bool (is_kind kind)) [
-        | inl known ↦ known
-        | inr unknown ↦ absurd (false≢true (sym (is.known kind unknown) ∙ both.0))
-      ],
-      λ has. by_kind (λ k. has_code d k code ≡ true → code < 64 * mask_words k)
-          (λ at. omega (arith, leb-true code SYN_DROPPED at))
-          (λ at. omega (arith, code_within 768 KEY_MAX code d.keys is.keys at))
-          (λ at. omega (arith, code_within 64 REL_MAX code d.relatives is.relatives at))
-          (λ at. omega (arith, code_within 64 ABS_MAX code d.axes is.axes at))
-          (λ at. omega (arith, code_within 64 MSC_MAX code d.miscs is.miscs at))
-          (λ at. omega (arith, code_within 64 SW_MAX code d.switches is.switches at))
-          (λ at. omega (arith, code_within 64 LED_MAX code d.leds is.leds at))
-          (λ at. omega (arith, code_within 64 SND_MAX code d.sounds is.sounds at))
-          kind has both.1,
-    )

@@ -48,13 +48,6 @@ apart_any : (es : List Event) (b : Bool) → are_reports_apart true es ≡ true 
 apart_any [] b h = refl
 apart_any (e ∷ es) b h = weaker (is_report e) b (are_reports_apart (is_report e) es) h
 
--- how the flag of the loop goes on
-pub apart_next : (e : Event) (es : List Event) (behind : Bool) → (is_report e && behind) ≡ false → are_reports_apart behind (e ∷ es) ≡ are_reports_apart (is_report e) es
-apart_next e es behind h = ap (λ (b : Bool). not b && are_reports_apart (is_report e) es) h
-
-pub apart_not : (e : Event) (es : List Event) (behind : Bool) → (is_report e && behind) ≡ true → are_reports_apart behind (e ∷ es) ≡ false
-apart_not e es behind h = ap (λ (b : Bool). not b && are_reports_apart (is_report e) es) h
-
 abbrev ends : List Cell → Bool
 ends q = is_empty q || ends_in_report event_of_cell q
 

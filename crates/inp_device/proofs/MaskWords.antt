@@ -2,15 +2,13 @@
 use Rattle.std.proofs.Common.{◌≡◌, ◌==◌, ℕ, ◌*◌, ◌/◌, ◌%◌, ◌<◌, Bool, true, false, ◌&&◌, if◌then◌else◌, nat_eq, nat_lt, List, ◌∷◌, refl, sym, ap, ◌∙◌, arith, inl, inr, Some, None}
 use Rattle.std.specs.Prelude.{unwrap_or}
 use Rattle.std.specs.Int.{bit_at}
-use Rattle.std.proofs.lemmas.Bool.{cases_eq}
-use Rattle.std.proofs.lemmas.Bool.Decides.{nat_tests}
+use Rattle.std.proofs.lemmas.Bool.{cases_eq, ne_eqb, lt-ltb}
 use Rattle.inp_model.specs.declared.step.Step.{Step}
 use Rattle.inp_model.specs.declared.step.Step.TheVariants.{Mask}
 use Rattle.inp_model.specs.Past.{mask_bit, has_mask, mask_words}
 use Rattle.inp_client.specs.Masks.{masks_with, masks_after}
 use Rattle.inp_client.proofs.MaskBits.{masks_after-masks_with}
 use Rattle.inp_device.specs.Present.{is_mask_bit, MasksEnd}
-use Rattle.inp_device.proofs.Masks.{eq_false}
 
 -- the bits of a mask of which a word was set, by whether the bit's type is the mask's and its word is the one
 abbrev bit_by : Bool → Bool → ℕ → ℕ → Bool → Bool
@@ -38,16 +36,13 @@ ends_by kind this index word bits before masked fits ends was =
       | inl k ↦ elim (cases_eq word (index / 64)) [
         | inl w ↦
             let low : index < 64 * mask_words this = omega (arith, fits, w, ap mask_words k) in
-            let there : is_mask_bit this index ≡ true = ap (λ b. b && nat_lt index (64 * mask_words this)) (ap has_mask (sym k) ∙ masked) ∙ lt_true index (64 * mask_words this) low in
+            let there : is_mask_bit this index ≡ true = ap (λ b. b && nat_lt index (64 * mask_words this)) (ap has_mask (sym k) ∙ masked) ∙ lt-ltb index (64 * mask_words this) low in
             absurd (cc (there, ends))
-        | inr other ↦ ap (λ b. bit_by (nat_eq kind this) b bits index before) (eq_false word (index / 64) other) ∙ and_false (nat_eq kind this) ∙ was
+        | inr other ↦ ap (λ b. bit_by (nat_eq kind this) b bits index before) (ne_eqb word (index / 64) other) ∙ and_false (nat_eq kind this) ∙ was
       ]
-      | inr other ↦ ap (λ b. bit_by b (nat_eq word (index / 64)) bits index before) (eq_false kind this other) ∙ was
+      | inr other ↦ ap (λ b. bit_by b (nat_eq word (index / 64)) bits index before) (ne_eqb kind this other) ∙ was
     ]
   where
-    lt_true : (m n : ℕ) → m < n → nat_lt m n ≡ true
-    lt_true m n h = grind (arith, nat_tests, h)
-
     and_false : (b : Bool) → bit_by b false bits index before ≡ before
     and_false true = refl
     and_false false = refl

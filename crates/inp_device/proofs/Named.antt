@@ -1,18 +1,11 @@
 -- Clients that a list of numbers stands for, of which one is changed.
 use Rattle.std.proofs.Common.{◌≡◌, ℕ, Bool, true, false, if◌then◌else◌, nat_eq, List, [], ◌∷◌, map, refl, sym, ap, subst, ◌∙◌, arith, inl, inr}
 use Rattle.std.specs.Prelude.{filter}
-use Rattle.std.proofs.lemmas.Bool.{cases_eq}
-use Rattle.std.proofs.lemmas.Bool.Decides.{nat_tests}
+use Rattle.std.proofs.lemmas.Bool.{cases_eq, eq-eqb, ne_eqb}
 use Rattle.inp_model.specs.declared.taken.Taken.{Taken}
 use Rattle.inp_client.specs.Client.{ClientView}
 use Rattle.inp_client.specs.Clients.{map_client}
 use Rattle.inp_client.proofs.ClientLists.{map_client-map}
-
-pub nat_eq-same : (n : ℕ) → nat_eq n n ≡ true
-nat_eq-same n = grind (arith, nat_tests)
-
-pub nat_eq-other : (m n : ℕ) → (m ≡ n → ⊥) → nat_eq m n ≡ false
-nat_eq-other m n h = grind (arith, nat_tests, h)
 
 -- each client of the list has the number that it stands for
 abbrev pub IsNumbered : (ℕ → ClientView Taken) → Type 0
@@ -37,7 +30,7 @@ map_client-filter n change f g p ns numbered here there =
           ap g e
           ∙ here (subst (λ (m : ℕ). p m ≡ true) e passes)
           ∙ ap (λ (m : ℕ). change (f m)) (sym e)
-          ∙ sym (ap (λ b. if b then change (f k) else f k) (ap (λ (m : ℕ). nat_eq m n) e ∙ nat_eq-same n))
-      | inr other ↦ there k other ∙ sym (ap (λ b. if b then change (f k) else f k) (nat_eq-other k n other))
+          ∙ sym (ap (λ b. if b then change (f k) else f k) (ap (λ (m : ℕ). nat_eq m n) e ∙ eq-eqb n n refl))
+      | inr other ↦ there k other ∙ sym (ap (λ b. if b then change (f k) else f k) (ne_eqb k n other))
     ])
     ∙ sym (map_client-map f numbered n change (filter p ns))

@@ -3,6 +3,7 @@ use Rattle.std.proofs.Common.{◌≡◌, ℕ, ◌+◌, ◌<◌, Bool, true, fals
 use Rattle.std.specs.Prelude.{filter}
 use Rattle.std.specs.List.{range_with_len}
 use Rattle.std.proofs.lemmas.List.Elements.{filter-append, filter_agree}
+use Rattle.std.proofs.lemmas.Bool.{eq-eqb, ne_eqb, cond-true}
 use Rattle.std.proofs.lemmas.Bool.Decides.{nat_tests}
 use Rattle.inp_bits.proofs.Indices.{filter_same}
 use Rattle.inp_client.proofs.Lists.{filter-filter}
@@ -23,15 +24,6 @@ open_clients-keeps past Open h = absurd (cc h)
 open_clients-keeps past (Close client) h = absurd (cc h)
 open_clients-keeps past x h = refl
 
-not_nat_eq : (m n : ℕ) → m < n → nat_eq n m ≡ false
-not_nat_eq m n h = grind (arith, nat_tests, h)
-
-same_nat_eq : (n : ℕ) → nat_eq n n ≡ true
-same_nat_eq n = grind (arith, nat_tests)
-
-filter-one : (p : ℕ → Bool) (k : ℕ) → p k ≡ true → filter p (k ∷ []) ≡ k ∷ []
-filter-one p k h = ap (λ b. if b then k ∷ [] else []) h
-
 -- the new client comes last
 pub open_clients-open : (past : List Step) → open_clients (Open ∷ past) ≡ open_clients past ++ opens past ∷ []
 unfolding is_open opens
@@ -40,14 +32,14 @@ open_clients-open past =
     let p : ℕ → Bool = λ k. if nat_eq n k then true else is_open past k in
     ap (filter p) (range-more 0 n)
     ∙ filter-append p (range_with_len 0 n) ((0 + n) ∷ [])
-    ∙ ap (λ (ks : List ℕ). ks ++ filter p ((0 + n) ∷ [])) (filter_same p (is_open past) 0 n (λ k l h. ap (λ b. if b then true else is_open past k) (not_nat_eq k n (omega (arith, h)))))
+    ∙ ap (λ (ks : List ℕ). ks ++ filter p ((0 + n) ∷ [])) (filter_same p (is_open past) 0 n (λ k l h. ap (λ b. if b then true else is_open past k) (ne_eqb n k (λ e. omega (arith, h, e)))))
     ∙ ap (λ (ks : List ℕ). filter (is_open past) (range_with_len 0 n) ++ ks)
     (let zero_plus : 0 + n ≡ n = omega arith in
     ap (λ (k : ℕ). filter p (k ∷ [])) zero_plus
-    ∙ filter-one p n (ap (λ b. if b then true else is_open past n) (same_nat_eq n)))
+    ∙ cond-true (p n) _ _ (ap (λ b. if b then true else is_open past n) (eq-eqb n n refl)))
 
-nat_eq-swap : (m n : ℕ) → nat_eq m n ≡ nat_eq n m
-nat_eq-swap m n = grind (arith, nat_tests)
+pub nat_eq_swap : (m n : ℕ) → nat_eq m n ≡ nat_eq n m
+nat_eq_swap m n = grind (arith, nat_tests)
 
 closed : (closing before : Bool) → (if closing then false else before) ≡ (before && not closing)
 closed true true = refl
@@ -60,5 +52,5 @@ pub open_clients-close : (past : List Step) (client : ℕ) → open_clients (Clo
 unfolding is_open opens
 open_clients-close past client =
     filter_agree (λ k. if nat_eq client k then false else is_open past k) (λ k. is_open past k && not (nat_eq k client))
-    (λ k. closed (nat_eq client k) (is_open past k) ∙ ap (λ b. is_open past k && not b) (nat_eq-swap client k)) (range_with_len 0 (opens past))
+    (λ k. closed (nat_eq client k) (is_open past k) ∙ ap (λ b. is_open past k && not b) (nat_eq_swap client k)) (range_with_len 0 (opens past))
     ∙ sym (filter-filter (is_open past) (λ k. not (nat_eq k client)) (range_with_len 0 (opens past)))

@@ -21,6 +21,7 @@ use Rattle.inp_filter.specs.FilterState.{FiltersStandFor}
 use Rattle.inp_filter.proofs.LeftOfFrames.{left-let_through, left-held}
 use Rattle.inp_filter.proofs.GivenBefore.{AreGiven, all_given}
 use Rattle.inp_frames.specs.Frames.{TakesAll}
+use Rattle.inp_frames.proofs.HandledEvents.{either}
 use Rattle.inp_frames.proofs.KeptCore.{makes_no_events}
 use Rattle.inp_client.specs.Client.{after_offer}
 use Rattle.inp_client.specs.Clients.{ClientsView}
@@ -46,15 +47,11 @@ cuts-none d past (Tick now) h = absurd (cc h)
 cuts-none d past (Inhibit now) h = absurd (cc h)
 cuts-none d past _ h = refl
 
-same_either : {X : Type 0} (b : Bool) (x : X) → (if b then x else x) ≡ x
-same_either true x = refl
-same_either false x = refl
-
 given_in-none : (d : Description) (past : List Step) (x : Step) → makes_events x ≡ false → given_in d (x ∷ past) ≡ given_in d past
 unfolding given_in
 given_in-none d past x h =
     ap (λ (cs : List Cut). if is_some (holder past) then given_in d past else given_by (map (frame_of past x) cs) (given_in d past)) (cuts-none d past x h)
-    ∙ same_either (is_some (holder past)) (given_in d past)
+    ∙ either (is_some (holder past)) (given_in d past)
 
 events_none : (x : Step) → (makes_no_events x || leaves_clients x) ≡ true → makes_events x ≡ false
 events_none (Inject e now) h = absurd (cc h)

@@ -17,7 +17,6 @@ use Rattle.inp_client.specs.Clients.{distinct}
 use Rattle.inp_client.specs.Numbers.{held_places}
 use Rattle.inp_client.specs.Read.{client_on, clients_on}
 use Rattle.inp_device.specs.declared.handler.Handler.{Handler}
-use Rattle.inp_device.specs.declared.present.Present.{Present}
 use Rattle.inp_device.specs.Present.{client_after, queued_places, HandlerStandsFor}
 
 -- how long the queues are, as they are kept, and as they follow from the past
@@ -58,16 +57,6 @@ places_after d past (n ∷ ns) =
 
 All-of_map : {X : Type 0} (f : X → ℕ) (m : ℕ) (xs : List X) → All (λ k. k ≤ m) (map f xs) → All (λ x. f x ≤ m) xs
 All-of_map f m xs all i d in_i = omega (arith, all i 0 (omega (arith, in_i, length-map xs f)), get_or-map f xs i d 0 in_i)
-
--- the counts of the clients that a call is lent are those of the clients that are kept
-pub least_of : (lent p : Present) (stored : ℕ) → lent ≡ p → All (λ c. length c.ring.events ≤ stored) lent.handler.clients.list → All (λ c. length c.ring.events ≤ stored) p.handler.clients.list
-least_of lent p stored same all = subst (λ (q : Present). All (λ c. length c.ring.events ≤ stored) q.handler.clients.list) same all
-
-pub most_of : (lent p : Present) (stored : ℕ) → lent ≡ p → stored ≤ sum_by (λ c. length c.ring.events) lent.handler.clients.list → stored ≤ sum_by (λ c. length c.ring.events) p.handler.clients.list
-most_of lent p stored same few = subst (λ (q : Present). stored ≤ sum_by (λ c. length c.ring.events) q.handler.clients.list) same few
-
-pub places_of_lent : (lent p : Present) (stored : ℕ) → lent ≡ p → length (held_places lent.handler.clients.list) ≤ stored → length (held_places p.handler.clients.list) ≤ stored
-places_of_lent lent p stored same few = subst (λ (q : Present). length (held_places q.handler.clients.list) ≤ stored) same few
 
 module _ (d : Description) (past : List Step) (h : Handler) (stands : HandlerStandsFor d past h) (stored : ℕ) where
   abbrev long : ℕ → ℕ

@@ -37,72 +37,46 @@ is_waiting d r e w h =
     ap (λ (events : List Event). record { events = events; hint = w.hint }) h.events
     ∙ ap (λ (hint : ℕ). record { events = pending d r ++ passed d r e; hint = hint }) h.hint
 
--- no frame
-
-cut_none : (report more full : Bool) (batch frame : List Event) → (if report then more else full) ≡ false → (if report then (if more then Some batch else None) else if full then Some frame else None) ≡ None
-cut_none true more full batch frame h = ap (λ b. if b then Some batch else None) h
-cut_none false more full batch frame h = ap (λ b. if b then Some frame else None) h
-
-left_none : (report more full : Bool) (batch : List Event) → (if report then more else full) ≡ false → (if report then [] else if full then [] else batch) ≡ (if report then [] else batch)
-left_none true more full batch h = refl
-left_none false more full batch h = ap (λ b. if b then [] else batch) h
-
-no_cut : (d : Description) (r : List RawItem) (e : Event) → are_frame (is_report e) (waiting d r e) ≡ false → cut_events d r e ≡ None
-no_cut d r e h =
-    let batch : List Event = pending d r ++ passed d r e in
-    cut_none (is_report e) (nat_lt 1 (length batch)) (nat_le d.hint (length batch)) batch (batch ++ core_report ∷ []) h
-
-pending-more : (d : Description) (r : List RawItem) (e : Event) → are_frame (is_report e) (waiting d r e) ≡ false → pending d (Occurred e ∷ r) ≡ (if is_report e then [] else pending d r ++ passed d r e)
-unfolding pending
-pending-more d r e h =
-    let batch : List Event = pending d r ++ passed d r e in
-    left_none (is_report e) (nat_lt 1 (length batch)) (nat_le d.hint (length batch)) batch h
-
-at_frame-more : (d : Description) (r : List RawItem) (e : Event) → are_frame (is_report e) (waiting d r e) ≡ false → at_frame d (Occurred e ∷ r) ≡ at_frame d r
-unfolding at_frame
-at_frame-more d r e h = ap (λ (o : Option (List Event)). if is_some o then announced d (Occurred e ∷ r) else at_frame d r) (no_cut d r e h)
-
--- a frame
-
-cut_some : (report more full : Bool) (batch frame : List Event) → (if report then more else full) ≡ true → is_some (if report then (if more then Some batch else None) else if full then Some frame else None) ≡ true
-cut_some true more full batch frame h = ap (λ b. is_some (if b then Some batch else None)) h
-cut_some false more full batch frame h = ap (λ b. is_some (if b then Some frame else None)) h
-
-left_some : (report more full : Bool) (batch : List Event) → (if report then more else full) ≡ true → (if report then [] else if full then [] else batch) ≡ []
-left_some true more full batch h = refl
-left_some false more full batch h = ap (λ b. if b then [] else batch) h
-
-pending-cut : (d : Description) (r : List RawItem) (e : Event) → are_frame (is_report e) (waiting d r e) ≡ true → pending d (Occurred e ∷ r) ≡ []
-unfolding pending
-pending-cut d r e h =
-    let batch : List Event = pending d r ++ passed d r e in
-    left_some (is_report e) (nat_lt 1 (length batch)) (nat_le d.hint (length batch)) batch h
-
-at_frame-cut : (d : Description) (r : List RawItem) (e : Event) → are_frame (is_report e) (waiting d r e) ≡ true → at_frame d (Occurred e ∷ r) ≡ announced d (Occurred e ∷ r)
-unfolding at_frame
-at_frame-cut d r e h =
-    let batch : List Event = pending d r ++ passed d r e in
-    ap (λ b. if b then announced d (Occurred e ∷ r) else at_frame d r) (cut_some (is_report e) (nat_lt 1 (length batch)) (nat_le d.hint (length batch)) batch (batch ++ core_report ∷ []) h)
-
--- the frames
-
-cut-more : (d : Description) (r : List RawItem) (e : Event) → are_frame (is_report e) (waiting d r e) ≡ false → cuts d r (Occurred e ∷ []) ≡ []
-unfolding cuts
-cut-more d r e h = ap (λ (o : Option (List Event)). option_to_list (option_map (cut_of e r) o) ++ []) (no_cut d r e h)
-
-some_frame : (report more full : Bool) (batch frame : List Event) → (if report then more else full) ≡ true → (if report then (if more then Some batch else None) else if full then Some frame else None) ≡ Some (if report then batch else frame)
-some_frame true more full batch frame h = ap (λ b. if b then Some batch else None) h
-some_frame false more full batch frame h = ap (λ b. if b then Some frame else None) h
-
 -- the events of the frame that e ends
 abbrev frame_events : Description → List RawItem → Event → List Event
 frame_events d r e = if is_report e then pending d r ++ passed d r e else (pending d r ++ passed d r e) ++ core_report ∷ []
 
-cut-ends : (d : Description) (r : List RawItem) (e : Event) → are_frame (is_report e) (waiting d r e) ≡ true → cuts d r (Occurred e ∷ []) ≡ cut_of e r (frame_events d r e) ∷ []
-unfolding cuts
-cut-ends d r e h =
-    let batch : List Event = pending d r ++ passed d r e in
-    ap (λ (o : Option (List Event)). option_to_list (option_map (cut_of e r) o) ++ []) (some_frame (is_report e) (nat_lt 1 (length batch)) (nat_le d.hint (length batch)) batch (batch ++ core_report ∷ []) h)
+-- what follows from whether the events that wait are a frame then
+module _ (d : Description) (r : List RawItem) (e : Event) (frame : Bool) (is : are_frame (is_report e) (waiting d r e) ≡ frame) where
+  abbrev batch : List Event
+  batch = pending d r ++ passed d r e
+
+  cut_is : cut_events d r e ≡ (if frame then Some (frame_events d r e) else None)
+  cut_is = by_report (is_report e) ∙ ap (λ (b : Bool). if b then Some (frame_events d r e) else None) is
+    where
+      by_report : (report : Bool) → (if report then (if nat_lt 1 (length batch) then Some batch else None) else if nat_le d.hint (length batch) then Some (batch ++ core_report ∷ []) else None)
+          ≡ (if are_frame report (waiting d r e) then Some (if report then batch else batch ++ core_report ∷ []) else None)
+      by_report true = refl
+      by_report false = refl
+
+  pending_is : pending d (Occurred e ∷ r) ≡ (if frame then [] else if is_report e then [] else batch)
+  unfolding pending
+  pending_is = by_report (is_report e) ∙ ap (λ (b : Bool). if b then [] else if is_report e then [] else batch) is
+    where
+      by_report : (report : Bool) → (if report then [] else if nat_le d.hint (length batch) then [] else batch) ≡ (if are_frame report (waiting d r e) then [] else if report then [] else batch)
+      by_report true = sym (either (nat_lt 1 (length batch)) [])
+      by_report false = refl
+
+  at_frame_is : at_frame d (Occurred e ∷ r) ≡ (if frame then announced d (Occurred e ∷ r) else at_frame d r)
+  unfolding at_frame
+  at_frame_is = ap (λ (o : Option (List Event)). if is_some o then announced d (Occurred e ∷ r) else at_frame d r) cut_is ∙ some_cut frame
+    where
+      some_cut : (b : Bool) → (if is_some (if b then Some (frame_events d r e) else None) then announced d (Occurred e ∷ r) else at_frame d r) ≡ (if b then announced d (Occurred e ∷ r) else at_frame d r)
+      some_cut true = refl
+      some_cut false = refl
+
+  cuts_are : cuts d r (Occurred e ∷ []) ≡ (if frame then cut_of e r (frame_events d r e) ∷ [] else [])
+  unfolding cuts
+  cuts_are = ap (λ (o : Option (List Event)). option_to_list (option_map (cut_of e r) o) ++ []) cut_is ∙ cut_list frame
+    where
+      cut_list : (b : Bool) → option_to_list (option_map (cut_of e r) (if b then Some (frame_events d r e) else None)) ++ [] ≡ (if b then cut_of e r (frame_events d r e) ∷ [] else [])
+      cut_list true = refl
+      cut_list false = refl
 
 -- the core
 
@@ -159,11 +133,11 @@ handles-more d r e now takes old to state slots w left report frame h p f off ev
         made = record { hint = hint ∙ h.waits.hint; slots = h.slots.count };
         state = h.state;
         slots = h.slots;
-        at_frame = h.at_frame ∙ sym (at_frame-more d r e none);
-        batch = events ∙ ap (λ b. if b then [] else w.events) p ∙ ap (λ (x : List Event). if is_report e then [] else x) h.waits.events ∙ sym (pending-more d r e none);
+        at_frame = h.at_frame ∙ sym (at_frame_is d r e false none);
+        batch = events ∙ ap (λ b. if b then [] else w.events) p ∙ ap (λ (x : List Event). if is_report e then [] else x) h.waits.events ∙ sym (pending_is d r e false none);
       };
-      takes_all = subst (λ (cs : List Cut). TakesAll takes now cs to to) (sym (cut-more d r e none)) refl;
-      timer = sym (either (repeats_keys d) old.timer) ∙ ap (λ (cs : List Cut). timer_after_cuts d now cs old.timer) (sym (cut-more d r e none));
+      takes_all = subst (λ (cs : List Cut). TakesAll takes now cs to to) (sym (cuts_are d r e false none)) refl;
+      timer = sym (either (repeats_keys d) old.timer) ∙ ap (λ (cs : List Cut). timer_after_cuts d now cs old.timer) (sym (cuts_are d r e false none));
       inhibited = refl;
     }
 
@@ -190,7 +164,7 @@ pub handles-cut : {T : Type 0} (d : Description) (r : List RawItem) (e : Event) 
     → Handles d r (e ∷ []) now takes old (record { state = state; slots = after; batch = left.events; hint = left.hint; timer = timer; inhibited = old.inhibited }) to_old to_new
 handles-cut d r e now takes old to_old to_new state slots after w passed_on left timer report frame h p f on given armed took events hint told =
     let some : are_frame (is_report e) (waiting d r e) ≡ true = frame_is d r e w report frame h.waits p f ∙ on in
-    let ends : cuts d r (Occurred e ∷ []) ≡ cut_of e r (frame_events d r e) ∷ [] = cut-ends d r e some in
+    let ends : cuts d r (Occurred e ∷ []) ≡ cut_of e r (frame_events d r e) ∷ [] = cuts_are d r e true some in
     let same : passed_on.events ≡ frame_events d r e = framed d r e w report passed_on.events h.waits p given in
     let frames_at : SlotsStandFor d (Occurred e ∷ r) after = subst (SlotsStandFor d (Occurred e ∷ r)) (sym told) (record { count = h.slots.count; staged = h.slots.staged; announced = h.slots.announced; values = h.slots.values }) in
     record {
@@ -198,8 +172,8 @@ handles-cut d r e now takes old to_old to_new state slots after w passed_on left
         made = record { hint = hint ∙ h.waits.hint; slots = frames_at.count };
         state = h.state;
         slots = frames_at;
-        at_frame = ap (λ (s : SlotValues). s.at_frame) told ∙ h.slots.announced ∙ sym (at_frame-cut d r e some);
-        batch = events ∙ sym (pending-cut d r e some);
+        at_frame = ap (λ (s : SlotValues). s.at_frame) told ∙ h.slots.announced ∙ sym (at_frame_is d r e true some);
+        batch = events ∙ sym (pending_is d r e true some);
       };
       takes_all = subst (λ (cs : List Cut). TakesAll takes now cs to_old to_new) (sym ends) (to_new, subst (λ (x : List Event). takes to_old x now to_new) same took, refl);
       timer = armed ∙ timer-ends d r e now state passed_on.events old.timer h.state same ends;

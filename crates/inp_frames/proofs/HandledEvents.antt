@@ -37,9 +37,9 @@ timer_at_cuts-append : (d : Description) (now : ℕ) (xs ys : List Cut) (t : Tim
 timer_at_cuts-append d now [] ys t = refl
 timer_at_cuts-append d now (x ∷ xs) ys t = timer_at_cuts-append d now xs ys (timer_at_events now (setting d x.until 0) (setting d x.until 1) x.events t)
 
-pub either : (b : Bool) (t : Timer) → (if b then t else t) ≡ t
-either true t = refl
-either false t = refl
+pub either : {X : Type 0} (b : Bool) (x : X) → (if b then x else x) ≡ x
+either true x = refl
+either false x = refl
 
 twice : (b : Bool) (f g : Timer → Timer) (t : Timer) → (if b then g (f t) else t) ≡ (let u = if b then f t else t in if b then g u else u)
 twice true f g t = refl

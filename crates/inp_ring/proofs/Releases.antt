@@ -58,9 +58,6 @@ module _ {first s : StoreView} {q : List ℕ} {at : ℕ} (r : IsLetGo first q s 
         held = r.held;
       }
 
--- all of them
-pub let_go_all : {first s : StoreView} {q : List ℕ} {at : ℕ} → IsLetGo first q s at → length q ≤ at → IsTakenOut first s q []
-let_go_all {first} {s} {q} {at} r past = subst (λ (l : List ℕ). IsTakenOut first s q l) (drop_all at q past) r.taken
 
 -- the parts of a queue that is fit are fit
 abbrev Timed : Cell → Type 0

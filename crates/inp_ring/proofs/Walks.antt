@@ -19,10 +19,6 @@ kept_of-times : (n : ℕ) (kept : Bool) (x : ℕ) → times n (kept_of kept x) �
 kept_of-times n true x = omega arith
 kept_of-times n false x = omega arith
 
-kept_of-length : (kept : Bool) (x : ℕ) → length (kept_of kept x) ≤ 1
-kept_of-length true x = omega arith
-kept_of-length false x = omega arith
-
 module _ (event : ℕ → Event) (drops : Event → Bool) where
   -- whether a report stays that comes after these numbers
   abbrev pub flag_after : Bool → List ℕ → Bool
