@@ -1,4 +1,3 @@
 pub mod BitsOf
 pub mod Differences
-pub mod FirstTrue
 pub mod Indices

@@ -47,12 +47,6 @@ module _ {locations : List Location} {slab : Slab Member} {s after : StoreView} 
   pub cells_add : cells_in after (clients_in locations slab) ≡ cells_in s (clients_in locations slab)
   cells_add = cells_stay shared.stored after added_stay
 
-  pub only_added : (n : ℕ) → IsIdle after n → n ≡ number
-  only_added n idle = elim (cases_eq n number) [
-    | inl e ↦ e
-    | inr d ↦ absurd (shared.none_idle n (subst IsIdleSlot (put.others n d) idle))
-  ]
-
 pub shared_spare : {locations : List Location} {slab : Slab Member} {s : StoreView} → AreShared locations slab s → 0 < length locations → (d : Member) → 0 < s.spare
 shared_spare {locations} {slab} {s} shared some d =
     spare_some shared.stored d 0 (omega (arith, members_long shared.located)) (λ n there differs. kept_known s (clients_in locations slab) shared.stored shared.none_idle n there)

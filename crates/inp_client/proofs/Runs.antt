@@ -333,15 +333,14 @@ module _ {locations : List Location} {before : Slab Member} {first store : Store
         (λ h. record { least = was.least; most = was.most; room = omega (arith, (takes h).1, length-append m.ring.events numbers, count_is); different = different_with })
         (λ h. was)
 
-    cells_fit : now ≤ MOMENT_MAX → (es : List Event) → AreFit (map (cell_of_event now place) es)
-    cells_fit fits [] = All-nil (λ (cell : Cell). cell.now ≤ MOMENT_MAX)
-    cells_fit fits (e ∷ es) = All-cons (λ (cell : Cell). cell.now ≤ MOMENT_MAX) (cell_of_event now place e) (map (cell_of_event now place) es) fits (cells_fit fits es)
+    cells_fit : now ≤ MOMENT_MAX → AreFit cells
+    cells_fit fits = All-map (λ (cell : Cell). cell.now ≤ MOMENT_MAX) (cell_of_event now place) frame (λ j d in_j. fits)
 
     timed_with : now ≤ MOMENT_MAX → AreFit (map (cell_at store) (with_run holder numbers m).ring.events)
     timed_with fits =
         let P : List Cell → Type 0 = λ q. AreFit q in
         cond_both (is_offered_to holder m) _ _ (λ (x : Member). AreFit (map (cell_at store) x.ring.events))
-        (λ _. subst P (sym queue_with) (All-append (λ (cell : Cell). cell.now ≤ MOMENT_MAX) (map (cell_at first) m.ring.events) cells was_fit (cells_fit fits frame)))
+        (λ _. subst P (sym queue_with) (All-append (λ (cell : Cell). cell.now ≤ MOMENT_MAX) (map (cell_at first) m.ring.events) cells was_fit (cells_fit fits)))
         (λ _. subst P (sym stays) was_fit)
 
     seen_with : client_in store (with_run holder numbers m) ≡ after_offer frame now place holder (client_in first m)

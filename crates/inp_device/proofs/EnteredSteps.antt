@@ -16,6 +16,7 @@ use Rattle.inp_model.specs.DeviceView.{DeviceView}
 use Rattle.inp_model.specs.Reply.{Answer, alone, answer_by, answer, refused, accepted, is_accepted, written, IsDeviceStep}
 use Rattle.inp_model.specs.History.{IsHistory}
 use Rattle.inp_model.proofs.Refused.{refused-not_accepted}
+use Rattle.inp_device.proofs.RefusedSteps.{accepted-enters}
 use Rattle.inp_device.specs.declared.present.Present.{Present}
 use Rattle.inp_client.specs.Numbers.{stored_of}
 use Rattle.inp_device.specs.Device.{StoringView, stored_most}
@@ -75,7 +76,7 @@ made_of r lent p new now steps x out new_out cells new_cells same same_steps mad
 
 -- Ready
 
-module _ {p : Present} {steps : List Step} {capacity : ℕ} {x : Step} (kept : IsKeptWith steps capacity p) (none : refused p.caps (reverse steps) x ≡ None) where
+module _ {p : Present} {steps : List Step} {capacity : ℕ} (x : Step) (kept : IsKeptWith steps capacity p) (none : refused p.caps (reverse steps) x ≡ None) where
   below_limit : length steps < p.caps.log_limit
   below_limit =
       omega (arith, leb-false p.caps.log_limit (length (reverse steps)) (allowed p.caps (reverse steps) x none).room, length-reverse steps)
@@ -103,13 +104,6 @@ module _ {p : Present} {steps : List Step} {capacity : ℕ} {x : Step} (kept : I
         range = omega (arith, kept.range, limit);
       }
 
-accepted-enters : (d : Description) (past : List Step) (x : Step) → is_accepted (accepted d past x).reply ≡ true
-accepted-enters d past x = by x
-  where
-    by : (y : Step) → is_accepted (accepted d past y).reply ≡ true
-    by Open = refl
-    by y = refl
-
 pub device_made : {old new : Present} {steps pushed : List Step} {x : Step} {reply : Reply} {out new_out : List Taken} {cells new_cells : List ℤ}
     → refused old.caps (reverse steps) x ≡ None → IsAcceptedStep steps x old reply out new_out cells new_cells new → pushed ≡ steps ++ x ∷ []
     → IsDeviceStep old.caps (reverse steps) x reply out new_out cells new_cells (reverse pushed)
@@ -119,15 +113,15 @@ device_made {old} {new} {steps} {pushed} {x} none made push =
 
 -- Want of memory
 
-pub device_lacks : {old new : Present} {steps now : List Step} {x : Step} {e : WantOfMemory} {reply : Reply} {out new_out : List Taken} {cells new_cells : List ℤ}
-    → refused old.caps (reverse steps) x ≡ None → IsMadeOrLacks steps x old (Err e) out new_out cells new_cells new → now ≡ steps → reply ≡ Refused (length now) NoMemory
-    → IsDeviceStep old.caps (reverse steps) x reply out new_out cells new_cells (reverse steps)
-device_lacks {old} {new} {steps} {now} {x} none lacks same r = record {
+pub device_lacks : {d : Description} {steps now : List Step} {x : Step} {reply : Reply} {out new_out : List Taken} {cells new_cells : List ℤ}
+    → refused d (reverse steps) x ≡ None → x ≡ Open → new_out ≡ out → new_cells ≡ cells → now ≡ steps → reply ≡ Refused (length now) NoMemory
+    → IsDeviceStep d (reverse steps) x reply out new_out cells new_cells (reverse steps)
+device_lacks {d} {steps} {now} {x} none opens o k same r = record {
   given = alone (Refused (length (reverse steps)) NoMemory);
-  exact = inr (lacks.0, none, refl);
+  exact = inr (opens, none, refl);
   replied = r ∙ ap (λ (n : ℕ). Refused n NoMemory) (ap length same ∙ sym (length-reverse steps));
-  out_written = lacks.1;
-  cells_written = lacks.2;
+  out_written = o;
+  cells_written = k;
   entered = sym (ap (λ b. if b then x ∷ reverse steps else reverse steps) (ap is_accepted r));
 }
 
@@ -137,7 +131,3 @@ device_lacks {old} {new} {steps} {now} {x} none lacks same r = record {
 pub device_stored : (old lent new : Present) (steps now : List Step) (x : Step) → lent ≡ old → now ≡ steps → StoresFew now x lent new → StoresFew steps x old new
 device_stored old lent new steps now x lends same few =
     subst (λ (ss : List Step). StoresFew ss x old new) same (subst (λ (p : Present). StoresFew now x p new) lends few)
-
--- as many as before
-pub device_stored_same : {old lent new : Present} → lent ≡ old → stored_of new.handler.clients ≡ stored_of lent.handler.clients → stored_of new.handler.clients ≡ stored_of old.handler.clients
-device_stored_same lends same = same ∙ ap (λ (p : Present). stored_of p.handler.clients) lends

@@ -1,16 +1,10 @@
-pub mod Axes
 pub mod FilledBuffers
-pub mod OpenClients
 pub mod Queues
-pub mod BitKinds
 pub mod Masks
-pub mod MaskWords
-pub mod Named
 pub mod Growth
 pub mod Offers
 pub mod Calls
 pub mod PassedFrames
-pub mod WholeFrames
 pub mod StandsAfterStep
 pub mod Stored
 pub mod StepParts

@@ -21,12 +21,11 @@ use Rattle.inp_filter.specs.FilterState.{FiltersStandFor}
 use Rattle.inp_filter.proofs.LeftOfFrames.{left-let_through, left-held}
 use Rattle.inp_filter.proofs.GivenBefore.{AreGiven, all_given}
 use Rattle.inp_frames.specs.Frames.{TakesAll}
-use Rattle.inp_frames.proofs.HandledEvents.{either}
 use Rattle.inp_frames.proofs.KeptCore.{makes_no_events}
 use Rattle.inp_client.specs.Client.{after_offer}
 use Rattle.inp_client.specs.Clients.{ClientsView}
 use Rattle.inp_client.specs.Read.{clients_on, read_after_offer}
-use Rattle.inp_client.proofs.Lists.{map_over}
+use Rattle.inp_client.proofs.Lists.{either_same, map_over}
 use Rattle.inp_client.proofs.OnClock.{clients_on-map, on_offer}
 use Rattle.inp_device.specs.declared.handler.Handler.{Handler}
 use Rattle.inp_device.specs.FrameFilters.{FilterView}
@@ -51,7 +50,7 @@ given_in-none : (d : Description) (past : List Step) (x : Step) → makes_events
 unfolding given_in
 given_in-none d past x h =
     ap (λ (cs : List Cut). if is_some (holder past) then given_in d past else given_by (map (frame_of past x) cs) (given_in d past)) (cuts-none d past x h)
-    ∙ either (is_some (holder past)) (given_in d past)
+    ∙ either_same (is_some (holder past)) (given_in d past)
 
 events_none : (x : Step) → (makes_no_events x || leaves_clients x) ≡ true → makes_events x ≡ false
 events_none (Inject e now) h = absurd (cc h)

@@ -13,7 +13,7 @@ record IsShort (given : Answer) : Type 0 where
   events : given.events ≡ []
   cells : given.cells ≡ []
 
-accepted-enters : (d : Description) (past : List Step) (x : Step) → is_accepted (accepted d past x).reply ≡ true
+pub accepted-enters : (d : Description) (past : List Step) (x : Step) → is_accepted (accepted d past x).reply ≡ true
 accepted-enters d past x = by x
   where
     by : (y : Step) → is_accepted (accepted d past y).reply ≡ true
@@ -31,10 +31,6 @@ given-short d past x given (inl same) h =
 given-short d past x given (inr lacks) h = record { events = ap (λ (a : Answer). a.events) lacks.2; cells = ap (λ (a : Answer). a.cells) lacks.2 }
 
 module _ {d : Description} {past : List Step} {x : Step} {reply : Reply} {out new_out : List Taken} {cells new_cells : List ℤ} {new_past : List Step} where
-  -- nothing is entered
-  pub past-stays : IsDeviceStep d past x reply out new_out cells new_cells new_past → is_accepted reply ≡ false → new_past ≡ past
-  past-stays s h = s.entered ∙ ap (λ b. if b then x ∷ past else past) h
-
   -- nothing is written to the caller's buffers
   pub out-stays : IsDeviceStep d past x reply out new_out cells new_cells new_past → is_accepted reply ≡ false → new_out ≡ out
   out-stays s h =

@@ -2,7 +2,8 @@
 use Rattle.std.proofs.Common.{◌≡◌, ◌⊎◌, ℕ, suc, ◌+◌, ◌<◌, ◌≤◌, ◌/◌, ◌%◌, ◌==◌, Bool, true, false, ◌&&◌, ◌||◌, if◌then◌else◌, nat_eq, List, [], ◌∷◌, length, map, refl, sym, ap, subst, ◌∙◌, arith, inl, inr, Option, Some, None, is_some}
 use Rattle.std.specs.Prelude.{unwrap_or, count_by}
 use Rattle.std.specs.List.{list_any}
-use Rattle.std.proofs.lemmas.List.Sums.{sum_by-cons}
+use Rattle.std.proofs.Math.Path.{fun_ext}
+use Rattle.inp_client.proofs.Lists.{sum_by-map}
 use Rattle.std.specs.Int.{bit_at}
 use Rattle.std.proofs.lemmas.Bool.{ne_eqb, not-false}
 use Rattle.inp_model.specs.declared.taken.Taken.{Taken}
@@ -30,10 +31,9 @@ use Rattle.inp_device.specs.declared.handler.Handler.{Handler}
 use Rattle.inp_device.specs.declared.present.Present.{Present}
 use Rattle.inp_device.specs.Device.{is_loss_at, is_lost_at, offered_count}
 use Rattle.inp_device.specs.Present.{client_after, clients_after, MasksEnd, AreFresh, HandlerStandsFor, PresentStandsFor}
-use Rattle.inp_device.proofs.OpenClients.{nat_eq_swap}
-use Rattle.inp_device.proofs.MaskWords.{MasksEnd-mask}
+use Rattle.inp_device.proofs.Calls.{nat_eq_swap, clients_after-frames, makes_events}
+use Rattle.inp_device.proofs.Masks.{MasksEnd-mask}
 use Rattle.inp_device.proofs.Offers.{after_offers}
-use Rattle.inp_device.proofs.Calls.{clients_after-frames, makes_events}
 use Rattle.inp_device.proofs.Growth.{tells_loss, is_lost, AreGrown, stored_grown}
 use Rattle.inp_device.proofs.PassedFrames.{takes, IsPassed, passed_all, filters-called}
 
@@ -195,14 +195,7 @@ abbrev reads_loss : ℕ → ClientView Taken → Bool
 reads_loss place c = list_any (is_loss_at place) c.ring.events
 
 count_map : {X Y : Type 0} (p : X → Bool) (q : Y → Bool) (f : X → Y) → ((x : X) → p x ≡ q (f x)) → (xs : List X) → count_by p xs ≡ count_by q (map f xs)
-count_map p q f same [] = refl
-count_map {X} {Y} p q f same (x ∷ xs) = omega (
-  arith,
-  sum_by-cons (λ (x : X). if p x then 1 else 0) x xs,
-  sum_by-cons (λ (y : Y). if q y then 1 else 0) (f x) (map f xs),
-  ap {B = ℕ} (λ (b : Bool). if b then 1 else 0) (same x),
-  count_map p q f same xs,
-)
+count_map {X} p q f same xs = ap (λ (t : X → Bool). count_by t xs) (fun_ext same) ∙ sym (sum_by-map (λ y. if q y then 1 else 0) f xs)
 
 grown_stored : (count place : ℕ) (old new : ClientsView) → (new ≡ old) ⊎ AreGrown count place old new → stored_of new ≤ stored_of old + count + count_by (is_lost place) new.list
 grown_stored count place old new (inl same) = omega (arith, ap stored_of same)

@@ -6,7 +6,7 @@ use Rattle.std.specs.Int.{bit_at}
 use Rattle.std.proofs.Math.Path.{fun_ext}
 use Rattle.std.proofs.lemmas.Bool.{cases_lt, cases_eq}
 use Rattle.std.proofs.lemmas.List.{ext_get_or, get_or_past, get_or-take, get_or-drop, length-set, get_or-set_same, get_or-set_other}
-use Rattle.std.proofs.lemmas.List.FromFn.{length-map-range_with_len, get_or-map-range_with_len}
+use Rattle.std.proofs.lemmas.List.FromFn.{fill_by_all, length-map-range_with_len, get_or-map-range_with_len}
 use Rattle.std.specs.Simd.Lanes.{mask_l}
 use Rattle.inp_bits.specs.Bits.{is_on_at, word_bits}
 use Rattle.inp_bits.specs.Words.{get_or-word_bits, number_of-word_bits}
@@ -15,9 +15,7 @@ use Rattle.inp_model.specs.Reply.{number_of_bits, bitmap_word, bitmap_of}
 
 pub map-same : {X : Type 0} → (x : X) (n : ℕ) (f g : ℕ → X) → ((k : ℕ) → k < n → f k ≡ g k) → map f (range_with_len 0 n) ≡ map g (range_with_len 0 n)
 map-same x n f g same =
-    ext_get_or x (map f (range_with_len 0 n)) (map g (range_with_len 0 n)) (length-map-range_with_len f 0 n ∙ sym (length-map-range_with_len g 0 n))
-    (λ i l. let h : i < n = omega (arith, length-map-range_with_len f 0 n) in
-    get_or-map-range_with_len f 0 n i i x h (omega arith) ∙ same i h ∙ sym (get_or-map-range_with_len g 0 n i i x h (omega arith)))
+    fill_by_all g (map f (range_with_len 0 n)) n x (length-map-range_with_len f 0 n) (λ k h. get_or-map-range_with_len f 0 n k k x h (omega arith) ∙ same k h)
 
 number_of_bits-mask : (bits : List Bool) → mask_l bits ≡ number_of_bits bits
 number_of_bits-mask [] = refl
@@ -73,12 +71,10 @@ more_words index bits words word h is are = record {
 -- the words of the whole list
 pub words-values : (index : ℕ) (bits : List Bool) (words : List ℕ) → length bits ≤ 64 * index → AreWordsBelow index bits words → words ≡ bitmap_of (value_at bits)
 words-values index bits words h are =
-    let f : ℕ → ℕ = λ w. bitmap_word (value_at bits) (64 * w) in
-    ext_get_or 0 words (map f (range_with_len 0 12)) (are.count ∙ sym (length-map-range_with_len f 0 12))
-    (λ i l. let within : i < 12 = omega (arith, are.count) in
+    fill_by_all (λ w. bitmap_word (value_at bits) (64 * w)) words 12 0 are.count (λ i within.
     elim (cases_lt i index) [
-      | inl low ↦ are.below i low ∙ sym (get_or-map-range_with_len f 0 12 i i 0 (omega arith) (omega arith))
-      | inr high ↦ are.others i high ∙ sym (word-past bits i (omega arith)) ∙ sym (get_or-map-range_with_len f 0 12 i i 0 (omega arith) (omega arith))
+      | inl low ↦ are.below i low
+      | inr high ↦ are.others i high ∙ sym (word-past bits i (omega arith))
     ])
 
 -- the words of a test that the list stands for

@@ -75,15 +75,6 @@ other_places-none es (place ∷ own) all =
     ap (λ b. cond (not b) (place ∷ other_places itself es own) (other_places itself es own)) (is_step es place l)
     ∙ other_places-none es own (All-tail (λ p. p < length es) place own all)
 
--- So the caller of a port of a device is told what its pass has seen and owns, and its tie is the share and the port.
-pub told-device : (d : Description) (name : List ℕ) (v : PassView Description Step) (agains : ℕ) → OwnsSeen v
-    → told_of itself d name v agains ≡ record { description = d; seen = v.seen; own = v.own; agains = agains; turns = Some v.turns; tie = Some (v.share ∷ length name ∷ name) }
-told-device d name v agains owns =
-    let seen = steps-all v.seen in
-    let own = step_places-all v.seen v.own owns in
-    let tie = ap (λ (l : List ℕ). v.share ∷ length name ∷ name ++ l) (other_places-none v.seen v.own owns) ∙ append-nil (v.share ∷ length name ∷ name) in
-    λ i. record { description = d; seen = seen i; own = own i; agains = agains; turns = Some v.turns; tie = Some (tie i) }
-
 -- of many events
 pub device_served_all : (d e : Description) (past new : List Step) (events : List Stamped) (injected : Injected) → e ≡ d → injected.from ≡ length past → injected.count ≡ entered_count d injected.from events
     → injected.from + injected.count ≤ LOG_MAX → reverse new ≡ history_with (reverse past) injected.count events → IsHistory e new → IsServedAll itself d (reverse past) events injected (reverse new)

@@ -38,10 +38,6 @@ module _ {first s : StoreView} {q : List ℕ} {at : ℕ} (r : IsLetGo first q s 
   there : 1 ≤ times next (drop at q)
   there = omega (arith, ap (times next) left_is, times_first next (drop (at + 1) q))
 
-  -- the next one has a holder
-  pub let_go_held : 0 < holders s next
-  let_go_held = omega (arith, left_held next, there)
-
   -- its cell is as it was at first
   pub let_go_cell : cell_at s next ≡ cell_at first next
   let_go_cell = ap some_cell (r.taken.stay next there)

@@ -64,9 +64,6 @@ pub walked_none : (drops : Event → Bool) (s : StoreView) (numbers : Buffer ℕ
 walked_none drops s numbers h = record { items = ap (λ q. buffer q numbers.capacity) (sym (append-nil numbers.items)); flag = refl; taken = taken_none s numbers.items; held = h }
 
 module _ {drops : Event → Bool} {first s : StoreView} {q : List ℕ} {capacity at : ℕ} {numbers : Buffer ℕ} {report_stays : Bool} (w : IsWalked drops first q capacity s numbers at report_stays) where
-  pub walked_held : AreHeld s numbers.items
-  walked_held = held_moved w.taken.moved w.held
-
   pub walked_all : length q ≤ at → numbers ≡ buffer (flush (event_at first) drops q) capacity
   walked_all h =
       let rest : drop at q ≡ [] = drop_all at q h in
@@ -97,9 +94,6 @@ module _ {drops : Event → Bool} {first s : StoreView} {q : List ℕ} {capacity
 
     walked_items : numbers.items ≡ walked_number ∷ (drop (at + 1) q ++ flush_from (event_at first) drops true (take at q))
     walked_items = ap (λ (b : Buffer ℕ). b.items) w.items ∙ ap (λ r. r ++ flush_from (event_at first) drops true (take at q)) (drop_more q at 0 here)
-
-    pub walked_some : 0 < length numbers.items
-    walked_some = omega (arith, ap length walked_items)
 
     pub walked_within : length q ≤ capacity → length numbers.items ≤ numbers.capacity
     walked_within h = omega (arith, walked_length, ap (λ (b : Buffer ℕ). b.capacity) w.items)

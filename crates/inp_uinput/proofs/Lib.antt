@@ -4,5 +4,4 @@ pub mod ServedEntries
 pub mod Udevs
 pub mod Events
 pub mod FeedbackTurns
-pub mod Waiting
 pub mod Tied

@@ -1,10 +1,10 @@
 -- What a call leaves of a device made by requests.
-use Rattle.std.proofs.Common.{◌≡◌, ℕ, ◌≤◌, ◌<◌, Bool, true, false, if◌then◌else◌, List, [], ◌∷◌, ◌++◌, length, take, drop, reverse, sym, ap, ◌∙◌, subst, arith, ℤ, Option, option_to_list}
+use Rattle.std.proofs.Common.{◌≡◌, ℕ, ◌≤◌, ◌<◌, Bool, true, false, if◌then◌else◌, List, [], ◌∷◌, ◌++◌, length, take, drop, reverse, sym, ap, ◌∙◌, subst, arith, ℤ, Option, option_to_list, ◌-◌, refl, Some, None}
 use Rattle.std.specs.Prelude.{nat_le, min}
-use Rattle.std.proofs.lemmas.List.{reverse-append, length-take, take_min}
+use Rattle.std.proofs.lemmas.List.{reverse-append, length-take, take_min, append-nil, length-drop}
 use Rattle.std.proofs.lemmas.Bool.{le-leb}
 use Rattle.std.proofs.lemmas.Bool.Decides.{nat_tests}
-use Rattle.circular_buffer.specs.Buffer.{buffer}
+use Rattle.circular_buffer.specs.Buffer.{buffer, Buffer, keep_last}
 use Rattle.inp_model.specs.declared.event.Event.{Event}
 use Rattle.inp_model.specs.declared.taken.Taken.{Taken}
 use Rattle.inp_model.specs.declared.step.Step.{Step}
@@ -26,7 +26,47 @@ use Rattle.inp_feedback.specs.Feedback.{feedback_queue, is_full_of_feedback, tak
 use Rattle.inp_feedback.specs.Kept.{kept_of, StandsWithin}
 use Rattle.inp_uinput.specs.KeptBeside.{with_sent, IsKeptBeside}
 use Rattle.inp_feedback.proofs.Lists.{steps_in-kept_of, feedback_count-kept_of, kept_of-nothing, kept_of-made, kept_of-fed, within-more}
-use Rattle.inp_uinput.proofs.Waiting.{waits_made, waits_fed, waits_first}
+
+-- What waits for the owner
+
+-- The queue has 15 events at most
+
+length-keep_last : (n : ℕ) (xs : List Event) → length (keep_last n xs) ≤ n
+length-keep_last n xs = omega (arith, length-drop (length xs - n) xs)
+
+pub queue_within : (d : Description) (kept : List UEntry) → length (feedback_queue d kept) ≤ FEEDBACK_MAX
+unfolding feedback_queue
+queue_within d [] = omega arith
+queue_within d (Made x ∷ kept) = length-keep_last FEEDBACK_MAX (feedback_queue d kept ++ sent_at_step d (steps_in kept) x)
+queue_within d (Feedback count ∷ kept) = omega (arith, queue_within d kept, length-drop count (feedback_queue d kept))
+
+-- After a step
+
+keep_last-few : (n : ℕ) (xs : List Event) → length xs ≤ n → keep_last n xs ≡ xs
+keep_last-few n xs h = let none : length xs - n ≡ 0 = omega arith in ap (λ k. drop k xs) none
+
+queue-made : (d : Description) (kept : List UEntry) (x : Step) (es : List Event) → es ≡ sent_at_step d (steps_in kept) x → keep_last FEEDBACK_MAX (feedback_queue d kept ++ es) ≡ feedback_queue d (Made x ∷ kept)
+unfolding feedback_queue
+queue-made d kept x es h = ap (λ es. keep_last FEEDBACK_MAX (feedback_queue d kept ++ es)) h
+
+pub waits_made : (d : Description) (kept : List UEntry) (x : Step) (sent : Option Event) (old : Buffer Event) → old ≡ buffer (feedback_queue d kept) FEEDBACK_MAX → option_to_list sent ≡ sent_at_step d (steps_in kept) x
+    → with_sent sent old ≡ buffer (feedback_queue d (Made x ∷ kept)) FEEDBACK_MAX
+waits_made d kept x None old is sends =
+    let queue : List Event = feedback_queue d kept in
+    is ∙ ap (λ es. buffer es FEEDBACK_MAX) (sym (ap (keep_last FEEDBACK_MAX) (append-nil queue) ∙ keep_last-few FEEDBACK_MAX queue (queue_within d kept)) ∙ queue-made d kept x [] sends)
+waits_made d kept x (Some e) old is sends = ap (with_sent (Some e)) is ∙ ap (λ es. buffer es FEEDBACK_MAX) (queue-made d kept x (e ∷ []) sends)
+
+-- After a feedback call
+
+pub waits_fed : (d : Description) (kept : List UEntry) (count : ℕ) (old : Buffer Event) → old ≡ buffer (feedback_queue d kept) FEEDBACK_MAX → buffer (drop count old.items) old.capacity ≡ buffer (feedback_queue d (Feedback count ∷ kept)) FEEDBACK_MAX
+unfolding feedback_queue
+waits_fed d kept count old is = ap (λ (w : Buffer Event). buffer (drop count w.items) w.capacity) is
+
+-- Of a device that keeps nothing
+
+pub waits_first : (d : Description) → buffer [] FEEDBACK_MAX ≡ buffer (feedback_queue d []) FEEDBACK_MAX
+unfolding feedback_queue
+waits_first d = refl
 
 -- A step
 

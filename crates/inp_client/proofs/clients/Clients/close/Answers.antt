@@ -2,8 +2,7 @@ use Rattle.std.proofs.Common.{◌≡◌, ◌+◌, ◌-◌, sym, ap, ◌∙◌, a
 use Rattle.std.proofs.lemmas.List.Edits.{length-remove}
 use Rattle.inp_client.specs.Clients.{ClientsView, without_client}
 use Rattle.inp_client.specs.Kept.{kept_view}
-use Rattle.inp_client.proofs.Locations.{has_client-clients_in, key_in_slab, located_after_removal}
-use Rattle.inp_client.proofs.Search.{index_is_some, index_is}
+use Rattle.inp_client.proofs.Locations.{has_client-clients_in, key_in_slab, located_after_removal, index_is_some, index_is}
 use Rattle.inp_client.proofs.OneClient.{call_open}
 use Rattle.inp_client.proofs.OpenClose.{close_held, close_cells, stored_close, idle_close, counted_close, list_close, fewer_close}
 use Rattle.inp_client.proofs.clients.Clients.close.Goals as goal

@@ -1,8 +1,8 @@
 use Rattle.std.proofs.Common.{[], ◌∷◌, ◌++◌, ◌<◌, length, if◌then◌else◌, sym, ap, subst, ◌∙◌, arith}
-use Rattle.std.specs.Prelude.{Ok, Err, is_ok, vec_capacity}
+use Rattle.std.specs.Prelude.{Ok, is_ok, vec_capacity}
 use Rattle.inp_device.specs.declared.present.Present.{Present}
-use Rattle.inp_device.specs.Present.{IsReadyFor}
-use Rattle.inp_device.proofs.EnteredSteps.{device_stored, device_stored_same, told_of, made_of, refused_step, ready, room, entered_kept, device_made, device_lacks}
+use Rattle.inp_client.specs.Numbers.{stored_of}
+use Rattle.inp_device.proofs.EnteredSteps.{device_stored, told_of, made_of, refused_step, ready, room, entered_kept, device_made, device_lacks}
 use Rattle.inp_device.proofs.device.Device.make.Goals as goal
 
 pub returns-in-Some-clause-step : goal.returns-in-Some-clause-step
@@ -13,18 +13,18 @@ returns-in-Some-clause-step c =
 pub accept-requires-clause-ready : goal.accept-requires-clause-ready
 accept-requires-clause-ready c =
     let none = told_of c.deref.result.now _ c.deref-2.result.now _ c.args.step c.refusal.result c.deref.ensures c.deref-2.ensures.value c.refusal.ensures.exact ∙ c.in_default.is in
-    rw (c.deref_mut.ensures.value, c.deref-3.ensures.value) (ready c.self.invariant none)
+    rw (c.deref_mut.ensures.value, c.deref-3.ensures.value) (ready c.args.step c.self.invariant none)
 
 pub unwrap-requires : goal.unwrap-requires
 unwrap-requires c =
     let none = told_of c.deref.result.now _ c.deref-2.result.now _ c.args.step c.refusal.result c.deref.ensures c.deref-2.ensures.value c.refusal.ensures.exact ∙ c.in_default.is in
-    let below : length c.self.inside.steps.items < vec_capacity c.self.inside.steps = room c.self.invariant none in
+    let below : length c.self.inside.steps.items < vec_capacity c.self.inside.steps = room c.args.step c.self.invariant none in
     c.push.ensures.succeeds (omega (arith, below, c.deref-2.ensures.len, ap length c.deref-2.ensures.value))
 
 pub invariant_of-self-in-Ok : goal.invariant_of-self-in-Ok
 invariant_of-self-in-Ok c =
     let none = told_of c.deref.result.now _ c.deref-2.result.now _ c.args.step c.refusal.result c.deref.ensures c.deref-2.ensures.value c.refusal.ensures.exact ∙ c.in_default.is in
-    entered_kept c.self.invariant none
+    entered_kept c.args.step c.self.invariant none
     (made_of (Ok c.in-Ok.reply) c.deref_mut.result.now _ _ c.deref-3.result.now _ c.args.step _ _ _ _ c.deref_mut.ensures.value c.deref-3.ensures.value c.in-Ok.ensures.made)
     (c.push.ensures.items ∙ ap (λ r. if is_ok r then c.self.inside.steps.items ++ c.args.step ∷ [] else c.self.inside.steps.items) c.unwrap.ensures)
     c.push.ensures.capacity
@@ -40,14 +40,13 @@ pub returns-in-Err-clause-step : goal.returns-in-Err-clause-step
 returns-in-Err-clause-step c =
     let none = told_of c.deref.result.now _ c.deref-2.result.now _ c.args.step c.refusal.result c.deref.ensures c.deref-2.ensures.value c.refusal.ensures.exact ∙ c.in_default.is in
     rw (← c.self.view_is)
-    (device_lacks none (made_of (Err c.in-Err.field-0) c.deref_mut.result.now _ _ c.deref-3.result.now _ c.args.step _ _ _ _ c.deref_mut.ensures.value c.deref-3.ensures.value c.in-Err.ensures.made)
-    c.deref-in-Err.ensures.value c.refuse.ensures.refused)
+    (device_lacks none c.in-Err.ensures.made.0 c.in-Err.ensures.made.1 c.in-Err.ensures.made.2 c.deref-in-Err.ensures.value c.refuse.ensures.refused)
 
 pub returns-in-Ok-clause-stored : goal.returns-in-Ok-clause-stored
 returns-in-Ok-clause-stored c = rw (← c.self.view_is) (device_stored _ c.deref_mut.result.now _ _ c.deref-3.result.now c.args.step c.deref_mut.ensures.value c.deref-3.ensures.value c.in-Ok.ensures.stored)
 
 pub returns-in-Err-clause-stored_stays : goal.returns-in-Err-clause-stored_stays
-returns-in-Err-clause-stored_stays c refused = rw (← c.self.view_is) (device_stored_same c.deref_mut.ensures.value c.in-Err.ensures.stored)
+returns-in-Err-clause-stored_stays c refused = rw (← c.self.view_is) (c.in-Err.ensures.stored ∙ ap (λ (p : Present). stored_of p.handler.clients) c.deref_mut.ensures.value)
 
 pub returns-in-Err-clause-stored : goal.returns-in-Err-clause-stored
-returns-in-Err-clause-stored c = rw (← c.self.view_is) (omega (arith, device_stored_same c.deref_mut.ensures.value c.in-Err.ensures.stored))
+returns-in-Err-clause-stored c = rw (← c.self.view_is) (omega (arith, c.in-Err.ensures.stored ∙ ap (λ (p : Present). stored_of p.handler.clients) c.deref_mut.ensures.value))

@@ -14,8 +14,7 @@ use Rattle.inp_feedback.specs.Feedback.{feedback_queue, is_full_of_feedback, tak
 use Rattle.inp_uinput.specs.UdevView.{UdevView}
 use Rattle.inp_feedback.specs.Kept.{kept_of}
 use Rattle.inp_uinput.specs.KeptBeside.{IsKeptBeside}
-use Rattle.inp_uinput.proofs.Waiting.{queue_within}
-use Rattle.inp_uinput.proofs.Udevs.{at_limit, full_answer, full_taken, full_kept, below_limit, some_answer, some_written, some_kept, calls_pushed, beside_fed}
+use Rattle.inp_uinput.proofs.Udevs.{queue_within, at_limit, full_answer, full_taken, full_kept, below_limit, some_answer, some_written, some_kept, calls_pushed, beside_fed}
 use Rattle.inp_uinput.proofs.udev.Udev.feedback.Goals as goal
 
 pub returns-then-len-log : goal.returns-then-len-log
