@@ -12,6 +12,7 @@ use Rattle.std.proofs.lemmas.List.Sums.{sum_by-set}
 use Rattle.std.proofs.lemmas.Option.{same_Some, none-some}
 use Rattle.slab.specs.Slab.{Slab, get, slab_len, with_value, Updates, ContainsKey}
 use Rattle.slab.proofs.SlabLemmas.{ContainsKey-within, Updates-with_value}
+use Rattle.inp_ring.proofs.Times.{at_each}
 use Rattle.inp_client.specs.declared.location.Location.{Location}
 use Rattle.inp_client.specs.Client.{new_client}
 use Rattle.inp_client.specs.Member.{Member}
@@ -96,13 +97,11 @@ module _ {locations : List Location} {slab : Slab Member} (located : AreLocated 
             omega (arith, sum_by-set (λ (o : Option Member). cond (is_some o) 1 0) slab.slots key (Some new) None (ContainsKey-within slab key present), ap {B = ℕ} (λ (b : Bool). cond b 1 0) present, located.counted)
 
         numbered : (j : ℕ) → j < length locations → number_at (with_value slab key new) (get_or locations j d).key ≡ Some (get_or locations j d).number
-        numbered j in_j = elim (cases_eq j i) [
-          | inl e ↦
-              let P : ℕ → Type 0 = λ n. number_at (with_value slab key new) (get_or locations n d).key ≡ Some (get_or locations n d).number in
-              subst P (sym e) (ap (number_at (with_value slab key new)) at ∙ ap (option_map (λ c. c.number)) write.changed
-              ∙ ap Some same ∙ sym (ap (option_map (λ c. c.number)) found) ∙ ap (number_at slab) (sym at) ∙ located.keyed i d in_i)
-          | inr n ↦ ap (option_map (λ c. c.number)) (slot_kept j in_j n) ∙ located.keyed j d in_j
-        ]
+        numbered =
+            at_each _ i
+            (λ in_j. ap (number_at (with_value slab key new)) at ∙ ap (option_map (λ c. c.number)) write.changed
+            ∙ ap Some same ∙ sym (ap (option_map (λ c. c.number)) found) ∙ ap (number_at slab) (sym at) ∙ located.keyed i d in_i)
+            (λ j n in_j. ap (option_map (λ c. c.number)) (slot_kept j in_j n) ∙ located.keyed j d in_j)
 
     -- the client there is another one, and the others stay
     pub members_after_write : clients_in locations (with_value slab key new) ≡ set (clients_in locations slab) i new

@@ -14,7 +14,7 @@ use Rattle.inp_ring.specs.declared.cell.Cell.{Cell}
 use Rattle.inp_ring.specs.declared.cell.Held.{Held}
 use Rattle.inp_ring.specs.Store.{StoreView, held_under, held_cell, holders, holders_of, cell_count, held_by, event_of_cell, dropped_cell, IsIdleSlot, IsPut}
 use Rattle.inp_ring.specs.Ring.{times, cell_at, some_cell, AreFit, AreDifferent, IsRing}
-use Rattle.inp_ring.proofs.Times.{once, times-append, times_push, once_same, once_other, AreDifferent_push}
+use Rattle.inp_ring.proofs.Times.{at_each, once, times-append, times_push, once_same, once_other, AreDifferent_push}
 use Rattle.inp_ring.proofs.Moves.{idle_none}
 use Rattle.inp_ring.proofs.Rings.{queue_stays}
 use Rattle.inp_client.specs.declared.frame.Frame.{Frame}
@@ -130,23 +130,17 @@ pub added_more : {first s : StoreView} {cells : List Cell} {count : ℕ} {number
     → cell_count new + new.spare ≡ cell_count s + s.spare → AreAdded first new (cells ++ cell ∷ []) count (numbers ++ x ∷ [])
 added_more {first} {s} {cells} {count} {numbers} to some x cell new none put room = record {
   long = omega (arith, to.long, length_push numbers x, length_push cells cell);
-  fresh = λ n there. elim (cases_eq n x) [
-    | inl e ↦ subst (λ (k : ℕ). held_under first k ≡ None) (sym e) (sym (to.others x absent) ∙ none)
-    | inr d ↦ to.fresh n (omega (arith, there, times_push n x numbers, once_other n x (λ e. d (sym e))))
-  ];
+  fresh = at_each _ x (λ there. sym (to.others x absent) ∙ none)
+      (λ n d there. to.fresh n (omega (arith, there, times_push n x numbers, once_other n x (λ e. d (sym e)))));
   different = AreDifferent_push x numbers to.different absent;
   there =
       map_push (cell_at new) numbers x
       ∙ ap (λ (q : List Cell). q ++ cell_at new x ∷ []) (queue_stays s new numbers (λ n there. ap held_cell (put.others n (apart n there))) ∙ to.there)
       ∙ ap (λ (o : Option Held). cells ++ some_cell (held_cell o) ∷ []) put.changed;
-  held = λ n there. elim (cases_eq n x) [
-    | inl e ↦ ap (λ (k : ℕ). holders new k) e ∙ ap holders_of put.changed
-    | inr d ↦ ap holders_of (put.others n d) ∙ to.held n (omega (arith, there, times_push n x numbers, once_other n x (λ e. d (sym e))))
-  ];
-  others = λ n out. elim (cases_eq n x) [
-    | inl e ↦ absurd (omega (arith, out, times_push n x numbers, ap (λ (k : ℕ). once k x) e, once_same x))
-    | inr d ↦ put.others n d ∙ to.others n (omega (arith, out, times_push n x numbers))
-  ];
+  held = at_each _ x (λ there. ap holders_of put.changed)
+      (λ n d there. ap holders_of (put.others n d) ∙ to.held n (omega (arith, there, times_push n x numbers, once_other n x (λ e. d (sym e)))));
+  others = at_each _ x (λ out. absurd (omega (arith, out, times_push x x numbers, once_same x)))
+      (λ n d out. put.others n d ∙ to.others n (omega (arith, out, times_push n x numbers)));
   room = room ∙ to.room;
 }
   where
@@ -188,12 +182,11 @@ module _ {holder : Option ℕ} {numbers : List ℕ} {locations : List Location} 
       pub appended_more : IsAppendedTo (i + 1) holder numbers locations before next_slab
       appended_more = record {
         located = located_after_write to.located i (record { number = 0; key = 0 }) key old new in_i at found numbered;
-        changed = λ j in_j. elim (cases_eq j i) [
-          | inl e ↦
-              ap (λ (k : ℕ). member_at locations next_slab k) e ∙ member_written to.located i (record { number = 0; key = 0 }) key old new in_i at found (new_client 0 0) ∙ is ∙ ap (with_run holder numbers) (sym old_is ∙ ap (member_at locations before) (sym e))
-              ∙ sym (cond-true (nat_lt j (i + 1)) _ _ (lt-ltb j (i + 1) (omega (arith, e))))
-          | inr d ↦ member_kept to.located i (record { number = 0; key = 0 }) key old new in_i at found j (new_client 0 0) d ∙ to.changed j in_j ∙ ap (λ (b : Bool). if b then with_run holder numbers (member_at locations before j) else member_at locations before j) (flag_other j i d)
-        ];
+        changed = at_each _ i
+            (λ in_j. member_written to.located i (record { number = 0; key = 0 }) key old new in_i at found (new_client 0 0) ∙ is ∙ ap (with_run holder numbers) (sym old_is)
+            ∙ sym (cond-true (nat_lt i (i + 1)) _ _ (lt-ltb i (i + 1) (omega arith))))
+            (λ j d in_j. member_kept to.located i (record { number = 0; key = 0 }) key old new in_i at found j (new_client 0 0) d ∙ to.changed j in_j
+            ∙ ap (λ (b : Bool). if b then with_run holder numbers (member_at locations before j) else member_at locations before j) (flag_other j i d));
         capacity = to.capacity;
       }
 

@@ -37,7 +37,7 @@ use Rattle.inp_client.specs.Client.{ClientView, new_client, after_take, after_fl
 use Rattle.inp_client.specs.Clients.{ClientsView, has_client, has_revoked_client, events_of, map_client, with_client}
 use Rattle.inp_client.specs.Numbers.{stored_of}
 use Rattle.inp_client.specs.Read.{taken_event, client_on, clients_on}
-use Rattle.inp_client.proofs.OnClock.{clients_on-map_client, has_client-on, has_revoked_client-on, visible-on_clock, length-on, with_client-on}
+use Rattle.inp_client.proofs.OnClock.{clients_on-map_client, has_client-on, has_revoked_client-on, visible-on_clock, with_client-on}
 use Rattle.inp_client.proofs.ClientLists.{AllBelow, unused_above, with_client_above}
 use Rattle.inp_device.specs.Device.{StoringView, is_lost_at, offered_count}
 use Rattle.inp_device.specs.Present.{client_after, clients_after, HasBits, AsksBits, PresentStandsFor, IsReadyFor, IsAcceptedStep}
@@ -85,10 +85,10 @@ module _ {history : List Step} {x : Step} {old : Present} (ready : IsReadyFor hi
   named_visible {client} named = sym (visible-on_clock old.caps client old.handler.clients.list) ∙ ap (visible taken_event) (named_events named) ∙ visible-map (queue old.caps past client)
 
   -- what a call on one client makes of its cells, it makes of what the client reads
-  pub clients_called : (client : ℕ) {change : ClientView Cell → ClientView Cell} {change' : ClientView Taken → ClientView Taken} {new : List (ClientView Cell)}
+  pub clients_called : (client : ℕ) (change : ClientView Cell → ClientView Cell) (change' : ClientView Taken → ClientView Taken) {new : List (ClientView Cell)}
       → ((v : ClientView Cell) → client_on old.caps (change v) ≡ change' (client_on old.caps v)) → new ≡ map_client client change old.handler.clients.list
       → clients_after old.caps (x ∷ past) ≡ map_client client change' (clients_after old.caps past) → clients_on old.caps new ≡ clients_after old.caps (x ∷ past)
-  clients_called client {change} {change'} same e after =
+  clients_called client change change' same e after =
       ap (clients_on old.caps) e
       ∙ clients_on-map_client old.caps client change change' same old.handler.clients.list
       ∙ ap (map_client client change') ready.stands.handler.clients
@@ -209,7 +209,7 @@ read_answer : (past : List Step) (q : List Entry) (count taken at : ℕ) (ts : L
 read_answer past q count taken at ts chosen is placed =
     let few : taken ≤ length q = omega (arith, visible-le (map taken_of q), visible-map q, length-map q taken_of, chosen) in
     let long : length (take taken q) ≡ taken = length-take taken q ∙ omega (arith, few) in
-    rw (← chosen, long, take-map taken_of taken q, is, placed) refl
+    rw (← chosen, long, ← take-map taken_of taken q, is, placed) refl
 
 pub accepted-read : {history : List Step} {old : Present} {client count taken : ℕ} → IsReadyFor history (Read client count) old → taken ≡ min count (visible event_of_cell (events_of client old.handler.clients.list))
     → accepted old.caps (reverse history) (Read client count) ≡ record { reply = Took (length history) taken; events = take taken (events_of client (shown old)); cells = [] }
@@ -237,15 +237,15 @@ on_ok : {T E P : Type 0} (r : Result T E) → IsOk r → OnOk r P → P
 on_ok (Ok v) is p = p
 on_ok (Err e) is p = absurd (cc is)
 
-pub holder_taken : {T E : Type 0} {history : List Step} {old : Present} {client : ℕ} {new : HandleState} {r : Result T E} → IsReadyFor history (Grab client) old → (IsNone old.handles.holder → IsOk r)
+pub holder_taken : {T E : Type 0} {history : List Step} {old : Present} {client : ℕ} (new : HandleState) (r : Result T E) → IsReadyFor history (Grab client) old → (IsNone old.handles.holder → IsOk r)
     → OnOk r (new ≡ record old.handles { holder = Some client }) → new.holder ≡ holder (Grab client ∷ reverse history)
-holder_taken {history} {old} {client} {r} ready free ok =
+holder_taken {history} {old} {client} new r ready free ok =
     let none : old.handles.holder ≡ None = ready.stands.holder ∙ no_holder (reverse history) client (permitted ready).free in
     ap (λ (h : HandleState). h.holder) (on_ok r (free (ap is_some none)) ok) ∙ holder-grab (reverse history) client
 
-pub holder_given_up : {T E : Type 0} {history : List Step} {old : Present} {client : ℕ} {new : HandleState} {r : Result T E} → IsReadyFor history (Ungrab client) old → (IsTrue (is_same old.handles.holder client) → IsOk r)
+pub holder_given_up : {T E : Type 0} {history : List Step} {old : Present} {client : ℕ} (new : HandleState) (r : Result T E) → IsReadyFor history (Ungrab client) old → (IsTrue (is_same old.handles.holder client) → IsOk r)
     → OnOk r (new ≡ record old.handles { holder = None }) → new.holder ≡ holder (Ungrab client ∷ reverse history)
-holder_given_up {history} {old} {client} {r} ready grabber ok =
+holder_given_up {history} {old} {client} new r ready grabber ok =
     let own : is_same (holder (reverse history)) client ≡ true = own_grab (reverse history) client (permitted ready).held in
     let own_kept : is_same old.handles.holder client ≡ true = ap (λ o. is_same o client) ready.stands.holder ∙ own in
     ap (λ (h : HandleState). h.holder) (on_ok r (grabber own_kept) ok) ∙ holder-ungrab (reverse history) client own

@@ -17,8 +17,7 @@ use Rattle.inp_turn.proofs.Prefixes.{prefix-trans}
 use Rattle.inp_port.specs.Entries.{steps_among, is_step_at, step_places, other_places, GrownBy}
 use Rattle.inp_port.specs.Served.{IsServedAll}
 use Rattle.inp_port.specs.Turn.{IsServedAllTurn, told_of}
-use Rattle.inp_port.proofs.Places.{steps-begins, step_places-append, step_places-begins, other_places-begins}
-use Rattle.inp_port.proofs.Added.{as_many, steps-added, grown_by-begins, step_places-added, other_places-added}
+use Rattle.inp_port.proofs.Places.{steps-begins, step_places-append, step_places-begins, other_places-begins, as_many, steps-added, grown_by-begins, step_places-added, other_places-added}
 
 module _ {E : Type 0} (made : E → Option Step) where
   -- as many entries are added as events were entered

@@ -2,6 +2,5 @@ pub mod PassedOutputs
 pub mod SentEvents
 pub mod ServedEntries
 pub mod Udevs
-pub mod Events
 pub mod FeedbackTurns
 pub mod Tied

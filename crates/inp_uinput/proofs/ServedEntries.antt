@@ -12,13 +12,14 @@ use Rattle.inp_model.specs.declared.limits.TheConstants.{LOG_MAX}
 use Rattle.inp_model.specs.declared.stamped.Stamped.{Stamped}
 use Rattle.inp_model.specs.declared.injected.Injected.{Injected}
 use Rattle.inp_model.specs.Injection.{inject_of, entered_count}
+use Rattle.std.proofs.lemmas.Simd.{map-map}
 use Rattle.inp_port.specs.Entries.{past_of, Grown, GrownBy}
 use Rattle.inp_port.specs.Served.{IsServed, IsServedAll}
 use Rattle.inp_feedback.specs.declared.u_entry.UEntry.{UEntry}
 use Rattle.inp_feedback.specs.declared.u_entry.UEntry.TheVariants.{Made, Feedback}
 use Rattle.inp_feedback.specs.UEntry.{step_made, steps_in, kept_after_step, kept_after_events}
 use Rattle.inp_feedback.proofs.Lists.{reverse-cons}
-use Rattle.inp_uinput.proofs.Events.{reverse-kept}
+use Rattle.inp_uinput.proofs.Udevs.{reverse-kept}
 
 pub steps-reverse : (kept : List UEntry) → steps_in (reverse kept) ≡ reverse (steps_in kept)
 steps-reverse [] = refl
@@ -50,8 +51,7 @@ udev_served d kept new x reply out new_out cells new_cells s e h =
 -- many events
 
 steps-events : (events : List Stamped) → map step_made (map (λ stamped. Made (inject_of stamped)) events) ≡ map Some (map inject_of events)
-steps-events [] = refl
-steps-events (stamped ∷ events) = ap (λ os. Some (inject_of stamped) ∷ os) (steps-events events)
+steps-events events = map-map step_made (λ stamped. Made (inject_of stamped)) events ∙ sym (map-map (λ x. Some x) inject_of events)
 
 grown_by : (kept new : List UEntry) (events : List Stamped) → new ≡ kept_after_events events kept → GrownBy step_made (reverse kept) (map inject_of events) (reverse new)
 grown_by kept new events e = (map (λ stamped. Made (inject_of stamped)) events, ap reverse e ∙ reverse-kept events kept, steps-events events)

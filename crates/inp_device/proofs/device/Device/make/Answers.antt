@@ -43,7 +43,7 @@ returns-in-Err-clause-step c =
     (device_lacks none c.in-Err.ensures.made.0 c.in-Err.ensures.made.1 c.in-Err.ensures.made.2 c.deref-in-Err.ensures.value c.refuse.ensures.refused)
 
 pub returns-in-Ok-clause-stored : goal.returns-in-Ok-clause-stored
-returns-in-Ok-clause-stored c = rw (← c.self.view_is) (device_stored _ c.deref_mut.result.now _ _ c.deref-3.result.now c.args.step c.deref_mut.ensures.value c.deref-3.ensures.value c.in-Ok.ensures.stored)
+returns-in-Ok-clause-stored c = rw (← c.self.view_is) (device_stored _ c.deref_mut.result.now c.accept.new.self _ c.deref-3.result.now c.args.step c.deref_mut.ensures.value c.deref-3.ensures.value c.in-Ok.ensures.stored)
 
 pub returns-in-Err-clause-stored_stays : goal.returns-in-Err-clause-stored_stays
 returns-in-Err-clause-stored_stays c refused = rw (← c.self.view_is) (c.in-Err.ensures.stored ∙ ap (λ (p : Present). stored_of p.handler.clients) c.deref_mut.ensures.value)

@@ -7,6 +7,6 @@ pub returns : goal.returns
 returns c = record {
   made = made_call refl c.done.ensures.done
       (called c.requires.ready refl refl refl refl refl refl refl refl (clients_same c.requires.ready refl)
-      (holder_taken c.requires.ready c.grab.ensures.free.1 c.grab.ensures.ok));
+      (holder_taken c.grab.new.self c.grab.result c.requires.ready c.grab.ensures.free.1 c.grab.ensures.ok));
   stored = stored_kept c.args.self.now.handler.clients _;
 }

@@ -15,7 +15,7 @@ returns c =
     record {
       made = made_call refl c.done.ensures.done
           (called ready refl refl refl refl refl refl refl refl
-          (clients_called ready c.args.client (λ v. refl) c.revoke.ensures.revoked (clients_after-revoke _ _ c.args.client))
+          (clients_called ready c.args.client _ _ (λ v. refl) c.revoke.ensures.revoked (clients_after-revoke _ _ c.args.client))
           (ap (λ (h : HandleState). h.holder) c.release.ensures.holder ∙ ap (holder_without c.args.client) ready.stands.holder
           ∙ holder-revoke (reverse c.args.history.now) c.args.client));
       stored = stored_rings c.args.self.now.handler.clients c.revoke.new.self _ c.revoke.ensures.numbers;

@@ -27,7 +27,7 @@ returns c =
         out_written = refl;
         cells_written = c.write_rows.ensures.written d items (subst (SlotsStandFor d items) (sym c.slots.ensures.slots) ready.stands.core.raw_events.slots);
         stands = called ready refl refl refl refl refl refl refl refl
-            (clients_called ready c.args.client (on_flush d Slots) c.flush_slots.ensures.flushed (clients_after-query d _ _ c.args.client Slots refl refl))
+            (clients_called ready c.args.client _ _ (on_flush d Slots) c.flush_slots.ensures.flushed (clients_after-query d _ _ c.args.client Slots refl refl))
             (holder_same ready refl);
       };
       stored = stored_none_new c.args.self.now.handler.clients c.flush_slots.new.self _ c.flush_slots.ensures.none_new;
