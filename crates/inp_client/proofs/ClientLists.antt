@@ -5,8 +5,9 @@ use Rattle.std.specs.Option.{option_map_or}
 use Rattle.std.proofs.lemmas.Bool.{cases_eq, eq-eqb, ne_eqb, lt-ltb, le-ltb, cond-true, cond-false, false≢true}
 use Rattle.std.proofs.lemmas.List.Elements.{All-map, All-head, All-tail}
 use Rattle.inp_client.specs.Client.{ClientView}
+use Rattle.std.proofs.Math.Path.{fun_ext}
 use Rattle.std.proofs.lemmas.Simd.{map-map}
-use Rattle.inp_client.proofs.Lists.{any_below, either_map, map_same}
+use Rattle.inp_client.proofs.Lists.{any_below, either_map, list_any-map, map_same}
 use Rattle.inp_client.specs.Clients.{has_number, has_client, client_named, has_revoked_client, events_of, map_client, with_client, without_client}
 
 module _ {E : Type 0} where
@@ -49,9 +50,7 @@ module _ {E : Type 0} (f : ℕ → ClientView E) (numbered : (n : ℕ) → (f n)
 
   -- a client is open where its number is in the list
   pub has_client-map : (number : ℕ) (ns : List ℕ) → has_client number (map f ns) ≡ list_any (λ n. nat_eq n number) ns
-  has_client-map number [] = refl
-  has_client-map number (n ∷ ns) =
-      ap (λ (b : Bool). b || has_client number (map f ns)) (has_number_of number n) ∙ ap (λ (b : Bool). nat_eq n number || b) (has_client-map number ns)
+  has_client-map number ns = list_any-map (has_number number) f ns ∙ ap (λ (test : ℕ → Bool). list_any test ns) (fun_ext (has_number_of number))
 
   -- the same where the numbers are those below a bound that pass a test
   pub has_client-filter : (number bound : ℕ) (p : ℕ → Bool) → has_client number (map f (filter p (range_with_len 0 bound))) ≡ (nat_lt number bound && p number)

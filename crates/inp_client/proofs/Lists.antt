@@ -19,7 +19,11 @@ map_same f g (x ∷ xs) each =
 pub map_over : {X Y Z : Type 0} (f : X → Z) (g : X → Y) (h : Y → Z) (xs : List X) → All (λ x. f x ≡ h (g x)) xs → map f xs ≡ map h (map g xs)
 map_over f g h xs each = map_same f (λ x. h (g x)) xs each ∙ sym (map-map h g xs)
 
--- A sum over what a function gives.
+-- Whether a test passes, and a sum, over what a function gives.
+pub list_any-map : {X Y : Type 0} (p : Y → Bool) (f : X → Y) (xs : List X) → list_any p (map f xs) ≡ list_any (λ x. p (f x)) xs
+list_any-map p f [] = refl
+list_any-map p f (x ∷ xs) = ap (λ (b : Bool). p (f x) || b) (list_any-map p f xs)
+
 pub sum_by-map : {X Y : Type 0} (g : Y → ℕ) (f : X → Y) (xs : List X) → sum_by g (map f xs) ≡ sum_by (λ x. g (f x)) xs
 sum_by-map g f xs = sym (sum-map g (map f xs)) ∙ ap sum (map-map g f xs) ∙ sum-map (λ x. g (f x)) xs
 

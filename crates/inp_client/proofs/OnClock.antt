@@ -19,12 +19,12 @@ use Rattle.inp_client.specs.Masks.{admits_of}
 use Rattle.inp_client.specs.Client.{ClientView, with_events, is_offered_to, cell_of_event, admitted_cells, after_offer, after_take, after_flush, after_clock}
 use Rattle.inp_client.specs.Clients.{has_number, has_client, client_named, has_revoked_client, events_of, map_client, with_client, without_client}
 use Rattle.std.proofs.lemmas.Simd.{map-map}
-use Rattle.inp_client.proofs.Lists.{either_map, map_over}
+use Rattle.inp_client.proofs.Lists.{either_map, list_any-map, map_over}
 use Rattle.inp_client.specs.Read.{taken_event, client_on, clients_on, taken_at, admitted_events, read_after_offer, read_after_clock}
 
 -- A queue of items that are made of others, with the same events.
 module _ {X Y : Type 0} (f : X → Y) (event : X → Event) (event' : Y → Event) (same : (x : X) → event' (f x) ≡ event x) where
-  visible-on : (q : List X) → visible event' (map f q) ≡ visible event q
+  pub visible-on : (q : List X) → visible event' (map f q) ≡ visible event q
   visible-on [] = refl
   visible-on (x ∷ q) =
       ap (λ (b : Bool). if nat_eq (visible event' (map f q)) 0 then (if b then 1 else 0) else suc (visible event' (map f q))) (ap is_report (same x))
@@ -50,7 +50,7 @@ module _ {X Y : Type 0} (f : X → Y) (event : X → Event) (event' : Y → Even
       either false true = sym (map_push f q x)
       either false false = refl
 
-  put_all-on : (lost : X → X) (lost' : Y → Y) → ((x : X) → lost' (f x) ≡ f (lost x)) → (places : ℕ) (q xs : List X) → put_all event' lost' places (map f q) (map f xs) ≡ map f (put_all event lost places q xs)
+  pub put_all-on : (lost : X → X) (lost' : Y → Y) → ((x : X) → lost' (f x) ≡ f (lost x)) → (places : ℕ) (q xs : List X) → put_all event' lost' places (map f q) (map f xs) ≡ map f (put_all event lost places q xs)
   put_all-on lost lost' alike places q [] = refl
   put_all-on lost lost' alike places q (x ∷ xs) =
       ap (λ r. put_all event' lost' places r (map f xs)) (put-on lost lost' alike places q x)
@@ -108,8 +108,7 @@ module _ (d : Description) where
       (λ c. either_map (client_on d) (has_number number c) (change c) c ∙ ap (λ x. if has_number number c then x else client_on d c) (same c)) clients
 
   pub has_client-on : (number : ℕ) (clients : List (ClientView Cell)) → has_client number (clients_on d clients) ≡ has_client number clients
-  has_client-on number [] = refl
-  has_client-on number (c ∷ clients) = ap (λ (b : Bool). nat_eq c.number number || b) (has_client-on number clients)
+  has_client-on number clients = list_any-map (has_number number) (client_on d) clients
 
   pub client_named-on : (number : ℕ) (clients : List (ClientView Cell)) → client_named number (clients_on d clients) ≡ option_map (client_on d) (client_named number clients)
   client_named-on number [] = refl

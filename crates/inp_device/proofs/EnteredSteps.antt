@@ -1,7 +1,7 @@
 -- A step of the device: refused, or accepted and entered.
 use Rattle.std.proofs.Common.{◌≡◌, ℕ, ◌+◌, ◌<◌, ◌≤◌, true, false, if◌then◌else◌, nat_le, List, [], ◌∷◌, ◌++◌, length, reverse, refl, sym, ap, subst, ◌∙◌, ℤ, arith, inl, inr, Option, Some, None}
 use Rattle.std.specs.Prelude.{Result, Err}
-use Rattle.std.proofs.lemmas.Bool.{cond-true, cond-false, le-leb, lt-leb, leb-false}
+use Rattle.std.proofs.lemmas.Bool.{cond-true, cond-false, le-leb, lt-leb, leb-false, true≢false}
 use Rattle.std.proofs.lemmas.List.{length-reverse, reverse-append, length-append}
 use Rattle.inp_model.specs.declared.no_memory.NoMemory.{NoMemory as WantOfMemory}
 use Rattle.inp_model.specs.declared.event.Event.{Event}
@@ -13,15 +13,48 @@ use Rattle.inp_model.specs.declared.reply.Reply.TheVariants.{Refused, Done}
 use Rattle.inp_model.specs.declared.reply.Refusal.TheVariants.{NoMemory, LogFull}
 use Rattle.inp_model.specs.Description.{Description}
 use Rattle.inp_model.specs.DeviceView.{DeviceView}
-use Rattle.inp_model.specs.Reply.{Answer, alone, answer_by, answer, refused, accepted, is_accepted, written, IsDeviceStep}
+use Rattle.inp_model.specs.Reply.{Answer, alone, answer_by, answer, refused, accepted, is_accepted, written, IsDeviceStep, IsAnswer}
 use Rattle.inp_model.specs.History.{IsHistory}
 use Rattle.inp_model.proofs.Refused.{refused-not_accepted}
-use Rattle.inp_device.proofs.RefusedSteps.{accepted-enters}
 use Rattle.inp_device.specs.declared.present.Present.{Present}
 use Rattle.inp_client.specs.Numbers.{stored_of}
 use Rattle.inp_device.specs.Device.{StoringView, stored_most}
 use Rattle.inp_device.specs.Present.{PresentStandsFor, IsReadyFor, IsAcceptedStep, IsMadeOrLacks, StoresFew, IsKeptWith}
 use Rattle.inp_model.proofs.Allowed.{allowed}
+
+-- Not accepted
+
+-- an answer that writes nothing
+record IsShort (given : Answer) : Type 0 where
+  events : given.events ≡ []
+  cells : given.cells ≡ []
+
+pub accepted-enters : (d : Description) (past : List Step) (x : Step) → is_accepted (accepted d past x).reply ≡ true
+accepted-enters d past x = by x
+  where
+    by : (y : Step) → is_accepted (accepted d past y).reply ≡ true
+    by Open = refl
+    by y = refl
+
+short_by : (d : Description) (past : List Step) (x : Step) (o : Option Reply) → is_accepted (answer_by o (accepted d past x)).reply ≡ false → IsShort (answer_by o (accepted d past x))
+short_by d past x None h = absurd (true≢false (sym (accepted-enters d past x) ∙ h))
+short_by d past x (Some reply) h = record { events = refl; cells = refl }
+
+given-short : (d : Description) (past : List Step) (x : Step) (given : Answer) → IsAnswer d past x given → is_accepted given.reply ≡ false → IsShort given
+given-short d past x given (inl same) h =
+    let short = short_by d past x (refused d past x) (ap (λ (a : Answer). is_accepted a.reply) (sym same) ∙ h) in
+    record { events = ap (λ (a : Answer). a.events) same ∙ short.events; cells = ap (λ (a : Answer). a.cells) same ∙ short.cells }
+given-short d past x given (inr lacks) h = record { events = ap (λ (a : Answer). a.events) lacks.2; cells = ap (λ (a : Answer). a.cells) lacks.2 }
+
+module _ {d : Description} {past : List Step} {x : Step} {reply : Reply} {out new_out : List Taken} {cells new_cells : List ℤ} {new_past : List Step} where
+  -- nothing is written to the caller's buffers
+  pub out-stays : IsDeviceStep d past x reply out new_out cells new_cells new_past → is_accepted reply ≡ false → new_out ≡ out
+  out-stays s h =
+      s.out_written ∙ ap (λ (es : List Taken). written es out) (given-short d past x s.given s.exact (ap is_accepted (sym s.replied) ∙ h)).events
+
+  pub cells-stay : IsDeviceStep d past x reply out new_out cells new_cells new_past → is_accepted reply ≡ false → new_cells ≡ cells
+  cells-stay s h =
+      s.cells_written ∙ ap (λ (cs : List ℤ). written cs cells) (given-short d past x s.given s.exact (ap is_accepted (sym s.replied) ∙ h)).cells
 
 -- Refused
 

@@ -9,6 +9,5 @@ pub mod StandsAfterStep
 pub mod Stored
 pub mod StepParts
 pub mod EnteredSteps
-pub mod RefusedSteps
 pub mod Injection
 pub mod WordLists

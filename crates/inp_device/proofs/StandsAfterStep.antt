@@ -3,7 +3,7 @@ use Rattle.std.proofs.Common.{◌≡◌, ◌⊎◌, ℕ, suc, ◌+◌, ◌<◌, 
 use Rattle.std.specs.Prelude.{unwrap_or, count_by}
 use Rattle.std.specs.List.{list_any}
 use Rattle.std.proofs.Math.Path.{fun_ext}
-use Rattle.inp_client.proofs.Lists.{sum_by-map}
+use Rattle.inp_client.proofs.Lists.{list_any-map, sum_by-map}
 use Rattle.std.specs.Int.{bit_at}
 use Rattle.std.proofs.lemmas.Bool.{ne_eqb, not-false}
 use Rattle.inp_model.specs.declared.taken.Taken.{Taken}
@@ -182,15 +182,6 @@ stands_called d past x old new was ok none is = record {
 
 -- How many events are kept for the clients then
 
--- a queue as it is kept tells a loss where it does as it is read
-lost_read : (place offset : ℕ) (q : List Cell) → list_any (tells_loss place) q ≡ list_any (is_loss_at place) (map (cell_taken offset) q)
-lost_read place offset [] = refl
-lost_read place offset (x ∷ q) = ap (λ (b : Bool). tells_loss place x || b) (lost_read place offset q)
-
-lost_queue : (place : ℕ) (q : List Entry) → list_any (is_loss_at place) (map taken_of q) ≡ list_any (λ (e : Entry). is_loss_at place e.taken) q
-lost_queue place [] = refl
-lost_queue place (e ∷ q) = ap (λ (b : Bool). is_loss_at place e.taken || b) (lost_queue place q)
-
 abbrev reads_loss : ℕ → ClientView Taken → Bool
 reads_loss place c = list_any (is_loss_at place) c.ring.events
 
@@ -235,7 +226,7 @@ module _ (d : Description) (past : List Step) (x : Step) (old new : Present) (be
         arith,
         grown_stored (offered_count d past x) (length past) begun.clients new.handler.clients passed.grown,
         ap (λ (h : Handler). stored_of h.clients) begins,
-        count_map (is_lost (length past)) (reads_loss (length past)) (client_on d) (λ c. lost_read (length past) (offset d c.clock) c.ring.events) new.handler.clients.list,
+        count_map (is_lost (length past)) (reads_loss (length past)) (client_on d) (λ c. sym (list_any-map (is_loss_at (length past)) (cell_taken (offset d c.clock)) c.ring.events)) new.handler.clients.list,
         ap (count_by (reads_loss (length past))) stands.handler.clients,
-        count_map (is_lost_at d past x) (reads_loss (length past)) (client_after d (x ∷ past)) (λ n. sym (lost_queue (length past) (queue d (x ∷ past) n))) (open_clients (x ∷ past)),
+        count_map (is_lost_at d past x) (reads_loss (length past)) (client_after d (x ∷ past)) (λ n. sym (list_any-map (is_loss_at (length past)) taken_of (queue d (x ∷ past) n))) (open_clients (x ∷ past)),
       )

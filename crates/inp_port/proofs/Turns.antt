@@ -17,7 +17,7 @@ use Rattle.inp_turn.proofs.Prefixes.{prefix-refl, prefix-trans, prefix-length}
 use Rattle.inp_port.specs.Entries.{steps_among, past_of, step_places, other_places, Grown}
 use Rattle.inp_port.specs.Turn.{IsServedTurn, told_of}
 use Rattle.inp_port.proofs.Places.{added-one, added-none, steps-begins, steps-push, step_places-begins, other_places-begins, step_places-push, other_places-push}
-use Rattle.inp_device.proofs.RefusedSteps.{out-stays, cells-stay}
+use Rattle.inp_device.proofs.EnteredSteps.{out-stays, cells-stay}
 use Rattle.inp_port.specs.Served.{IsServed}
 
 -- one step more, oldest first
