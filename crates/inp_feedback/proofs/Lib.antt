@@ -2,4 +2,3 @@ pub mod Computation
 pub mod Lists
 pub mod Woven
 pub mod Few
-pub mod Numbers

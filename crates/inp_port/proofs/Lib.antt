@@ -1,4 +1,3 @@
 pub mod Places
 pub mod Turns
 pub mod Devices
-pub mod TurnsForAll

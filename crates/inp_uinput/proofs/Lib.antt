@@ -2,5 +2,4 @@ pub mod PassedOutputs
 pub mod SentEvents
 pub mod ServedEntries
 pub mod Udevs
-pub mod FeedbackTurns
 pub mod Tied

@@ -193,20 +193,6 @@ first_view caps d past agains calls device none =
 
 -- Events that are injected by one call, one after another
 
-abbrev pub past_after_events : List Stamped → List Step → List Step
-past_after_events [] past = past
-past_after_events (stamped ∷ events) past = past_after_events events (inject_of stamped ∷ past)
-
-reverse-events : (events : List Stamped) (past : List Step) → reverse (past_after_events events past) ≡ reverse past ++ map inject_of events
-reverse-events [] past = sym (append-nil (reverse past))
-reverse-events (stamped ∷ events) past =
-    let x : Step = inject_of stamped in
-    reverse-events events (x ∷ past) ∙ ap (λ (ss : List Step). ss ++ map inject_of events) (reverse-cons past x) ∙ append_assoc (reverse past) (x ∷ []) (map inject_of events)
-
-steps_in-events : (events : List Stamped) (kept : List UEntry) → steps_in (kept_after_events events kept) ≡ past_after_events events (steps_in kept)
-steps_in-events [] kept = refl
-steps_in-events (stamped ∷ events) kept = steps_in-events events (Made (inject_of stamped) ∷ kept)
-
 -- one event more
 pub kept-event : (events : List Stamped) (stamped : Stamped) (kept : List UEntry) → kept_after_events (events ++ stamped ∷ []) kept ≡ Made (inject_of stamped) ∷ kept_after_events events kept
 kept-event [] stamped kept = refl
@@ -221,7 +207,11 @@ reverse-kept (stamped ∷ events) kept =
 
 -- the history of the steps
 pub events_entered : (events : List Stamped) (kept : List UEntry) → reverse (steps_in (kept_after_events events kept)) ≡ reverse (steps_in kept) ++ map inject_of events
-events_entered events kept = ap reverse (steps_in-events events kept) ∙ reverse-events events (steps_in kept)
+events_entered [] kept = sym (append-nil (reverse (steps_in kept)))
+events_entered (stamped ∷ events) kept =
+    events_entered events (Made (inject_of stamped) ∷ kept)
+    ∙ ap (λ (ss : List Step). ss ++ map inject_of events) (reverse-cons (steps_in kept) (inject_of stamped))
+    ∙ append_assoc (reverse (steps_in kept)) (inject_of stamped ∷ []) (map inject_of events)
 
 -- Events that are entered one after another
 
