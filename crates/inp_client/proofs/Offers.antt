@@ -1,14 +1,14 @@
 -- A frame is offered event by event.
-use Rattle.std.proofs.Common.{◌≡◌, ◌≤◌, ◌<◌, ℕ, ◌+◌, Bool, true, false, ◌&&◌, if◌then◌else◌, List, [], ◌∷◌, ◌++◌, length, map, drop, get_or, Option, Some, None, refl, sym, ap, ◌∙◌, subst, inl, inr, arith}
+use Rattle.std.proofs.Common.{◌≡◌, ◌≤◌, ◌<◌, ℕ, ◌+◌, Bool, true, false, ◌&&◌, if◌then◌else◌, List, [], ◌∷◌, ◌++◌, length, map, drop, get_or, Option, Some, None, refl, sym, ap, ◌∙◌, subst, arith}
 use Rattle.std.specs.Prelude.{filter}
-use Rattle.std.proofs.lemmas.Bool.{cases_eq, cond-true, cond-false, cond_both}
+use Rattle.std.proofs.lemmas.Bool.{cond-true, cond-false, cond_both}
 use Rattle.std.proofs.lemmas.List.{drop_more, drop_all, append-nil, append_assoc, length_push, length-map, get_or-map, map-id}
 use Rattle.slab.specs.Slab.{Slab}
 use Rattle.inp_model.specs.declared.event.Event.{Event}
 use Rattle.inp_model.specs.Queue.{put, put_all}
 use Rattle.inp_ring.specs.declared.cell.Cell.{Cell}
 use Rattle.inp_ring.specs.declared.cell.Held.{Held}
-use Rattle.inp_ring.specs.Store.{StoreView, held_under, cell_in, held_cell, holders, holders_of, cell_count, held_by, held_more, event_of_cell, dropped_cell, IsIdle, IsIdleSlot, IsPut}
+use Rattle.inp_ring.specs.Store.{StoreView, held_under, cell_in, held_cell, holders, holders_of, cell_count, held_by, held_more, event_of_cell, dropped_cell, IsIdleSlot, IsPut}
 use Rattle.inp_ring.proofs.Times.{at_each}
 use Rattle.inp_client.specs.declared.frame.Frame.{Frame}
 use Rattle.inp_client.specs.declared.location.Location.{Location}

@@ -1,10 +1,10 @@
 -- A frame is put in one run into the rings of all clients that it is offered to.
 use Rattle.std.proofs.Common.{◌≡◌, ◌≢◌, ◌≤◌, ◌<◌, ℕ, suc, ◌+◌, Bool, true, false, ◌&&◌, ◌||◌, not, if◌then◌else◌, nat_lt, List, [], ◌∷◌, ◌++◌, length, map, take, get_or, Option, Some, None, refl, sym, ap, ◌∙◌, subst, inl, inr, arith}
 use Rattle.std.specs.Prelude.{filter, sum_by, All}
-use Rattle.std.proofs.lemmas.Bool.{false≢true, cond_both, cases_eq, cases_lt, cond-true, cond-false, lt-ltb, le-ltb}
+use Rattle.std.proofs.lemmas.Bool.{false≢true, cond_both, cases_lt, cond-true, cond-false, lt-ltb, le-ltb}
 use Rattle.std.proofs.lemmas.List.{take_more, length-map, length_push, length-append, get_or-map, append_assoc, append-nil, map_push, map-append}
 use Rattle.std.proofs.lemmas.List.Sums.{sum_by-cons, sum_by-le, get_or-le-sum_by, count_by_more_no, count_by_more_yes}
-use Rattle.std.proofs.lemmas.List.Elements.{All-map, All-from_get_or, All-get_or, All-append, All-push, All-nil, All-cons}
+use Rattle.std.proofs.lemmas.List.Elements.{All-map, All-from_get_or, All-get_or, All-append, All-push}
 use Rattle.slab.specs.Slab.{Slab, get, with_value}
 use Rattle.inp_model.specs.declared.stamped.TheConstants.{MOMENT_MAX}
 use Rattle.inp_model.specs.declared.event.Event.{Event}
@@ -14,7 +14,7 @@ use Rattle.inp_ring.specs.declared.cell.Cell.{Cell}
 use Rattle.inp_ring.specs.declared.cell.Held.{Held}
 use Rattle.inp_ring.specs.Store.{StoreView, held_under, held_cell, holders, holders_of, cell_count, held_by, event_of_cell, dropped_cell, IsIdleSlot, IsPut}
 use Rattle.inp_ring.specs.Ring.{times, cell_at, some_cell, AreFit, AreDifferent, IsRing}
-use Rattle.inp_ring.proofs.Times.{at_each, once, times-append, times_push, once_same, once_other, AreDifferent_push}
+use Rattle.inp_ring.proofs.Times.{at_each, times-append, times_push, once_same, once_other, AreDifferent_push}
 use Rattle.inp_ring.proofs.Moves.{idle_none}
 use Rattle.inp_ring.proofs.Rings.{queue_stays}
 use Rattle.inp_client.specs.declared.frame.Frame.{Frame}

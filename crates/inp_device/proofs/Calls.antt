@@ -16,7 +16,7 @@ use Rattle.inp_model.specs.Cut.{cuts}
 use Rattle.inp_model.specs.Raw.{raw_of_step}
 use Rattle.inp_model.specs.Frame.{cuts_of_step, frames_of_step}
 use Rattle.inp_model.specs.Queue as model
-use Rattle.inp_model.specs.Queue.{Entry, entry_dropped_at, put_all, visible, flush, flush_for, is_same_clock, clock_changed, clock_entry, entries, left_by_call, queue, queue_with}
+use Rattle.inp_model.specs.Queue.{Entry, entry_dropped_at, put_all, visible, flush, is_same_clock, clock_changed, clock_entry, entries, queue, queue_with}
 use Rattle.inp_model.specs.Reply.{taken_of}
 use Rattle.inp_client.specs.Masks.{masks_with}
 use Rattle.inp_client.proofs.MaskBits.{masks_with-full}

@@ -1,6 +1,6 @@
 -- A step of the device: refused, or accepted and entered.
 use Rattle.std.proofs.Common.{◌≡◌, ℕ, ◌+◌, ◌<◌, ◌≤◌, true, false, if◌then◌else◌, nat_le, List, [], ◌∷◌, ◌++◌, length, reverse, refl, sym, ap, subst, ◌∙◌, ℤ, arith, inl, inr, Option, Some, None}
-use Rattle.std.specs.Prelude.{Result, Err}
+use Rattle.std.specs.Prelude.{Result}
 use Rattle.std.proofs.lemmas.Bool.{cond-true, cond-false, le-leb, lt-leb, leb-false, true≢false}
 use Rattle.std.proofs.lemmas.List.{length-reverse, reverse-append, length-append}
 use Rattle.inp_model.specs.declared.no_memory.NoMemory.{NoMemory as WantOfMemory}
@@ -12,13 +12,10 @@ use Rattle.inp_model.specs.declared.reply.Reply.{Reply}
 use Rattle.inp_model.specs.declared.reply.Reply.TheVariants.{Refused, Done}
 use Rattle.inp_model.specs.declared.reply.Refusal.TheVariants.{NoMemory, LogFull}
 use Rattle.inp_model.specs.Description.{Description}
-use Rattle.inp_model.specs.DeviceView.{DeviceView}
 use Rattle.inp_model.specs.Reply.{Answer, alone, answer_by, answer, refused, accepted, is_accepted, written, IsDeviceStep, IsAnswer}
 use Rattle.inp_model.specs.History.{IsHistory}
 use Rattle.inp_model.proofs.Refused.{refused-not_accepted}
 use Rattle.inp_device.specs.declared.present.Present.{Present}
-use Rattle.inp_client.specs.Numbers.{stored_of}
-use Rattle.inp_device.specs.Device.{StoringView, stored_most}
 use Rattle.inp_device.specs.Present.{PresentStandsFor, IsReadyFor, IsAcceptedStep, IsMadeOrLacks, StoresFew, IsKeptWith}
 use Rattle.inp_model.proofs.Allowed.{allowed}
 

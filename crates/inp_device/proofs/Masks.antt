@@ -1,5 +1,5 @@
 -- The bits of a client's masks, as lists.
-use Rattle.std.proofs.Common.{◌≡◌, ℕ, ◌*◌, ◌≤◌, Bool, true, false, ◌&&◌, ◌||◌, if◌then◌else◌, nat_eq, nat_lt, List, [], map, refl, sym, ap, subst, ◌∙◌, arith, inl, inr, ◌==◌, ◌/◌, ◌%◌, ◌<◌, ◌∷◌, Some, None}
+use Rattle.std.proofs.Common.{◌≡◌, ℕ, ◌*◌, ◌≤◌, Bool, true, false, ◌&&◌, ◌||◌, if◌then◌else◌, nat_eq, nat_lt, List, [], map, refl, sym, ap, ◌∙◌, arith, inl, inr, ◌==◌, ◌/◌, ◌%◌, ◌<◌, ◌∷◌, Some, None}
 use Rattle.std.specs.Prelude.{slice_index_or, unwrap_or}
 use Rattle.std.specs.List.{range_with_len}
 use Rattle.std.proofs.lemmas.Bool.{cases_Bool, cases_lt, cases_eq, ne_eqb, lt-ltb}

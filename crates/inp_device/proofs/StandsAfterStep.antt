@@ -1,5 +1,5 @@
 -- What is kept stands for the past with one step more.
-use Rattle.std.proofs.Common.{◌≡◌, ◌⊎◌, ℕ, suc, ◌+◌, ◌<◌, ◌≤◌, ◌/◌, ◌%◌, ◌==◌, Bool, true, false, ◌&&◌, ◌||◌, if◌then◌else◌, nat_eq, List, [], ◌∷◌, length, map, refl, sym, ap, subst, ◌∙◌, arith, inl, inr, Option, Some, None, is_some}
+use Rattle.std.proofs.Common.{◌≡◌, ◌⊎◌, ℕ, suc, ◌+◌, ◌≤◌, ◌/◌, ◌%◌, ◌==◌, Bool, true, false, ◌&&◌, if◌then◌else◌, nat_eq, List, [], ◌∷◌, length, map, refl, sym, ap, subst, ◌∙◌, arith, inl, inr, Option, Some, None, is_some}
 use Rattle.std.specs.Prelude.{unwrap_or, count_by}
 use Rattle.std.specs.List.{list_any}
 use Rattle.std.proofs.Math.Path.{fun_ext}
@@ -12,7 +12,7 @@ use Rattle.inp_model.specs.declared.step.Step.TheVariants.{Open, Close, Grab, Un
 use Rattle.inp_model.specs.Description.{Description, offset}
 use Rattle.inp_model.specs.Step.{client_of, is_open_step, is_end_step, ends_grab_of, is_same}
 use Rattle.inp_model.specs.Past.{opens, open_clients, is_revoked, holder, holder_kept, clock_of, mask_bit, ends}
-use Rattle.inp_model.specs.Queue.{Entry, queue}
+use Rattle.inp_model.specs.Queue.{queue}
 use Rattle.inp_model.specs.Reply.{is_busy, is_not_grabber, taken_of}
 use Rattle.inp_model.specs.Frame.{frames_of_step}
 use Rattle.inp_model.specs.Left.{given_in}
@@ -21,7 +21,6 @@ use Rattle.inp_model.proofs.Opens.{is_open-lt}
 use Rattle.inp_frames.specs.Core.{CoreStandsFor, IsFor, IsEntered}
 use Rattle.inp_frames.proofs.KeptCore.{makes_no_events, CoreStandsFor-keeps}
 use Rattle.inp_filter.specs.FilterState.{FiltersStandFor}
-use Rattle.inp_ring.specs.declared.cell.Cell.{Cell}
 use Rattle.inp_ring.specs.Store.{cell_taken}
 use Rattle.inp_client.specs.Client.{ClientView}
 use Rattle.inp_client.specs.Clients.{ClientsView}
@@ -34,7 +33,7 @@ use Rattle.inp_device.specs.Present.{client_after, clients_after, MasksEnd, AreF
 use Rattle.inp_device.proofs.Calls.{nat_eq_swap, clients_after-frames, makes_events}
 use Rattle.inp_device.proofs.Masks.{MasksEnd-mask}
 use Rattle.inp_device.proofs.Offers.{after_offers}
-use Rattle.inp_device.proofs.Growth.{tells_loss, is_lost, AreGrown, stored_grown}
+use Rattle.inp_device.proofs.Growth.{is_lost, AreGrown, stored_grown}
 use Rattle.inp_device.proofs.PassedFrames.{takes, IsPassed, passed_all, filters-called}
 
 -- Clients that no step named

@@ -1,5 +1,5 @@
 -- What a step leaves, from what its parts leave.
-use Rattle.std.proofs.Common.{◌≡◌, ◌≢◌, ℕ, suc, ◌+◌, ◌<◌, ◌≤◌, min, Bool, true, false, ◌&&◌, not, if◌then◌else◌, nat_eq, nat_le, List, [], ◌∷◌, ◌++◌, length, map, take, reverse, refl, sym, ap, subst, ◌∙◌, ℤ, arith, inl, inr, Option, Some, None}
+use Rattle.std.proofs.Common.{◌≡◌, ◌≢◌, ℕ, suc, ◌+◌, ◌<◌, ◌≤◌, min, Bool, true, false, ◌&&◌, not, if◌then◌else◌, nat_eq, List, [], ◌∷◌, ◌++◌, length, map, take, reverse, refl, sym, ap, subst, ◌∙◌, ℤ, arith, inl, inr, Option, Some, None}
 use Rattle.std.specs.Prelude.{Result, Ok, Err, IsOk, OnOk, IsNone, IsTrue, is_some, count_by}
 use Rattle.std.proofs.Math.Bool.{and-true}
 use Rattle.std.proofs.lemmas.Bool.{eq-eqb}
@@ -8,20 +8,16 @@ use Rattle.std.proofs.lemmas.List.{length-reverse, length-map, take-map, length-
 use Rattle.inp_model.specs.declared.taken.Taken.{Taken}
 use Rattle.inp_model.specs.declared.step.Step.{Step}
 use Rattle.inp_model.specs.declared.reply.Reply.{Reply}
-use Rattle.inp_model.specs.declared.reply.Reply.TheVariants.{Done, Opened, Took, Discarded, Bits, Axis, Cells}
-use Rattle.inp_model.specs.declared.axis_info.AxisInfo.{AxisInfo}
-use Rattle.inp_model.specs.declared.step.Step.TheVariants.{Open, Close, Read, Discard, GetKeys, GetSwitches, GetLeds, GetSounds, Grab, Ungrab, End}
+use Rattle.inp_model.specs.declared.reply.Reply.TheVariants.{Done, Opened, Took, Cells}
+use Rattle.inp_model.specs.declared.step.Step.TheVariants.{Open, Close, Read, GetKeys, GetSwitches, GetLeds, GetSounds, Grab, Ungrab, End}
 use Rattle.inp_model.specs.declared.event.TheConstants.{EV_SYN, EV_KEY, EV_SW, EV_LED, EV_SND}
-use Rattle.inp_model.specs.declared.limits.TheConstants.{CLIENTS_MAX}
 use Rattle.inp_model.specs.Description.{Description, ring}
-use Rattle.inp_model.specs.Event.{is_report}
-use Rattle.inp_model.specs.Step.{Query, Codes, client_of, query_of, is_open_step, is_close_of, is_end_step, is_same}
+use Rattle.inp_model.specs.Step.{Codes, client_of, is_open_step, is_close_of, is_end_step, is_same}
 use Rattle.inp_model.specs.Past.{opens, is_open, open_clients, is_revoked, holder, clock_of, mask_bit, ends}
-use Rattle.inp_model.specs.Raw.{raw}
 use Rattle.inp_model.specs.Left.{given_in}
 use Rattle.inp_model.specs.Queue as model
-use Rattle.inp_model.specs.Queue.{Entry, visible, queue, taken_by}
-use Rattle.inp_model.specs.Reply.{Answer, alone, accepted, done_answer, bits_answer, cells_answer, took_answer, bitmap_of, code_on, axis_answer, taken_of, written, is_bad_client, is_no_device, finds_nothing}
+use Rattle.inp_model.specs.Queue.{Entry, visible, queue}
+use Rattle.inp_model.specs.Reply.{Answer, alone, accepted, done_answer, bits_answer, cells_answer, took_answer, taken_of, written, is_bad_client, is_no_device, finds_nothing}
 use Rattle.inp_frames.specs.Core.{CoreStandsFor, IsFor, IsEntered}
 use Rattle.inp_frames.proofs.KeptCore.{makes_no_events}
 use Rattle.inp_handles.specs.Handles.{HandleState}
@@ -33,7 +29,7 @@ use Rattle.inp_bits.proofs.Indices.{All-filter_range}
 use Rattle.inp_ring.specs.declared.cell.Cell.{Cell}
 use Rattle.inp_ring.specs.Store.{event_of_cell}
 use Rattle.inp_filter.specs.FilterState.{FiltersStandFor}
-use Rattle.inp_client.specs.Client.{ClientView, new_client, after_take, after_flush}
+use Rattle.inp_client.specs.Client.{ClientView, new_client}
 use Rattle.inp_client.specs.Clients.{ClientsView, has_client, has_revoked_client, events_of, map_client, with_client}
 use Rattle.inp_client.specs.Numbers.{stored_of}
 use Rattle.inp_client.specs.Read.{taken_event, client_on, clients_on}

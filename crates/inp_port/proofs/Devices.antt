@@ -1,7 +1,7 @@
 -- A device has steps for entries: what is told of a port of it is what the pass has seen and owns.
-use Rattle.std.proofs.Common.{◌≡◌, ℕ, zero, suc, ◌+◌, ◌<◌, ◌≤◌, Bool, true, false, not, cond, if◌then◌else◌, List, [], ◌∷◌, ◌++◌, length, take, refl, sym, ap, ◌∙◌, subst, arith, ℤ, Option, Some}
+use Rattle.std.proofs.Common.{◌≡◌, ℕ, zero, suc, ◌+◌, ◌<◌, ◌≤◌, Bool, true, false, not, cond, if◌then◌else◌, List, [], ◌∷◌, length, take, refl, sym, ap, ◌∙◌, subst, arith, ℤ, Option, Some}
 use Rattle.std.specs.Prelude.{All, map, filter, reverse}
-use Rattle.std.proofs.lemmas.List.{append-nil, reverse-reverse, length-reverse}
+use Rattle.std.proofs.lemmas.List.{reverse-reverse, length-reverse}
 use Rattle.std.proofs.lemmas.List.Elements.{All-head, All-tail}
 use Rattle.inp_model.specs.declared.limits.TheConstants.{LOG_MAX}
 use Rattle.inp_model.specs.declared.injected.Injected.{Injected}
@@ -13,11 +13,8 @@ use Rattle.inp_model.specs.Description.{Description}
 use Rattle.inp_model.specs.History.{IsHistory}
 use Rattle.inp_model.specs.Injection.{inject_of, entered_count, history_with}
 use Rattle.inp_model.specs.Reply.{is_accepted, past_after, IsDeviceStep}
-use Rattle.inp_turn.specs.declared.pass_view.PassView.{PassView}
-use Rattle.inp_turn.specs.PassView.{OwnsSeen}
 use Rattle.inp_port.specs.Entries.{steps_among, past_of, is_step_at, steps_before, step_places, other_places, Grown}
 use Rattle.inp_port.specs.Served.{IsServed, IsServedAll}
-use Rattle.inp_port.specs.Turn.{told_of}
 use Rattle.inp_port.proofs.Turns.{turned}
 
 -- each entry is the step that it is

@@ -1,7 +1,7 @@
 -- Places of entries, and of the steps among them, in a longer list.
 use Rattle.std.proofs.Common.{◌≡◌, ℕ, zero, suc, ◌+◌, ◌-◌, ◌<◌, Bool, true, not, cond, List, [], ◌∷◌, ◌++◌, length, refl, sym, ap, ◌∙◌, arith, Option, Some, append_assoc, append-nil, length-append}
 use Rattle.std.specs.Prelude.{All, map, filter, slice_get, is_some, not}
-use Rattle.std.specs.List.{cons_option, range_with_len, filter_map}
+use Rattle.std.specs.List.{cons_option, range_with_len}
 use Rattle.std.specs.Option.{option_and_then}
 use Rattle.std.proofs.lemmas.List.{take-append-le, map-append, append-nil, length-map}
 use Rattle.std.proofs.lemmas.List.Elements.{All-head, All-tail, All-filter, filter-append, filter_map-append, All-nil, All-cons}
@@ -10,7 +10,6 @@ use mathlib.Core.List.{IsPrefix}
 use Rattle.inp_model.specs.declared.step.Step.{Step}
 use Rattle.inp_turn.specs.PassView.{added_places}
 use Rattle.inp_port.specs.Entries.{steps_among, is_step_at, steps_before, step_places, other_places, GrownBy}
-use Rattle.inp_turn.proofs.Prefixes.{prefix-trans}
 
 module _ {X : Type 0} where
   slice_get-front : (xs ys : List X) (n : ℕ) → n < length xs → slice_get (xs ++ ys) n ≡ slice_get xs n

@@ -14,13 +14,13 @@ use Rattle.inp_model.proofs.Told.{given_place, called_by}
 use Rattle.inp_turn.specs.declared.pass_view.PassView.{PassView}
 use Rattle.inp_turn.specs.PassView.{added_places, OwnsSeen, view_after_take, view_after_give}
 use Rattle.inp_turn.proofs.Prefixes.{prefix-refl, prefix-trans, prefix-length}
-use Rattle.inp_port.specs.Entries.{steps_among, past_of, step_places, other_places, Grown, is_step_at, GrownBy}
+use Rattle.inp_port.specs.Entries.{steps_among, past_of, step_places, other_places, Grown, is_step_at}
 use Rattle.inp_port.specs.Turn.{IsServedTurn, told_of, IsServedAllTurn}
 use Rattle.inp_port.proofs.Places.{added-one, added-none, steps-begins, steps-push, step_places-begins, other_places-begins, step_places-push, other_places-push, step_places-append, as_many, steps-added, grown_by-begins, step_places-added, other_places-added}
 use Rattle.inp_device.proofs.EnteredSteps.{out-stays, cells-stay}
 use Rattle.inp_port.specs.Served.{IsServed, IsServedAll}
 use Rattle.std.specs.List.{range_with_len}
-use Rattle.std.specs.Prelude.{min, not}
+use Rattle.std.specs.Prelude.{not}
 use Rattle.std.proofs.lemmas.List.Elements.{filter-append}
 use Rattle.inp_model.specs.declared.injected.Injected.{Injected}
 use Rattle.inp_model.specs.declared.stamped.Stamped.{Stamped}

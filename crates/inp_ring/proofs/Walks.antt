@@ -9,7 +9,7 @@ use Rattle.inp_model.proofs.Removal.{stays, report_stays_after, flush_from, flus
 use Rattle.inp_ring.specs.Store.{StoreView, event_of_cell}
 use Rattle.inp_ring.specs.Ring.{times, AreHeld, IsTakenOut, cell_at, some_cell}
 use Rattle.inp_ring.proofs.Times.{once, times-append, times_push, times-take-drop, times_first}
-use Rattle.inp_ring.proofs.Moves.{held_moved, taken_none, taken_then, taken_same, idle_out}
+use Rattle.inp_ring.proofs.Moves.{taken_none, taken_then, taken_same, idle_out}
 
 -- the number, where it stays
 abbrev pub kept_of : Bool → ℕ → List ℕ

@@ -180,11 +180,11 @@ module _ {S B E : Type 0} (base : S → B) (entries : S → List E) where
         home = λ z. r.home (sym turns ∙ z);
         shares = omega (arith, r.shares, sum-set share_of s.views id v left at, sum_by_push share_of vs right);
         owned = λ place. omega (arith, r.owned place, sum-set (own_count place) s.views id v left at, sum_by_push (own_count place) vs right);
-        each_seat = λ j d k. ⊎_elim (stays (SeatFits (base start) (entries start) r.log) s.views id left 
-          (free_fits (base start) (entries start) r.log left free (record { seen = fits.pass.seen; base_is = λ _. fits.pass.base_is (omega arith); first_seen = λ _. fits.pass.first_seen (omega arith); spent = λ z. absurd (omega arith) })
-          fits.met) (λ i e _ l. r.each_seat i e l) j d) (λ (t : right ≡ d). subst (SeatFits (base start) (entries start) r.log) t 
-          (free_fits (base start) (entries start) r.log right refl (record { seen = fits.pass.seen; base_is = λ _. fits.pass.base_is (omega arith); first_seen = λ _. fits.pass.first_seen (omega arith); spent = λ z. absurd (omega arith) })
-          (spent_fits (base start) (entries start) r.log))) (at_snoc vs right d j k);
+        each_seat = λ j d k. ⊎_elim (stays (SeatFits (base start) (entries start) r.log) s.views id left
+            (free_fits (base start) (entries start) r.log left free (record { seen = fits.pass.seen; base_is = λ _. fits.pass.base_is (omega arith); first_seen = λ _. fits.pass.first_seen (omega arith); spent = λ z. absurd (omega arith) })
+            fits.met) (λ i e _ l. r.each_seat i e l) j d) (λ (t : right ≡ d). subst (SeatFits (base start) (entries start) r.log) t
+            (free_fits (base start) (entries start) r.log right refl (record { seen = fits.pass.seen; base_is = λ _. fits.pass.base_is (omega arith); first_seen = λ _. fits.pass.first_seen (omega arith); spent = λ z. absurd (omega arith) })
+            (spent_fits (base start) (entries start) r.log))) (at_snoc vs right d j k);
       }
 
   -- the first load of a join puts the other pass beside the seat's own

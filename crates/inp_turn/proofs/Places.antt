@@ -5,7 +5,7 @@ use Rattle.std.specs.List.{range_with_len}
 use Rattle.std.proofs.lemmas.List.Sums.{sum_by-cons, sum_by-append}
 use mathlib.Core.Logic.{dite}
 use native.Mathlib.Decide.{dec_le, ℕ_discrete}
-use Rattle.inp_turn.specs.PassView.{added_places, OwnsSeen, view_after_give, view_after_join, longer}
+use Rattle.inp_turn.specs.PassView.{added_places, OwnsSeen, view_after_give}
 use Rattle.std.proofs.lemmas.List.Elements.{All-append}
 use Rattle.std.proofs.lemmas.List.FromFn.{length-range_with_len, get_or-range_with_len}
 use mathlib.Core.List.{IsPrefix}

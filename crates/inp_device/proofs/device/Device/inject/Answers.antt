@@ -1,4 +1,4 @@
-use Rattle.std.proofs.Common.{◌≡◌, ℕ, length, ap, ◌∙◌, sym, arith}
+use Rattle.std.proofs.Common.{◌≡◌, length, ap, ◌∙◌, sym, arith}
 use Rattle.std.proofs.lemmas.List.{length-reverse}
 use Rattle.inp_model.specs.declared.reply.Reply.TheVariants.{Done, Refused}
 use Rattle.inp_model.specs.declared.reply.Refusal.TheVariants.{LogFull}

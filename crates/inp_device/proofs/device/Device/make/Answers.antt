@@ -1,4 +1,4 @@
-use Rattle.std.proofs.Common.{[], ◌∷◌, ◌++◌, ◌<◌, length, if◌then◌else◌, sym, ap, subst, ◌∙◌, arith}
+use Rattle.std.proofs.Common.{[], ◌∷◌, ◌++◌, ◌<◌, length, if◌then◌else◌, ap, ◌∙◌, arith}
 use Rattle.std.specs.Prelude.{Ok, is_ok, vec_capacity}
 use Rattle.inp_device.specs.declared.present.Present.{Present}
 use Rattle.inp_client.specs.Numbers.{stored_of}

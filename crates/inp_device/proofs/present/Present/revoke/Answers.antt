@@ -1,5 +1,6 @@
 use Rattle.std.proofs.Common.{reverse, refl, ap, ◌∙◌}
 use Rattle.inp_handles.specs.Handles.{HandleState, holder_without}
+use Rattle.inp_client.specs.Client.{after_revoke}
 use Rattle.inp_device.proofs.Calls.{clients_after-revoke}
 use Rattle.inp_device.proofs.StandsAfterStep.{holder-revoke}
 use Rattle.inp_device.proofs.StepParts.{clients_called, made_call, called, named_there}
@@ -15,7 +16,8 @@ returns c =
     record {
       made = made_call refl c.done.ensures.done
           (called ready refl refl refl refl refl refl refl refl
-          (clients_called ready c.args.client _ _ (λ v. refl) c.revoke.ensures.revoked (clients_after-revoke _ _ c.args.client))
+          (clients_called ready c.args.client _ after_revoke (λ v. refl) c.revoke.ensures.revoked
+          (clients_after-revoke c.args.self.now.caps _ c.args.client))
           (ap (λ (h : HandleState). h.holder) c.release.ensures.holder ∙ ap (holder_without c.args.client) ready.stands.holder
           ∙ holder-revoke (reverse c.args.history.now) c.args.client));
       stored = stored_rings c.args.self.now.handler.clients c.revoke.new.self _ c.revoke.ensures.numbers;

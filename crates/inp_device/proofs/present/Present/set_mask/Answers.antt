@@ -1,5 +1,6 @@
-use Rattle.std.proofs.Common.{◌≡◌, refl}
+use Rattle.std.proofs.Common.{refl}
 use Rattle.inp_model.proofs.Allowed.{mask_kind, mask_word}
+use Rattle.inp_client.specs.Client.{after_mask}
 use Rattle.inp_device.proofs.Calls.{clients_after-mask}
 use Rattle.inp_device.proofs.StepParts.{permitted, clients_called, made_call, called, named_there, holder_same}
 use Rattle.inp_device.proofs.Growth.{stored_rings}
@@ -20,8 +21,8 @@ returns c =
     record {
       made = made_call refl c.done.ensures.done
           (called ready refl refl refl refl refl refl refl refl
-          (clients_called ready c.args.client _ _ (λ v. refl) c.set_mask.ensures.set
-          (clients_after-mask _ _ c.args.client c.args.kind c.args.word c.args.bits (mask_word _ _ _ _ _ _ (permitted ready))))
+          (clients_called ready c.args.client _ (after_mask c.args.kind c.args.word c.args.bits) (λ v. refl) c.set_mask.ensures.set
+          (clients_after-mask c.args.self.now.caps _ c.args.client c.args.kind c.args.word c.args.bits (mask_word _ _ _ _ _ _ (permitted ready))))
           (holder_same ready refl));
       stored = stored_rings c.args.self.now.handler.clients c.set_mask.new.self _ c.set_mask.ensures.numbers;
     }

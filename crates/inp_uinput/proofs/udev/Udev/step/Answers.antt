@@ -1,10 +1,7 @@
-use Rattle.std.proofs.Common.{ap, sym, ◌∙◌, ◌∷◌, if◌then◌else◌, subst, reverse}
+use Rattle.std.proofs.Common.{ap, sym, ◌∙◌, ◌∷◌, if◌then◌else◌, reverse}
 use Rattle.std.specs.Prelude.{vec_capacity}
-use Rattle.inp_model.specs.Reply.{IsDeviceStep}
-use Rattle.inp_model.specs.History.{IsHistory}
-use Rattle.inp_feedback.specs.UEntry.{steps_in, kept_after_step}
+use Rattle.inp_feedback.specs.UEntry.{kept_after_step}
 use Rattle.inp_uinput.specs.UdevView.{UdevView}
-use Rattle.inp_feedback.specs.Kept.{kept_of}
 use Rattle.inp_uinput.proofs.Udevs.{step_over, history_over, step_kept, beside_same, beside_made}
 use Rattle.inp_uinput.proofs.udev.Udev.step.Goals as goal
 
