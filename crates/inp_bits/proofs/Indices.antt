@@ -1,17 +1,17 @@
--- The ascending indices at which a list is true, and those at which two lists differ: lemmas for callers.
-use Rattle.std.proofs.Common.{◌≡◌, ℕ, zero, suc, ◌+◌, ◌<◌, ◌≤◌, Bool, true, false, cond, List, [], ◌∷◌, length, map, replicate, Some, refl, sym, ap, ◌∙◌, subst, arith, inl, inr}
-use Rattle.std.specs.Prelude.{slice_get, count_by}
-use Rattle.std.specs.List.{filter, range_with_len, All, Contains}
-use Rattle.std.specs.List.Sorted.{IsStrictlyIncreasing}
-use Rattle.std.proofs.lemmas.Bool.{cases_eq, cond-true, cond-false, cond_both}
-use Rattle.std.proofs.lemmas.List.{ext_get_or}
-use Rattle.std.proofs.lemmas.List.Elements.{All-nil, All-cons, All-contains, All-weaker, filter_passes}
-use Rattle.std.proofs.lemmas.List.FromFn.{length-range_with_len, get_or-range_with_len, fill_by_all}
-use Rattle.std.proofs.lemmas.List.Sums.{length-filter, count_by-le-length, sum_by-cons}
-use Rattle.std.proofs.lemmas.List.Kept.{IsStrictlyIncreasing-filter}
-use Rattle.inp_bits.specs.Bits.{is_on_at, bits_differ, true_indices, differing_indices}
-
--- ---- the numbers of a range that pass a test
+-- The numbers of a range that pass a test, and the indices at which a list is true.
+use Rattle.std.proofs.Common.{◌≡◌, ℕ, zero, suc, ◌+◌, ◌<◌, ◌≤◌, Bool, true, false, cond, List, [], ◌∷◌, length, refl, sym, ap, ◌∙◌, arith, inl, inr, ◌==◌, ◌-◌, ◌*◌, ◌/◌, ◌%◌, ◌^◌, set, get_or, w64}
+use Rattle.std.specs.List.{filter, range_with_len, All}
+use Rattle.std.proofs.lemmas.Bool.{cases_eq, cond-true, cond-false, cond_both, cases_lt}
+use Rattle.std.proofs.lemmas.List.{get_or_past, length-set, get_or-set_same, get_or-set_other}
+use Rattle.std.proofs.lemmas.List.Elements.{All-nil, All-cons, All-weaker}
+use Rattle.std.proofs.lemmas.List.FromFn.{length-range_with_len}
+use Rattle.std.proofs.lemmas.List.Sums.{length-filter, count_by-le-length}
+use Rattle.inp_bits.specs.Bits.{is_on_at, true_indices}
+use Rattle.std.specs.Int.{bit_at, trailing_zeros}
+use Rattle.std.proofs.lemmas.Nat.Bits.{bit_at-zero, bit_at-trailing_zeros}
+use Rattle.inp_bits.specs.Ones.{IsFalseBelow, IsFirstTrue}
+use Rattle.inp_bits.specs.Words.{bits_of}
+use Rattle.inp_bits.proofs.BitsOf.{length-bits_of, get_or-bits_of, is_on_at-bits_of}
 
 -- two tests that agree on the range keep the same numbers
 pub filter_same : (p q : ℕ → Bool) (a n : ℕ) → ((k : ℕ) → a ≤ k → k < a + n → p k ≡ q k) → filter p (range_with_len a n) ≡ filter q (range_with_len a n)
@@ -21,7 +21,7 @@ filter_same p q a (suc n) h =
     ap (λ (b : Bool). cond b (a ∷ filter p (range_with_len (a + 1) n)) (filter p (range_with_len (a + 1) n))) (h a (omega arith) (omega arith)) ∙ ap (λ (xs : List ℕ). cond (q a) (a ∷ xs) xs) rest
 
 -- where no number of the range passes, none is kept
-pub filter_none : (p : ℕ → Bool) (a n : ℕ) → ((k : ℕ) → a ≤ k → k < a + n → p k ≡ false) → filter p (range_with_len a n) ≡ []
+filter_none : (p : ℕ → Bool) (a n : ℕ) → ((k : ℕ) → a ≤ k → k < a + n → p k ≡ false) → filter p (range_with_len a n) ≡ []
 filter_none p a zero h = refl
 filter_none p a (suc n) h =
     ap (λ (b : Bool). cond b (a ∷ filter p (range_with_len (a + 1) n)) (filter p (range_with_len (a + 1) n))) (h a (omega arith) (omega arith)) ∙ filter_none p (a + 1) n (λ k l m. h k (omega arith) (omega arith))
@@ -39,20 +39,6 @@ filter_first p q a (suc n) i l m passes refused earlier others =
           cond-false (p a) (a ∷ fp) fp no ∙ filter_first p q (a + 1) n i (omega arith) (omega arith) passes refused earlier others ∙ ap (λ (xs : List ℕ). i ∷ xs) (sym (cond-false (q a) (a ∷ fq) fq (sym (others a ne) ∙ no)))
     ]
 
-Contains-cons : (xs : List ℕ) (x y : ℕ) → Contains xs x → Contains (y ∷ xs) x
-Contains-cons xs x y h = (suc h.0, omega (arith, h.1), h.2)
-
--- each number of the range that passes is kept
-pub Contains-filter_range : (p : ℕ → Bool) (a n i : ℕ) → a ≤ i → i < a + n → p i ≡ true → Contains (filter p (range_with_len a n)) i
-Contains-filter_range p a zero i l m passes = absurd (omega arith)
-Contains-filter_range p a (suc n) i l m passes =
-    let rest : List ℕ = filter p (range_with_len (a + 1) n) in
-    elim (cases_eq a i) [
-      | inl e ↦ cond_both (p a) (a ∷ rest) rest (λ xs. Contains xs i) (λ yes. (zero, omega arith, e)) (λ no. absurd (cc (no, ap p e, passes)))
-      | inr ne ↦ let kept : Contains (filter p (range_with_len (a + 1) n)) i = Contains-filter_range p (a + 1) n i (omega arith) (omega arith) passes in
-          cond_both (p a) (a ∷ rest) rest (λ xs. Contains xs i) (λ yes. Contains-cons rest i a kept) (λ no. kept)
-    ]
-
 -- each number that is kept is of the range
 pub All-filter_range : (p : ℕ → Bool) (a n : ℕ) → All (λ i. i < a + n) (filter p (range_with_len a n))
 All-filter_range p a zero = All-nil (λ i. i < a + zero)
@@ -60,24 +46,6 @@ All-filter_range p a (suc n) =
     let rest : List ℕ = filter p (range_with_len (a + 1) n) in
     let within : All (λ i. i < a + suc n) (filter p (range_with_len (a + 1) n)) = All-weaker (λ i. i < a + 1 + n) (λ i. i < a + suc n) (λ i l. omega arith) rest (All-filter_range p (a + 1) n) in
     cond_both (p a) (a ∷ rest) rest (All (λ i. i < a + suc n)) (λ yes. All-cons (λ i. i < a + suc n) a rest (omega arith) within) (λ no. within)
-
-IsStrictlyIncreasing-range_with_len : (a n : ℕ) → IsStrictlyIncreasing (range_with_len a n)
-IsStrictlyIncreasing-range_with_len a n k l =
-    omega (arith, length-range_with_len a n, get_or-range_with_len a n k 0 (omega (arith, length-range_with_len a n)), get_or-range_with_len a n (k + 1) 0 (omega (arith, length-range_with_len a n)))
-
--- ---- one value
-
--- a list that is all false is true nowhere, also past its end
-pub is_on_at-replicate_false : (n i : ℕ) → is_on_at (replicate n false) i ≡ false
-is_on_at-replicate_false zero i = refl
-is_on_at-replicate_false (suc n) zero = refl
-is_on_at-replicate_false (suc n) (suc i) = is_on_at-replicate_false n i
-
--- within the list `is_on_at` is what `slice_get` gives
-pub slice_get-is_on_at : (bits : List Bool) (i : ℕ) → i < length bits → slice_get bits i ≡ Some (is_on_at bits i)
-slice_get-is_on_at [] i l = absurd (omega arith)
-slice_get-is_on_at (bit ∷ bits) zero l = refl
-slice_get-is_on_at (bit ∷ bits) (suc i) l = slice_get-is_on_at bits i (omega arith)
 
 -- ---- `true_indices`
 
@@ -93,87 +61,49 @@ unfolding true_indices
 length-true_indices-le bits n e =
     omega (arith, length-filter (is_on_at bits) (range_with_len 0 (length bits)), count_by-le-length (is_on_at bits) (range_with_len 0 (length bits)), length-range_with_len 0 (length bits))
 
-count_by-map : (f : ℕ → Bool) (xs : List ℕ) → count_by (λ (on : Bool). on) (map f xs) ≡ count_by f xs
-count_by-map f [] = refl
-count_by-map f (x ∷ xs) =
-    sum_by-cons (λ (on : Bool). cond on 1 0) (f x) (map f xs) ∙ ap (λ (n : ℕ). cond (f x) 1 0 + n) (count_by-map f xs) ∙ sym (sum_by-cons (λ (i : ℕ). cond (f i) 1 0) x xs)
+-- The first true value of a list, and what is left after it
 
--- there are as many indices as true values
-pub length-true_indices : (bits : List Bool) → length (true_indices bits) ≡ count_by (λ on. on) bits
+-- where a word is 0, each of its values is false
+false_in_zero : (words : List ℕ) (i : ℕ) → get_or words (i / 64) 0 ≡ 0 → is_on_at (bits_of words) i ≡ false
+false_in_zero words i h =
+    is_on_at-bits_of words i ∙ ap (λ (w : ℕ). bit_at w (i % 64) == 1) h ∙ ap (λ (d : ℕ). d == 1) (bit_at-zero (i % 64))
+
+-- where the words from `first_word` on are 0, no value from there on is true
+pub none_true : (words : List ℕ) (first_word : ℕ) → ((q : ℕ) → first_word ≤ q → q < length words → get_or words q 0 ≡ 0) → (i : ℕ) → 64 * first_word ≤ i → is_on_at (bits_of words) i ≡ false
+none_true words first_word zeros i l =
+    false_in_zero words i
+    (elim (cases_lt (i / 64) (length words)) [
+      | inl m ↦ zeros (i / 64) (omega arith) m
+      | inr m ↦ get_or_past words (i / 64) 0 m
+    ])
+
+-- the words from `first_word` up to `at` are 0, and that at `at` is not
+pub first_true_found : (words : List ℕ) (first_word at : ℕ) → first_word ≤ at → at < length words → 0 < get_or words at 0 → get_or words at 0 < 2 ^ 64 → ((q : ℕ) → first_word ≤ q → q < at → get_or words q 0 ≡ 0) → IsFirstTrue (bits_of words) (64 * first_word) (64 * at + trailing_zeros w64 (get_or words at 0))
+first_true_found words first_word at l m nonzero fits zeros =
+    let lowest = bit_at-trailing_zeros w64 (get_or words at 0) nonzero fits in
+    record {
+      from = omega arith;
+      within = omega (arith, length-bits_of words, lowest.0);
+      is_true = get_or-bits_of words at (trailing_zeros w64 (get_or words at 0)) lowest.0 ∙ ap (λ (d : ℕ). d == 1) lowest.1;
+      before = λ k low high. elim (cases_lt k (64 * at)) [
+        | inl below ↦ false_in_zero words k (zeros (k / 64) (omega arith) (omega arith))
+        | inr above ↦ let split : k ≡ 64 * at + (k - 64 * at) = omega arith in
+            let early : k - 64 * at < trailing_zeros w64 (get_or words at 0) = omega arith in
+            ap (is_on_at (bits_of words)) split ∙ get_or-bits_of words at (k - 64 * at) (omega (arith, lowest.0)) ∙ ap (λ (d : ℕ). d == 1) (lowest.2 (k - 64 * at) early)
+      ];
+    }
+
+-- i comes first, and the others are those of the list in which value i is false
+pub true_indices-first : (bits : List Bool) (long start i : ℕ) → IsFalseBelow long start bits → IsFirstTrue bits start i → true_indices bits ≡ i ∷ true_indices (set bits i false)
 unfolding true_indices
-length-true_indices bits =
-    length-filter (is_on_at bits) (range_with_len 0 (length bits)) ∙ sym (count_by-map (is_on_at bits) (range_with_len 0 (length bits))) ∙ ap (count_by (λ (on : Bool). on)) (sym (fill_by_all (is_on_at bits) bits (length bits) false refl (λ k l. refl)))
+true_indices-first bits long start i below first =
+    filter_first (is_on_at bits) (is_on_at (set bits i false)) 0 (length bits) i (omega arith) (omega (arith, first.within)) first.is_true
+    (get_or-set_same bits i false false first.within)
+    (λ k l. elim (cases_lt k start) [ inl passed ↦ below.before k passed | inr ahead ↦ first.before k ahead l ])
+    (λ k ne. sym (get_or-set_other bits i k false false ne)) ∙ ap (λ (n : ℕ). i ∷ filter (is_on_at (set bits i false)) (range_with_len 0 n)) (sym (length-set bits i false))
 
--- the indices ascend
-pub true_indices-ascend : (bits : List Bool) → IsStrictlyIncreasing (true_indices bits)
+-- nothing is left
+pub true_indices-none : (bits : List Bool) (long start : ℕ) → IsFalseBelow long start bits → ((k : ℕ) → start ≤ k → is_on_at bits k ≡ false) → true_indices bits ≡ []
 unfolding true_indices
-true_indices-ascend bits = IsStrictlyIncreasing-filter (is_on_at bits) (range_with_len 0 (length bits)) (IsStrictlyIncreasing-range_with_len 0 (length bits))
-
--- an index at which the list is true is among them
-pub Contains-true_indices : (bits : List Bool) (i : ℕ) → i < length bits → is_on_at bits i ≡ true → Contains (true_indices bits) i
-unfolding true_indices
-Contains-true_indices bits i l h = Contains-filter_range (is_on_at bits) 0 (length bits) i (omega arith) (omega arith) h
-
--- at each of them the list is true
-pub is_on_at-from_contains : (bits : List Bool) (i : ℕ) → Contains (true_indices bits) i → is_on_at bits i ≡ true
-unfolding true_indices
-is_on_at-from_contains bits i h =
-    All-contains (λ k. is_on_at bits k ≡ true) (true_indices bits) i (filter_passes (is_on_at bits) (range_with_len 0 (length bits))) h
-
--- ---- `differing_indices`
-
--- the indices ascend
-pub differing_indices-ascend : (xs ys : List Bool) → IsStrictlyIncreasing (differing_indices xs ys)
-unfolding differing_indices
-differing_indices-ascend xs ys = IsStrictlyIncreasing-filter (λ i. bits_differ (is_on_at xs i) (is_on_at ys i)) (range_with_len 0 (length xs)) (IsStrictlyIncreasing-range_with_len 0 (length xs))
-
-differ_true : (x y : Bool) → (x ≡ y → ⊥) → bits_differ x y ≡ true
-differ_true true true h = absurd (h refl)
-differ_true true false h = refl
-differ_true false true h = refl
-differ_true false false h = absurd (h refl)
-
-differ_same : (x : Bool) → bits_differ x x ≡ false
-differ_same true = refl
-differ_same false = refl
-
--- an index at which the lists differ is among them
-pub Contains-differing_indices : (xs ys : List Bool) (i : ℕ) → i < length xs → (is_on_at xs i ≡ is_on_at ys i → ⊥) → Contains (differing_indices xs ys) i
-unfolding differing_indices
-Contains-differing_indices xs ys i l h =
-    Contains-filter_range (λ k. bits_differ (is_on_at xs k) (is_on_at ys k)) 0 (length xs) i (omega arith) (omega arith) (differ_true (is_on_at xs i) (is_on_at ys i) h)
-
--- at each of them the lists differ
-pub differ-from_contains : (xs ys : List Bool) (i : ℕ) → Contains (differing_indices xs ys) i → is_on_at xs i ≡ is_on_at ys i → ⊥
-unfolding differing_indices
-differ-from_contains xs ys i h same =
-    let apart : bits_differ (is_on_at xs i) (is_on_at ys i) ≡ true = All-contains (λ k. bits_differ (is_on_at xs k) (is_on_at ys k) ≡ true) (differing_indices xs ys) i (filter_passes (λ k. bits_differ (is_on_at xs k) (is_on_at ys k)) (range_with_len 0 (length xs))) h in
-    let alike : bits_differ (is_on_at xs i) (is_on_at ys i) ≡ false = ap (λ b. bits_differ b (is_on_at ys i)) same ∙ differ_same (is_on_at ys i) in
-    cc
-
--- a list does not differ from itself
-pub differing_indices-same : (xs : List Bool) → differing_indices xs xs ≡ []
-unfolding differing_indices
-differing_indices-same xs =
-    filter_none (λ i. bits_differ (is_on_at xs i) (is_on_at xs i)) 0 (length xs) (λ k l m. differ_same (is_on_at xs k))
-
-differ_false : (x : Bool) → bits_differ x false ≡ x
-differ_false true = refl
-differ_false false = refl
-
--- a list differs from one that is all false where it is true
-pub differing_indices-replicate_false : (xs : List Bool) (n : ℕ) → differing_indices xs (replicate n false) ≡ true_indices xs
-unfolding differing_indices true_indices
-differing_indices-replicate_false xs n =
-    filter_same (λ i. bits_differ (is_on_at xs i) (is_on_at (replicate n false) i)) (is_on_at xs) 0 (length xs) (λ k l m. ap (bits_differ (is_on_at xs k)) (is_on_at-replicate_false n k) ∙ differ_false (is_on_at xs k))
-
-same_unless : (x y : Bool) → ((x ≡ y → ⊥) → ⊥) → x ≡ y
-same_unless true true h = refl
-same_unless true false h = absurd (h (λ e. cc))
-same_unless false true h = absurd (h (λ e. cc))
-same_unless false false h = refl
-
--- two lists of one length that differ nowhere are one list
-pub same_from_no_differing : (xs ys : List Bool) → length xs ≡ length ys → differing_indices xs ys ≡ [] → xs ≡ ys
-same_from_no_differing xs ys e none =
-    ext_get_or false xs ys e (λ i l. same_unless (is_on_at xs i) (is_on_at ys i) (λ apart. let place = subst (λ (indices : List ℕ). Contains indices i) none (Contains-differing_indices xs ys i l apart) in absurd (omega (arith, place.1))))
+true_indices-none bits long start below none =
+    filter_none (is_on_at bits) 0 (length bits) (λ k l m. elim (cases_lt k start) [ inl passed ↦ below.before k passed | inr ahead ↦ none k ahead ])

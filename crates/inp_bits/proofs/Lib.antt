@@ -1,5 +1,3 @@
 pub mod BitsOf
 pub mod Differences
-pub mod FirstTrue
 pub mod Indices
-pub mod WordParts

@@ -1,11 +1,13 @@
 -- The list of clients as it is made of their numbers, for callers: `f` gives the client of each number.
-use Rattle.std.proofs.Common.{◌≡◌, ◌≢◌, ◌<◌, ◌≤◌, ℕ, zero, suc, Bool, true, false, not, ◌&&◌, ◌||◌, if◌then◌else◌, nat_eq, nat_lt, List, [], ◌∷◌, ◌++◌, length, map, All, Some, refl, sym, ap, ◌∙◌, inl, inr, arith}
+use Rattle.std.proofs.Common.{◌≡◌, ◌≢◌, ◌<◌, ◌≤◌, ℕ, zero, suc, Bool, true, false, not, ◌&&◌, if◌then◌else◌, nat_eq, nat_lt, List, [], ◌∷◌, ◌++◌, length, map, get_or, All, Some, refl, sym, ap, ◌∙◌, inl, inr, arith}
 use Rattle.std.specs.List.{filter, list_any, range_with_len, insert, AllWithin}
 use Rattle.std.specs.Option.{option_map_or}
-use Rattle.std.proofs.lemmas.Bool.{cases_eq, eq-eqb, ne_eqb, lt-ltb, le-ltb, cond-true, cond-false, false≢true}
-use Rattle.std.proofs.lemmas.List.Elements.{All-map, All-head, All-tail}
+use Rattle.std.proofs.lemmas.Bool.{cases_eq, eq-eqb, ne_eqb, lt-ltb, le-ltb, false≢true}
+use Rattle.std.proofs.lemmas.List.Elements.{All-head, All-tail}
 use Rattle.inp_client.specs.Client.{ClientView}
-use Rattle.inp_client.proofs.Lists.{any_below}
+use Rattle.std.proofs.Math.Path.{fun_ext}
+use Rattle.std.proofs.lemmas.Simd.{map-map}
+use Rattle.inp_client.proofs.Lists.{any_below, either_map, list_any-map, map_same}
 use Rattle.inp_client.specs.Clients.{has_number, has_client, client_named, has_revoked_client, events_of, map_client, with_client, without_client}
 
 module _ {E : Type 0} where
@@ -42,36 +44,13 @@ module _ {E : Type 0} (f : ℕ → ClientView E) (numbered : (n : ℕ) → (f n)
 
   -- the one with this number is changed
   pub map_client-map : (number : ℕ) (change : ClientView E → ClientView E) (ns : List ℕ) → map_client number change (map f ns) ≡ map (λ n. if nat_eq n number then change (f n) else f n) ns
-  map_client-map number change [] = refl
-  map_client-map number change (n ∷ ns) =
-      ap (λ (b : Bool). (if b then change (f n) else f n) ∷ map_client number change (map f ns)) (has_number_of number n)
-      ∙ ap (λ (cs : List (ClientView E)). (if nat_eq n number then change (f n) else f n) ∷ cs) (map_client-map number change ns)
-
-  -- the clients after a call on one of them, by what becomes of it and that the others stay
-  pub map_client-to : (number : ℕ) (change : ClientView E → ClientView E) (after : ℕ → ClientView E) (ns : List ℕ) → after number ≡ change (f number) → ((n : ℕ) → n ≢ number → after n ≡ f n) → map_client number change (map f ns) ≡ map after ns
-  map_client-to number change after ns changed others = map_client-map number change ns ∙ each ns
-    where
-      one : (n : ℕ) → (if nat_eq n number then change (f n) else f n) ≡ after n
-      one n = elim (cases_eq n number) [
-        | inl e ↦ cond-true (nat_eq n number) _ _ (eq-eqb n number e) ∙ ap (λ (m : ℕ). change (f m)) e ∙ sym changed ∙ ap after (sym e)
-        | inr d ↦ cond-false (nat_eq n number) _ _ (ne_eqb n number d) ∙ sym (others n d)
-      ]
-
-      each : (ns : List ℕ) → map (λ n. if nat_eq n number then change (f n) else f n) ns ≡ map after ns
-      each [] = refl
-      each (n ∷ ns) = ap (λ (c : ClientView E). c ∷ map (λ n. if nat_eq n number then change (f n) else f n) ns) (one n) ∙ ap (λ (cs : List (ClientView E)). after n ∷ cs) (each ns)
-
-  -- the clients after a frame was offered to each
-  pub map-to : (change : ClientView E → ClientView E) (after : ℕ → ClientView E) (ns : List ℕ) → ((n : ℕ) → after n ≡ change (f n)) → map change (map f ns) ≡ map after ns
-  map-to change after [] each = refl
-  map-to change after (n ∷ ns) each =
-      ap (λ (c : ClientView E). c ∷ map change (map f ns)) (sym (each n)) ∙ ap (λ (cs : List (ClientView E)). after n ∷ cs) (map-to change after ns each)
+  map_client-map number change ns =
+      map-map (λ c. if has_number number c then change c else c) f ns
+      ∙ map_same _ (λ n. if nat_eq n number then change (f n) else f n) ns (λ j d in_j. ap (λ (b : Bool). if b then change (f (get_or ns j d)) else f (get_or ns j d)) (has_number_of number (get_or ns j d)))
 
   -- a client is open where its number is in the list
   pub has_client-map : (number : ℕ) (ns : List ℕ) → has_client number (map f ns) ≡ list_any (λ n. nat_eq n number) ns
-  has_client-map number [] = refl
-  has_client-map number (n ∷ ns) =
-      ap (λ (b : Bool). b || has_client number (map f ns)) (has_number_of number n) ∙ ap (λ (b : Bool). nat_eq n number || b) (has_client-map number ns)
+  has_client-map number ns = list_any-map (has_number number) f ns ∙ ap (λ (test : ℕ → Bool). list_any test ns) (fun_ext (has_number_of number))
 
   -- the same where the numbers are those below a bound that pass a test
   pub has_client-filter : (number bound : ℕ) (p : ℕ → Bool) → has_client number (map f (filter p (range_with_len 0 bound))) ≡ (nat_lt number bound && p number)
@@ -100,13 +79,4 @@ module _ {E : Type 0} (f : ℕ → ClientView E) (numbered : (n : ℕ) → (f n)
   without_client-map number (n ∷ ns) =
       ap (λ (b : Bool). if not b then f n ∷ without_client number (map f ns) else without_client number (map f ns)) (has_number_of number n)
       ∙ ap (λ (cs : List (ClientView E)). if not (nat_eq n number) then f n ∷ cs else cs) (without_client-map number ns)
-      ∙ kept (not (nat_eq n number))
-    where
-      kept : (b : Bool) → (if b then f n ∷ map f (filter (λ n. not (nat_eq n number)) ns) else map f (filter (λ n. not (nat_eq n number)) ns))
-          ≡ map f (if b then n ∷ filter (λ n. not (nat_eq n number)) ns else filter (λ n. not (nat_eq n number)) ns)
-      kept true = refl
-      kept false = refl
-
-  -- a number above all in the list is above those of all clients
-  pub AllBelow-map : (number : ℕ) (ns : List ℕ) → All (λ n. n < number) ns → AllBelow number (map f ns)
-  AllBelow-map number ns below = All-map (λ c. c.number < number) f ns (λ k d within. rw (numbered _) (below k d within))
+      ∙ sym (either_map (map f) (not (nat_eq n number)) _ _)

@@ -1,7 +1,6 @@
 pub mod Lists
 pub mod CellCounts
 pub mod MaskBits
-pub mod Search
 pub mod ClientLists
 pub mod Locations
 pub mod OtherClients

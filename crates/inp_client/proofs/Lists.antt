@@ -1,23 +1,40 @@
 -- Lists: a map, a filter, a search and a removal by what holds of each element.
 use Rattle.std.proofs.Common.{◌≡◌, ◌≢◌, ◌+◌, ◌-◌, ◌<◌, ◌≤◌, ℕ, zero, suc, Bool, true, false, not, ◌&&◌, ◌||◌, if◌then◌else◌, nat_eq, nat_le, nat_lt, List, [], ◌∷◌, length, get_or, set, map, All, AllPairs, Some, refl, sym, ap, subst, ◌∙◌, inl, inr, zero-add, arith}
+use Rattle.std.specs.Prelude.{sum, sum_by}
 use Rattle.std.specs.List.{filter, find, list_any, range_with_len, remove, insert, AllWithin}
-use Rattle.std.proofs.lemmas.Bool.{cases_lt, cases_order, eq-eqb, ne_eqb, lt-ltb, le-ltb, le-leb, lt-leb}
+use Rattle.std.proofs.lemmas.Bool.{and_right, cases_lt, cases_order, eq-eqb, ne_eqb, lt-ltb, le-ltb, le-leb, lt-leb}
+use Rattle.std.proofs.lemmas.Simd.{map-map}
+use Rattle.std.proofs.lemmas.List.Sums.{sum-map}
 use Rattle.std.proofs.lemmas.List.FromFn.{get_or-map-range_with_len}
 use Rattle.std.proofs.lemmas.List.Edits.{length-remove, get_or-remove_below, get_or-remove_above, length-insert, get_or-insert_below, get_or-insert_at, get_or-insert_above}
 use Rattle.std.proofs.lemmas.List.Elements.{All-head, All-tail, All-from_get_or}
-
--- Each element of a list is made of the element at its place in another.
-pub map_over : {X Y Z : Type 0} (f : X → Z) (g : X → Y) (h : Y → Z) (xs : List X) → All (λ x. f x ≡ h (g x)) xs → map f xs ≡ map h (map g xs)
-map_over f g h [] each = refl
-map_over f g h (x ∷ xs) each =
-    ap (λ z. z ∷ map f xs) (All-head (λ x. f x ≡ h (g x)) x xs each)
-    ∙ ap (λ zs. h (g x) ∷ zs) (map_over f g h xs (All-tail (λ x. f x ≡ h (g x)) x xs each))
 
 pub map_same : {X Y : Type 0} (f g : X → Y) (xs : List X) → All (λ x. f x ≡ g x) xs → map f xs ≡ map g xs
 map_same f g [] each = refl
 map_same f g (x ∷ xs) each =
     ap (λ z. z ∷ map f xs) (All-head (λ x. f x ≡ g x) x xs each)
     ∙ ap (λ zs. g x ∷ zs) (map_same f g xs (All-tail (λ x. f x ≡ g x) x xs each))
+
+-- Each element of a list is made of the element at its place in another.
+pub map_over : {X Y Z : Type 0} (f : X → Z) (g : X → Y) (h : Y → Z) (xs : List X) → All (λ x. f x ≡ h (g x)) xs → map f xs ≡ map h (map g xs)
+map_over f g h xs each = map_same f (λ x. h (g x)) xs each ∙ sym (map-map h g xs)
+
+-- Whether a test passes, and a sum, over what a function gives.
+pub list_any-map : {X Y : Type 0} (p : Y → Bool) (f : X → Y) (xs : List X) → list_any p (map f xs) ≡ list_any (λ x. p (f x)) xs
+list_any-map p f [] = refl
+list_any-map p f (x ∷ xs) = ap (λ (b : Bool). p (f x) || b) (list_any-map p f xs)
+
+pub sum_by-map : {X Y : Type 0} (g : Y → ℕ) (f : X → Y) (xs : List X) → sum_by g (map f xs) ≡ sum_by (λ x. g (f x)) xs
+sum_by-map g f xs = sym (sum-map g (map f xs)) ∙ ap sum (map-map g f xs) ∙ sum-map (λ x. g (f x)) xs
+
+-- A test that chooses between a value and itself, and a function of the value that a test chooses.
+pub either_same : {X : Type 0} (b : Bool) (x : X) → (if b then x else x) ≡ x
+either_same true x = refl
+either_same false x = refl
+
+pub either_map : {X Y : Type 0} (f : X → Y) (b : Bool) (x y : X) → f (if b then x else y) ≡ (if b then f x else f y)
+either_map f true x y = refl
+either_map f false x y = refl
 
 -- What holds of the first so many places, holds of one place more.
 pub flag_other : (j i : ℕ) → j ≢ i → nat_lt j i ≡ nat_lt j (i + 1)
@@ -110,11 +127,6 @@ all_pairs_insert R xs i y within pairs before behind = λ a b d lower in_b.
     (λ n b_is n_above. insert_read (λ z. R z (get_or xs n d)) xs i y a d within
     (λ a_below. pairs a n d (omega arith) (omega (arith, b_is))) (λ same. behind n d n_above (omega (arith, b_is))) (λ m e le. pairs m n d (omega (arith, e, b_is)) (omega (arith, b_is))))
 
--- a filter that every element passes
-pub filter_all : {X : Type 0} (p : X → Bool) → ((x : X) → p x ≡ true) → (xs : List X) → filter p xs ≡ xs
-filter_all p passes [] = refl
-filter_all p passes (x ∷ xs) = rw (passes x) (ap (λ ys. x ∷ ys) (filter_all p passes xs))
-
 -- two tests that agree at each element
 pub filter_same : {X : Type 0} (p q : X → Bool) (xs : List X) → All (λ x. p x ≡ q x) xs → filter p xs ≡ filter q xs
 filter_same p q [] each = refl
@@ -125,11 +137,11 @@ filter_same p q (x ∷ xs) each =
 -- one filter behind the other
 pub filter-filter : {X : Type 0} (p q : X → Bool) (xs : List X) → filter q (filter p xs) ≡ filter (λ x. p x && q x) xs
 filter-filter p q [] = refl
-filter-filter {X} p q (x ∷ xs) = by_test (p x) (filter-filter p q xs)
+filter-filter {X} p q (x ∷ xs) = by_test (p x) ∙ ap (λ (ys : List X). if p x && q x then x ∷ ys else ys) (filter-filter p q xs)
   where
-    by_test : (b : Bool) → filter q (filter p xs) ≡ filter (λ x. p x && q x) xs → filter q (if b then x ∷ filter p xs else filter p xs) ≡ (if b && q x then x ∷ filter (λ x. p x && q x) xs else filter (λ x. p x && q x) xs)
-    by_test true rest = ap (λ (ys : List X). if q x then x ∷ ys else ys) rest
-    by_test false rest = rest
+    by_test : (b : Bool) → filter q (if b then x ∷ filter p xs else filter p xs) ≡ (if b && q x then x ∷ filter q (filter p xs) else filter q (filter p xs))
+    by_test true = refl
+    by_test false = refl
 
 -- Is a number among those of a range that pass a test?
 
@@ -137,10 +149,6 @@ filter-filter {X} p q (x ∷ xs) = by_test (p x) (filter-filter p q xs)
 any_first : (pass here rest : Bool) (n : ℕ) (ns : List ℕ) (number : ℕ) → nat_eq n number ≡ here → list_any (λ m. nat_eq m number) ns ≡ rest → list_any (λ m. nat_eq m number) (if pass then n ∷ ns else ns) ≡ ((pass && here) || rest)
 any_first true here rest n ns number e r = rw (e, r) refl
 any_first false here rest n ns number e r = r
-
-either_way : (pass rest : Bool) → ((pass && false) || rest) ≡ rest
-either_way true rest = refl
-either_way false rest = refl
 
 only_first : (pass : Bool) → ((pass && true) || false) ≡ pass
 only_first true = refl
@@ -161,10 +169,10 @@ any_in_range number p a (suc k) =
       | inr (inl below) ↦
           let bound : a + 1 + k ≡ a + suc k = omega arith in
           rw (ne_eqb a number (λ e. omega (arith, e)), le-leb (a + 1) number (omega arith), le-leb a number (omega arith), bound)
-          (either_way (p a) (nat_lt number (a + suc k) && p number))
+          (rw (and_right (p a) false refl) refl)
       | inr (inr above) ↦
           rw (ne_eqb a number (λ e. omega (arith, e)), lt-leb (a + 1) number (omega arith), lt-leb a number (omega arith))
-          (either_way (p a) false)
+          (rw (and_right (p a) false refl) refl)
     ]
 
 pub any_below : (number bound : ℕ) (p : ℕ → Bool) → list_any (λ n. nat_eq n number) (filter p (range_with_len 0 bound)) ≡ (nat_lt number bound && p number)
@@ -174,9 +182,3 @@ any_below number bound p = any_in_range number p 0 bound ∙ rw (le-leb 0 number
 
 pub get_or-map_range : {X : Type 0} (f : ℕ → X) (n i : ℕ) (d : X) → i < n → get_or (map f (range_with_len 0 n)) i d ≡ f i
 get_or-map_range f n i d within = get_or-map-range_with_len f 0 n i i d within (omega arith)
-
--- two functions that agree on a range
-pub map_range_same : {X : Type 0} (f g : ℕ → X) (a n : ℕ) → ((i : ℕ) → f i ≡ g i) → map f (range_with_len a n) ≡ map g (range_with_len a n)
-map_range_same f g a zero same = refl
-map_range_same f g a (suc n) same =
-    ap (λ x. x ∷ map f (range_with_len (a + 1) n)) (same a) ∙ ap (λ xs. g a ∷ xs) (map_range_same f g (a + 1) n same)

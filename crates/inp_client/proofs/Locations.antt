@@ -1,24 +1,28 @@
 -- Clients in their locations: what a write, a removal and an insert leave.
-use Rattle.std.proofs.Common.{◌≡◌, ◌≢◌, ◌<◌, ◌≤◌, ◌+◌, ℕ, Bool, true, false, cond, ◌||◌, nat_eq, List, [], ◌∷◌, length, get_or, set, map, All, Option, Some, None, is_some, unwrap_or, refl, sym, ap, ◌∙◌, subst, inl, inr, arith}
-use Rattle.std.specs.List.{list_any, remove, insert}
+use Rattle.std.proofs.Common.{◌≡◌, ◌≢◌, ◌<◌, ◌≤◌, ◌+◌, ℕ, Bool, true, false, cond, ◌||◌, nat_eq, List, [], ◌∷◌, length, get_or, set, map, All, Option, Some, None, is_some, unwrap_or, refl, sym, ap, ◌∙◌, inl, inr, arith, nat_lt, Contains, IfSome, IfNone, Result, Ok, Err, tests}
+use Rattle.std.specs.List.{list_any, remove, insert, AllWithin}
 use Rattle.std.specs.Option.{option_map}
-use Rattle.std.proofs.lemmas.Bool.{cases_eq, cases_order, eq-eqb, false≢true}
-use Rattle.std.specs.List.{AllWithin}
-use Rattle.std.proofs.lemmas.List.{get_or-map, length-map, get_or-set_same, get_or-set_other}
+use Rattle.std.proofs.lemmas.Bool.{cases_eq, cases_order, eq-eqb, false≢true, cases_lt, ne_eqb}
+use Rattle.std.proofs.lemmas.List.{get_or-map, length-map, get_or-set_same, get_or-set_other, get_or_default}
 use Rattle.std.proofs.lemmas.List.Elements.{All-head, All-tail, All-from_get_or}
 use Rattle.std.proofs.lemmas.List.Quantifiers.{all_pairs_remove}
 use Rattle.std.proofs.lemmas.List.Edits.{length-insert, length-remove}
-use Rattle.std.proofs.lemmas.List.Folds.{list_any_at}
+use Rattle.std.proofs.lemmas.List.Folds.{list_any_at, list_any_none}
 use Rattle.std.proofs.lemmas.List.Sums.{sum_by-set}
 use Rattle.std.proofs.lemmas.Option.{same_Some, none-some}
 use Rattle.slab.specs.Slab.{Slab, get, slab_len, with_value, Updates, ContainsKey}
 use Rattle.slab.proofs.SlabLemmas.{ContainsKey-within, Updates-with_value}
+use Rattle.inp_ring.proofs.Times.{at_each}
 use Rattle.inp_client.specs.declared.location.Location.{Location}
 use Rattle.inp_client.specs.Client.{new_client}
 use Rattle.inp_client.specs.Member.{Member}
 use Rattle.inp_client.specs.Clients.{has_number, has_client}
 use Rattle.inp_client.proofs.Lists.{All-but_one, All-insert, all_pairs_insert, map_but_one, map_put_in}
-use Rattle.inp_client.specs.Locations.{client_at, number_at, clients_in, has_location, AreAscending, AreLocated, IsPlaceFor}
+use Rattle.inp_client.specs.Locations.{client_at, number_at, clients_in, has_location, AreAscending, AreLocated, IsPlaceFor, IsIndexOf}
+use Rattle.std.specs.List.Sorted.{IsBinarySearchResult, IsSearchInRange, IsPartitionPoint}
+use Rattle.std.specs.Ordering.{nat_cmp, ordering_index}
+use Rattle.std.specs.Result.{result_ok}
+use Rattle.std.specs.declared.cmp.Ordering.TheVariants.{Less, Equal, Greater}
 
 -- the clients before the index have lower numbers, and no other one has
 pub record IsPlaceOf (ms : List Member) (number i : ℕ) : Type 0 where
@@ -93,13 +97,11 @@ module _ {locations : List Location} {slab : Slab Member} (located : AreLocated 
             omega (arith, sum_by-set (λ (o : Option Member). cond (is_some o) 1 0) slab.slots key (Some new) None (ContainsKey-within slab key present), ap {B = ℕ} (λ (b : Bool). cond b 1 0) present, located.counted)
 
         numbered : (j : ℕ) → j < length locations → number_at (with_value slab key new) (get_or locations j d).key ≡ Some (get_or locations j d).number
-        numbered j in_j = elim (cases_eq j i) [
-          | inl e ↦
-              let P : ℕ → Type 0 = λ n. number_at (with_value slab key new) (get_or locations n d).key ≡ Some (get_or locations n d).number in
-              subst P (sym e) (ap (number_at (with_value slab key new)) at ∙ ap (option_map (λ c. c.number)) write.changed
-              ∙ ap Some same ∙ sym (ap (option_map (λ c. c.number)) found) ∙ ap (number_at slab) (sym at) ∙ located.keyed i d in_i)
-          | inr n ↦ ap (option_map (λ c. c.number)) (slot_kept j in_j n) ∙ located.keyed j d in_j
-        ]
+        numbered =
+            at_each _ i
+            (λ in_j. ap (number_at (with_value slab key new)) at ∙ ap (option_map (λ c. c.number)) write.changed
+            ∙ ap Some same ∙ sym (ap (option_map (λ c. c.number)) found) ∙ ap (number_at slab) (sym at) ∙ located.keyed i d in_i)
+            (λ j n in_j. ap (option_map (λ c. c.number)) (slot_kept j in_j n) ∙ located.keyed j d in_j)
 
     -- the client there is another one, and the others stay
     pub members_after_write : clients_in locations (with_value slab key new) ≡ set (clients_in locations slab) i new
@@ -213,3 +215,69 @@ module _ {locations : List Location} {slab : Slab Member} (located : AreLocated 
       lower = λ j e le lt. omega (arith, place.lower j (record { number = 0; key = 0 }) (omega arith) lt, member_number j (record { number = 0; key = 0 }) e (omega (arith, place.within)));
       others = λ j e le in_j. omega (arith, place.others j (record { number = 0; key = 0 }) le (omega (arith, members_long)), member_number j (record { number = 0; key = 0 }) e (omega (arith, members_long)));
     }
+
+-- What a binary search of the locations finds
+
+equal_numbers : (a b : ℕ) → nat_cmp a b ≡ Equal → a ≡ b
+equal_numbers a b e = grind (arith, tests)
+
+lower_number : (a b : ℕ) → nat_cmp a b ≡ Less → a ≢ b
+lower_number a b e same = grind (arith, tests)
+
+higher_number : (a b : ℕ) → nat_cmp a b ≡ Greater → a ≢ b
+higher_number a b e same = grind (arith, tests)
+
+rising : (a b n : ℕ) → a ≤ b → ordering_index (nat_cmp a n) ≤ ordering_index (nat_cmp b n)
+rising a b n le = grind (arith, tests)
+
+-- numbers do not fall along the locations
+pub not_falling : (locations : List Location) → AreAscending locations → (i j : ℕ) (d : Location) → i ≤ j → j < length locations → (get_or locations i d).number ≤ (get_or locations j d).number
+not_falling locations up i j d le within =
+    elim (cases_lt i j) [
+      | inl lower ↦ omega (arith, up i j d lower within)
+      | inr same ↦ let e : i ≡ j = omega arith in omega (arith, ap (λ (n : ℕ). (get_or locations n d).number) e)
+    ]
+
+pub index_found : (locations : List Location) (number : ℕ) (r : Result ℕ ℕ) → IsSearchInRange r (length locations) → IsBinarySearchResult (λ s. nat_cmp s.number number) locations r → IfSome (result_ok r) (IsIndexOf locations number)
+index_found locations number (Ok i) within found = record { within = within; numbered = λ d. equal_numbers _ _ (found d) }
+index_found locations number (Err i) within found = tt
+
+pub no_index : (locations : List Location) (number : ℕ) (r : Result ℕ ℕ) → AreAscending locations → IsBinarySearchResult (λ s. nat_cmp s.number number) locations r → IfNone (result_ok r) (has_location number locations ≡ false)
+no_index locations number (Ok i) up found = tt
+no_index locations number (Err i) up found =
+    let parted = found (λ i j d le within. rising _ _ number (not_falling locations up i j d le within)) in
+    list_any_none (λ s. nat_eq s.number number) locations (λ k d within. ne_eqb _ _ (elim (cases_lt k i) [
+      | inl before ↦ lower_number _ _ (parted.0 k d (omega arith) before)
+      | inr behind ↦ higher_number _ _ (parted.1 k d behind within)
+    ]))
+
+-- a search for a location that is there finds it
+pub index_is_some : (locations : List Location) (number : ℕ) (index : Option ℕ) → IfSome index (IsIndexOf locations number) → IfNone index (has_location number locations ≡ false) → is_some index ≡ has_location number locations
+index_is_some locations number None found none = sym none
+index_is_some locations number (Some i) found none =
+    sym (list_any_at (λ s. nat_eq s.number number) locations i (record { number = 0; key = 0 }) found.within (eq-eqb _ _ (found.numbered (record { number = 0; key = 0 }))))
+
+-- what it finds
+pub index_is : (locations : List Location) (number : ℕ) (index : Option ℕ) (i : ℕ) → IfSome index (IsIndexOf locations number) → index ≡ Some i → IsIndexOf locations number i
+index_is locations number index i found e = rw e at found
+
+-- the location there
+pub location_at_index : (locations : List Location) (number i : ℕ) (d : Location) → IsIndexOf locations number i → Contains locations (record { number = number; key = (get_or locations i d).key })
+location_at_index locations number i d at =
+    let location : Location = get_or locations i d in
+    let numbered : ℕ → Location = λ n. record { number = n; key = location.key } in
+    (i, at.within, get_or_default locations i (numbered number) d at.within ∙ ap numbered (at.numbered d))
+
+-- where numbers no longer are lower, a new one has its place
+is_lower : (a b : ℕ) → nat_lt a b ≡ true → a < b
+is_lower a b e = grind (arith, tests)
+
+is_no_lower : (a b : ℕ) → nat_lt a b ≡ false → b ≤ a
+is_no_lower a b e = grind (arith, tests)
+
+pub place_is : (locations : List Location) (number i : ℕ) → i ≤ length locations → IsPartitionPoint (λ s. nat_lt s.number number ≡ true) (λ s. nat_lt s.number number ≡ false) locations i → IsPlaceFor locations number i
+place_is locations number i within parted = record {
+  within = within;
+  lower = λ k d le below. is_lower _ _ (parted.0 k d le below);
+  others = λ k d le in_k. is_no_lower _ _ (parted.1 k d le in_k);
+}

@@ -1,18 +1,18 @@
 -- Masks by their bits.
-use Rattle.std.proofs.Common.{◌≡◌, ◌+◌, ◌-◌, ◌*◌, ◌/◌, ◌%◌, ◌<◌, ◌≤◌, ◌==◌, ℕ, zero, suc, Bool, true, false, ◌&&◌, ◌||◌, if◌then◌else◌, nat_eq, List, ◌∷◌, ◌++◌, length, get_or, take, drop, replicate, map, refl, sym, ap, subst, ◌∙◌, inl, inr, arith}
+use Rattle.std.proofs.Common.{◌≡◌, ◌+◌, ◌-◌, ◌*◌, ◌/◌, ◌%◌, ◌<◌, ◌≤◌, ◌==◌, ℕ, zero, suc, Bool, true, false, ◌&&◌, ◌||◌, if◌then◌else◌, nat_eq, List, ◌++◌, length, get_or, take, drop, replicate, map, refl, sym, ap, subst, ◌∙◌, inl, inr, arith}
 use Rattle.std.specs.List.{range_with_len}
 use Rattle.std.specs.Int.{bit_at}
-use Rattle.std.proofs.lemmas.Bool.{false≢true, and_parts, or_cases, leb-true, eqb-true, cases_Bool, cases_lt, cond-true, cond-false, eq-eqb, ne_eqb}
+use Rattle.std.proofs.lemmas.Bool.{or_cases, leb-true, eqb-true, cases_Bool, cases_lt, cond-true, cond-false, eq-eqb, ne_eqb}
 use Rattle.std.proofs.lemmas.List.{length-append, length-drop, length-take-le, get_or_append_left, get_or-append_right, get_or-take, get_or-drop}
 use Rattle.std.proofs.lemmas.List.FromFn.{length-map-range_with_len, fill_by_all}
 use Rattle.inp_bits.specs.Bits.{word_bits}
 use Rattle.inp_bits.specs.Words.{length-word_bits, get_or-word_bits}
-use Rattle.inp_model.specs.declared.event.TheConstants.{EV_SYN, EV_KEY, EV_REL, EV_ABS, EV_MSC, EV_SW, EV_LED, EV_SND, EV_REP, SYN_DROPPED, KEY_MAX, REL_MAX, ABS_MAX, MSC_MAX, SW_MAX, LED_MAX, SND_MAX}
+use Rattle.inp_model.specs.declared.event.TheConstants.{EV_SYN, EV_KEY, EV_REL, EV_ABS, EV_MSC, EV_SW, EV_LED, EV_SND, EV_REP}
 use Rattle.inp_model.specs.declared.event.Event.{Event}
 use Rattle.inp_model.specs.Past.{has_mask, mask_words}
-use Rattle.inp_model.specs.Description.{Description, AreCodes, IsDescription, is_kind, has_kind, has_code, supports}
 use Rattle.inp_model.proofs.Descriptions.{get_or-replicate_same}
-use Rattle.inp_client.proofs.Lists.{get_or-map_range, map_range_same}
+use Rattle.std.proofs.Math.Path.{fun_ext}
+use Rattle.inp_client.proofs.Lists.{get_or-map_range, map_same}
 use Rattle.inp_client.specs.Masks.{MaskView, masks_with, full_masks, mask_bit_of, admits_of, with_word, mask_after, masks_after}
 
 -- Full masks admit every event.
@@ -36,7 +36,7 @@ admits_of-full_masks e =
 -- Masks that are made of a function to their bits.
 
 -- a fact that holds for each type that has a mask
-by_kind : (P : ℕ → Type 0) → P EV_SYN → P EV_KEY → P EV_REL → P EV_ABS → P EV_MSC → P EV_SW → P EV_LED → P EV_SND → (kind : ℕ) → has_mask kind ≡ true → P kind
+pub by_kind : (P : ℕ → Type 0) → P EV_SYN → P EV_KEY → P EV_REL → P EV_ABS → P EV_MSC → P EV_SW → P EV_LED → P EV_SND → (kind : ℕ) → has_mask kind ≡ true → P kind
 by_kind P syn key rel axis msc switch led snd kind has =
     elim (or_cases _ _ has) [
       | inl first ↦ elim (or_cases _ _ first) [
@@ -54,40 +54,6 @@ by_kind P syn key rel axis msc switch led snd kind has =
     up_to_switches (suc (suc (suc (suc zero)))) le = msc
     up_to_switches (suc (suc (suc (suc (suc zero))))) le = switch
     up_to_switches (suc (suc (suc (suc (suc (suc k)))))) le = absurd (omega arith)
-
-module _ (bit : ℕ → ℕ → Bool) where
-  pub mask_bit_of-masks_with : (kind index : ℕ) → has_mask kind ≡ true → index < 64 * mask_words kind → mask_bit_of (masks_with bit) kind index ≡ bit kind index
-  unfolding masks_with
-  mask_bit_of-masks_with kind index has within =
-      by_kind (λ k. index < 64 * mask_words k → mask_bit_of (masks_with bit) k index ≡ bit k index)
-      (get_or-map_range (bit EV_SYN) 64 index true)
-      (get_or-map_range (bit EV_KEY) 768 index true)
-      (get_or-map_range (bit EV_REL) 64 index true)
-      (get_or-map_range (bit EV_ABS) 64 index true)
-      (get_or-map_range (bit EV_MSC) 64 index true)
-      (get_or-map_range (bit EV_SW) 64 index true)
-      (get_or-map_range (bit EV_LED) 64 index true)
-      (get_or-map_range (bit EV_SND) 64 index true)
-      kind has within
-
-  -- of an event of a type that a device can have, with a code that its mask has a bit for
-  pub admits_of-masks_with : (e : Event) → is_kind e.kind ≡ true → (has_mask e.kind ≡ true → e.code < 64 * mask_words e.kind) →
-      admits_of (masks_with bit) e ≡ (nat_eq e.kind EV_SYN || (bit EV_SYN e.kind && (nat_eq e.kind EV_REP || bit e.kind e.code)))
-  admits_of-masks_with e known within =
-      ap (λ (t : Bool). nat_eq e.kind EV_SYN || (t && (nat_eq e.kind EV_REP || mask_bit_of (masks_with bit) e.kind e.code))) types
-      ∙ ap (λ (b : Bool). nat_eq e.kind EV_SYN || (bit EV_SYN e.kind && b)) (elim (or_cases (has_mask e.kind) (nat_eq e.kind EV_REP) known) [
-        | inl has ↦ ap (λ (b : Bool). nat_eq e.kind EV_REP || b) (mask_bit_of-masks_with e.kind e.code has (within has))
-        | inr rep ↦ rw rep refl
-      ])
-    where
-      low : e.kind < 64
-      low = elim (or_cases (has_mask e.kind) (nat_eq e.kind EV_REP) known) [
-        | inl has ↦ by_kind (λ k. k < 64) (omega arith) (omega arith) (omega arith) (omega arith) (omega arith) (omega arith) (omega arith) (omega arith) e.kind has
-        | inr rep ↦ omega (arith, eqb-true e.kind EV_REP rep)
-      ]
-
-      types : mask_bit_of (masks_with bit) EV_SYN e.kind ≡ bit EV_SYN e.kind
-      types = mask_bit_of-masks_with EV_SYN e.kind refl low
 
 -- A word of a mask is set.
 
@@ -157,13 +123,6 @@ masks_sized bit short long = record {
   sounds = map (bit EV_SND) (range_with_len 0 short);
 }
 
-abbrev parts : List Bool → List Bool → List Bool → List Bool → List Bool → List Bool → List Bool → List Bool → MaskView
-parts t0 t1 t2 t3 t4 t5 t6 t7 = record { types = t0; keys = t1; relatives = t2; axes = t3; miscs = t4; switches = t5; leds = t6; sounds = t7 }
-
--- masks whose parts are equal are equal
-same_masks : (t0 u0 t1 u1 t2 u2 t3 u3 t4 u4 t5 u5 t6 u6 t7 u7 : List Bool) → t0 ≡ u0 → t1 ≡ u1 → t2 ≡ u2 → t3 ≡ u3 → t4 ≡ u4 → t5 ≡ u5 → t6 ≡ u6 → t7 ≡ u7 → parts t0 t1 t2 t3 t4 t5 t6 t7 ≡ parts u0 u1 u2 u3 u4 u5 u6 u7
-same_masks t0 u0 t1 u1 t2 u2 t3 u3 t4 u4 t5 u5 t6 u6 t7 u7 e0 e1 e2 e3 e4 e5 e6 e7 = cc
-
 module _ (bit after : ℕ → ℕ → Bool) (kind word bits : ℕ) (agrees : (k i : ℕ) → after k i ≡ (if nat_eq kind k && nat_eq word (i / 64) then bit_at bits (i % 64) == 1 else bit k i)) where
   -- one mask of those that are made of a function
   mask_after-map_range : (k n : ℕ) → (nat_eq kind k ≡ true → 64 * word + 64 ≤ n) → mask_after k kind word bits (map (bit k) (range_with_len 0 n)) ≡ map (after k) (range_with_len 0 n)
@@ -171,10 +130,10 @@ module _ (bit after : ℕ → ℕ → Bool) (kind word bits : ℕ) (agrees : (k 
       elim (cases_Bool (nat_eq kind k)) [
         | inl same ↦
             cond-true (nat_eq kind k) _ _ same ∙ with_word-map_range (bit k) word bits n (room same)
-            ∙ map_range_same _ (after k) 0 n (λ i. sym (agrees k i ∙ ap (λ (b : Bool). if b && nat_eq word (i / 64) then bit_at bits (i % 64) == 1 else bit k i) same))
+            ∙ map_same _ (after k) (range_with_len 0 n) (λ j d in_j. let i = get_or (range_with_len 0 n) j d in sym (agrees k i ∙ ap (λ (b : Bool). if b && nat_eq word (i / 64) then bit_at bits (i % 64) == 1 else bit k i) same))
         | inr other ↦
             cond-false (nat_eq kind k) _ _ other
-            ∙ map_range_same (bit k) (after k) 0 n (λ i. sym (agrees k i ∙ ap (λ (b : Bool). if b && nat_eq word (i / 64) then bit_at bits (i % 64) == 1 else bit k i) other))
+            ∙ map_same (bit k) (after k) (range_with_len 0 n) (λ j d in_j. let i = get_or (range_with_len 0 n) j d in sym (agrees k i ∙ ap (λ (b : Bool). if b && nat_eq word (i / 64) then bit_at bits (i % 64) == 1 else bit k i) other))
       ]
 
   -- all masks, where the mask of keys has `long` bits and each other one has `short`
@@ -189,7 +148,7 @@ module _ (bit after : ℕ → ℕ → Bool) (kind word bits : ℕ) (agrees : (k 
       let switches = mask_after-map_range EV_SW short (room EV_SW refl) in
       let leds = mask_after-map_range EV_LED short (room EV_LED refl) in
       let sounds = mask_after-map_range EV_SND short (room EV_SND refl) in
-      same_masks _ _ _ _ _ _ _ _ _ _ _ _ _ _ _ _ types keys relatives axes miscs switches leds sounds
+      cc
 
   -- all masks, by what becomes of each bit
   pub masks_after-masks_with : word < mask_words kind → masks_after kind word bits (masks_with bit) ≡ masks_with after
@@ -209,47 +168,10 @@ module _ (bit after : ℕ → ℕ → Bool) (kind word bits : ℕ) (agrees : (k 
 
 -- The masks of a new client.
 
-map_const : (f : ℕ → Bool) (a n : ℕ) → ((i : ℕ) → f i ≡ true) → replicate n true ≡ map f (range_with_len a n)
-map_const f a zero same = refl
-map_const f a (suc n) same =
-    ap (λ (b : Bool). b ∷ replicate n true) (sym (same a)) ∙ ap (λ (bs : List Bool). f a ∷ bs) (map_const f (a + 1) n same)
+all_set : masks_with (λ kind index. true) ≡ full_masks
+unfolding masks_with full_masks
+all_set = refl
 
-module _ (bit : ℕ → ℕ → Bool) (set : (k i : ℕ) → bit k i ≡ true) where
-  full_parts : (short long : ℕ) → parts (replicate short true) (replicate long true) (replicate short true) (replicate short true) (replicate short true) (replicate short true) (replicate short true) (replicate short true) ≡ masks_sized bit short long
-  full_parts short long =
-      same_masks _ _ _ _ _ _ _ _ _ _ _ _ _ _ _ _
-      (map_const (bit EV_SYN) 0 short (set EV_SYN)) (map_const (bit EV_KEY) 0 long (set EV_KEY)) (map_const (bit EV_REL) 0 short (set EV_REL)) (map_const (bit EV_ABS) 0 short (set EV_ABS)) (map_const (bit EV_MSC) 0 short (set EV_MSC)) (map_const (bit EV_SW) 0 short (set EV_SW)) (map_const (bit EV_LED) 0 short (set EV_LED)) (map_const (bit EV_SND) 0 short (set EV_SND))
-
-  -- full masks are those whose bits are all set
-  pub full_masks-masks_with : full_masks ≡ masks_with bit
-  unfolding full_masks masks_with
-  full_masks-masks_with = full_parts 64 768
-
--- What a device can pass is within the masks.
-
-code_within : (count greatest code : ℕ) (codes : List Bool) → AreCodes count greatest codes → get_or codes code false ≡ true → code ≤ greatest
-code_within count greatest code codes are on =
-    elim (cases_lt greatest code) [
-      | inl above ↦ absurd (false≢true (sym (are.within code above) ∙ on))
-      | inr within ↦ within
-    ]
-
--- an event that a device supports is of a type that a device can have, and its mask has a bit for its code
-pub code_in_mask : (d : Description) (kind code : ℕ) → IsDescription d → supports d kind code ≡ true → (is_kind kind ≡ true) × (has_mask kind ≡ true → code < 64 * mask_words kind)
-code_in_mask d kind code is on =
-    let both = and_parts (has_kind d kind) (has_code d kind code) on in (
-      elim (cases_Bool (is_kind kind)) [
-        | inl known ↦ known
-        | inr unknown ↦ absurd (false≢true (sym (is.known kind unknown) ∙ both.0))
-      ],
-      λ has. by_kind (λ k. has_code d k code ≡ true → code < 64 * mask_words k)
-          (λ at. omega (arith, leb-true code SYN_DROPPED at))
-          (λ at. omega (arith, code_within 768 KEY_MAX code d.keys is.keys at))
-          (λ at. omega (arith, code_within 64 REL_MAX code d.relatives is.relatives at))
-          (λ at. omega (arith, code_within 64 ABS_MAX code d.axes is.axes at))
-          (λ at. omega (arith, code_within 64 MSC_MAX code d.miscs is.miscs at))
-          (λ at. omega (arith, code_within 64 SW_MAX code d.switches is.switches at))
-          (λ at. omega (arith, code_within 64 LED_MAX code d.leds is.leds at))
-          (λ at. omega (arith, code_within 64 SND_MAX code d.sounds is.sounds at))
-          kind has both.1,
-    )
+-- masks whose bits are all set are full
+pub masks_with-full : (bit : ℕ → ℕ → Bool) → ((kind index : ℕ) → bit kind index ≡ true) → masks_with bit ≡ full_masks
+masks_with-full bit set = ap masks_with (fun_ext (λ kind. fun_ext (λ index. set kind index))) ∙ all_set

@@ -1,7 +1,7 @@
 -- The number of a cell comes into one ring after the other.
 use Rattle.std.proofs.Common.{◌≡◌, ◌≢◌, ◌≤◌, ◌<◌, ℕ, ◌+◌, Bool, true, false, if◌then◌else◌, nat_eq, nat_lt, List, [], ◌∷◌, ◌++◌, length, map, get_or, set, Option, Some, refl, sym, ap, ◌∙◌, subst, inl, inr, arith}
 use mir.Val.{bool_byte}
-use Rattle.std.proofs.lemmas.Bool.{cases_eq, eq-eqb, ne_eqb, cond-true, cond-false, lt-ltb, le-ltb}
+use Rattle.std.proofs.lemmas.Bool.{cases_eq, cond_both, eq-eqb, ne_eqb, cond-true, cond-false, lt-ltb, le-ltb}
 use Rattle.std.proofs.lemmas.List.{length-map, get_or-map}
 use Rattle.std.proofs.lemmas.List.Sums.{sum_by-set, get_or-le-sum_by}
 use Rattle.std.proofs.lemmas.List.Elements.{All-push, All-cons, All-nil}
@@ -11,7 +11,7 @@ use Rattle.inp_ring.specs.declared.cell.Cell.{Cell}
 use Rattle.inp_ring.specs.declared.cell.Held.{Held}
 use Rattle.inp_ring.specs.Store.{StoreView, held_under, cell_in, held_cell, holders_of, held_by, dropped_cell, HasCell, IsIdle}
 use Rattle.inp_ring.specs.Ring.{times, cell_at, some_cell, AreFit, AreHeld, IsRing, IsMoved, IsPutAtEnd}
-use Rattle.inp_ring.proofs.Times.{once, times_push, once_same, once_other}
+use Rattle.inp_ring.proofs.Times.{at_each, once, times_push, once_same, once_other}
 use Rattle.inp_client.specs.declared.location.Location.{Location}
 use Rattle.inp_client.specs.Masks.{MaskView}
 use Rattle.inp_client.specs.Client.{ClientView, new_client}
@@ -37,17 +37,13 @@ owing_other number count n d = cond-false (nat_eq n number) count 0 (ne_eqb n nu
 owing_none : (number n : ℕ) → owing number 0 n ≡ 0
 owing_none number n = elim (cases_eq n number) [ inl e ↦ cond-true (nat_eq n number) 0 0 (eq-eqb n number e) | inr d ↦ owing_other number 0 n d ]
 
-once_owing : (number n : ℕ) → once n number ≡ owing number 1 n
-once_owing number n = elim (cases_eq n number) [
-  | inl e ↦ subst (λ (k : ℕ). once k number ≡ owing number 1 k) (sym e) (once_same number ∙ sym (owing_same number 1))
-  | inr d ↦ once_other n number (λ e. d (sym e)) ∙ sym (owing_other number 1 n d)
-]
+once_owing : (number : ℕ) → (n : ℕ) → once n number ≡ owing number 1 n
+once_owing number = at_each _ number (once_same number ∙ sym (owing_same number 1)) (λ n d. once_other n number (λ e. d (sym e)) ∙ sym (owing_other number 1 n d))
 
-owing_more : (number a b n : ℕ) → owing number a n + owing number b n ≡ owing number (a + b) n
-owing_more number a b n = elim (cases_eq n number) [
-  | inl e ↦ subst (λ (k : ℕ). owing number a k + owing number b k ≡ owing number (a + b) k) (sym e) (omega (arith, owing_same number a, owing_same number b, owing_same number (a + b)))
-  | inr d ↦ omega (arith, owing_other number a n d, owing_other number b n d, owing_other number (a + b) n d)
-]
+owing_more : (number a b : ℕ) → (n : ℕ) → owing number a n + owing number b n ≡ owing number (a + b) n
+owing_more number a b =
+    at_each _ number (omega (arith, owing_same number a, owing_same number b, owing_same number (a + b)))
+    (λ n d. omega (arith, owing_other number a n d, owing_other number b n d, owing_other number (a + b) n d))
 
 -- an event that is offered keeps a queue fit
 pub timed_after_event : (cell : Cell) (holder : Option ℕ) (c : ClientView Cell) → cell.now ≤ MOMENT_MAX → AreFit c.ring.events → AreFit (after_event cell holder c).ring.events
@@ -76,10 +72,7 @@ module _ {cell : Cell} {holder : Option ℕ} {number : ℕ} {locations : List Lo
     enter_absent = ap (λ (m : Member). times number m.ring.events) (sym old_is) ∙ to.absent i (omega arith) in_i
 
     not_owed : (n : ℕ) → 1 ≤ times n (member_at locations slab i).ring.events → owing number taken n ≡ 0
-    not_owed n there = elim (cases_eq n number) [
-      | inl e ↦ absurd (omega (arith, there, to.absent i (omega arith) in_i, ap (λ (k : ℕ). times k (member_at locations slab i).ring.events) e))
-      | inr d ↦ owing_other number taken n d
-    ]
+    not_owed = at_each _ number (λ there. absurd (omega (arith, there, to.absent i (omega arith) in_i))) (λ n d there. owing_other number taken n d)
 
     pub enter_held : AreHeld store old.ring.events
     enter_held = let P : Member → Type 0 = λ m. AreHeld store m.ring.events in subst P old_is (member_held to.stored (new_client 0 0) i long_i not_owed)
@@ -104,10 +97,7 @@ module _ {cell : Cell} {holder : Option ℕ} {number : ℕ} {locations : List Lo
           by_case false e = omega (arith, ap (times n) e, owing_none number n)
 
       owed_stay : (n : ℕ) → 1 ≤ owing number taken n → cell_in after n ≡ cell_in store n
-      owed_stay n some = elim (cases_eq n number) [
-        | inl e ↦ subst (λ (k : ℕ). cell_in after k ≡ cell_in store k) (sym e) (ap held_cell entered.same)
-        | inr d ↦ absurd (omega (arith, some, owing_other number taken n d))
-      ]
+      owed_stay = at_each _ number (λ some. ap held_cell entered.same) (λ n d some. absurd (omega (arith, some, owing_other number taken n d)))
 
       places_kept : new.ring.places ≡ (member_at locations slab i).ring.places
       places_kept = places ∙ ap (λ (m : Member). m.ring.places) (sym old_is)
@@ -148,29 +138,23 @@ module _ {cell : Cell} {holder : Option ℕ} {number : ℕ} {locations : List Lo
       abbrev before_client : ℕ → ClientView Cell
       before_client j = client_in first (member_at locations before j)
 
+      was_seen : client_in store old ≡ seen_at first locations before i
+      was_seen = ap (client_in store) (sym old_is) ∙ to.changed i in_i ∙ cond-false (nat_lt i i) _ _ (le-ltb i i (omega arith))
+
       next_changed : (j : ℕ) → j < length locations → client_in after (member_at locations next_slab j) ≡ (if nat_lt j (i + 1) then after_event cell holder (before_client j) else before_client j)
-      next_changed j in_j = elim (cases_eq j i) [
-        | inl e ↦
-            let was : client_in store old ≡ before_client i =
-            ap (client_in store) (sym old_is) ∙ to.changed i in_i ∙ cond-false (nat_lt i i) _ _ (le-ltb i i (omega arith)) in
-            ap (λ (k : ℕ). client_in after (member_at locations next_slab k)) e
-            ∙ ap (client_in after) member_here
-            ∙ offered
-            ∙ ap (λ (x : Cell). after_event x holder (client_in store old)) same_cell
-            ∙ ap (after_event cell holder) (was ∙ ap before_client (sym e))
-            ∙ sym (cond-true (nat_lt j (i + 1)) _ _ (lt-ltb j (i + 1) (omega (arith, e))))
-        | inr d ↦
-            ap (client_in after) (member_other j d)
-            ∙ others_stay to.stored (new_client 0 0) i long_i after entered.before moved owed_stay j (omega (arith, in_j, members_long to.located)) d
-            ∙ to.changed j in_j
-            ∙ ap (λ (b : Bool). if b then after_event cell holder (before_client j) else before_client j) (flag_other j i d)
-      ]
+      next_changed =
+          at_each _ i
+          (λ in_j. ap (client_in after) member_here ∙ offered
+          ∙ ap (λ (x : Cell). after_event x holder (client_in store old)) same_cell
+          ∙ ap (after_event cell holder) was_seen
+          ∙ sym (cond-true (nat_lt i (i + 1)) _ _ (lt-ltb i (i + 1) (omega arith))))
+          (λ j d in_j. ap (client_in after) (member_other j d)
+          ∙ others_stay to.stored (new_client 0 0) i long_i after entered.before moved owed_stay j (omega (arith, in_j, members_long to.located)) d
+          ∙ to.changed j in_j
+          ∙ ap (λ (b : Bool). if b then after_event cell holder (before_client j) else before_client j) (flag_other j i d))
 
       was_ring : ring_at locations before i ≡ old.ring.events
       was_ring = sym (to.rest i (omega arith) in_i) ∙ ap (λ (m : Member). m.ring.events) old_is
-
-      was_seen : client_in store old ≡ seen_at first locations before i
-      was_seen = ap (client_in store) (sym old_is) ∙ to.changed i in_i ∙ cond-false (nat_lt i i) _ _ (le-ltb i i (omega arith))
 
       -- its queue is shorter where it was lost
       lost_here : nat_lt (length new.ring.events) (length old.ring.events) ≡ loses_event cell holder (seen_at first locations before i)
@@ -186,21 +170,15 @@ module _ {cell : Cell} {holder : Option ℕ} {number : ℕ} {locations : List Lo
           (subst (λ (b : Bool). P old.masks b (ring_at locations before i)) lost_here (subst (λ (q : List ℕ). P old.masks (nat_lt (length new.ring.events) (length old.ring.events)) q) (sym was_ring) put))
 
       next_numbered : (j : ℕ) → j < i + 1 → j < length locations → IsPutBehind (admitted_number (seen_at first locations before j).masks cell.event number) (loses_event cell holder (seen_at first locations before j)) (ring_at locations before j) (ring_at locations next_slab j)
-      next_numbered j below in_j = elim (cases_eq j i) [
-        | inl e ↦
-            let P : ℕ → List ℕ → Type 0 = λ k q. IsPutBehind (admitted_number (seen_at first locations before k).masks cell.event number) (loses_event cell holder (seen_at first locations before k)) (ring_at locations before k) q in
-            subst (λ (q : List ℕ). P j q) (sym (ap (λ (k : ℕ). ring_at locations next_slab k) e ∙ ap (λ (m : Member). m.ring.events) member_here)) (subst (λ (k : ℕ). P k new.ring.events) (sym e) put_here)
-        | inr d ↦
-            let P : List ℕ → Type 0 = λ q. IsPutBehind (admitted_number (seen_at first locations before j).masks cell.event number) (loses_event cell holder (seen_at first locations before j)) (ring_at locations before j) q in
-            subst P (sym (ap (λ (m : Member). m.ring.events) (member_other j d))) (to.numbered j (omega (arith, d)) in_j)
-      ]
+      next_numbered =
+          at_each _ i
+          (λ below in_j. let P : List ℕ → Type 0 = λ q. IsPutBehind (admitted_number (seen_at first locations before i).masks cell.event number) (loses_event cell holder (seen_at first locations before i)) (ring_at locations before i) q in
+          subst P (sym (ap (λ (m : Member). m.ring.events) member_here)) put_here)
+          (λ j d below in_j. let P : List ℕ → Type 0 = λ q. IsPutBehind (admitted_number (seen_at first locations before j).masks cell.event number) (loses_event cell holder (seen_at first locations before j)) (ring_at locations before j) q in
+          subst P (sym (ap (λ (m : Member). m.ring.events) (member_other j d))) (to.numbered j (omega (arith, d)) in_j))
 
       next_few : taken + gained ≤ i + 1
-      next_few = omega (arith, to.few, one is_in)
-        where
-          one : (b : Bool) → (if b then 1 else 0) ≤ 1
-          one true = omega arith
-          one false = omega arith
+      next_few = omega (arith, to.few, cond_both is_in 1 0 (λ n. n ≤ 1) (λ _. omega arith) (λ _. omega arith))
 
       pub entered_more : IsEnteredTo (i + 1) cell holder number locations before next_slab first after (taken + gained)
       entered_more = record {

@@ -1,14 +1,15 @@
 -- A frame is offered event by event.
-use Rattle.std.proofs.Common.{◌≡◌, ◌≤◌, ◌<◌, ℕ, ◌+◌, Bool, true, false, ◌&&◌, if◌then◌else◌, List, [], ◌∷◌, ◌++◌, length, map, drop, get_or, Option, Some, None, refl, sym, ap, ◌∙◌, subst, inl, inr, arith}
+use Rattle.std.proofs.Common.{◌≡◌, ◌≤◌, ◌<◌, ℕ, ◌+◌, Bool, true, false, ◌&&◌, if◌then◌else◌, List, [], ◌∷◌, ◌++◌, length, map, drop, get_or, Option, Some, None, refl, sym, ap, ◌∙◌, subst, arith}
 use Rattle.std.specs.Prelude.{filter}
-use Rattle.std.proofs.lemmas.Bool.{cases_eq, cond-true, cond-false, cond_both}
+use Rattle.std.proofs.lemmas.Bool.{cond-true, cond-false, cond_both}
 use Rattle.std.proofs.lemmas.List.{drop_more, drop_all, append-nil, append_assoc, length_push, length-map, get_or-map, map-id}
 use Rattle.slab.specs.Slab.{Slab}
 use Rattle.inp_model.specs.declared.event.Event.{Event}
 use Rattle.inp_model.specs.Queue.{put, put_all}
 use Rattle.inp_ring.specs.declared.cell.Cell.{Cell}
 use Rattle.inp_ring.specs.declared.cell.Held.{Held}
-use Rattle.inp_ring.specs.Store.{StoreView, held_under, cell_in, held_cell, holders, holders_of, cell_count, held_by, held_more, event_of_cell, dropped_cell, IsIdle, IsIdleSlot, IsPut}
+use Rattle.inp_ring.specs.Store.{StoreView, held_under, cell_in, held_cell, holders, holders_of, cell_count, held_by, held_more, event_of_cell, dropped_cell, IsIdleSlot, IsPut}
+use Rattle.inp_ring.proofs.Times.{at_each}
 use Rattle.inp_client.specs.declared.frame.Frame.{Frame}
 use Rattle.inp_client.specs.declared.location.Location.{Location}
 use Rattle.inp_client.specs.Masks.{MaskView, admits_of}
@@ -30,28 +31,16 @@ module _ {locations : List Location} {slab : Slab Member} {s after : StoreView} 
   in_none = omega (arith, shared.stored.held number, ap holders_of new)
 
   added_stay : (n : ℕ) → 1 ≤ times_in n (clients_in locations slab) → cell_in after n ≡ cell_in s n
-  added_stay n there = elim (cases_eq n number) [
-    | inl e ↦ absurd (omega (arith, there, in_none, ap (λ (k : ℕ). times_in k (clients_in locations slab)) e))
-    | inr d ↦ ap held_cell (put.others n d)
-  ]
+  added_stay = at_each _ number (λ there. absurd (omega (arith, there, in_none))) (λ n d there. ap held_cell (put.others n d))
 
   pub stored_add : cell_count s + s.spare ≤ cell_count after + after.spare → AreStored after (clients_in locations slab) (λ n. 0)
   stored_add room = stored_stays shared.stored after added_stay (λ n. 0) held room
     where
       held : (n : ℕ) → holders after n + 0 ≡ times_in n (clients_in locations slab)
-      held n = elim (cases_eq n number) [
-        | inl e ↦ subst (λ (k : ℕ). holders after k + 0 ≡ times_in k (clients_in locations slab)) (sym e) (omega (arith, ap holders_of put.changed, in_none))
-        | inr d ↦ omega (arith, ap holders_of (put.others n d), shared.stored.held n)
-      ]
+      held = at_each _ number (omega (arith, ap holders_of put.changed, in_none)) (λ n d. omega (arith, ap holders_of (put.others n d), shared.stored.held n))
 
   pub cells_add : cells_in after (clients_in locations slab) ≡ cells_in s (clients_in locations slab)
   cells_add = cells_stay shared.stored after added_stay
-
-  pub only_added : (n : ℕ) → IsIdle after n → n ≡ number
-  only_added n idle = elim (cases_eq n number) [
-    | inl e ↦ e
-    | inr d ↦ absurd (shared.none_idle n (subst IsIdleSlot (put.others n d) idle))
-  ]
 
 pub shared_spare : {locations : List Location} {slab : Slab Member} {s : StoreView} → AreShared locations slab s → 0 < length locations → (d : Member) → 0 < s.spare
 shared_spare {locations} {slab} {s} shared some d =
@@ -68,31 +57,21 @@ module _ {count : ℕ} {cell : Cell} {holder : Option ℕ} {number : ℕ} {locat
   module _ (after : StoreView) (slot : Option Held) (put : IsPut store after number slot) (counts : holders_of slot ≡ taken)
       (same : 0 < taken → held_cell slot ≡ Some cell) (busy : IsIdleSlot slot → ⊥) where
     settled_stay : (n : ℕ) → 1 ≤ times_in n clients → cell_in after n ≡ cell_in store n
-    settled_stay n there = elim (cases_eq n number) [
-      | inl e ↦
-          let some : 0 < taken = omega (arith, there, taken_times, ap (λ (k : ℕ). times_in k clients) e) in
-          let P : ℕ → Type 0 = λ k. cell_in after k ≡ cell_in store k in
-          subst P (sym e) (ap held_cell put.changed ∙ same some ∙ sym (ap held_cell to.same))
-      | inr d ↦ ap held_cell (put.others n d)
-    ]
+    settled_stay =
+        at_each _ number (λ there. ap held_cell put.changed ∙ same (omega (arith, there, taken_times)) ∙ sym (ap held_cell to.same))
+        (λ n d there. ap held_cell (put.others n d))
 
     shared_settled : cell_count store + store.spare ≤ cell_count after + after.spare → AreShared locations slab after
     shared_settled room = record {
       located = to.located;
       stored = stored_stays to.stored after settled_stay (λ n. 0) held room;
-      none_idle = λ n idle. elim (cases_eq n number) [
-        | inl e ↦ busy (subst IsIdleSlot put.changed (subst (λ (k : ℕ). IsIdle after k) e idle))
-        | inr d ↦ d (to.idle n (subst IsIdleSlot (put.others n d) idle))
-      ];
+      none_idle = at_each _ number (λ idle. busy (subst IsIdleSlot put.changed idle)) (λ n d idle. d (to.idle n (subst IsIdleSlot (put.others n d) idle)));
     }
       where
         held : (n : ℕ) → holders after n + 0 ≡ times_in n clients
-        held n = elim (cases_eq n number) [
-          | inl e ↦
-              let P : ℕ → Type 0 = λ k. holders after k + 0 ≡ times_in k clients in
-              subst P (sym e) (omega (arith, ap holders_of put.changed, counts, taken_times))
-          | inr d ↦ omega (arith, ap holders_of (put.others n d), to.stored.held n, owing_other number taken n d)
-        ]
+        held =
+            at_each _ number (omega (arith, ap holders_of put.changed, counts, taken_times))
+            (λ n d. omega (arith, ap holders_of (put.others n d), to.stored.held n, owing_other number taken n d))
 
     cells_settled : cells_in after clients ≡ cells_in store clients
     cells_settled = cells_stay to.stored after settled_stay

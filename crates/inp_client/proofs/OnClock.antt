@@ -18,11 +18,13 @@ use Rattle.inp_ring.specs.Store.{event_of_cell, dropped_cell, cell_taken}
 use Rattle.inp_client.specs.Masks.{admits_of}
 use Rattle.inp_client.specs.Client.{ClientView, with_events, is_offered_to, cell_of_event, admitted_cells, after_offer, after_take, after_flush, after_clock}
 use Rattle.inp_client.specs.Clients.{has_number, has_client, client_named, has_revoked_client, events_of, map_client, with_client, without_client}
+use Rattle.std.proofs.lemmas.Simd.{map-map}
+use Rattle.inp_client.proofs.Lists.{either_map, list_any-map, map_over}
 use Rattle.inp_client.specs.Read.{taken_event, client_on, clients_on, taken_at, admitted_events, read_after_offer, read_after_clock}
 
 -- A queue of items that are made of others, with the same events.
 module _ {X Y : Type 0} (f : X → Y) (event : X → Event) (event' : Y → Event) (same : (x : X) → event' (f x) ≡ event x) where
-  visible-on : (q : List X) → visible event' (map f q) ≡ visible event q
+  pub visible-on : (q : List X) → visible event' (map f q) ≡ visible event q
   visible-on [] = refl
   visible-on (x ∷ q) =
       ap (λ (b : Bool). if nat_eq (visible event' (map f q)) 0 then (if b then 1 else 0) else suc (visible event' (map f q))) (ap is_report (same x))
@@ -48,7 +50,7 @@ module _ {X Y : Type 0} (f : X → Y) (event : X → Event) (event' : Y → Even
       either false true = sym (map_push f q x)
       either false false = refl
 
-  put_all-on : (lost : X → X) (lost' : Y → Y) → ((x : X) → lost' (f x) ≡ f (lost x)) → (places : ℕ) (q xs : List X) → put_all event' lost' places (map f q) (map f xs) ≡ map f (put_all event lost places q xs)
+  pub put_all-on : (lost : X → X) (lost' : Y → Y) → ((x : X) → lost' (f x) ≡ f (lost x)) → (places : ℕ) (q xs : List X) → put_all event' lost' places (map f q) (map f xs) ≡ map f (put_all event lost places q xs)
   put_all-on lost lost' alike places q [] = refl
   put_all-on lost lost' alike places q (x ∷ xs) =
       ap (λ r. put_all event' lost' places r (map f xs)) (put-on lost lost' alike places q x)
@@ -56,14 +58,9 @@ module _ {X Y : Type 0} (f : X → Y) (event : X → Event) (event' : Y → Even
 
 same_clock : (a b : Clock) → is_same_clock a b ≡ true → a ≡ b
 same_clock Realtime Realtime e = refl
-same_clock Realtime Monotonic e = cc
-same_clock Realtime Boottime e = cc
-same_clock Monotonic Realtime e = cc
 same_clock Monotonic Monotonic e = refl
-same_clock Monotonic Boottime e = cc
-same_clock Boottime Realtime e = cc
-same_clock Boottime Monotonic e = cc
 same_clock Boottime Boottime e = refl
+same_clock _ _ e = absurd (cc e)
 
 -- the calls
 module _ (d : Description) where
@@ -87,7 +84,9 @@ module _ (d : Description) where
       queue false (x ∷ q) h = refl
 
   pub on_offer : (frame : List Event) (now place : ℕ) (holder : Option ℕ) (c : ClientView Cell) → client_on d (after_offer frame now place holder c) ≡ read_after_offer d frame now place holder (client_on d c)
-  on_offer frame now place holder c = either (is_offered_to holder c)
+  on_offer frame now place holder c =
+      either_map (client_on d) (is_offered_to holder c) (with_events (put_all event_of_cell dropped_cell c.ring.places c.ring.events (admitted_cells frame now place c)) c) c
+      ∙ ap (λ (q : List Taken). if is_offered_to holder c then with_events q (client_on d c) else client_on d c) (sym queue)
     where
       items : (es : List Event) → map (taken_at (now + offset d c.clock) place) es ≡ map (cell_taken (offset d c.clock)) (map (cell_of_event now place) es)
       items [] = refl
@@ -98,38 +97,24 @@ module _ (d : Description) where
           ap (put_all taken_event model.dropped_at c.ring.places (client_on d c).ring.events) (items (filter (admits_of c.masks) frame))
           ∙ put_all-on (cell_taken (offset d c.clock)) event_of_cell taken_event (λ x. refl) dropped_cell model.dropped_at (λ x. refl) c.ring.places c.ring.events (admitted_cells frame now place c)
 
-      either : (b : Bool) → client_on d (if b then with_events (put_all event_of_cell dropped_cell c.ring.places c.ring.events (admitted_cells frame now place c)) c else c)
-          ≡ (if b then with_events (put_all taken_event model.dropped_at c.ring.places (client_on d c).ring.events (admitted_events d frame now place (client_on d c))) (client_on d c) else client_on d c)
-      either true = ap (λ q. with_events q (client_on d c)) (sym queue)
-      either false = refl
-
   -- the list of clients
   pub clients_on-map : (change : ClientView Cell → ClientView Cell) (change' : ClientView Taken → ClientView Taken) → ((c : ClientView Cell) → client_on d (change c) ≡ change' (client_on d c)) → (clients : List (ClientView Cell)) → clients_on d (map change clients) ≡ map change' (clients_on d clients)
-  clients_on-map change change' same [] = refl
-  clients_on-map change change' same (c ∷ clients) = ap (λ x. x ∷ clients_on d (map change clients)) (same c) ∙ ap (λ xs. change' (client_on d c) ∷ xs) (clients_on-map change change' same clients)
+  clients_on-map change change' same clients =
+      map-map (client_on d) change clients ∙ map_over (λ c. client_on d (change c)) (client_on d) change' clients (λ j e in_j. same _)
 
   pub clients_on-map_client : (number : ℕ) (change : ClientView Cell → ClientView Cell) (change' : ClientView Taken → ClientView Taken) → ((c : ClientView Cell) → client_on d (change c) ≡ change' (client_on d c)) → (clients : List (ClientView Cell)) → clients_on d (map_client number change clients) ≡ map_client number change' (clients_on d clients)
   clients_on-map_client number change change' same clients =
-      clients_on-map (λ c. if has_number number c then change c else c) (λ c. if has_number number c then change' c else c) (λ c. one c (has_number number c)) clients
-    where
-      one : (c : ClientView Cell) (b : Bool) → client_on d (if b then change c else c) ≡ (if b then change' (client_on d c) else client_on d c)
-      one c true = same c
-      one c false = refl
+      clients_on-map (λ c. if has_number number c then change c else c) (λ c. if has_number number c then change' c else c)
+      (λ c. either_map (client_on d) (has_number number c) (change c) c ∙ ap (λ x. if has_number number c then x else client_on d c) (same c)) clients
 
   pub has_client-on : (number : ℕ) (clients : List (ClientView Cell)) → has_client number (clients_on d clients) ≡ has_client number clients
-  has_client-on number [] = refl
-  has_client-on number (c ∷ clients) = ap (λ (b : Bool). nat_eq c.number number || b) (has_client-on number clients)
-
-  pub length-on : (clients : List (ClientView Cell)) → length (clients_on d clients) ≡ length clients
-  length-on clients = length-map clients (client_on d)
+  has_client-on number clients = list_any-map (has_number number) (client_on d) clients
 
   pub client_named-on : (number : ℕ) (clients : List (ClientView Cell)) → client_named number (clients_on d clients) ≡ option_map (client_on d) (client_named number clients)
   client_named-on number [] = refl
-  client_named-on number (c ∷ clients) = one (nat_eq c.number number) (client_named-on number clients)
-    where
-      one : (b : Bool) → client_named number (clients_on d clients) ≡ option_map (client_on d) (client_named number clients) → (if b then Some (client_on d c) else client_named number (clients_on d clients)) ≡ option_map (client_on d) (if b then Some c else client_named number clients)
-      one true rest = refl
-      one false rest = rest
+  client_named-on number (c ∷ clients) =
+      ap (λ o. if nat_eq c.number number then Some (client_on d c) else o) (client_named-on number clients)
+      ∙ sym (either_map (option_map (client_on d)) (nat_eq c.number number) (Some c) (client_named number clients))
 
   pub has_revoked_client-on : (number : ℕ) (clients : List (ClientView Cell)) → has_revoked_client number (clients_on d clients) ≡ has_revoked_client number clients
   has_revoked_client-on number clients = ap (λ o. option_map_or (λ (c : ClientView Taken). c.revoked) o false) (client_named-on number clients) ∙ one (client_named number clients)
@@ -147,16 +132,12 @@ module _ (d : Description) where
 
   pub without_client-on : (number : ℕ) (clients : List (ClientView Cell)) → clients_on d (without_client number clients) ≡ without_client number (clients_on d clients)
   without_client-on number [] = refl
-  without_client-on number (c ∷ clients) = one (not (nat_eq c.number number)) (without_client-on number clients)
-    where
-      one : (b : Bool) → clients_on d (without_client number clients) ≡ without_client number (clients_on d clients) → clients_on d (if b then c ∷ without_client number clients else without_client number clients) ≡ (if b then client_on d c ∷ without_client number (clients_on d clients) else without_client number (clients_on d clients))
-      one true rest = ap (λ xs. client_on d c ∷ xs) rest
-      one false rest = rest
+  without_client-on number (c ∷ clients) =
+      either_map (clients_on d) (not (nat_eq c.number number)) (c ∷ without_client number clients) (without_client number clients)
+      ∙ ap (λ cs. if not (nat_eq c.number number) then client_on d c ∷ cs else cs) (without_client-on number clients)
 
   pub with_client-on : (new : ClientView Cell) (clients : List (ClientView Cell)) → clients_on d (with_client new clients) ≡ with_client (client_on d new) (clients_on d clients)
   with_client-on new [] = refl
-  with_client-on new (c ∷ clients) = one (nat_lt c.number new.number) (with_client-on new clients)
-    where
-      one : (b : Bool) → clients_on d (with_client new clients) ≡ with_client (client_on d new) (clients_on d clients) → clients_on d (if b then c ∷ with_client new clients else new ∷ c ∷ clients) ≡ (if b then client_on d c ∷ with_client (client_on d new) (clients_on d clients) else client_on d new ∷ client_on d c ∷ clients_on d clients)
-      one true rest = ap (λ xs. client_on d c ∷ xs) rest
-      one false rest = refl
+  with_client-on new (c ∷ clients) =
+      either_map (clients_on d) (nat_lt c.number new.number) (c ∷ with_client new clients) (new ∷ c ∷ clients)
+      ∙ ap (λ cs. if nat_lt c.number new.number then client_on d c ∷ cs else client_on d new ∷ client_on d c ∷ clients_on d clients) (with_client-on new clients)

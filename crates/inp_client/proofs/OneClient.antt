@@ -1,5 +1,5 @@
 -- What a call on one client leaves of all that is kept.
-use Rattle.std.proofs.Common.{◌≡◌, ◌≢◌, ◌≤◌, ◌<◌, ℕ, ◌+◌, Bool, true, false, ◌||◌, ◌⊎◌, nat_eq, List, [], ◌∷◌, length, map, get_or, set, Contains, Some, refl, sym, ap, ◌∙◌, subst, inl, inr, arith}
+use Rattle.std.proofs.Common.{◌≡◌, ◌≢◌, ◌≤◌, ◌<◌, ℕ, ◌+◌, Bool, true, false, ◌⊎◌, List, [], ◌∷◌, length, map, get_or, set, Contains, Some, refl, sym, ap, ◌∙◌, subst, inl, inr, arith}
 use Rattle.std.specs.Prelude.{flat_map}
 use Rattle.std.specs.Option.{option_map_or, option_map}
 use Rattle.std.proofs.Math.Seq.{map-set_same}
@@ -20,12 +20,13 @@ use Rattle.inp_ring.specs.Ring.{times, cell_at, AreFit, AreHeld, IsRing}
 use Rattle.inp_ring.proofs.Moves.{moved_none}
 use Rattle.inp_client.specs.declared.clients.Clients.TheInside.{Inside}
 use Rattle.inp_client.specs.Client.{ClientView, new_client, cell_of_event, after_take, after_flush, after_mask, after_clock, after_revoke}
-use Rattle.inp_client.specs.Clients.{ClientsView, distinct, has_client, client_named, events_of, has_revoked_client, map_client}
+use Rattle.inp_client.specs.Clients.{has_number, ClientsView, distinct, has_client, client_named, events_of, has_revoked_client, map_client}
 use Rattle.inp_client.specs.Read.{client_on, clients_on}
 use Rattle.inp_client.specs.Member.{Member, ring_of, client_in, cells_in, numbers_in, times_in, wanted, AreStored, HasFewer, IsMemberChanged}
 use Rattle.inp_client.specs.Numbers.{stored_of, HoldNoneNew}
 use Rattle.inp_client.specs.Locations.{client_at, clients_in}
 use Rattle.inp_client.specs.Kept.{kept_view, AreKept}
+use Rattle.inp_client.proofs.Lists.{list_any-map}
 use Rattle.inp_client.proofs.Locations.{client_at_found, located_after_write, members_after_write, members_long, member_in_location, member_number, members_apart}
 use Rattle.inp_client.proofs.OtherClients.{held_known, member_held, member_timed, member_ring, spare_some, others_stay, stored_after_write, cells_after_write, client_named-cells_in}
 use Rattle.inp_client.proofs.OnClock.{client_named-on}
@@ -33,8 +34,7 @@ use Rattle.inp_client.proofs.RingsLeft.{rings_of, held_numbers-rings, fewer_set,
 
 -- a client is open whatever its cells are
 pub has_client-cells_in : (s : StoreView) (ms : List Member) (number : ℕ) → has_client number (cells_in s ms) ≡ has_client number ms
-has_client-cells_in s [] number = refl
-has_client-cells_in s (m ∷ ms) number = ap (λ (b : Bool). nat_eq m.number number || b) (has_client-cells_in s ms number)
+has_client-cells_in s ms number = list_any-map (has_number number) (client_in s) ms
 
 pub call_open : (k : Inside) (number : ℕ) (now : ClientsView) → kept_view k ≡ now → has_client number now.list ≡ true → has_client number (clients_in k.locations.items k.slab) ≡ true
 call_open k number now e h = sym (has_client-cells_in k.store (clients_in k.locations.items k.slab) number) ∙ ap (λ (v : ClientsView). has_client number v.list) e ∙ h

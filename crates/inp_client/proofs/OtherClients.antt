@@ -2,7 +2,7 @@
 use Rattle.std.proofs.Common.{◌≡◌, ◌≢◌, ◌≤◌, ◌<◌, ℕ, zero, suc, ◌+◌, ◌-◌, if◌then◌else◌, nat_eq, List, [], ◌∷◌, length, map, get_or, set, Option, Some, None, IsSome, refl, sym, ap, ◌∙◌, subst, inl, inr, arith}
 use Rattle.std.specs.Prelude.{sum_by, All}
 use Rattle.std.specs.List.{remove, insert, AllWithin}
-use Rattle.std.proofs.lemmas.Bool.{cases_eq, cases_lt, eq-eqb, ne_eqb, cond-true, cond-false}
+use Rattle.std.proofs.lemmas.Bool.{cases_lt, eq-eqb, ne_eqb, cond-true, cond-false}
 use Rattle.std.proofs.lemmas.List.{length-set, length-map, get_or-map, get_or-set_same, get_or-set_other, map-set}
 use Rattle.std.proofs.lemmas.List.Sums.{sum_by-set, sum_by-remove, sum_by-insert, get_or-le-sum_by}
 use Rattle.std.proofs.lemmas.List.Edits.{length-remove, get_or-remove_below, get_or-remove_above}
@@ -12,7 +12,7 @@ use Rattle.inp_ring.specs.declared.cell.Cell.{Cell}
 use Rattle.inp_ring.specs.declared.cell.Held.{Held}
 use Rattle.inp_ring.specs.Store.{StoreView, held_under, cell_in, holders, holders_of, cell_count, HasCell, IsIdle, IsIdleSlot}
 use Rattle.inp_ring.specs.Ring.{times, cell_at, AreFit, AreHeld, IsRing, IsMoved}
-use Rattle.inp_ring.proofs.Times.{times_first}
+use Rattle.inp_ring.proofs.Times.{at_each, times_first}
 use Rattle.inp_ring.proofs.Rings.{queue_stays}
 use Rattle.inp_client.specs.Client.{ClientView}
 use Rattle.inp_client.specs.Clients.{has_number, map_client, without_client, with_client, client_named}
@@ -78,10 +78,7 @@ module _ {s : StoreView} {ms : List Member} {owed : ℕ → ℕ} (st : AreStored
         arith,
         st.room,
         numbers_fit ms st.rings,
-        cells_few s (x ∷ numbers_in ms) (λ n there. elim (cases_eq n x) [
-          | inl e ↦ omega (arith, times_first n (numbers_in ms), ap (λ (k : ℕ). times n (k ∷ numbers_in ms)) e)
-          | inr differs ↦ omega (arith, known n there differs, times-numbers_in n ms)
-        ]),
+        cells_few s (x ∷ numbers_in ms) (at_each _ x (λ there. times_first x (numbers_in ms)) (λ n differs there. omega (arith, known n there differs, times-numbers_in n ms))),
       )
 
   -- A call on the client at i: its numbers become others, of which some are owed holders still.
@@ -123,10 +120,9 @@ module _ {s : StoreView} {ms : List Member} {owed : ℕ → ℕ} (st : AreStored
         Fit m = AreFit (map (cell_at after) m.ring.events)
 
         fit : (j : ℕ) → j < length ms → AreFit (map (cell_at after) (get_or (set ms i new) j d).ring.events)
-        fit j in_j = elim (cases_eq j i) [
-          | inl e ↦ subst Fit (sym (ap (λ (k : ℕ). get_or (set ms i new) k d) e ∙ get_or-set_same ms i new d in_i)) timed
-          | inr differs ↦ subst Fit (sym (get_or-set_other ms i j new d differs)) (stays_fit j in_j differs)
-        ]
+        fit =
+            at_each _ i (λ in_j. subst Fit (sym (get_or-set_same ms i new d in_i)) timed)
+            (λ j differs in_j. subst Fit (sym (get_or-set_other ms i j new d differs)) (stays_fit j in_j differs))
 
 abbrev changed_one : ℕ → (ClientView Cell → ClientView Cell) → ClientView Cell → ClientView Cell
 changed_one number change c = if has_number number c then change c else c

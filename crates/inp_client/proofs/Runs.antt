@@ -1,10 +1,10 @@
 -- A frame is put in one run into the rings of all clients that it is offered to.
 use Rattle.std.proofs.Common.{◌≡◌, ◌≢◌, ◌≤◌, ◌<◌, ℕ, suc, ◌+◌, Bool, true, false, ◌&&◌, ◌||◌, not, if◌then◌else◌, nat_lt, List, [], ◌∷◌, ◌++◌, length, map, take, get_or, Option, Some, None, refl, sym, ap, ◌∙◌, subst, inl, inr, arith}
 use Rattle.std.specs.Prelude.{filter, sum_by, All}
-use Rattle.std.proofs.lemmas.Bool.{false≢true, cond_both, cases_eq, cases_lt, cond-true, cond-false, lt-ltb, le-ltb}
+use Rattle.std.proofs.lemmas.Bool.{false≢true, cond_both, cases_lt, cond-true, cond-false, lt-ltb, le-ltb}
 use Rattle.std.proofs.lemmas.List.{take_more, length-map, length_push, length-append, get_or-map, append_assoc, append-nil, map_push, map-append}
 use Rattle.std.proofs.lemmas.List.Sums.{sum_by-cons, sum_by-le, get_or-le-sum_by, count_by_more_no, count_by_more_yes}
-use Rattle.std.proofs.lemmas.List.Elements.{All-map, All-from_get_or, All-get_or, All-append, All-push, All-nil, All-cons}
+use Rattle.std.proofs.lemmas.List.Elements.{All-map, All-from_get_or, All-get_or, All-append, All-push}
 use Rattle.slab.specs.Slab.{Slab, get, with_value}
 use Rattle.inp_model.specs.declared.stamped.TheConstants.{MOMENT_MAX}
 use Rattle.inp_model.specs.declared.event.Event.{Event}
@@ -14,7 +14,7 @@ use Rattle.inp_ring.specs.declared.cell.Cell.{Cell}
 use Rattle.inp_ring.specs.declared.cell.Held.{Held}
 use Rattle.inp_ring.specs.Store.{StoreView, held_under, held_cell, holders, holders_of, cell_count, held_by, event_of_cell, dropped_cell, IsIdleSlot, IsPut}
 use Rattle.inp_ring.specs.Ring.{times, cell_at, some_cell, AreFit, AreDifferent, IsRing}
-use Rattle.inp_ring.proofs.Times.{once, times-append, times_push, once_same, once_other, AreDifferent_push}
+use Rattle.inp_ring.proofs.Times.{at_each, times-append, times_push, once_same, once_other, AreDifferent_push}
 use Rattle.inp_ring.proofs.Moves.{idle_none}
 use Rattle.inp_ring.proofs.Rings.{queue_stays}
 use Rattle.inp_client.specs.declared.frame.Frame.{Frame}
@@ -47,13 +47,6 @@ weaker false b rest h = h
 apart_any : (es : List Event) (b : Bool) → are_reports_apart true es ≡ true → are_reports_apart b es ≡ true
 apart_any [] b h = refl
 apart_any (e ∷ es) b h = weaker (is_report e) b (are_reports_apart (is_report e) es) h
-
--- how the flag of the loop goes on
-pub apart_next : (e : Event) (es : List Event) (behind : Bool) → (is_report e && behind) ≡ false → are_reports_apart behind (e ∷ es) ≡ are_reports_apart (is_report e) es
-apart_next e es behind h = ap (λ (b : Bool). not b && are_reports_apart (is_report e) es) h
-
-pub apart_not : (e : Event) (es : List Event) (behind : Bool) → (is_report e && behind) ≡ true → are_reports_apart behind (e ∷ es) ≡ false
-apart_not e es behind h = ap (λ (b : Bool). not b && are_reports_apart (is_report e) es) h
 
 abbrev ends : List Cell → Bool
 ends q = is_empty q || ends_in_report event_of_cell q
@@ -137,23 +130,17 @@ pub added_more : {first s : StoreView} {cells : List Cell} {count : ℕ} {number
     → cell_count new + new.spare ≡ cell_count s + s.spare → AreAdded first new (cells ++ cell ∷ []) count (numbers ++ x ∷ [])
 added_more {first} {s} {cells} {count} {numbers} to some x cell new none put room = record {
   long = omega (arith, to.long, length_push numbers x, length_push cells cell);
-  fresh = λ n there. elim (cases_eq n x) [
-    | inl e ↦ subst (λ (k : ℕ). held_under first k ≡ None) (sym e) (sym (to.others x absent) ∙ none)
-    | inr d ↦ to.fresh n (omega (arith, there, times_push n x numbers, once_other n x (λ e. d (sym e))))
-  ];
+  fresh = at_each _ x (λ there. sym (to.others x absent) ∙ none)
+      (λ n d there. to.fresh n (omega (arith, there, times_push n x numbers, once_other n x (λ e. d (sym e)))));
   different = AreDifferent_push x numbers to.different absent;
   there =
       map_push (cell_at new) numbers x
       ∙ ap (λ (q : List Cell). q ++ cell_at new x ∷ []) (queue_stays s new numbers (λ n there. ap held_cell (put.others n (apart n there))) ∙ to.there)
       ∙ ap (λ (o : Option Held). cells ++ some_cell (held_cell o) ∷ []) put.changed;
-  held = λ n there. elim (cases_eq n x) [
-    | inl e ↦ ap (λ (k : ℕ). holders new k) e ∙ ap holders_of put.changed
-    | inr d ↦ ap holders_of (put.others n d) ∙ to.held n (omega (arith, there, times_push n x numbers, once_other n x (λ e. d (sym e))))
-  ];
-  others = λ n out. elim (cases_eq n x) [
-    | inl e ↦ absurd (omega (arith, out, times_push n x numbers, ap (λ (k : ℕ). once k x) e, once_same x))
-    | inr d ↦ put.others n d ∙ to.others n (omega (arith, out, times_push n x numbers))
-  ];
+  held = at_each _ x (λ there. ap holders_of put.changed)
+      (λ n d there. ap holders_of (put.others n d) ∙ to.held n (omega (arith, there, times_push n x numbers, once_other n x (λ e. d (sym e)))));
+  others = at_each _ x (λ out. absurd (omega (arith, out, times_push x x numbers, once_same x)))
+      (λ n d out. put.others n d ∙ to.others n (omega (arith, out, times_push n x numbers)));
   room = room ∙ to.room;
 }
   where
@@ -195,12 +182,11 @@ module _ {holder : Option ℕ} {numbers : List ℕ} {locations : List Location} 
       pub appended_more : IsAppendedTo (i + 1) holder numbers locations before next_slab
       appended_more = record {
         located = located_after_write to.located i (record { number = 0; key = 0 }) key old new in_i at found numbered;
-        changed = λ j in_j. elim (cases_eq j i) [
-          | inl e ↦
-              ap (λ (k : ℕ). member_at locations next_slab k) e ∙ member_written to.located i (record { number = 0; key = 0 }) key old new in_i at found (new_client 0 0) ∙ is ∙ ap (with_run holder numbers) (sym old_is ∙ ap (member_at locations before) (sym e))
-              ∙ sym (cond-true (nat_lt j (i + 1)) _ _ (lt-ltb j (i + 1) (omega (arith, e))))
-          | inr d ↦ member_kept to.located i (record { number = 0; key = 0 }) key old new in_i at found j (new_client 0 0) d ∙ to.changed j in_j ∙ ap (λ (b : Bool). if b then with_run holder numbers (member_at locations before j) else member_at locations before j) (flag_other j i d)
-        ];
+        changed = at_each _ i
+            (λ in_j. member_written to.located i (record { number = 0; key = 0 }) key old new in_i at found (new_client 0 0) ∙ is ∙ ap (with_run holder numbers) (sym old_is)
+            ∙ sym (cond-true (nat_lt i (i + 1)) _ _ (lt-ltb i (i + 1) (omega arith))))
+            (λ j d in_j. member_kept to.located i (record { number = 0; key = 0 }) key old new in_i at found j (new_client 0 0) d ∙ to.changed j in_j
+            ∙ ap (λ (b : Bool). if b then with_run holder numbers (member_at locations before j) else member_at locations before j) (flag_other j i d));
         capacity = to.capacity;
       }
 
@@ -340,15 +326,14 @@ module _ {locations : List Location} {before : Slab Member} {first store : Store
         (λ h. record { least = was.least; most = was.most; room = omega (arith, (takes h).1, length-append m.ring.events numbers, count_is); different = different_with })
         (λ h. was)
 
-    cells_fit : now ≤ MOMENT_MAX → (es : List Event) → AreFit (map (cell_of_event now place) es)
-    cells_fit fits [] = All-nil (λ (cell : Cell). cell.now ≤ MOMENT_MAX)
-    cells_fit fits (e ∷ es) = All-cons (λ (cell : Cell). cell.now ≤ MOMENT_MAX) (cell_of_event now place e) (map (cell_of_event now place) es) fits (cells_fit fits es)
+    cells_fit : now ≤ MOMENT_MAX → AreFit cells
+    cells_fit fits = All-map (λ (cell : Cell). cell.now ≤ MOMENT_MAX) (cell_of_event now place) frame (λ j d in_j. fits)
 
     timed_with : now ≤ MOMENT_MAX → AreFit (map (cell_at store) (with_run holder numbers m).ring.events)
     timed_with fits =
         let P : List Cell → Type 0 = λ q. AreFit q in
         cond_both (is_offered_to holder m) _ _ (λ (x : Member). AreFit (map (cell_at store) x.ring.events))
-        (λ _. subst P (sym queue_with) (All-append (λ (cell : Cell). cell.now ≤ MOMENT_MAX) (map (cell_at first) m.ring.events) cells was_fit (cells_fit fits frame)))
+        (λ _. subst P (sym queue_with) (All-append (λ (cell : Cell). cell.now ≤ MOMENT_MAX) (map (cell_at first) m.ring.events) cells was_fit (cells_fit fits)))
         (λ _. subst P (sym stays) was_fit)
 
     seen_with : client_in store (with_run holder numbers m) ≡ after_offer frame now place holder (client_in first m)

@@ -2,7 +2,7 @@
 use Rattle.std.proofs.Common.{◌≡◌, ◌≤◌, ◌<◌, ℕ, List, [], ◌∷◌, ◌++◌, length, map, get_or, refl, sym, ap, ◌∙◌, arith}
 use Rattle.std.specs.Prelude.{All, sum_by, flat_map}
 use Rattle.std.proofs.lemmas.List.{length-map, map-append}
-use Rattle.std.proofs.lemmas.List.Sums.{sum_by-cons, get_or-le-sum_by}
+use Rattle.std.proofs.lemmas.List.Sums.{get_or-le-sum_by}
 use Rattle.std.proofs.lemmas.List.Elements.{All-map, All-get_or}
 use Rattle.inp_ring.specs.declared.cell.Cell.{Cell}
 use Rattle.inp_ring.specs.Store.{cell_count, HasCell}
@@ -16,6 +16,9 @@ use Rattle.inp_client.specs.Member.{Member, ring_of, client_in, cells_in, times_
 use Rattle.inp_client.specs.Locations.{clients_in}
 use Rattle.inp_client.specs.Kept.{kept_view, AreKept}
 use Rattle.inp_client.proofs.CellCounts.{cells_few, cells_many, cells_exactly, distinct-map, times-numbers_in, length-numbers_in}
+use Rattle.std.proofs.Math.Path.{fun_ext}
+use Rattle.std.proofs.lemmas.Simd.{map-map}
+use Rattle.inp_client.proofs.Lists.{sum_by-map}
 use Rattle.inp_client.proofs.OneClient.{kept_known}
 use Rattle.inp_client.proofs.RingsLeft.{held_numbers-rings}
 
@@ -56,9 +59,9 @@ module _ (k : Inside) (kept : AreKept k) where
   stored_most = omega (arith, cells_few k.store (numbers_in members) in_some, length-numbers_in members, lengths members)
     where
       lengths : (ms : List Member) → sum_by (λ c. length c.ring.events) (cells_in k.store ms) ≡ sum_by (λ m. length m.ring.events) ms
-      lengths [] = refl
-      lengths (m ∷ ms) =
-          omega (arith, sum_by-cons (λ (c : ClientView Cell). length c.ring.events) (client_in k.store m) (cells_in k.store ms), sum_by-cons (λ (m : Member). length m.ring.events) m ms, length-map m.ring.events (cell_at k.store), lengths ms)
+      lengths ms =
+          sum_by-map (λ (c : ClientView Cell). length c.ring.events) (client_in k.store) ms
+          ∙ ap (λ (long : Member → ℕ). sum_by long ms) (fun_ext (λ m. length-map m.ring.events (cell_at k.store)))
 
   -- events of different places are different cells
   pub stored_places : length (held_places (kept_view k).list) ≤ cell_count k.store
@@ -71,13 +74,9 @@ module _ (k : Inside) (kept : AreKept k) where
         ap (λ (q : List ℕ). length (distinct q)) (held_numbers-rings members),
       )
     where
-      of_ring : (q : List ℕ) → map (λ (cell : Cell). cell.place) (map (cell_at k.store) q) ≡ map (λ n. (cell_at k.store n).place) q
-      of_ring [] = refl
-      of_ring (n ∷ q) = ap (λ (ps : List ℕ). (cell_at k.store n).place ∷ ps) (of_ring q)
-
       places : (ms : List Member) → flat_map (λ (c : ClientView Cell). map (λ (cell : Cell). cell.place) c.ring.events) (cells_in k.store ms) ≡ map (λ n. (cell_at k.store n).place) (numbers_in ms)
       places [] = refl
       places (m ∷ ms) =
-          ap (λ (ps : List ℕ). ps ++ flat_map (λ (c : ClientView Cell). map (λ (cell : Cell). cell.place) c.ring.events) (cells_in k.store ms)) (of_ring m.ring.events)
+          ap (λ (ps : List ℕ). ps ++ flat_map (λ (c : ClientView Cell). map (λ (cell : Cell). cell.place) c.ring.events) (cells_in k.store ms)) (map-map (λ (cell : Cell). cell.place) (cell_at k.store) m.ring.events)
           ∙ ap (λ (ps : List ℕ). map (λ n. (cell_at k.store n).place) m.ring.events ++ ps) (places ms)
           ∙ sym (map-append (λ n. (cell_at k.store n).place) m.ring.events (numbers_in ms))

@@ -1,10 +1,9 @@
 -- The clients after each kind of step.
-use Rattle.std.proofs.Common.{◌≡◌, ℕ, ◌/◌, ◌%◌, ◌<◌, min, Bool, true, false, ◌&&◌, not, if◌then◌else◌, nat_eq, nat_lt, List, [], ◌∷◌, ◌++◌, length, map, drop, get_or, refl, sym, ap, ◌∙◌, arith, Some, None}
+use Rattle.std.proofs.Common.{◌≡◌, ℕ, ◌/◌, ◌%◌, ◌<◌, min, Bool, true, false, ◌&&◌, not, if◌then◌else◌, nat_eq, nat_lt, List, [], ◌∷◌, ◌++◌, length, map, drop, get_or, refl, sym, ap, ◌∙◌, arith, Some, None, subst, inl, inr, ◌+◌}
 use Rattle.std.specs.Prelude.{filter, unwrap_or, ◌==◌}
 use Rattle.std.specs.Int.{bit_at}
 use Rattle.std.specs.List.{list_any, range_with_len}
-use Rattle.std.proofs.Math.Path.{fun_ext}
-use Rattle.std.proofs.lemmas.Bool.{lt-ltb}
+use Rattle.std.proofs.lemmas.Bool.{and_right, eq-eqb, ne_eqb, lt-ltb, cases_eq, cond-true}
 use Rattle.std.proofs.lemmas.List.{map-append, drop-map}
 use Rattle.inp_model.specs.declared.taken.Taken.{Taken}
 use Rattle.inp_model.specs.declared.clock.Clock.{Clock}
@@ -17,21 +16,81 @@ use Rattle.inp_model.specs.Cut.{cuts}
 use Rattle.inp_model.specs.Raw.{raw_of_step}
 use Rattle.inp_model.specs.Frame.{cuts_of_step, frames_of_step}
 use Rattle.inp_model.specs.Queue as model
-use Rattle.inp_model.specs.Queue.{Entry, entry_dropped_at, put_all, visible, flush, flush_for, is_same_clock, clock_changed, clock_entry, entries, left_by_call, queue, queue_with}
+use Rattle.inp_model.specs.Queue.{Entry, entry_dropped_at, put_all, visible, flush, is_same_clock, clock_changed, clock_entry, entries, queue, queue_with}
 use Rattle.inp_model.specs.Reply.{taken_of}
-use Rattle.inp_client.specs.Masks.{masks_with, full_masks}
+use Rattle.inp_client.specs.Masks.{masks_with}
+use Rattle.inp_client.proofs.MaskBits.{masks_with-full}
 use Rattle.inp_client.specs.Client.{ClientView, new_client, with_events, after_take, after_flush, after_mask, after_revoke}
 use Rattle.inp_client.specs.Read.{taken_event, read_after_clock}
 use Rattle.inp_client.specs.Clients.{has_client, has_revoked_client, events_of, map_client, without_client}
 use Rattle.inp_device.specs.Present.{client_after, clients_after, MasksEnd, IsFresh}
-use Rattle.inp_model.proofs.Opens.{is_open-lt}
-use Rattle.inp_device.proofs.OpenClients.{open_clients-open, open_clients-close}
+use Rattle.inp_model.proofs.Opens.{is_open-lt, range-more}
 use Rattle.inp_model.proofs.Removal.{flush-map}
-use Rattle.inp_device.proofs.MaskWords.{masks_with-set}
-use Rattle.inp_client.proofs.Lists.{any_below, map_over, map_same}
-use Rattle.inp_client.proofs.ClientLists.{has_client-filter, events_of-map, has_revoked_client-map, without_client-map}
-use Rattle.inp_device.proofs.Named.{IsNumbered, nat_eq-same, nat_eq-other, map-filter_same, map_client-filter}
+use Rattle.inp_device.proofs.Masks.{masks_with-set}
+use Rattle.inp_client.proofs.Lists.{any_below, either_same, map_over, map_same, filter-filter}
+use Rattle.inp_client.proofs.ClientLists.{has_client-filter, events_of-map, has_revoked_client-map, without_client-map, map_client-map}
 use Rattle.inp_device.proofs.Offers.{client_with, after_offers, after_offers-with}
+use Rattle.std.proofs.lemmas.List.Elements.{filter_passes, filter-append, filter_agree}
+use Rattle.std.proofs.lemmas.Bool.Decides.{nat_tests}
+use Rattle.inp_bits.proofs.Indices.{filter_same}
+
+-- The open clients, before and after a step
+
+-- the new client comes last
+pub open_clients-open : (past : List Step) → open_clients (Open ∷ past) ≡ open_clients past ++ opens past ∷ []
+unfolding is_open opens
+open_clients-open past =
+    let n = opens past in
+    let p : ℕ → Bool = λ k. if nat_eq n k then true else is_open past k in
+    ap (filter p) (range-more 0 n)
+    ∙ filter-append p (range_with_len 0 n) ((0 + n) ∷ [])
+    ∙ ap (λ (ks : List ℕ). ks ++ filter p ((0 + n) ∷ [])) (filter_same p (is_open past) 0 n (λ k l h. ap (λ b. if b then true else is_open past k) (ne_eqb n k (λ e. omega (arith, h, e)))))
+    ∙ ap (λ (ks : List ℕ). filter (is_open past) (range_with_len 0 n) ++ ks)
+    (let zero_plus : 0 + n ≡ n = omega arith in
+    ap (λ (k : ℕ). filter p (k ∷ [])) zero_plus
+    ∙ cond-true (p n) _ _ (ap (λ b. if b then true else is_open past n) (eq-eqb n n refl)))
+
+pub nat_eq_swap : (m n : ℕ) → nat_eq m n ≡ nat_eq n m
+nat_eq_swap m n = grind (arith, nat_tests)
+
+closed : (closing before : Bool) → (if closing then false else before) ≡ (before && not closing)
+closed true true = refl
+closed true false = refl
+closed false true = refl
+closed false false = refl
+
+-- the client that is closed is left out
+pub open_clients-close : (past : List Step) (client : ℕ) → open_clients (Close client ∷ past) ≡ filter (λ k. not (nat_eq k client)) (open_clients past)
+unfolding is_open opens
+open_clients-close past client =
+    filter_agree (λ k. if nat_eq client k then false else is_open past k) (λ k. is_open past k && not (nat_eq k client))
+    (λ k. closed (nat_eq client k) (is_open past k) ∙ ap (λ b. is_open past k && not b) (nat_eq_swap client k)) (range_with_len 0 (opens past))
+    ∙ sym (filter-filter (is_open past) (λ k. not (nat_eq k client)) (range_with_len 0 (opens past)))
+
+-- One client of a list, changed
+
+-- each client of the list has the number that it stands for
+abbrev pub IsNumbered : (ℕ → ClientView Taken) → Type 0
+IsNumbered f = (n : ℕ) → (f n).number ≡ n
+
+-- two functions that agree at each number that passes a test
+pub map-filter_same : {X : Type 0} → (f g : ℕ → X) (p : ℕ → Bool) (ns : List ℕ) → ((k : ℕ) → p k ≡ true → f k ≡ g k) → map f (filter p ns) ≡ map g (filter p ns)
+map-filter_same f g p ns same = map_same f g (filter p ns) (λ j d in_j. same (get_or (filter p ns) j d) (filter_passes p ns j d in_j))
+
+-- one client changed, and the others as they are
+pub map_client-filter : (n : ℕ) (change : ClientView Taken → ClientView Taken) (f g : ℕ → ClientView Taken) (p : ℕ → Bool) (ns : List ℕ) → IsNumbered f
+    → (p n ≡ true → g n ≡ change (f n)) → ((k : ℕ) → (k ≡ n → ⊥) → g k ≡ f k) → map g (filter p ns) ≡ map_client n change (map f (filter p ns))
+map_client-filter n change f g p ns numbered here there =
+    map-filter_same g (λ k. if nat_eq k n then change (f k) else f k) p ns (λ k passes.
+    elim (cases_eq k n) [
+      | inl e ↦
+          ap g e
+          ∙ here (subst (λ (m : ℕ). p m ≡ true) e passes)
+          ∙ ap (λ (m : ℕ). change (f m)) (sym e)
+          ∙ sym (ap (λ b. if b then change (f k) else f k) (ap (λ (m : ℕ). nat_eq m n) e ∙ eq-eqb n n refl))
+      | inr other ↦ there k other ∙ sym (ap (λ b. if b then change (f k) else f k) (ne_eqb k n other))
+    ])
+    ∙ sym (map_client-map f numbered n change (filter p ns))
 
 numbered : (d : Description) (past : List Step) → IsNumbered (client_after d past)
 numbered d past n = refl
@@ -46,11 +105,7 @@ among_open past n h =
 
 and_below : (past : List Step) (n : ℕ) (b : Bool) → b ≡ is_open past n → (nat_lt n (opens past) && b) ≡ b
 and_below past n true h = ap (λ c. c && true) (lt-ltb n (opens past) (is_open-lt past n (sym h)))
-and_below past n false h = and_false (nat_lt n (opens past))
-  where
-    and_false : (c : Bool) → (c && false) ≡ false
-    and_false true = refl
-    and_false false = refl
+and_below past n false h = and_right (nat_lt n (opens past)) false refl
 
 -- the code's test of a client is the past's
 pub has_client-after : (d : Description) (past : List Step) (n : ℕ) → has_client n (clients_after d past) ≡ is_open past n
@@ -74,10 +129,10 @@ changed_by d past x n change same here there =
 
 -- a queue after a step that names a client, by whether it is this one
 by_name : (n k : ℕ) (changed q : List Entry) → (k ≡ n → ⊥) → (if nat_eq n k then changed else q) ≡ q
-by_name n k changed q other = ap (λ b. if b then changed else q) (nat_eq-other n k (λ e. other (sym e)))
+by_name n k changed q other = ap (λ b. if b then changed else q) (ne_eqb n k (λ e. other (sym e)))
 
 at_name : (n : ℕ) (changed q : List Entry) → (if nat_eq n n then changed else q) ≡ changed
-at_name n changed q = ap (λ b. if b then changed else q) (nat_eq-same n)
+at_name n changed q = ap (λ b. if b then changed else q) (eq-eqb n n refl)
 
 -- the events of a client's queue that a read or a discard leaves
 left_of : (d : Description) (past : List Step) (n count : ℕ) (q : List Entry) → client_with d past n (drop count q) ≡ after_take count (client_with d past n q)
@@ -128,7 +183,7 @@ pub clients_after-revoke : (d : Description) (past : List Step) (n : ℕ) → cl
 unfolding opens is_open is_revoked clock_of mask_bit queue_with raw_of_step cuts
 clients_after-revoke d past n =
     let marked : ℕ → Bool → ClientView Taken = λ k b. record (client_with d past k (if b then queue d past k else queue d past k)) { revoked = if b then true else is_revoked past k } in
-    changed_by d past (Revoke n) n after_revoke refl (λ opened. ap (marked n) (nat_eq-same n)) (λ k other. ap (marked k) (nat_eq-other n k (λ e. other (sym e))))
+    changed_by d past (Revoke n) n after_revoke refl (λ opened. ap (marked n) (eq-eqb n n refl)) (λ k other. ap (marked k) (ne_eqb n k (λ e. other (sym e))))
 
 pub clients_after-mask : (d : Description) (past : List Step) (n kind word bits : ℕ) → word < mask_words kind → clients_after d (Mask n kind word bits ∷ past) ≡ map_client n (after_mask kind word bits) (clients_after d past)
 unfolding opens is_open is_revoked clock_of mask_bit queue_with raw_of_step cuts
@@ -137,8 +192,8 @@ clients_after-mask d past n kind word bits fits =
     let changed : ℕ → ℕ → Bool = λ this i. unwrap_or (if b && nat_eq kind this && nat_eq word (i / 64) then Some (bit_at bits (i % 64) == 1) else None) (mask_bit past k this i) in
     record (client_with d past k (if b then queue d past k else queue d past k)) { masks = masks_with changed } in
     changed_by d past (Mask n kind word bits) n (after_mask kind word bits) refl
-    (λ opened. ap (masked n) (nat_eq-same n) ∙ ap (λ m. record (client_after d past n) { masks = m }) (masks_with-set (mask_bit past n) kind word bits fits))
-    (λ k other. ap (masked k) (nat_eq-other n k (λ e. other (sym e))))
+    (λ opened. ap (masked n) (eq-eqb n n refl) ∙ ap (λ m. record (client_after d past n) { masks = m }) (masks_with-set (mask_bit past n) kind word bits fits))
+    (λ k other. ap (masked k) (ne_eqb n k (λ e. other (sym e))))
 
 -- a change of clock, seen as the events that a client reads
 clock_changed-map : (d : Description) (past : List Step) (same : Bool) (e : Entry) (q : List Entry) → map taken_of (clock_changed same e q) ≡ clock_changed same (taken_of e) (map taken_of q)
@@ -152,29 +207,18 @@ clients_after-clock d past n clock now =
     let clocked : ℕ → Bool → ClientView Taken = λ k b.
     record (client_with d past k (if b then clock_changed (is_same_clock (clock_of past n) clock) (clock_entry d past clock now) (queue d past k) else queue d past k)) { clock = unwrap_or (if b then Some clock else None) (clock_of past k) } in
     changed_by d past (ToClock n clock now) n (read_after_clock d clock now (length past)) refl
-    (λ opened. ap (clocked n) (nat_eq-same n)
+    (λ opened. ap (clocked n) (eq-eqb n n refl)
     ∙ ap (λ (ts : List Taken). record (with_events ts (client_after d past n)) { clock = clock }) (clock_changed-map d past (is_same_clock (clock_of past n) clock) (clock_entry d past clock now) (queue d past n)))
-    (λ k other. ap (clocked k) (nat_eq-other n k (λ e. other (sym e))))
+    (λ k other. ap (clocked k) (ne_eqb n k (λ e. other (sym e))))
 
 -- Clients that open and close
-
-close_by : (b : Bool) (q : List Entry) → (if b then q else q) ≡ q
-close_by true q = refl
-close_by false q = refl
 
 pub clients_after-close : (d : Description) (past : List Step) (n : ℕ) → clients_after d (Close n ∷ past) ≡ without_client n (clients_after d past)
 unfolding is_revoked clock_of mask_bit queue_with raw_of_step cuts
 clients_after-close d past n =
     ap (map (client_after d (Close n ∷ past))) (open_clients-close past n)
-    ∙ map_same (client_after d (Close n ∷ past)) (client_after d past) (filter (λ k. not (nat_eq k n)) (open_clients past)) (λ j e in_j. let k = get_or (filter (λ k. not (nat_eq k n)) (open_clients past)) j e in ap (client_with d past k) (close_by (nat_eq n k) (queue d past k)))
+    ∙ map_same (client_after d (Close n ∷ past)) (client_after d past) (filter (λ k. not (nat_eq k n)) (open_clients past)) (λ j e in_j. let k = get_or (filter (λ k. not (nat_eq k n)) (open_clients past)) j e in ap (client_with d past k) (either_same (nat_eq n k) (queue d past k)))
     ∙ sym (without_client-map (client_after d past) (numbered d past) n (open_clients past))
-
-masks_with-true : masks_with (λ kind index. true) ≡ full_masks
-unfolding masks_with full_masks
-masks_with-true = refl
-
-masks_with-full : (bit : ℕ → ℕ → Bool) → ((kind index : ℕ) → bit kind index ≡ true) → masks_with bit ≡ full_masks
-masks_with-full bit set = ap masks_with (fun_ext (λ kind. fun_ext (λ index. set kind index))) ∙ masks_with-true
 
 -- a client that is new has no events, all bits of its masks, and the realtime clock
 new_client-is : (d : Description) (past : List Step) (n : ℕ) → IsFresh past n → client_with d past n [] ≡ new_client n (ring d)
@@ -192,8 +236,8 @@ clients_after-open d past fresh =
     ap (map f) (open_clients-open past)
     ∙ map-append f (open_clients past) (n ∷ [])
     ∙ ap (λ (cs : List (ClientView Taken)). cs ++ f n ∷ [])
-    (map-filter_same f (client_after d past) (is_open past) (range_with_len 0 n) (λ k there. ap (opened k) (nat_eq-other n k (λ e. absurd (omega (arith, e, is_open-lt past k there))))))
-    ∙ ap (λ c. clients_after d past ++ c ∷ []) (ap (opened n) (nat_eq-same n) ∙ new_client-is d past n fresh)
+    (map-filter_same f (client_after d past) (is_open past) (range_with_len 0 n) (λ k there. ap (opened k) (ne_eqb n k (λ e. absurd (omega (arith, e, is_open-lt past k there))))))
+    ∙ ap (λ c. clients_after d past ++ c ∷ []) (ap (opened n) (eq-eqb n n refl) ∙ new_client-is d past n fresh)
 
 -- Steps that may end frames
 
@@ -223,7 +267,7 @@ clients_after-frames d past (Tick now) h ends = framed d past (Tick now) ends re
 clients_after-frames d past (Inhibit now) h ends = framed d past (Inhibit now) ends refl (λ k. refl)
 clients_after-frames d past (Write client e now) h ends =
     framed d past (Write client e now) ends refl
-    (λ k. ap (λ (q : List Entry). client_with d past k (put_all model.event_of entry_dropped_at (ring d) q (entries d k (frames_of_step d past (Write client e now))))) (close_by (nat_eq client k) (queue d past k)))
+    (λ k. ap (λ (q : List Entry). client_with d past k (put_all model.event_of entry_dropped_at (ring d) q (entries d k (frames_of_step d past (Write client e now))))) (either_same (nat_eq client k) (queue d past k)))
 clients_after-frames d past _ h ends = absurd (cc h)
 
 -- Steps that leave the clients
@@ -243,11 +287,11 @@ left d past x same is = ap (map (client_after d (x ∷ past))) same ∙ map_same
 
 pub clients_after-left : (d : Description) (past : List Step) (x : Step) → leaves_clients x ≡ true → clients_after d (x ∷ past) ≡ clients_after d past
 unfolding opens is_open is_revoked clock_of mask_bit queue_with raw_of_step cuts
-clients_after-left d past (GetAxis client code) h = left d past (GetAxis client code) refl (λ k. ap (client_with d past k) (close_by (nat_eq client k) (queue d past k)))
-clients_after-left d past (SetAxis client code axis) h = left d past (SetAxis client code axis) refl (λ k. ap (client_with d past k) (close_by (nat_eq client k) (queue d past k)))
-clients_after-left d past (GetSlots client code) h = left d past (GetSlots client code) refl (λ k. ap (client_with d past k) (close_by (nat_eq client k) (queue d past k)))
-clients_after-left d past (Grab client) h = left d past (Grab client) refl (λ k. ap (client_with d past k) (close_by (nat_eq client k) (queue d past k)))
-clients_after-left d past (Ungrab client) h = left d past (Ungrab client) refl (λ k. ap (client_with d past k) (close_by (nat_eq client k) (queue d past k)))
+clients_after-left d past (GetAxis client code) h = left d past (GetAxis client code) refl (λ k. ap (client_with d past k) (either_same (nat_eq client k) (queue d past k)))
+clients_after-left d past (SetAxis client code axis) h = left d past (SetAxis client code axis) refl (λ k. ap (client_with d past k) (either_same (nat_eq client k) (queue d past k)))
+clients_after-left d past (GetSlots client code) h = left d past (GetSlots client code) refl (λ k. ap (client_with d past k) (either_same (nat_eq client k) (queue d past k)))
+clients_after-left d past (Grab client) h = left d past (Grab client) refl (λ k. ap (client_with d past k) (either_same (nat_eq client k) (queue d past k)))
+clients_after-left d past (Ungrab client) h = left d past (Ungrab client) refl (λ k. ap (client_with d past k) (either_same (nat_eq client k) (queue d past k)))
 clients_after-left d past Uninhibit h = left d past Uninhibit refl (λ k. refl)
 clients_after-left d past End h = left d past End refl (λ k. refl)
 clients_after-left d past _ h = absurd (cc h)

@@ -11,6 +11,7 @@ use Rattle.inp_model.specs.Description.{Description, is_slot_code}
 use Rattle.inp_model.specs.State.{cell}
 use Rattle.inp_model.specs.Reply.{written, column, row, rows}
 use Rattle.inp_slots.specs.Slots.{SlotValues, SlotsStandFor, slot_value}
+use Rattle.inp_model.proofs.Injection.{range-append}
 use Rattle.inp_device.proofs.WordLists.{map-same}
 
 -- the first places have these values, and nothing behind was touched
@@ -56,18 +57,6 @@ kept_row s k = slot_value s (slot_at k) (code_at k)
 
 abbrev cell_at : Description → List RawItem → ℕ → ℤ
 cell_at d r k = cell d r (pos (slot_at k)) (code_at k)
-
-pub range-append : (a m n : ℕ) → range_with_len a (m + n) ≡ range_with_len a m ++ range_with_len (a + m) n
-range-append a zero n =
-    let first : a ≡ a + zero = omega arith in
-    let none : zero + n ≡ n = omega arith in
-    ap (range_with_len a) none ∙ ap (λ (k : ℕ). range_with_len k n) first
-range-append a (suc m) n =
-    let more : suc m + n ≡ suc (m + n) = omega arith in
-    let start : (a + 1) + m ≡ a + suc m = omega arith in
-    ap (range_with_len a) more
-    ∙ ap (λ (xs : List ℕ). a ∷ xs) (range-append (a + 1) m n)
-    ∙ ap (λ (k : ℕ). a ∷ (range_with_len (a + 1) m ++ range_with_len k n)) start
 
 row-cells : (d : Description) (r : List RawItem) (q : ℕ) → row d r q ≡ map (cell_at d r) (range_with_len (14 * q) 14)
 row-cells d r q =

@@ -2,7 +2,7 @@
 use Rattle.std.proofs.Common.{◌≡◌, ◌≤◌, ◌<◌, ℕ, suc, ◌+◌, Bool, true, false, ◌&&◌, ◌||◌, if◌then◌else◌, nat_eq, nat_lt, List, [], ◌∷◌, ◌++◌, length, map, get_or, Option, refl, sym, ap, ◌∙◌, subst, inl, inr, arith}
 use Rattle.std.specs.Prelude.{filter, flat_map, count_by}
 use Rattle.std.specs.List.{list_any}
-use Rattle.std.proofs.lemmas.Bool.{cond_both, cases_lt, le-ltb}
+use Rattle.std.proofs.lemmas.Bool.{cond_both, cases_lt, eq-eqb, le-ltb}
 use Rattle.std.proofs.lemmas.List.{length-append, length-map, get_or-map}
 use Rattle.std.proofs.lemmas.List.Folds.{list_any-append}
 use Rattle.inp_model.specs.declared.event.TheConstants.{EV_SYN, SYN_DROPPED}
@@ -21,7 +21,6 @@ use Rattle.inp_client.specs.Numbers.{held_numbers, stored_of, loses_event, loses
 use Rattle.inp_client.proofs.CellCounts.{distinct_few, distinct_there}
 use Rattle.inp_client.proofs.Numbers.{IsGrown, after_event-cases, grown_put, stored_among}
 use Rattle.inp_client.proofs.Offers.{after_offer-cons}
-use Rattle.inp_device.proofs.Named.{nat_eq-same}
 
 -- Who lost its queue at a place
 
@@ -38,7 +37,7 @@ abbrev with_cell : (a b : Bool) (q : List Cell) (x : Cell) → List Cell
 with_cell a b q x = if a then q else if b then q ++ x ∷ [] else dropped_cell x ∷ x ∷ []
 
 dropped_tells : (place : ℕ) (x : Cell) (q : List Cell) → x.place ≡ place → list_any (tells_loss place) (dropped_cell x ∷ q) ≡ true
-dropped_tells place x q at = ap (λ (b : Bool). b || list_any (tells_loss place) q) (ap (λ (n : ℕ). nat_eq n place) at ∙ nat_eq-same place)
+dropped_tells place x q at = ap (λ (b : Bool). b || list_any (tells_loss place) q) (ap (λ (n : ℕ). nat_eq n place) at ∙ eq-eqb place place refl)
 
 lost_stays : (place : ℕ) (a b : Bool) (q : List Cell) (x : Cell) → x.place ≡ place → list_any (tells_loss place) q ≡ true → list_any (tells_loss place) (with_cell a b q x) ≡ true
 lost_stays place true b q x at h = h
@@ -168,8 +167,8 @@ stored_fewer old new more fewer = omega (arith, distinct_few (held_numbers new) 
 pub stored_same : (old new : ClientsView) (more : ℕ) → held_numbers new ≡ held_numbers old → stored_of new ≤ stored_of old + more
 stored_same old new more same = stored_fewer old new more (λ n. omega (arith, ap (times n) same))
 
-pub stored_kept : (old new : ClientsView) (more : ℕ) → new ≡ old → stored_of new ≤ stored_of old + more
-stored_kept old new more same = stored_same old new more (ap held_numbers same)
+pub stored_kept : (clients : ClientsView) (more : ℕ) → stored_of clients ≤ stored_of clients + more
+stored_kept clients more = omega arith
 
 none_come : (n : ℕ) (old new : List (List ℕ)) → ((i : ℕ) → times n (get_or new i []) ≤ times n (get_or old i [])) → times n (all_of new) ≤ times n (all_of old)
 none_come n old [] h = omega arith

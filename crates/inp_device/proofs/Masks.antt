@@ -1,8 +1,8 @@
 -- The bits of a client's masks, as lists.
-use Rattle.std.proofs.Common.{◌≡◌, ℕ, ◌*◌, ◌≤◌, Bool, true, false, ◌&&◌, ◌||◌, if◌then◌else◌, nat_eq, nat_lt, List, [], map, refl, sym, ap, subst, ◌∙◌, arith, inl, inr}
-use Rattle.std.specs.Prelude.{slice_index_or}
+use Rattle.std.proofs.Common.{◌≡◌, ℕ, ◌*◌, ◌≤◌, Bool, true, false, ◌&&◌, ◌||◌, if◌then◌else◌, nat_eq, nat_lt, List, [], map, refl, sym, ap, ◌∙◌, arith, inl, inr, ◌==◌, ◌/◌, ◌%◌, ◌<◌, ◌∷◌, Some, None}
+use Rattle.std.specs.Prelude.{slice_index_or, unwrap_or}
 use Rattle.std.specs.List.{range_with_len}
-use Rattle.std.proofs.lemmas.Bool.{cases_lt, cases_eq}
+use Rattle.std.proofs.lemmas.Bool.{cases_Bool, cases_lt, cases_eq, ne_eqb, lt-ltb}
 use Rattle.std.proofs.lemmas.Bool.Decides.{nat_tests}
 use Rattle.std.proofs.lemmas.List.{get_or_past}
 use Rattle.std.proofs.lemmas.List.FromFn.{length-map-range_with_len, get_or-map-range_with_len}
@@ -10,8 +10,11 @@ use Rattle.inp_model.specs.declared.event.TheConstants.{EV_SYN, EV_KEY, EV_REP}
 use Rattle.inp_model.specs.declared.event.Event.{Event}
 use Rattle.inp_model.specs.declared.step.Step.{Step}
 use Rattle.inp_model.specs.Past.{mask_bit, has_mask, mask_words, admits}
-use Rattle.inp_device.specs.Present.{is_mask_bit, EndsSet}
-use Rattle.inp_client.specs.Masks.{MaskView, masks_with, mask_of, mask_bit_of, admits_of}
+use Rattle.inp_device.specs.Present.{is_mask_bit, EndsSet, MasksEnd}
+use Rattle.inp_client.proofs.MaskBits.{by_kind, masks_after-masks_with}
+use Rattle.inp_client.specs.Masks.{MaskView, masks_with, mask_of, mask_bit_of, admits_of, masks_after}
+use Rattle.std.specs.Int.{bit_at}
+use Rattle.inp_model.specs.declared.step.Step.TheVariants.{Mask}
 
 -- a bit of the list of the first n, where those behind are set
 bit_of : (f : ℕ → Bool) (n i : ℕ) → (n ≤ i → f i ≡ true) → slice_index_or (map f (range_with_len 0 n)) i true ≡ f i
@@ -21,70 +24,29 @@ bit_of f n i past =
       | inr high ↦ get_or_past (map f (range_with_len 0 n)) i true (omega (arith, length-map-range_with_len f 0 n, high)) ∙ sym (past high)
     ]
 
--- the mask is the list of the first bits of its type
-at_kind : (bit : ℕ → ℕ → Bool) (kind this n i : ℕ) → kind ≡ this → (n ≤ i → bit this i ≡ true) → slice_index_or (map (bit this) (range_with_len 0 n)) i true ≡ bit kind i
-at_kind bit kind this n i e past = bit_of (bit this) n i past ∙ ap (λ (k : ℕ). bit k i) (sym e)
-
 past_one : (kind i : ℕ) → nat_eq kind EV_KEY ≡ false → 64 ≤ i → is_mask_bit kind i ≡ false
 past_one kind i e h = grind (arith, nat_tests, e, h)
 
 past_keys : (i : ℕ) → 768 ≤ i → is_mask_bit EV_KEY i ≡ false
 past_keys i h = grind (arith, nat_tests, h)
 
-if_true : {X : Type 0} (b : Bool) (x y : X) → b ≡ true → (if b then x else y) ≡ x
-if_true b x y h = ap (λ c. if c then x else y) h
-
-eq_true : (m n : ℕ) → m ≡ n → nat_eq m n ≡ true
-eq_true m n h = grind (arith, nat_tests, h)
-
-pub eq_false : (m n : ℕ) → (m ≡ n → ⊥) → nat_eq m n ≡ false
-eq_false m n h = grind (arith, nat_tests, h)
-
-pub no_mask : (kind : ℕ) → nat_eq kind 0 ≡ false → nat_eq kind 1 ≡ false → nat_eq kind 2 ≡ false → nat_eq kind 3 ≡ false → nat_eq kind 4 ≡ false → nat_eq kind 5 ≡ false → nat_eq kind 17 ≡ false → nat_eq kind 18 ≡ false → has_mask kind ≡ false
-no_mask kind a b c d e f g h = grind (arith, nat_tests, a, b, c, d, e, f, g, h)
-
-none_of : (m : MaskView) (kind : ℕ) → nat_eq kind 0 ≡ false → nat_eq kind 1 ≡ false → nat_eq kind 2 ≡ false → nat_eq kind 3 ≡ false → nat_eq kind 4 ≡ false → nat_eq kind 5 ≡ false → nat_eq kind 17 ≡ false → nat_eq kind 18 ≡ false → mask_of m kind ≡ []
-none_of m kind a b c d e f g h = grind (arith, a, b, c, d, e, f, g, h)
+no_bits : (m : MaskView) (kind : ℕ) → has_mask kind ≡ false → mask_of m kind ≡ []
+no_bits m kind h = grind (arith, nat_tests, h)
 
 -- a bit of the masks that have these bits is one of these bits
 pub mask_bit_of-with : (bit : ℕ → ℕ → Bool) (kind i : ℕ) → EndsSet bit → mask_bit_of (masks_with bit) kind i ≡ bit kind i
 unfolding masks_with
 mask_bit_of-with bit kind i ends =
-    let P : ℕ → Type 0 = λ k. mask_bit_of (masks_with bit) k i ≡ bit k i in
-    elim (cases_eq kind 0) [
-      | inl e ↦ subst P (sym e) (bit_of (bit 0) 64 i (λ h. ends 0 i (past_one 0 i refl h)))
-      | inr n0 ↦
-          elim (cases_eq kind 1) [
-            | inl e ↦ subst P (sym e) (bit_of (bit 1) 768 i (λ h. ends 1 i (past_keys i h)))
-            | inr n1 ↦
-                elim (cases_eq kind 2) [
-                  | inl e ↦ subst P (sym e) (bit_of (bit 2) 64 i (λ h. ends 2 i (past_one 2 i refl h)))
-                  | inr n2 ↦
-                      elim (cases_eq kind 3) [
-                        | inl e ↦ subst P (sym e) (bit_of (bit 3) 64 i (λ h. ends 3 i (past_one 3 i refl h)))
-                        | inr n3 ↦
-                            elim (cases_eq kind 4) [
-                              | inl e ↦ subst P (sym e) (bit_of (bit 4) 64 i (λ h. ends 4 i (past_one 4 i refl h)))
-                              | inr n4 ↦
-                                  elim (cases_eq kind 5) [
-                                    | inl e ↦ subst P (sym e) (bit_of (bit 5) 64 i (λ h. ends 5 i (past_one 5 i refl h)))
-                                    | inr n5 ↦
-                                        elim (cases_eq kind 17) [
-                                          | inl e ↦ subst P (sym e) (bit_of (bit 17) 64 i (λ h. ends 17 i (past_one 17 i refl h)))
-                                          | inr n17 ↦
-                                              elim (cases_eq kind 18) [
-                                                | inl e ↦ subst P (sym e) (bit_of (bit 18) 64 i (λ h. ends 18 i (past_one 18 i refl h)))
-                                                | inr n18 ↦
-                                                    let none : has_mask kind ≡ false = no_mask kind (eq_false kind 0 n0) (eq_false kind 1 n1) (eq_false kind 2 n2) (eq_false kind 3 n3) (eq_false kind 4 n4) (eq_false kind 5 n5) (eq_false kind 17 n17) (eq_false kind 18 n18) in
-                                                    ap (λ (bits : List Bool). slice_index_or bits i true) (none_of (masks_with bit) kind (eq_false kind 0 n0) (eq_false kind 1 n1) (eq_false kind 2 n2) (eq_false kind 3 n3) (eq_false kind 4 n4) (eq_false kind 5 n5) (eq_false kind 17 n17) (eq_false kind 18 n18))
-                                                    ∙ sym (ends kind i (ap (λ b. b && nat_lt i (64 * mask_words kind)) none))
-                                              ]
-                                        ]
-                                  ]
-                            ]
-                      ]
-                ]
-          ]
+    let one : (k : ℕ) → nat_eq k EV_KEY ≡ false → slice_index_or (map (bit k) (range_with_len 0 64)) i true ≡ bit k i =
+    λ k other. bit_of (bit k) 64 i (λ h. ends k i (past_one k i other h)) in
+    let keys = bit_of (bit EV_KEY) 768 i (λ h. ends EV_KEY i (past_keys i h)) in
+    elim (cases_Bool (has_mask kind)) [
+      | inl has ↦
+          by_kind (λ k. mask_bit_of (masks_with bit) k i ≡ bit k i)
+          (one 0 refl) keys (one 2 refl) (one 3 refl) (one 4 refl) (one 5 refl) (one 17 refl) (one 18 refl) kind has
+      | inr none ↦
+          ap (λ (bits : List Bool). slice_index_or bits i true) (no_bits (masks_with bit) kind none)
+          ∙ sym (ends kind i (ap (λ b. b && nat_lt i (64 * mask_words kind)) none))
     ]
 
 -- what these masks admit is what the past says
@@ -93,3 +55,50 @@ admits_of-with past client e ends =
     let bit = mask_bit past client in
     ap (λ b. nat_eq e.kind EV_SYN || (b && (nat_eq e.kind EV_REP || mask_bit_of (masks_with bit) e.kind e.code))) (mask_bit_of-with bit EV_SYN e.kind ends)
     ∙ ap (λ b. nat_eq e.kind EV_SYN || (bit EV_SYN e.kind && (nat_eq e.kind EV_REP || b))) (mask_bit_of-with bit e.kind e.code ends)
+
+-- A word of a mask is set
+
+-- the bits of a mask of which a word was set, by whether the bit's type is the mask's and its word is the one
+abbrev bit_by : Bool → Bool → ℕ → ℕ → Bool → Bool
+bit_by kind word bits index before = unwrap_or (if kind && word then Some (bit_at bits (index % 64) == 1) else None) before
+
+-- bits of masks after a word of one was set
+abbrev bits_after : (ℕ → ℕ → Bool) → ℕ → ℕ → ℕ → ℕ → ℕ → Bool
+bits_after bit kind word bits this index = bit_by (nat_eq kind this) (nat_eq word (index / 64)) bits index (bit this index)
+
+chosen : (b : Bool) (set before : Bool) → unwrap_or (if b then Some set else None) before ≡ (if b then set else before)
+chosen true set before = refl
+chosen false set before = refl
+
+-- a word of a mask was set
+pub masks_with-set : (bit : ℕ → ℕ → Bool) (kind word bits : ℕ) → word < mask_words kind → masks_with (bits_after bit kind word bits) ≡ masks_after kind word bits (masks_with bit)
+masks_with-set bit kind word bits fits =
+    sym (masks_after-masks_with bit (bits_after bit kind word bits) kind word bits
+    (λ this i. chosen (nat_eq kind this && nat_eq word (i / 64)) (bit_at bits (i % 64) == 1) (bit this i)) fits)
+
+-- Bits that there are not stay set.
+
+ends_by : (kind this index word bits : ℕ) (before : Bool) → has_mask kind ≡ true → word < mask_words kind → is_mask_bit this index ≡ false → before ≡ true → bit_by (nat_eq kind this) (nat_eq word (index / 64)) bits index before ≡ true
+ends_by kind this index word bits before masked fits ends was =
+    elim (cases_eq kind this) [
+      | inl k ↦ elim (cases_eq word (index / 64)) [
+        | inl w ↦
+            let low : index < 64 * mask_words this = omega (arith, fits, w, ap mask_words k) in
+            let there : is_mask_bit this index ≡ true = ap (λ b. b && nat_lt index (64 * mask_words this)) (ap has_mask (sym k) ∙ masked) ∙ lt-ltb index (64 * mask_words this) low in
+            absurd (cc (there, ends))
+        | inr other ↦ ap (λ b. bit_by (nat_eq kind this) b bits index before) (ne_eqb word (index / 64) other) ∙ and_false (nat_eq kind this) ∙ was
+      ]
+      | inr other ↦ ap (λ b. bit_by b (nat_eq word (index / 64)) bits index before) (ne_eqb kind this other) ∙ was
+    ]
+  where
+    and_false : (b : Bool) → bit_by b false bits index before ≡ before
+    and_false true = refl
+    and_false false = refl
+
+pub MasksEnd-mask : (past : List Step) (client kind word bits : ℕ) → has_mask kind ≡ true → word < mask_words kind → MasksEnd past → MasksEnd (Mask client kind word bits ∷ past)
+unfolding mask_bit
+MasksEnd-mask past client kind word bits masked fits ends k this index past_end = by (nat_eq client k)
+  where
+    by : (same : Bool) → unwrap_or (if same && nat_eq kind this && nat_eq word (index / 64) then Some (bit_at bits (index % 64) == 1) else None) (mask_bit past k this index) ≡ true
+    by true = ends_by kind this index word bits (mask_bit past k this index) masked fits past_end (ends k this index past_end)
+    by false = ends k this index past_end

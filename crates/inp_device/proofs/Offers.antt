@@ -2,6 +2,7 @@
 use Rattle.std.proofs.Common.{◌≡◌, ℕ, ◌+◌, Bool, true, false, ◌&&◌, not, if◌then◌else◌, List, [], ◌∷◌, ◌++◌, map, refl, sym, ap, ◌∙◌}
 use Rattle.std.specs.Prelude.{filter}
 use Rattle.std.proofs.lemmas.List.Elements.{filter_agree}
+use Rattle.std.proofs.lemmas.Simd.{map-map}
 use Rattle.inp_model.specs.declared.event.Event.{Event}
 use Rattle.inp_model.specs.declared.taken.Taken.{Taken}
 use Rattle.inp_model.specs.declared.step.Step.{Step}
@@ -36,8 +37,7 @@ after_offers d [] c = c
 after_offers d (f ∷ fs) c = after_offers d fs (read_after_offer d (left (eaten d) f) (moment f) (place f) (holder f.before) c)
 
 map-entry : (d : Description) (client : ℕ) (f : Frame) (es : List Event) → map taken_of (map (entry d client f) es) ≡ map (taken_at (moment f + offset d (clock_of f.before client)) (place f)) es
-map-entry d client f [] = refl
-map-entry d client f (e ∷ es) = ap (λ (ts : List Taken). taken_at (moment f + offset d (clock_of f.before client)) (place f) e ∷ ts) (map-entry d client f es)
+map-entry d client f es = map-map taken_of (entry d client f) es
 
 -- what is admitted by the bits is what the past admits
 admitted-entries : (d : Description) (client : ℕ) (f : Frame) (q : List Entry) → EndsSet (mask_bit f.before client)

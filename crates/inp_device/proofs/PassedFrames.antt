@@ -1,5 +1,5 @@
 -- The frames of a step that were passed to the handler: what came to the filters, and what was offered of them.
-use Rattle.std.proofs.Common.{◌≡◌, ◌⊎◌, ℕ, ◌+◌, Bool, true, false, ◌||◌, if◌then◌else◌, List, [], ◌∷◌, length, map, refl, sym, ap, ◌∙◌, subst, Option, Some, None, inl, inr, arith}
+use Rattle.std.proofs.Common.{◌≡◌, ◌⊎◌, ℕ, ◌+◌, true, false, ◌||◌, if◌then◌else◌, List, [], ◌∷◌, length, map, refl, sym, ap, ◌∙◌, subst, Option, Some, None, inl, inr, arith}
 use Rattle.std.proofs.lemmas.Bool.{or_left, or_right}
 use Rattle.std.specs.Prelude.{is_some, sum_by}
 use Rattle.std.proofs.lemmas.List.{map-id}
@@ -25,7 +25,7 @@ use Rattle.inp_frames.proofs.KeptCore.{makes_no_events}
 use Rattle.inp_client.specs.Client.{after_offer}
 use Rattle.inp_client.specs.Clients.{ClientsView}
 use Rattle.inp_client.specs.Read.{clients_on, read_after_offer}
-use Rattle.inp_client.proofs.Lists.{map_over}
+use Rattle.inp_client.proofs.Lists.{either_same, map_over}
 use Rattle.inp_client.proofs.OnClock.{clients_on-map, on_offer}
 use Rattle.inp_device.specs.declared.handler.Handler.{Handler}
 use Rattle.inp_device.specs.FrameFilters.{FilterView}
@@ -46,15 +46,11 @@ cuts-none d past (Tick now) h = absurd (cc h)
 cuts-none d past (Inhibit now) h = absurd (cc h)
 cuts-none d past _ h = refl
 
-same_either : {X : Type 0} (b : Bool) (x : X) → (if b then x else x) ≡ x
-same_either true x = refl
-same_either false x = refl
-
 given_in-none : (d : Description) (past : List Step) (x : Step) → makes_events x ≡ false → given_in d (x ∷ past) ≡ given_in d past
 unfolding given_in
 given_in-none d past x h =
     ap (λ (cs : List Cut). if is_some (holder past) then given_in d past else given_by (map (frame_of past x) cs) (given_in d past)) (cuts-none d past x h)
-    ∙ same_either (is_some (holder past)) (given_in d past)
+    ∙ either_same (is_some (holder past)) (given_in d past)
 
 events_none : (x : Step) → (makes_no_events x || leaves_clients x) ≡ true → makes_events x ≡ false
 events_none (Inject e now) h = absurd (cc h)

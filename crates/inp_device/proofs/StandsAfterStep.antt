@@ -1,18 +1,18 @@
 -- What is kept stands for the past with one step more.
-use Rattle.std.proofs.Common.{◌≡◌, ◌⊎◌, ℕ, suc, ◌+◌, ◌<◌, ◌≤◌, ◌/◌, ◌%◌, ◌==◌, Bool, true, false, ◌&&◌, ◌||◌, if◌then◌else◌, nat_eq, List, [], ◌∷◌, length, map, refl, sym, ap, subst, ◌∙◌, arith, inl, inr, Option, Some, None, is_some}
+use Rattle.std.proofs.Common.{◌≡◌, ◌⊎◌, ℕ, suc, ◌+◌, ◌≤◌, ◌/◌, ◌%◌, ◌==◌, Bool, true, false, ◌&&◌, if◌then◌else◌, nat_eq, List, [], ◌∷◌, length, map, refl, sym, ap, subst, ◌∙◌, arith, inl, inr, Option, Some, None, is_some}
 use Rattle.std.specs.Prelude.{unwrap_or, count_by}
 use Rattle.std.specs.List.{list_any}
-use Rattle.std.proofs.lemmas.List.Sums.{sum_by-cons}
+use Rattle.std.proofs.Math.Path.{fun_ext}
+use Rattle.inp_client.proofs.Lists.{list_any-map, sum_by-map}
 use Rattle.std.specs.Int.{bit_at}
-use Rattle.std.proofs.lemmas.Bool.{not-false}
-use Rattle.std.proofs.lemmas.Bool.Decides.{nat_tests}
+use Rattle.std.proofs.lemmas.Bool.{ne_eqb, not-false}
 use Rattle.inp_model.specs.declared.taken.Taken.{Taken}
 use Rattle.inp_model.specs.declared.step.Step.{Step}
 use Rattle.inp_model.specs.declared.step.Step.TheVariants.{Open, Close, Grab, Ungrab, Mask, Clock as ToClock, Revoke, End}
 use Rattle.inp_model.specs.Description.{Description, offset}
 use Rattle.inp_model.specs.Step.{client_of, is_open_step, is_end_step, ends_grab_of, is_same}
 use Rattle.inp_model.specs.Past.{opens, open_clients, is_revoked, holder, holder_kept, clock_of, mask_bit, ends}
-use Rattle.inp_model.specs.Queue.{Entry, queue}
+use Rattle.inp_model.specs.Queue.{queue}
 use Rattle.inp_model.specs.Reply.{is_busy, is_not_grabber, taken_of}
 use Rattle.inp_model.specs.Frame.{frames_of_step}
 use Rattle.inp_model.specs.Left.{given_in}
@@ -21,7 +21,6 @@ use Rattle.inp_model.proofs.Opens.{is_open-lt}
 use Rattle.inp_frames.specs.Core.{CoreStandsFor, IsFor, IsEntered}
 use Rattle.inp_frames.proofs.KeptCore.{makes_no_events, CoreStandsFor-keeps}
 use Rattle.inp_filter.specs.FilterState.{FiltersStandFor}
-use Rattle.inp_ring.specs.declared.cell.Cell.{Cell}
 use Rattle.inp_ring.specs.Store.{cell_taken}
 use Rattle.inp_client.specs.Client.{ClientView}
 use Rattle.inp_client.specs.Clients.{ClientsView}
@@ -31,18 +30,17 @@ use Rattle.inp_device.specs.declared.handler.Handler.{Handler}
 use Rattle.inp_device.specs.declared.present.Present.{Present}
 use Rattle.inp_device.specs.Device.{is_loss_at, is_lost_at, offered_count}
 use Rattle.inp_device.specs.Present.{client_after, clients_after, MasksEnd, AreFresh, HandlerStandsFor, PresentStandsFor}
-use Rattle.inp_device.proofs.MaskWords.{MasksEnd-mask}
+use Rattle.inp_device.proofs.Calls.{nat_eq_swap, clients_after-frames, makes_events}
+use Rattle.inp_device.proofs.Masks.{MasksEnd-mask}
 use Rattle.inp_device.proofs.Offers.{after_offers}
-use Rattle.inp_device.proofs.Calls.{clients_after-frames, makes_events}
-use Rattle.inp_device.proofs.Growth.{tells_loss, is_lost, AreGrown, stored_grown, stored_kept}
+use Rattle.inp_device.proofs.Growth.{is_lost, AreGrown, stored_grown}
 use Rattle.inp_device.proofs.PassedFrames.{takes, IsPassed, passed_all, filters-called}
 
 -- Clients that no step named
 
 not_named : (d : Description) (past : List Step) (x : Step) (client n : ℕ) → client_of x ≡ Some client → IsAllowed d past x → opens past ≤ n → nat_eq client n ≡ false
 not_named d past x client n named ok h =
-    let low : client < opens past = is_open-lt past client (named_open past x client named ok.client) in
-    grind (arith, nat_tests, h, low)
+    ne_eqb client n (λ e. omega (arith, h, e, is_open-lt past client (named_open past x client named ok.client)))
 
 pub AreFresh-step : (d : Description) (past : List Step) (x : Step) → IsAllowed d past x → AreFresh past → AreFresh (x ∷ past)
 unfolding opens mask_bit clock_of is_revoked
@@ -95,12 +93,9 @@ holder-keeps past (Ungrab client) h = absurd (cc h)
 holder-keeps past (Revoke client) h = absurd (cc h)
 holder-keeps past x h = kept x (holder past) (λ c. refl)
 
-swap : (m n : ℕ) → nat_eq m n ≡ nat_eq n m
-swap m n = grind (arith, nat_tests)
-
 released : (o : Option ℕ) (client : ℕ) (x : Step) → ((c : ℕ) → ends_grab_of c x ≡ nat_eq client c) → (if is_same o client then None else o) ≡ holder_kept x o
 released None client x h = refl
-released (Some c) client x h = ap (λ b. if b then None else Some c) (swap c client ∙ sym (h c))
+released (Some c) client x h = ap (λ b. if b then None else Some c) (nat_eq_swap c client ∙ sym (h c))
 
 -- the holder after a client was closed
 pub holder-close : (past : List Step) (client : ℕ) → (if is_same (holder past) client then None else holder past) ≡ holder (Close client ∷ past)
@@ -124,7 +119,7 @@ holder-grab past client = refl
 
 given_up : (o : Option ℕ) (client : ℕ) → is_same o client ≡ true → None ≡ holder_kept (Ungrab client) o
 given_up None client h = refl
-given_up (Some c) client h = sym (ap (λ b. if b then None else Some c) (swap client c ∙ h))
+given_up (Some c) client h = sym (ap (λ b. if b then None else Some c) (nat_eq_swap client c ∙ h))
 
 pub own_grab : (past : List Step) (client : ℕ) → is_not_grabber past (Ungrab client) ≡ false → is_same (holder past) client ≡ true
 own_grab past client h = not-false (is_same (holder past) client) h
@@ -184,73 +179,53 @@ stands_called d past x old new was ok none is = record {
   ends = is.ends;
 }
 
--- A step that may end frames
-
-pub stands_framed : (d : Description) (past : List Step) (x : Step) (old new : Present) (begun : Handler) → PresentStandsFor d past old → IsAllowed d past x → makes_events x ≡ true
-    → begun ≡ record old.handler { place = length past; holder = old.handles.holder } → IsEntered d past x new.core takes begun new.handler → IsFor d new.core
-    → new.caps ≡ old.caps → new.handles.holder ≡ old.handles.holder → new.opens ≡ old.opens → new.ends ≡ old.ends
-    → leaves_grab x ≡ true → is_open_step x ≡ false → is_end_step x ≡ false → PresentStandsFor d (x ∷ past) new
-stands_framed d past x old new begun was ok makes begins entered made caps handles opened ended grab opening ending =
-    let filters : FiltersStandFor d.filters (given_in d past) begun.filters.kept =
-    subst (λ (h : Handler). FiltersStandFor d.filters (given_in d past) h.filters.kept) (sym begins) was.handler.filters in
-    let all : IsPassed d past x begun new.handler =
-    passed_all d past x begun new.handler (ap (λ (h : Handler). h.place) begins) (ap (λ (h : Handler). h.holder) begins ∙ was.holder) filters entered.takes_all in
-    let clients : clients_on d new.handler.clients.list ≡ clients_after d (x ∷ past) =
-    all.clients
-    ∙ ap (λ (h : Handler). map (after_offers d (frames_of_step d past x)) (clients_on d h.clients.list)) begins
-    ∙ ap (map (after_offers d (frames_of_step d past x))) was.handler.clients
-    ∙ clients_after-frames d past x makes was.handler.masks in
-    record {
-      caps = caps ∙ was.caps;
-      core = entered.stands_for;
-      made = made;
-      handler = handler_stands d past x old.handler new.handler ok was.handler clients all.filters;
-      holder = handles ∙ was.holder ∙ sym (holder-keeps past x grab);
-      opens = opened ∙ was.opens ∙ sym (opens-keeps past x opening);
-      ends = ended ∙ was.ends ∙ sym (ends-keeps past x ending);
-    }
-
 -- How many events are kept for the clients then
-
--- a queue as it is kept tells a loss where it does as it is read
-lost_read : (place offset : ℕ) (q : List Cell) → list_any (tells_loss place) q ≡ list_any (is_loss_at place) (map (cell_taken offset) q)
-lost_read place offset [] = refl
-lost_read place offset (x ∷ q) = ap (λ (b : Bool). tells_loss place x || b) (lost_read place offset q)
-
-lost_queue : (place : ℕ) (q : List Entry) → list_any (is_loss_at place) (map taken_of q) ≡ list_any (λ (e : Entry). is_loss_at place e.taken) q
-lost_queue place [] = refl
-lost_queue place (e ∷ q) = ap (λ (b : Bool). is_loss_at place e.taken || b) (lost_queue place q)
 
 abbrev reads_loss : ℕ → ClientView Taken → Bool
 reads_loss place c = list_any (is_loss_at place) c.ring.events
 
 count_map : {X Y : Type 0} (p : X → Bool) (q : Y → Bool) (f : X → Y) → ((x : X) → p x ≡ q (f x)) → (xs : List X) → count_by p xs ≡ count_by q (map f xs)
-count_map p q f same [] = refl
-count_map {X} {Y} p q f same (x ∷ xs) = omega (
-  arith,
-  sum_by-cons (λ (x : X). if p x then 1 else 0) x xs,
-  sum_by-cons (λ (y : Y). if q y then 1 else 0) (f x) (map f xs),
-  ap {B = ℕ} (λ (b : Bool). if b then 1 else 0) (same x),
-  count_map p q f same xs,
-)
+count_map {X} p q f same xs = ap (λ (t : X → Bool). count_by t xs) (fun_ext same) ∙ sym (sum_by-map (λ y. if q y then 1 else 0) f xs)
 
 grown_stored : (count place : ℕ) (old new : ClientsView) → (new ≡ old) ⊎ AreGrown count place old new → stored_of new ≤ stored_of old + count + count_by (is_lost place) new.list
-grown_stored count place old new (inl same) = omega (arith, stored_kept old new 0 same)
+grown_stored count place old new (inl same) = omega (arith, ap stored_of same)
 grown_stored count place old new (inr grown) = stored_grown count place old new grown
 
-pub stored_framed : (d : Description) (past : List Step) (x : Step) (old new : Present) (begun : Handler) → PresentStandsFor d past old
-    → begun ≡ record old.handler { place = length past; holder = old.handles.holder } → IsEntered d past x new.core takes begun new.handler → PresentStandsFor d (x ∷ past) new
-    → stored_of new.handler.clients ≤ stored_of old.handler.clients + (offered_count d past x + count_by (is_lost_at d past x) (open_clients (x ∷ past)))
-stored_framed d past x old new begun was begins entered stands =
-    let filters : FiltersStandFor d.filters (given_in d past) begun.filters.kept =
-    subst (λ (h : Handler). FiltersStandFor d.filters (given_in d past) h.filters.kept) (sym begins) was.handler.filters in
-    let all : IsPassed d past x begun new.handler =
-    passed_all d past x begun new.handler (ap (λ (h : Handler). h.place) begins) (ap (λ (h : Handler). h.holder) begins ∙ was.holder) filters entered.takes_all in
-    omega (
-      arith,
-      grown_stored (offered_count d past x) (length past) begun.clients new.handler.clients all.grown,
-      ap (λ (h : Handler). stored_of h.clients) begins,
-      count_map (is_lost (length past)) (reads_loss (length past)) (client_on d) (λ c. lost_read (length past) (offset d c.clock) c.ring.events) new.handler.clients.list,
-      ap (count_by (reads_loss (length past))) stands.handler.clients,
-      count_map (is_lost_at d past x) (reads_loss (length past)) (client_after d (x ∷ past)) (λ n. sym (lost_queue (length past) (queue d (x ∷ past) n))) (open_clients (x ∷ past)),
-    )
+-- A step that may end frames
+
+module _ (d : Description) (past : List Step) (x : Step) (old new : Present) (begun : Handler) (was : PresentStandsFor d past old)
+    (begins : begun ≡ record old.handler { place = length past; holder = old.handles.holder }) (entered : IsEntered d past x new.core takes begun new.handler) where
+  passed : IsPassed d past x begun new.handler
+  passed =
+      passed_all d past x begun new.handler (ap (λ (h : Handler). h.place) begins) (ap (λ (h : Handler). h.holder) begins ∙ was.holder)
+      (subst (λ (h : Handler). FiltersStandFor d.filters (given_in d past) h.filters.kept) (sym begins) was.handler.filters) entered.takes_all
+
+  pub stands_framed : IsAllowed d past x → makes_events x ≡ true → IsFor d new.core
+      → new.caps ≡ old.caps → new.handles.holder ≡ old.handles.holder → new.opens ≡ old.opens → new.ends ≡ old.ends
+      → leaves_grab x ≡ true → is_open_step x ≡ false → is_end_step x ≡ false → PresentStandsFor d (x ∷ past) new
+  stands_framed ok makes made caps handles opened ended grab opening ending =
+      let clients : clients_on d new.handler.clients.list ≡ clients_after d (x ∷ past) =
+      passed.clients
+      ∙ ap (λ (h : Handler). map (after_offers d (frames_of_step d past x)) (clients_on d h.clients.list)) begins
+      ∙ ap (map (after_offers d (frames_of_step d past x))) was.handler.clients
+      ∙ clients_after-frames d past x makes was.handler.masks in
+      record {
+        caps = caps ∙ was.caps;
+        core = entered.stands_for;
+        made = made;
+        handler = handler_stands d past x old.handler new.handler ok was.handler clients passed.filters;
+        holder = handles ∙ was.holder ∙ sym (holder-keeps past x grab);
+        opens = opened ∙ was.opens ∙ sym (opens-keeps past x opening);
+        ends = ended ∙ was.ends ∙ sym (ends-keeps past x ending);
+      }
+
+  pub stored_framed : PresentStandsFor d (x ∷ past) new → stored_of new.handler.clients ≤ stored_of old.handler.clients + (offered_count d past x + count_by (is_lost_at d past x) (open_clients (x ∷ past)))
+  stored_framed stands =
+      omega (
+        arith,
+        grown_stored (offered_count d past x) (length past) begun.clients new.handler.clients passed.grown,
+        ap (λ (h : Handler). stored_of h.clients) begins,
+        count_map (is_lost (length past)) (reads_loss (length past)) (client_on d) (λ c. sym (list_any-map (is_loss_at (length past)) (cell_taken (offset d c.clock)) c.ring.events)) new.handler.clients.list,
+        ap (count_by (reads_loss (length past))) stands.handler.clients,
+        count_map (is_lost_at d past x) (reads_loss (length past)) (client_after d (x ∷ past)) (λ n. sym (list_any-map (is_loss_at (length past)) taken_of (queue d (x ∷ past) n))) (open_clients (x ∷ past)),
+      )

@@ -16,18 +16,18 @@ use Rattle.inp_client.specs.Client.{ClientView}
 use Rattle.inp_client.specs.Clients.{distinct}
 use Rattle.inp_client.specs.Numbers.{held_places}
 use Rattle.inp_client.specs.Read.{client_on, clients_on}
+use Rattle.inp_client.proofs.Lists.{map_over}
 use Rattle.inp_device.specs.declared.handler.Handler.{Handler}
-use Rattle.inp_device.specs.declared.present.Present.{Present}
 use Rattle.inp_device.specs.Present.{client_after, queued_places, HandlerStandsFor}
 
 -- how long the queues are, as they are kept, and as they follow from the past
 lengths : (clients : List (ClientView Cell)) (d : Description) → map (λ c. length c.ring.events) clients ≡ map (λ (c : ClientView Taken). length c.ring.events) (clients_on d clients)
-lengths [] d = refl
-lengths (c ∷ clients) d = ap (λ n. n ∷ map (λ (c : ClientView Cell). length c.ring.events) clients) (sym (length-map c.ring.events (store.cell_taken (offset d c.clock)))) ∙ ap (λ ns. length (client_on d c).ring.events ∷ ns) (lengths clients d)
+lengths clients d =
+    map_over _ (client_on d) (λ (c : ClientView Taken). length c.ring.events) clients (λ j e in_j. sym (length-map (get_or clients j e).ring.events (store.cell_taken (offset d (get_or clients j e).clock))))
 
 lengths_after : (d : Description) (past : List Step) (ns : List ℕ) → map (λ (c : ClientView Taken). length c.ring.events) (map (client_after d past) ns) ≡ map (λ n. length (queue d past n)) ns
-lengths_after d past [] = refl
-lengths_after d past (n ∷ ns) = ap (λ k. k ∷ map (λ (c : ClientView Taken). length c.ring.events) (map (client_after d past) ns)) (length-map (queue d past n) taken_of) ∙ ap (λ ks. length (queue d past n) ∷ ks) (lengths_after d past ns)
+lengths_after d past ns =
+    sym (map_over _ (client_after d past) (λ (c : ClientView Taken). length c.ring.events) ns (λ j e in_j. sym (length-map (queue d past (get_or ns j e)) taken_of)))
 
 -- the places of the queued events, as they are kept, and as they follow from the past
 abbrev places_in : List (ClientView Cell) → List ℕ
@@ -36,38 +36,20 @@ places_in clients = flat_map (λ c. map (λ (cell : Cell). cell.place) c.ring.ev
 abbrev places_on : List (ClientView Taken) → List ℕ
 places_on clients = flat_map (λ c. map (λ (t : Taken). t.place) c.ring.events) clients
 
-places_read : (offset : ℕ) (q : List Cell) → map (λ (cell : Cell). cell.place) q ≡ map (λ (t : Taken). t.place) (map (store.cell_taken offset) q)
-places_read offset [] = refl
-places_read offset (x ∷ q) = ap (λ (ps : List ℕ). x.place ∷ ps) (places_read offset q)
-
 places_kept : (clients : List (ClientView Cell)) (d : Description) → places_in clients ≡ places_on (clients_on d clients)
 places_kept [] d = refl
 places_kept (c ∷ clients) d =
-    ap (λ (ps : List ℕ). ps ++ places_in clients) (places_read (offset d c.clock) c.ring.events)
+    ap (λ (ps : List ℕ). ps ++ places_in clients) (map_over _ (store.cell_taken (offset d c.clock)) (λ (t : Taken). t.place) c.ring.events (λ j e in_j. refl))
     ∙ ap (λ (ps : List ℕ). map (λ (t : Taken). t.place) (client_on d c).ring.events ++ ps) (places_kept clients d)
-
-places_taken : (q : List Entry) → map (λ (t : Taken). t.place) (map taken_of q) ≡ map (λ (e : Entry). e.taken.place) q
-places_taken [] = refl
-places_taken (x ∷ q) = ap (λ (ps : List ℕ). x.taken.place ∷ ps) (places_taken q)
 
 places_after : (d : Description) (past : List Step) (ns : List ℕ) → places_on (map (client_after d past) ns) ≡ flat_map (λ n. map (λ (e : Entry). e.taken.place) (queue d past n)) ns
 places_after d past [] = refl
 places_after d past (n ∷ ns) =
-    ap (λ (ps : List ℕ). ps ++ places_on (map (client_after d past) ns)) (places_taken (queue d past n))
+    ap (λ (ps : List ℕ). ps ++ places_on (map (client_after d past) ns)) (sym (map_over _ taken_of (λ (t : Taken). t.place) (queue d past n) (λ j e in_j. refl)))
     ∙ ap (λ (ps : List ℕ). map (λ (e : Entry). e.taken.place) (queue d past n) ++ ps) (places_after d past ns)
 
 All-of_map : {X : Type 0} (f : X → ℕ) (m : ℕ) (xs : List X) → All (λ k. k ≤ m) (map f xs) → All (λ x. f x ≤ m) xs
 All-of_map f m xs all i d in_i = omega (arith, all i 0 (omega (arith, in_i, length-map xs f)), get_or-map f xs i d 0 in_i)
-
--- the counts of the clients that a call is lent are those of the clients that are kept
-pub least_of : (lent p : Present) (stored : ℕ) → lent ≡ p → All (λ c. length c.ring.events ≤ stored) lent.handler.clients.list → All (λ c. length c.ring.events ≤ stored) p.handler.clients.list
-least_of lent p stored same all = subst (λ (q : Present). All (λ c. length c.ring.events ≤ stored) q.handler.clients.list) same all
-
-pub most_of : (lent p : Present) (stored : ℕ) → lent ≡ p → stored ≤ sum_by (λ c. length c.ring.events) lent.handler.clients.list → stored ≤ sum_by (λ c. length c.ring.events) p.handler.clients.list
-most_of lent p stored same few = subst (λ (q : Present). stored ≤ sum_by (λ c. length c.ring.events) q.handler.clients.list) same few
-
-pub places_of_lent : (lent p : Present) (stored : ℕ) → lent ≡ p → length (held_places lent.handler.clients.list) ≤ stored → length (held_places p.handler.clients.list) ≤ stored
-places_of_lent lent p stored same few = subst (λ (q : Present). length (held_places q.handler.clients.list) ≤ stored) same few
 
 module _ (d : Description) (past : List Step) (h : Handler) (stands : HandlerStandsFor d past h) (stored : ℕ) where
   abbrev long : ℕ → ℕ

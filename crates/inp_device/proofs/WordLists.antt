@@ -1,24 +1,21 @@
 -- The words of a list of truth values, as a query answers them.
-use Rattle.std.proofs.Common.{◌≡◌, ◌==◌, ℕ, ◌+◌, ◌*◌, ◌^◌, ◌<◌, ◌≤◌, Bool, false, if◌then◌else◌, List, [], ◌∷◌, length, map, set, get_or, replicate, refl, sym, ap, ◌∙◌, arith, inl, inr}
+use Rattle.std.proofs.Common.{◌≡◌, ◌==◌, ℕ, ◌+◌, ◌-◌, ◌*◌, drop, ◌^◌, ◌<◌, ◌≤◌, Bool, false, if◌then◌else◌, List, [], ◌∷◌, length, map, set, get_or, replicate, refl, sym, ap, ◌∙◌, arith, inl, inr}
 use Rattle.std.specs.Prelude.{slice_range}
 use Rattle.std.specs.List.{range_with_len}
 use Rattle.std.specs.Int.{bit_at}
 use Rattle.std.proofs.Math.Path.{fun_ext}
 use Rattle.std.proofs.lemmas.Bool.{cases_lt, cases_eq}
-use Rattle.std.proofs.lemmas.List.{ext_get_or, get_or_past, length-set, get_or-set_same, get_or-set_other}
-use Rattle.std.proofs.lemmas.List.FromFn.{length-map-range_with_len, get_or-map-range_with_len}
+use Rattle.std.proofs.lemmas.List.{get_or_past, get_or-take, get_or-drop, length-set, get_or-set_same, get_or-set_other}
+use Rattle.std.proofs.lemmas.List.FromFn.{fill_by_all, length-map-range_with_len, get_or-map-range_with_len}
 use Rattle.std.specs.Simd.Lanes.{mask_l}
-use Rattle.inp_bits.specs.Bits.{word_bits}
-use Rattle.inp_bits.specs.Words.{number_of-word_bits}
-use Rattle.inp_bits.proofs.WordParts.{is_on_at-word}
+use Rattle.inp_bits.specs.Bits.{is_on_at, word_bits}
+use Rattle.inp_bits.specs.Words.{get_or-word_bits, number_of-word_bits}
 use Rattle.inp_model.proofs.Descriptions.{get_or-replicate_same}
 use Rattle.inp_model.specs.Reply.{number_of_bits, bitmap_word, bitmap_of}
 
 pub map-same : {X : Type 0} → (x : X) (n : ℕ) (f g : ℕ → X) → ((k : ℕ) → k < n → f k ≡ g k) → map f (range_with_len 0 n) ≡ map g (range_with_len 0 n)
 map-same x n f g same =
-    ext_get_or x (map f (range_with_len 0 n)) (map g (range_with_len 0 n)) (length-map-range_with_len f 0 n ∙ sym (length-map-range_with_len g 0 n))
-    (λ i l. let h : i < n = omega (arith, length-map-range_with_len f 0 n) in
-    get_or-map-range_with_len f 0 n i i x h (omega arith) ∙ same i h ∙ sym (get_or-map-range_with_len g 0 n i i x h (omega arith)))
+    fill_by_all g (map f (range_with_len 0 n)) n x (length-map-range_with_len f 0 n) (λ k h. get_or-map-range_with_len f 0 n k k x h (omega arith) ∙ same k h)
 
 number_of_bits-mask : (bits : List Bool) → mask_l bits ≡ number_of_bits bits
 number_of_bits-mask [] = refl
@@ -27,6 +24,11 @@ number_of_bits-mask (bit ∷ bits) = ap (λ n. (if bit then 1 else 0) + 2 * n) (
 -- the value of the list at a code, false past its end
 abbrev pub value_at : List Bool → ℕ → Bool
 value_at bits code = get_or bits code false
+
+-- by what `word` ensures, bit k of the word is value i = 64·q + k
+is_on_at-word : (bits : List Bool) (q k i word : ℕ) → i ≡ 64 * q + k → k < 64 → word_bits word ≡ slice_range bits (64 * q) (64 * q + 64) → is_on_at bits i ≡ (bit_at word k == 1)
+is_on_at-word bits q k i word place h e =
+    ap (is_on_at bits) place ∙ sym (get_or-drop (64 * q) bits k false) ∙ sym (get_or-take (64 * q + 64 - 64 * q) (drop (64 * q) bits) k false (omega arith)) ∙ ap (λ part. get_or part k false) (sym e) ∙ get_or-word_bits word k h
 
 word_bits-values : (bits : List Bool) (q word : ℕ) → word_bits word ≡ slice_range bits (64 * q) (64 * q + 64) → word_bits word ≡ map (λ k. value_at bits (64 * q + k)) (range_with_len 0 64)
 unfolding word_bits
@@ -69,12 +71,10 @@ more_words index bits words word h is are = record {
 -- the words of the whole list
 pub words-values : (index : ℕ) (bits : List Bool) (words : List ℕ) → length bits ≤ 64 * index → AreWordsBelow index bits words → words ≡ bitmap_of (value_at bits)
 words-values index bits words h are =
-    let f : ℕ → ℕ = λ w. bitmap_word (value_at bits) (64 * w) in
-    ext_get_or 0 words (map f (range_with_len 0 12)) (are.count ∙ sym (length-map-range_with_len f 0 12))
-    (λ i l. let within : i < 12 = omega (arith, are.count) in
+    fill_by_all (λ w. bitmap_word (value_at bits) (64 * w)) words 12 0 are.count (λ i within.
     elim (cases_lt i index) [
-      | inl low ↦ are.below i low ∙ sym (get_or-map-range_with_len f 0 12 i i 0 (omega arith) (omega arith))
-      | inr high ↦ are.others i high ∙ sym (word-past bits i (omega arith)) ∙ sym (get_or-map-range_with_len f 0 12 i i 0 (omega arith) (omega arith))
+      | inl low ↦ are.below i low
+      | inr high ↦ are.others i high ∙ sym (word-past bits i (omega arith))
     ])
 
 -- the words of a test that the list stands for

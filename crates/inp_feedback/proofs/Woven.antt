@@ -1,11 +1,11 @@
 -- A kept list is made of its steps and its feedback calls, and is told by them.
-use Rattle.std.proofs.Common.{◌≡◌, ◌-◌, List, [], ◌∷◌, ◌++◌, length, map, refl, ap, ◌∙◌, arith}
+use Rattle.std.proofs.Common.{◌≡◌, ◌-◌, List, [], ◌∷◌, ◌++◌, length, map, refl, ap, ◌∙◌, arith, ℕ}
 use Rattle.inp_model.specs.declared.step.Step.{Step}
 use Rattle.inp_feedback.specs.declared.u_entry.UEntry.{UEntry}
 use Rattle.inp_feedback.specs.declared.u_entry.UEntry.TheVariants.{Made, Feedback}
 use Rattle.inp_feedback.specs.declared.feedback_call.FeedbackCall.{FeedbackCall}
 use Rattle.inp_feedback.specs.UEntry.{steps_in}
-use Rattle.inp_feedback.specs.Kept.{kept_of, StandsWithin, calls_in}
+use Rattle.inp_feedback.specs.Kept.{kept_of, StandsWithin, calls_in, feedback_numbers, call_numbers}
 use Rattle.inp_feedback.proofs.Lists.{kept_of-nothing, kept_of-made, kept_of-fed, within-more}
 
 -- The kept list of its own steps and calls
@@ -41,3 +41,20 @@ pub kept-longer : (more past : List Step) (calls : List FeedbackCall) → Stands
 kept-longer [] past calls h = refl
 kept-longer (x ∷ more) past calls h =
     kept_of-made (more ++ past) calls x (within-longer more past calls h) ∙ ap (λ (es : List UEntry). Made x ∷ es) (kept-longer more past calls h)
+
+-- The numbers of feedback calls tell them
+
+calls-apart : (calls others : List FeedbackCall) → feedback_numbers calls ≡ feedback_numbers others → calls ≡ others
+calls-apart [] [] h = refl
+calls-apart [] (other ∷ others) h = absurd (cc h)
+calls-apart (call ∷ calls) [] h = absurd (cc h)
+calls-apart (call ∷ calls) (other ∷ others) h =
+    let at : call.at ≡ other.at = cc h in
+    let count : call.count ≡ other.count = cc h in
+    let rest : feedback_numbers calls ≡ feedback_numbers others = cc h in
+    ap (λ (n : ℕ). record { at = n; count = call.count } ∷ calls) at
+    ∙ ap (λ (n : ℕ). record { at = other.at; count = n } ∷ calls) count
+    ∙ ap (λ (cs : List FeedbackCall). other ∷ cs) (calls-apart calls others rest)
+
+pub numbers-apart : (kept others : List UEntry) → call_numbers kept ≡ call_numbers others → calls_in kept ≡ calls_in others
+numbers-apart kept others h = calls-apart (calls_in kept) (calls_in others) h

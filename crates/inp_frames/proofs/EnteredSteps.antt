@@ -1,5 +1,6 @@
 -- What the core stands for behind a step that it made.
 use Rattle.std.proofs.Common.{◌≡◌, ℕ, ◌*◌, Bool, true, false, ◌&&◌, not, if◌then◌else◌, ℤ, List, [], ◌∷◌, get_or, unsigned_abs, refl, sym, ap, subst, ◌∙◌, map}
+use Rattle.std.proofs.lemmas.Bool.{cond-false}
 use Rattle.inp_model.specs.declared.event.TheConstants.{REP_PERIOD}
 use Rattle.inp_model.specs.declared.event.Event.{Event}
 use Rattle.inp_model.specs.declared.step.Step.{Step}
@@ -36,13 +37,6 @@ entered d past x items takes new to_old to_new e s f t i = record {
   takes_all = subst (λ (ys : List RawItem). TakesAll takes (moment_of x) (cuts d (raw d past) ys) to_old to_new) (sym e) f;
 }
 
--- the timer and the flag are no part of it
-StandsAfter-timer : (d : Description) (r : List RawItem) (core : CoreValues) (t : Timer) → StandsAfter d r core → StandsAfter d r (record core { timer = t })
-StandsAfter-timer d r core t s = assumption
-
-StandsAfter-flag : (d : Description) (r : List RawItem) (core : CoreValues) (flag : Bool) → StandsAfter d r core → StandsAfter d r (record core { inhibited = flag })
-StandsAfter-flag d r core flag s = assumption
-
 -- ---- an event that is injected or written, and an inhibition
 
 -- the timer after a step that no tick is
@@ -56,7 +50,7 @@ flagged flag core = record core { inhibited = flag }
 by_events : {T : Type 0} (d : Description) (past : List Step) (x : Step) (es : List Event) (takes : T → List Event → ℕ → T → Type 0) (old new : CoreValues) (flag : Bool) (to_old to_new : T) → CoreStandsFor d past old → raw_of_step d past x ≡ map Occurred es → timer d (x ∷ past) ≡ timer_of d past x → flag ≡ is_inhibited (x ∷ past) → Handles d (raw d past) es (moment_of x) takes old new to_old to_new → IsEntered d past x (flagged flag new) takes to_old to_new
 by_events d past x es takes old new flag to_old to_new h e t i k =
     entered d past x (map Occurred es) takes (flagged flag new) to_old to_new e
-    (StandsAfter-flag d (raw_after (raw d past) (map Occurred es)) new flag k.stands_after)
+    (assumption k.stands_after)
     k.takes_all
     (k.timer
     ∙ ap (timer_after_cuts d (moment_of x) (cuts d (raw d past) (map Occurred es))) h.timer
@@ -67,36 +61,20 @@ by_events d past x es takes old new flag to_old to_new h e t i k =
 unless : {d : Description} {past : List Step} {core : CoreValues} (xs es : List Event) → CoreStandsFor d past core → (if core.inhibited then [] else xs) ≡ es → (if is_inhibited past then [] else xs) ≡ es
 unless xs es h e = ap (λ b. if b then [] else xs) (sym h.inhibited) ∙ e
 
-timer-inject : (d : Description) (past : List Step) (e : Event) (now : ℕ) → timer d (Inject e now ∷ past) ≡ timer_of d past (Inject e now)
-unfolding timer raw raw_of_step raw_and_timer
-timer-inject d past e now = refl
-
 pub enters-inject : {T : Type 0} (d : Description) (past : List Step) (e : Event) (now : ℕ) (es : List Event) (takes : T → List Event → ℕ → T → Type 0) (old new : CoreValues) (to_old to_new : T) → CoreStandsFor d past old → (if old.inhibited then [] else e ∷ []) ≡ es → Handles d (raw d past) es now takes old new to_old to_new → IsEntered d past (Inject e now) new takes to_old to_new
-unfolding raw_of_step is_inhibited
+unfolding timer raw raw_of_step raw_and_timer is_inhibited
 enters-inject d past e now es takes old new to_old to_new h i k =
-    by_events d past (Inject e now) es takes old new new.inhibited to_old to_new h (ap (map Occurred) (unless (e ∷ []) es h i)) (timer-inject d past e now) (k.inhibited ∙ h.inhibited) k
-
-timer-write : (d : Description) (past : List Step) (client : ℕ) (e : Event) (now : ℕ) → timer d (Write client e now ∷ past) ≡ timer_of d past (Write client e now)
-unfolding timer raw raw_of_step raw_and_timer
-timer-write d past client e now = refl
+    by_events d past (Inject e now) es takes old new new.inhibited to_old to_new h (ap (map Occurred) (unless (e ∷ []) es h i)) refl (k.inhibited ∙ h.inhibited) k
 
 pub enters-write : {T : Type 0} (d : Description) (past : List Step) (client : ℕ) (e : Event) (now : ℕ) (es : List Event) (takes : T → List Event → ℕ → T → Type 0) (old new : CoreValues) (to_old to_new : T) → CoreStandsFor d past old → (if old.inhibited then [] else e ∷ []) ≡ es → Handles d (raw d past) es now takes old new to_old to_new → IsEntered d past (Write client e now) new takes to_old to_new
-unfolding raw_of_step is_inhibited
+unfolding timer raw raw_of_step raw_and_timer is_inhibited
 enters-write d past client e now es takes old new to_old to_new h i k =
-    by_events d past (Write client e now) es takes old new new.inhibited to_old to_new h (ap (map Occurred) (unless (e ∷ []) es h i)) (timer-write d past client e now) (k.inhibited ∙ h.inhibited) k
-
-timer-inhibit : (d : Description) (past : List Step) (now : ℕ) → timer d (Inhibit now ∷ past) ≡ timer_of d past (Inhibit now)
-unfolding timer raw raw_of_step raw_and_timer
-timer-inhibit d past now = refl
-
-raw_of_step-inhibit : (d : Description) (past : List Step) (now : ℕ) → raw_of_step d past (Inhibit now) ≡ map Occurred (if is_inhibited past then [] else releases d (raw d past))
-unfolding raw_of_step raw
-raw_of_step-inhibit d past now = refl
+    by_events d past (Write client e now) es takes old new new.inhibited to_old to_new h (ap (map Occurred) (unless (e ∷ []) es h i)) refl (k.inhibited ∙ h.inhibited) k
 
 pub enters-inhibit : {T : Type 0} (d : Description) (past : List Step) (now : ℕ) (es : List Event) (takes : T → List Event → ℕ → T → Type 0) (old new : CoreValues) (to_old to_new : T) → CoreStandsFor d past old → (if old.inhibited then [] else releases d (raw d past)) ≡ es → Handles d (raw d past) es now takes old new to_old to_new → IsEntered d past (Inhibit now) (flagged true new) takes to_old to_new
-unfolding is_inhibited
+unfolding timer raw raw_of_step raw_and_timer is_inhibited
 enters-inhibit d past now es takes old new to_old to_new h i k =
-    by_events d past (Inhibit now) es takes old new true to_old to_new h (raw_of_step-inhibit d past now ∙ ap (map Occurred) (unless (releases d (raw d past)) es h i)) (timer-inhibit d past now) refl k
+    by_events d past (Inhibit now) es takes old new true to_old to_new h (ap (map Occurred) (unless (releases d (raw d past)) es h i)) refl refl k
 
 -- an inhibited core stays as it is
 pub stays-inhibited : {T : Type 0} (d : Description) (past : List Step) (now : ℕ) (takes : T → List Event → ℕ → T → Type 0) (core : CoreValues) (to : T) → core.inhibited ≡ true → CoreStandsFor d past core → IsEntered d past (Inhibit now) core takes to to
@@ -145,12 +123,7 @@ fires-by d past now core h =
 timer-idle : (d : Description) (past : List Step) → repeats_keys d ≡ false → timer d past ≡ first_timer
 unfolding timer raw_and_timer
 timer-idle d [] h = refl
-timer-idle d (x ∷ past) h =
-    otherwise (repeats_keys d) _ (timer d past) h ∙ timer-idle d past h
-  where
-    otherwise : (b : Bool) (u v : Timer) → b ≡ false → (if b then u else v) ≡ v
-    otherwise true u v k = absurd (cc k)
-    otherwise false u v k = refl
+timer-idle d (x ∷ past) h = cond-false (repeats_keys d) _ (timer d past) h ∙ timer-idle d past h
 
 due_only : (b : Bool) (t : Timer) (now : ℕ) → (b ≡ false → t ≡ first_timer) → is_due t now ≡ true → b ≡ true
 due_only true t now f h = refl
@@ -180,7 +153,7 @@ disarms_alone d past now takes core to u m h =
     let due : is_due (timer d past) now ≡ true = ap (λ (t : Timer). is_due t now) (sym h.timer) ∙ u in
     let none : raw_of_step d past (Tick now) ≡ [] = raw_of_step-tick d past now false fired in
     entered d past (Tick now) [] takes (record core { timer = timer_disarmed core.timer }) to to none
-    (StandsAfter-timer d (raw d past) core (timer_disarmed core.timer) h.raw_events)
+    (assumption h.raw_events)
     refl
     (ap timer_disarmed h.timer ∙ sym (timer-tick-by d past now true false [] due fired none ∙ ap (λ (b : Bool). if b then timer_disarmed (timer d past) else timer d past) (repeats d past now core h u)))
     h.inhibited
@@ -209,7 +182,7 @@ fires_on d past now takes core new to_old to_new u m h k =
     ∙ ap (λ (b : Bool). if b then timer_at_cuts d now (cuts d (raw d past) items) (timer_disarmed core.timer) else timer_disarmed core.timer) on
     ∙ ap (λ (t : Timer). timer_at_cuts d now (cuts d (raw d past) items) (timer_disarmed t)) h.timer in
     entered d past (Tick now) items takes (record new { timer = timer_rearmed now (1000 * unsigned_abs new.state.period) new.timer }) to_old to_new some
-    (StandsAfter-timer d (raw_after (raw d past) items) new (timer_rearmed now (1000 * unsigned_abs new.state.period) new.timer) k.stands_after)
+    (assumption k.stands_after)
     k.takes_all
     (ap (timer_rearmed now (1000 * unsigned_abs new.state.period)) timer_is
     ∙ ap (λ (x : ℤ). timer_rearmed now (1000 * unsigned_abs x) armed) k.stands_after.state.period
@@ -232,4 +205,4 @@ tick-fires d past now takes core begun handled new es to_old to_new u m h b e k 
 
 -- what the core with its timer timer_disarmed stands for
 pub begins : (d : Description) (past : List Step) (core begun : CoreValues) → CoreStandsFor d past core → begun ≡ record core { timer = timer_disarmed core.timer } → StandsAfter d (raw d past) begun
-begins d past core begun h b = subst (StandsAfter d (raw d past)) (sym b) (StandsAfter-timer d (raw d past) core (timer_disarmed core.timer) h.raw_events)
+begins d past core begun h b = subst (StandsAfter d (raw d past)) (sym b) (assumption h.raw_events)

@@ -1,6 +1,5 @@
 mod PassedEvents
 mod HandledEvents
-mod Cuts
 mod EnteredSteps
 mod Releases
 pub mod KeptCore

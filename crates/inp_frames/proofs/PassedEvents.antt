@@ -3,6 +3,7 @@ use Rattle.std.proofs.Common.{◌≡◌, ◌==◌, ℕ, Bool, true, false, ◌&&
 use Rattle.std.specs.Prelude.{unwrap_or, not}
 use Rattle.std.specs.Int.RustNames.{bit_and}
 use Rattle.std.specs.Ordering.{int_eq}
+use Rattle.std.proofs.lemmas.Bool.{and_parts}
 use Rattle.std.proofs.lemmas.Bool.Decides.{nat_tests}
 use Rattle.inp_model.specs.declared.event.TheConstants.{EV_ABS}
 use Rattle.inp_model.specs.declared.event.Event.{Event}
@@ -27,41 +28,31 @@ touches e value h v = ap (touch e.code) v ∙ at_kind (λ x. touch x.code x.valu
 
 -- the flags that a number holds
 
+-- a test at both truth values
+abbrev both : (Bool → Bool) → Bool
+both f = f true && f false
+
+both_hold : (f : Bool → Bool) → both f ≡ true → (b : Bool) → f b ≡ true
+both_hold f h true = (and_parts (f true) (f false) h).0
+both_hold f h false = (and_parts (f true) (f false) h).1
+
+-- a test of four flags that is true whatever they are, which one computation shows
+each_flags : (f : Bool → Bool → Bool → Bool → Bool) → both (λ a. both (λ b. both (λ c. both (f a b c)))) ≡ true → (a b c d : Bool) → f a b c d ≡ true
+each_flags f h a b c d =
+    let first = both_hold (λ a. both (λ b. both (λ c. both (f a b c)))) h a in
+    let second = both_hold (λ b. both (λ c. both (f a b c))) first b in
+    both_hold (f a b c) (both_hold (λ c. both (f a b c)) second c) d
+
+same_flag : (x y : Bool) → (if y then x else not x) ≡ true → x ≡ y
+same_flag x true h = h
+same_flag true false h = absurd (cc h)
+same_flag false false h = refl
+
 flag_1 : (passes device slot flush : Bool) → (bit_and (flags passes device slot flush) 1 == 1) ≡ passes
-flag_1 true true true true = refl
-flag_1 true true true false = refl
-flag_1 true true false true = refl
-flag_1 true true false false = refl
-flag_1 true false true true = refl
-flag_1 true false true false = refl
-flag_1 true false false true = refl
-flag_1 true false false false = refl
-flag_1 false true true true = refl
-flag_1 false true true false = refl
-flag_1 false true false true = refl
-flag_1 false true false false = refl
-flag_1 false false true true = refl
-flag_1 false false true false = refl
-flag_1 false false false true = refl
-flag_1 false false false false = refl
+flag_1 p d s f = same_flag _ p (each_flags (λ p d s f. let x = bit_and (flags p d s f) 1 == 1 in if p then x else not x) refl p d s f)
 
 flag_4 : (passes device slot flush : Bool) → (bit_and (flags passes device slot flush) 4 == 4) ≡ slot
-flag_4 true true true true = refl
-flag_4 true true true false = refl
-flag_4 true true false true = refl
-flag_4 true true false false = refl
-flag_4 true false true true = refl
-flag_4 true false true false = refl
-flag_4 true false false true = refl
-flag_4 true false false false = refl
-flag_4 false true true true = refl
-flag_4 false true true false = refl
-flag_4 false true false true = refl
-flag_4 false true false false = refl
-flag_4 false false true true = refl
-flag_4 false false true false = refl
-flag_4 false false false true = refl
-flag_4 false false false false = refl
+flag_4 p d s f = same_flag _ s (each_flags (λ p d s f. let x = bit_and (flags p d s f) 4 == 4 in if s then x else not x) refl p d s f)
 
 -- the event itself
 
@@ -70,10 +61,6 @@ event_by None e v is = refl
 event_by (Some w) e v is = ap (λ (x : ℤ). record e { value = x } ∷ []) is
 
 -- the slot before it
-
-first : (a b : Bool) → (a && b) ≡ true → a ≡ true
-first true b h = refl
-first false b h = absurd (cc h)
 
 slot_by : (slot told : ℤ) (announces : Bool) → (announces ≡ true → slot ≡ told) → option_to_list (if announces then Some (slot_event slot) else None) ≡ (if announces then slot_event told ∷ [] else [])
 slot_by slot told true h = ap (λ (x : ℤ). slot_event x ∷ []) (h refl)
@@ -91,7 +78,7 @@ passed-by d r e given n v slot flags_are value told before itself =
     let has_4 : (bit_and n 4 == 4) ≡ announces d r e = ap (λ (m : ℕ). bit_and m 4 == 4) flags_are ∙ flag_4 passes (goes_to_device d r e) (announces d r e) (passes && is_report e) in
     let of_slot : option_to_list given.announcement ≡ announcement d r e =
     ap option_to_list (before ∙ ap (λ b. if b then Some (slot_event slot) else None) has_4)
-    ∙ slot_by slot (staged d r) (announces d r e) (λ h. told ∙ announced-tells d r e (first (passes_slot_value d r e) (not (int_eq (staged d r) (announced d r))) h)) in
+    ∙ slot_by slot (staged d r) (announces d r e) (λ h. told ∙ announced-tells d r e (and_parts (passes_slot_value d r e) (not (int_eq (staged d r) (announced d r))) h).0) in
     let of_event : option_to_list given.event ≡ option_to_list (option_map (λ w. record e { value = w }) (passes_as d r e)) =
     ap option_to_list (itself ∙ ap (λ b. if b then Some new else None) has_1)
     ∙ event_by (passes_as d r e) e v value in

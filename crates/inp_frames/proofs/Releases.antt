@@ -3,6 +3,7 @@ use Rattle.std.proofs.Common.{◌≡◌, ℕ, zero, suc, ◌+◌, ◌-◌, ◌<�
 use Rattle.std.specs.Prelude.{filter, flat_map}
 use Rattle.std.specs.List.{range_with_len, All}
 use Rattle.std.proofs.lemmas.List.Elements.{All-tail}
+use Rattle.std.proofs.lemmas.List.Concat.{flat_map-append}
 use Rattle.inp_model.specs.declared.event.Event.{Event}
 use Rattle.inp_model.specs.RawItem.{RawItem}
 use Rattle.inp_model.specs.Description.{Description}
@@ -13,10 +14,6 @@ use Rattle.inp_model.specs.Raw.{has_contact, slot_release, slot_releases, key_re
 use Rattle.inp_bits.specs.Bits.{is_on_at, true_indices}
 use Rattle.inp_frames.specs.HandledEvents.{lift_events, release_events}
 use Rattle.inp_model.proofs.Injection.{range-append}
-
-pub flat_map-append : (f : ℕ → List Event) (xs ys : List ℕ) → flat_map f (xs ++ ys) ≡ flat_map f xs ++ flat_map f ys
-flat_map-append f [] ys = refl
-flat_map-append f (x ∷ xs) ys = ap (λ (es : List Event). f x ++ es) (flat_map-append f xs ys) ∙ sym (append_assoc (f x) (flat_map f xs) (flat_map f ys))
 
 -- of those that pass a test
 flat_map-filter : (f : ℕ → List Event) (p : ℕ → Bool) (xs : List ℕ) → flat_map f (filter p xs) ≡ flat_map (λ x. if p x then f x else []) xs

@@ -1,7 +1,7 @@
 -- A device has steps for entries: what is told of a port of it is what the pass has seen and owns.
-use Rattle.std.proofs.Common.{◌≡◌, ℕ, zero, suc, ◌+◌, ◌<◌, ◌≤◌, Bool, true, false, not, cond, if◌then◌else◌, List, [], ◌∷◌, ◌++◌, length, take, refl, sym, ap, ◌∙◌, subst, arith, ℤ, Option, Some}
+use Rattle.std.proofs.Common.{◌≡◌, ℕ, zero, suc, ◌+◌, ◌<◌, ◌≤◌, Bool, true, false, not, cond, if◌then◌else◌, List, [], ◌∷◌, length, take, refl, sym, ap, ◌∙◌, subst, arith, ℤ, Option, Some}
 use Rattle.std.specs.Prelude.{All, map, filter, reverse}
-use Rattle.std.proofs.lemmas.List.{append-nil, reverse-reverse, length-reverse}
+use Rattle.std.proofs.lemmas.List.{reverse-reverse, length-reverse}
 use Rattle.std.proofs.lemmas.List.Elements.{All-head, All-tail}
 use Rattle.inp_model.specs.declared.limits.TheConstants.{LOG_MAX}
 use Rattle.inp_model.specs.declared.injected.Injected.{Injected}
@@ -13,11 +13,8 @@ use Rattle.inp_model.specs.Description.{Description}
 use Rattle.inp_model.specs.History.{IsHistory}
 use Rattle.inp_model.specs.Injection.{inject_of, entered_count, history_with}
 use Rattle.inp_model.specs.Reply.{is_accepted, past_after, IsDeviceStep}
-use Rattle.inp_turn.specs.declared.pass_view.PassView.{PassView}
-use Rattle.inp_turn.specs.PassView.{OwnsSeen}
 use Rattle.inp_port.specs.Entries.{steps_among, past_of, is_step_at, steps_before, step_places, other_places, Grown}
 use Rattle.inp_port.specs.Served.{IsServed, IsServedAll}
-use Rattle.inp_port.specs.Turn.{told_of}
 use Rattle.inp_port.proofs.Turns.{turned}
 
 -- each entry is the step that it is
@@ -74,15 +71,6 @@ other_places-none es (place ∷ own) all =
     let l = All-head (λ p. p < length es) place own all in
     ap (λ b. cond (not b) (place ∷ other_places itself es own) (other_places itself es own)) (is_step es place l)
     ∙ other_places-none es own (All-tail (λ p. p < length es) place own all)
-
--- So the caller of a port of a device is told what its pass has seen and owns, and its tie is the share and the port.
-pub told-device : (d : Description) (name : List ℕ) (v : PassView Description Step) (agains : ℕ) → OwnsSeen v
-    → told_of itself d name v agains ≡ record { description = d; seen = v.seen; own = v.own; agains = agains; turns = Some v.turns; tie = Some (v.share ∷ length name ∷ name) }
-told-device d name v agains owns =
-    let seen = steps-all v.seen in
-    let own = step_places-all v.seen v.own owns in
-    let tie = ap (λ (l : List ℕ). v.share ∷ length name ∷ name ++ l) (other_places-none v.seen v.own owns) ∙ append-nil (v.share ∷ length name ∷ name) in
-    λ i. record { description = d; seen = seen i; own = own i; agains = agains; turns = Some v.turns; tie = Some (tie i) }
 
 -- of many events
 pub device_served_all : (d e : Description) (past new : List Step) (events : List Stamped) (injected : Injected) → e ≡ d → injected.from ≡ length past → injected.count ≡ entered_count d injected.from events

@@ -1,7 +1,6 @@
 pub mod Times
 pub mod Moves
 pub mod Releases
-pub mod Kept
 pub mod Walks
 pub mod Counts
 pub mod Rings

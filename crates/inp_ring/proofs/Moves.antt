@@ -5,7 +5,7 @@ use Rattle.inp_ring.specs.declared.cell.Cell.{Cell}
 use Rattle.inp_ring.specs.declared.cell.Held.{Held}
 use Rattle.inp_ring.specs.Store.{StoreView, held_under, cell_in, holders, holders_of, held_cell, cell_count, held_more, held_less, held_by, HasCell, IsIdle, IsIdleSlot, IsPut}
 use Rattle.inp_ring.specs.Ring.{times, AreHeld, IsMoved, IsTakenOut, IsPutAtEnd}
-use Rattle.inp_ring.proofs.Times.{once, once_same, once_other, times-append, times_push}
+use Rattle.inp_ring.proofs.Times.{at_each, once, once_same, once_other, times-append, times_push}
 
 -- Nothing moves.
 pub moved_none : (s : StoreView) (q : List ℕ) → IsMoved s s q q
@@ -54,27 +54,11 @@ idle_out s q n h i = omega (arith, h n, idle_none s n i)
 -- A new cell comes with its one holder.
 pub moved_add : {s new : StoreView} (m : ℕ) (cell : Cell) → held_under s m ≡ None → IsPut s new m (held_by 1 cell) → cell_count s + s.spare ≤ cell_count new + new.spare → IsMoved s new [] (m ∷ [])
 moved_add {s} {new} m cell none put room = record {
-  held = λ n. elim (cases_eq n m) [
-    | inl e ↦
-        let there : holders new n ≡ 1 = ap (λ k. holders new k) e ∙ ap holders_of put.changed in
-        let before : holders s n ≡ 0 = ap (λ k. holders s k) e ∙ ap holders_of none in
-        omega (arith, there, before, once_same n, ap (λ k. once n k) e)
-    | inr d ↦ omega (arith, ap holders_of (put.others n d), once_other n m (λ e. d (sym e)))
-  ];
-  kept = λ n h. elim (cases_eq n m) [
-    | inl e ↦ let before : holders s n ≡ 0 = ap (λ k. holders s k) e ∙ ap holders_of none in absurd (omega (arith, before))
-    | inr d ↦ ap held_cell (put.others n d)
-  ];
-  idle = λ n h. elim (cases_eq n m) [
-    | inl e ↦
-        let there : holders new n ≡ 1 = ap (λ k. holders new k) e ∙ ap holders_of put.changed in
-        absurd (omega (arith, there, idle_none new n h))
-    | inr d ↦ subst IsIdleSlot (put.others n d) h
-  ];
-  rest = λ n i t. elim (cases_eq n m) [
-    | inl e ↦ absurd (omega (arith, t, once_same n, ap (λ k. once n k) e))
-    | inr d ↦ put.others n d
-  ];
+  held = at_each _ m (omega (arith, ap holders_of put.changed, ap holders_of none, once_same m))
+      (λ n d. omega (arith, ap holders_of (put.others n d), once_other n m (λ e. d (sym e))));
+  kept = at_each _ m (λ h. absurd (omega (arith, h, ap holders_of none))) (λ n d h. ap held_cell (put.others n d));
+  idle = at_each _ m (λ h. absurd (omega (arith, ap holders_of put.changed, idle_none new m h))) (λ n d h. subst IsIdleSlot (put.others n d) h);
+  rest = at_each _ m (λ i t. absurd (omega (arith, t, once_same m))) (λ n d i t. put.others n d);
   room = room;
 }
 
@@ -82,19 +66,10 @@ moved_add {s} {new} m cell none put room = record {
 pub taken_first : {s new : StoreView} (x : ℕ) (q : List ℕ) → AreHeld s (x ∷ q) → IsPut s new x (held_less (held_under s x)) → s.spare ≤ new.spare → cell_count s + s.spare ≤ cell_count new + new.spare → IsTakenOut s new (x ∷ q) q
 taken_first {s} {new} x q h put spare room = record {
   moved = record {
-    held = λ n. elim (cases_eq n x) [
-      | inl e ↦ subst (λ (k : ℕ). holders new k + times k (x ∷ q) ≡ holders s k + times k q) (sym e) (omega (arith, less, once_same x))
-      | inr d ↦ omega (arith, ap holders_of (put.others n d), once_other n x (λ i. d (sym i)))
-    ];
+    held = at_each _ x (omega (arith, less, once_same x)) (λ n d. omega (arith, ap holders_of (put.others n d), once_other n x (λ i. d (sym i))));
     kept = λ n fewer. same n (λ e. omega (arith, fewer, ap (λ (k : ℕ). once k x) e, once_same x, ap (λ (k : ℕ). holders s k) e));
-    idle = λ n i. elim (cases_eq n x) [
-      | inl e ↦ absurd (last (held_under s x) some (subst IsIdleSlot (put.changed) (subst (λ (k : ℕ). IsIdle new k) e i)))
-      | inr d ↦ subst IsIdleSlot (put.others n d) i
-    ];
-    rest = λ n i none. elim (cases_eq n x) [
-      | inl e ↦ absurd (omega (arith, some, idle_none s n i, ap (λ (k : ℕ). holders s k) e))
-      | inr d ↦ put.others n d
-    ];
+    idle = at_each _ x (λ i. absurd (last (held_under s x) some (subst IsIdleSlot put.changed i))) (λ n d i. subst IsIdleSlot (put.others n d) i);
+    rest = at_each _ x (λ i none. absurd (omega (arith, some, idle_none s x i))) (λ n d i none. put.others n d);
     room = room;
   };
   fewer = λ n. omega arith;
@@ -129,10 +104,7 @@ taken_first {s} {new} x q h put spare room = record {
     ]
 
     same : (n : ℕ) → (n ≡ x → 1 < holders s x) → cell_in new n ≡ cell_in s n
-    same n many = elim (cases_eq n x) [
-      | inl e ↦ subst (λ (k : ℕ). cell_in new k ≡ cell_in s k) (sym e) (ap held_cell put.changed ∙ stays (held_under s x) (many e))
-      | inr d ↦ ap held_cell (put.others n d)
-    ]
+    same = at_each _ x (λ many. ap held_cell put.changed ∙ stays (held_under s x) (many refl)) (λ n d many. ap held_cell (put.others n d))
 
 -- Beside numbers that leave others stay.
 pub taken_beside : {s new : StoreView} (p r : List ℕ) → AreHeld s (p ++ r) → IsTakenOut s new p [] → IsTakenOut s new (p ++ r) r
@@ -197,22 +169,12 @@ moved_hold {s} {t} {u} {from} {to} x e absent there put room =
     let before : times x e.before ≡ 0 = omega (arith, e.moved.held x, ap holders_of e.same) in
     let here : times x to ≡ 1 = omega (arith, ap (times x) e.entered, times_push x x e.before, once_same x) in
     record {
-      held = λ n. elim (cases_eq n x) [
-        | inl i ↦ subst (λ (k : ℕ). holders u k + times k from ≡ holders s k + times k to) (sym i) (omega (arith, more, here, absent, ap holders_of e.same))
-        | inr d ↦ omega (arith, ap holders_of (put.others n d), ap (times n) e.entered, times_push n x e.before, once_other n x (λ i. d (sym i)), e.moved.held n)
-      ];
-      kept = λ n h. elim (cases_eq n x) [
-        | inl i ↦ subst (λ (k : ℕ). cell_in u k ≡ cell_in s k) (sym i) (ap held_cell put.changed ∙ same_cell (held_under t x) ∙ ap held_cell e.same)
-        | inr d ↦ ap held_cell (put.others n d) ∙ e.moved.kept n h
-      ];
-      idle = λ n h. elim (cases_eq n x) [
-        | inl i ↦ absurd (omega (arith, more, idle_none u n h, ap (λ (k : ℕ). holders u k) i))
-        | inr d ↦ e.moved.idle n (subst IsIdleSlot (put.others n d) h)
-      ];
-      rest = λ n i t0. elim (cases_eq n x) [
-        | inl j ↦ absurd (omega (arith, t0, here, ap (λ (k : ℕ). times k to) j))
-        | inr d ↦ put.others n d ∙ e.moved.rest n i (omega (arith, t0, ap (times n) e.entered, times_push n x e.before))
-      ];
+      held = at_each _ x (omega (arith, more, here, absent, ap holders_of e.same))
+          (λ n d. omega (arith, ap holders_of (put.others n d), ap (times n) e.entered, times_push n x e.before, once_other n x (λ i. d (sym i)), e.moved.held n));
+      kept = at_each _ x (λ h. ap held_cell put.changed ∙ same_cell (held_under t x) ∙ ap held_cell e.same) (λ n d h. ap held_cell (put.others n d) ∙ e.moved.kept n h);
+      idle = at_each _ x (λ h. absurd (omega (arith, more, idle_none u x h))) (λ n d h. e.moved.idle n (subst IsIdleSlot (put.others n d) h));
+      rest = at_each _ x (λ i t0. absurd (omega (arith, t0, here)))
+          (λ n d i t0. put.others n d ∙ e.moved.rest n i (omega (arith, t0, ap (times n) e.entered, times_push n x e.before)));
       room = omega (arith, e.moved.room, room);
     }
   where

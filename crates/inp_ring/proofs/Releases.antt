@@ -3,13 +3,13 @@ use Rattle.std.proofs.Common.{◌≡◌, ◌≤◌, ◌<◌, ℕ, zero, suc, ◌
 use Rattle.std.specs.Prelude.{min}
 use Rattle.std.proofs.lemmas.Bool.{cases_lt}
 use Rattle.std.proofs.Math.Seq.{drop-append-add, take-length, take-append_seam, drop-append_seam}
-use Rattle.std.proofs.lemmas.List.{drop_more, length-append, length-map, length-take, length-take-le, append-nil, set-append_right, map_more, get_or-map, append_assoc, drop_all, take-append-le, take-append-drop}
+use Rattle.std.proofs.lemmas.List.{drop_more, length-append, length-map, length-take, length-take-le, append-nil, set-append_right, map_more, get_or-map, append_assoc, take-append-le, take-append-drop}
 use Rattle.std.proofs.lemmas.List.Elements.{All-get_or, All-nil, All-cons, All-head, All-tail}
 use Rattle.inp_model.specs.declared.stamped.TheConstants.{MOMENT_MAX}
 use Rattle.inp_model.specs.declared.taken.Taken.{Taken}
 use Rattle.inp_model.specs.Reply.{written}
 use Rattle.inp_ring.specs.declared.cell.Cell.{Cell}
-use Rattle.inp_ring.specs.Store.{StoreView, held_under, holders, cell_count, held_less, IsPut}
+use Rattle.inp_ring.specs.Store.{StoreView, held_under, cell_count, held_less, IsPut}
 use Rattle.inp_ring.specs.Ring.{times, AreFit, AreHeld, IsTakenOut, cell_at, some_cell, queue_in}
 use Rattle.inp_ring.proofs.Times.{times_first, times-drop-le, times-append}
 use Rattle.circular_buffer.specs.Buffer.{keep_last}
@@ -38,10 +38,6 @@ module _ {first s : StoreView} {q : List ℕ} {at : ℕ} (r : IsLetGo first q s 
   there : 1 ≤ times next (drop at q)
   there = omega (arith, ap (times next) left_is, times_first next (drop (at + 1) q))
 
-  -- the next one has a holder
-  pub let_go_held : 0 < holders s next
-  let_go_held = omega (arith, left_held next, there)
-
   -- its cell is as it was at first
   pub let_go_cell : cell_at s next ≡ cell_at first next
   let_go_cell = ap some_cell (r.taken.stay next there)
@@ -57,10 +53,6 @@ module _ {first s : StoreView} {q : List ℕ} {at : ℕ} (r : IsLetGo first q s 
         taken = taken_then r.taken one (λ n i. omega (arith, subset n, idle_out first q n r.held i));
         held = r.held;
       }
-
--- all of them
-pub let_go_all : {first s : StoreView} {q : List ℕ} {at : ℕ} → IsLetGo first q s at → length q ≤ at → IsTakenOut first s q []
-let_go_all {first} {s} {q} {at} r past = subst (λ (l : List ℕ). IsTakenOut first s q l) (drop_all at q past) r.taken
 
 -- the parts of a queue that is fit are fit
 abbrev Timed : Cell → Type 0

@@ -11,9 +11,16 @@ use Rattle.inp_ring.specs.declared.cell.Held.{Held}
 use Rattle.inp_ring.specs.Store.{StoreView, event_of_cell, cell_in, holders, holders_of, IsPut}
 use Rattle.inp_ring.specs.Ring.{RingView, times, ring_in, IsRing, AreDifferent, AreHeldAlone, HoldsAllButOne, EntersAlone, IsLost, IsTakenOut, IsPutAtEnd, cell_at, some_cell, queue_in}
 use Rattle.inp_ring.proofs.Times.{once, once_same, times_push, times-drop-le, times-le-length, times_first, AreDifferent_push}
-use Rattle.inp_ring.proofs.Kept.{keep_last-push}
 use Rattle.inp_model.proofs.Removal.{flush-length, flush-map}
 use Rattle.inp_ring.proofs.Walks.{event_at, flush-times}
+
+-- all is kept where it fits
+pub keep_last-all : (n : ℕ) (q : List ℕ) → length q ≤ n → keep_last n q ≡ q
+keep_last-all n q h = let e : length q - n ≡ zero = omega arith in ap (λ k. drop k q) e
+
+-- so it is with one more, where it leaves a place free
+pub keep_last-push : (n : ℕ) (q : List ℕ) (x : ℕ) → suc (length q) ≤ n → keep_last n (q ++ x ∷ []) ≡ q ++ x ∷ []
+keep_last-push n q x room = keep_last-all n (q ++ x ∷ []) (omega (arith, length_push q x))
 
 -- one number more
 pub ring_push : (b new : Buffer ℕ) (m : ℕ) → IsRing (ring_in b) → suc (length b.items) < b.capacity → times m b.items ≡ 0 →

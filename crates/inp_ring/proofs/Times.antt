@@ -1,7 +1,11 @@
 -- How often a number is in a list, as the list changes.
-use Rattle.std.proofs.Common.{◌≡◌, ◌≢◌, ◌≤◌, ℕ, zero, suc, ◌+◌, Bool, true, false, if◌then◌else◌, nat_eq, List, [], ◌∷◌, ◌++◌, length, take, drop, refl, sym, ap, inl, inr, arith}
+use Rattle.std.proofs.Common.{◌≡◌, ◌≢◌, ◌≤◌, ℕ, zero, suc, ◌+◌, Bool, true, false, if◌then◌else◌, nat_eq, List, [], ◌∷◌, ◌++◌, length, take, drop, refl, sym, ap, subst, inl, inr, arith}
 use Rattle.std.proofs.lemmas.Bool.{cases_eq, eq-eqb, ne_eqb}
 use Rattle.inp_ring.specs.Ring.{times, AreDifferent}
+
+-- What holds at one number, and at each other one, holds at each.
+pub at_each : (P : ℕ → Type 0) (m : ℕ) → P m → ((n : ℕ) → n ≢ m → P n) → (n : ℕ) → P n
+at_each P m here other n = elim (cases_eq n m) [ inl e ↦ subst P (sym e) here | inr d ↦ other n d ]
 
 -- 1 where the numbers are the same one
 abbrev pub once : ℕ → ℕ → ℕ
@@ -45,7 +49,4 @@ times_first n q = omega (arith, once_same n)
 
 -- the numbers stay different where a new one is put
 pub AreDifferent_push : (m : ℕ) (q : List ℕ) → AreDifferent q → times m q ≡ 0 → AreDifferent (q ++ m ∷ [])
-AreDifferent_push m q h new n = elim (cases_eq n m) [
-  | inl e ↦ omega (arith, times_push n m q, once-le n m, ap (λ k. times k q) e)
-  | inr d ↦ omega (arith, times_push n m q, once_other n m (λ e. d (sym e)), h n)
-]
+AreDifferent_push m q h new = at_each _ m (omega (arith, times_push m m q, once_same m, new)) (λ n d. omega (arith, times_push n m q, once_other n m (λ e. d (sym e)), h n))

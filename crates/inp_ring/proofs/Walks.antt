@@ -9,7 +9,7 @@ use Rattle.inp_model.proofs.Removal.{stays, report_stays_after, flush_from, flus
 use Rattle.inp_ring.specs.Store.{StoreView, event_of_cell}
 use Rattle.inp_ring.specs.Ring.{times, AreHeld, IsTakenOut, cell_at, some_cell}
 use Rattle.inp_ring.proofs.Times.{once, times-append, times_push, times-take-drop, times_first}
-use Rattle.inp_ring.proofs.Moves.{held_moved, taken_none, taken_then, taken_same, idle_out}
+use Rattle.inp_ring.proofs.Moves.{taken_none, taken_then, taken_same, idle_out}
 
 -- the number, where it stays
 abbrev pub kept_of : Bool → ℕ → List ℕ
@@ -18,10 +18,6 @@ kept_of kept x = if kept then x ∷ [] else []
 kept_of-times : (n : ℕ) (kept : Bool) (x : ℕ) → times n (kept_of kept x) ≤ once n x
 kept_of-times n true x = omega arith
 kept_of-times n false x = omega arith
-
-kept_of-length : (kept : Bool) (x : ℕ) → length (kept_of kept x) ≤ 1
-kept_of-length true x = omega arith
-kept_of-length false x = omega arith
 
 module _ (event : ℕ → Event) (drops : Event → Bool) where
   -- whether a report stays that comes after these numbers
@@ -68,9 +64,6 @@ pub walked_none : (drops : Event → Bool) (s : StoreView) (numbers : Buffer ℕ
 walked_none drops s numbers h = record { items = ap (λ q. buffer q numbers.capacity) (sym (append-nil numbers.items)); flag = refl; taken = taken_none s numbers.items; held = h }
 
 module _ {drops : Event → Bool} {first s : StoreView} {q : List ℕ} {capacity at : ℕ} {numbers : Buffer ℕ} {report_stays : Bool} (w : IsWalked drops first q capacity s numbers at report_stays) where
-  pub walked_held : AreHeld s numbers.items
-  walked_held = held_moved w.taken.moved w.held
-
   pub walked_all : length q ≤ at → numbers ≡ buffer (flush (event_at first) drops q) capacity
   walked_all h =
       let rest : drop at q ≡ [] = drop_all at q h in
@@ -101,9 +94,6 @@ module _ {drops : Event → Bool} {first s : StoreView} {q : List ℕ} {capacity
 
     walked_items : numbers.items ≡ walked_number ∷ (drop (at + 1) q ++ flush_from (event_at first) drops true (take at q))
     walked_items = ap (λ (b : Buffer ℕ). b.items) w.items ∙ ap (λ r. r ++ flush_from (event_at first) drops true (take at q)) (drop_more q at 0 here)
-
-    pub walked_some : 0 < length numbers.items
-    walked_some = omega (arith, ap length walked_items)
 
     pub walked_within : length q ≤ capacity → length numbers.items ≤ numbers.capacity
     walked_within h = omega (arith, walked_length, ap (λ (b : Buffer ℕ). b.capacity) w.items)

@@ -14,9 +14,8 @@ use Rattle.inp_turn.specs.PassView.{whole_share, added_places, spent_view, OwnsS
 use Rattle.inp_turn.specs.Turn.{turn_count, share_of, own_count, IsTurn}
 use Rattle.inp_turn.specs.Steps.{ClosesWith}
 use Rattle.inp_turn.proofs.Prefixes.{prefix-length, prefix_whole}
-use Rattle.inp_turn.proofs.Places.{count-below, count-behind, count-within}
+use Rattle.inp_turn.proofs.Places.{count-below, count-behind, count-within, count-unseen}
 use Rattle.inp_turn.proofs.Sums.{sum-alone, two-le-sum}
-use Rattle.inp_turn.proofs.OwnPlaces.{count-unseen}
 
 plus-none : (a b : ℕ) → b ≡ 0 → a ≡ a + b
 plus-none a b e = omega arith

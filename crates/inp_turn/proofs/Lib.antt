@@ -3,5 +3,4 @@ pub mod Places
 pub mod Sums
 pub mod KeptRule
 pub mod ClosedTurn
-pub mod OwnPlaces
 pub mod Seats

@@ -1,11 +1,16 @@
 -- How often a place stands among those that were added.
-use Rattle.std.proofs.Common.{◌≡◌, ◌≢◌, ℕ, zero, suc, ◌+◌, ◌-◌, ◌<◌, ◌≤◌, nat_eq, cond, List, ◌∷◌, ◌++◌, length, refl, ap, arith, eq-eqb, ne_eqb}
-use Rattle.std.specs.Prelude.{count_by}
+use Rattle.std.proofs.Common.{◌≡◌, ◌≢◌, ℕ, zero, suc, ◌+◌, ◌-◌, ◌<◌, ◌≤◌, nat_eq, cond, List, ◌∷◌, ◌++◌, length, refl, ap, arith, eq-eqb, ne_eqb, []}
+use Rattle.std.specs.Prelude.{count_by, All}
 use Rattle.std.specs.List.{range_with_len}
 use Rattle.std.proofs.lemmas.List.Sums.{sum_by-cons, sum_by-append}
 use mathlib.Core.Logic.{dite}
 use native.Mathlib.Decide.{dec_le, ℕ_discrete}
-use Rattle.inp_turn.specs.PassView.{added_places}
+use Rattle.inp_turn.specs.PassView.{added_places, OwnsSeen, view_after_give}
+use Rattle.std.proofs.lemmas.List.Elements.{All-append}
+use Rattle.std.proofs.lemmas.List.FromFn.{length-range_with_len, get_or-range_with_len}
+use mathlib.Core.List.{IsPrefix}
+use Rattle.inp_turn.specs.declared.pass_view.PassView.{PassView}
+use Rattle.inp_turn.proofs.Prefixes.{prefix-length}
 
 abbrev count : ℕ → List ℕ → ℕ
 count p xs = count_by (nat_eq p) xs
@@ -61,3 +66,27 @@ module _ {E : Type 0} where
   added-le-one p xs ys = let n : ℕ = length ys - length xs in dite (dec_le (length xs) p)
       (λ from. dite (dec_le (length xs + n) p) (λ behind. omega (arith, count-behind p (length xs) n behind)) (λ within. omega (arith, count-within p (length xs) n from (omega arith))))
       (λ below. omega (arith, count-below p (length xs) n (omega arith)))
+
+-- A pass owns places of entries that it has seen
+
+abbrev Below : ℕ → List ℕ → Type 0
+Below n xs = All (λ place. place < n) xs
+
+count-high : (place n : ℕ) (xs : List ℕ) → Below n xs → n ≤ place → count_by (nat_eq place) xs ≡ 0
+count-high place n [] below l = refl
+count-high place n (x ∷ xs) below l = let first : x < n = below 0 0 (omega arith) in
+    omega (arith, count-cons place x xs, here-other place x (λ e. omega arith), count-high place n xs (λ k d h. below (suc k) d (omega arith)) l)
+
+below-more : (m n : ℕ) (xs : List ℕ) → m ≤ n → Below m xs → Below n xs
+below-more m n xs l below k d h = omega (arith, below k d h)
+
+below-range : (a k n : ℕ) → a + k ≤ n → Below n (range_with_len a k)
+below-range a k n l i d h = let inside : i < k = omega (arith, length-range_with_len a k) in omega (arith, get_or-range_with_len a k i d inside)
+
+module _ {B E : Type 0} where
+  pub count-unseen : (v : PassView B E) (place : ℕ) → OwnsSeen v → length v.seen ≤ place → count_by (nat_eq place) v.own ≡ 0
+  count-unseen v place owns l = count-high place (length v.seen) v.own owns l
+
+  pub owns-give : (v : PassView B E) (given : List E) → OwnsSeen v → IsPrefix v.seen given → OwnsSeen (view_after_give v given)
+  owns-give v given owns more = let l = prefix-length v.seen given more in
+      All-append (λ place. place < length given) v.own (added_places v.seen given) (below-more (length v.seen) (length given) v.own l owns) (below-range (length v.seen) (length given - length v.seen) (length given) (omega arith))

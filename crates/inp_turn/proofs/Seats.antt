@@ -5,7 +5,7 @@ use Rattle.atomic_table.specs.Table.{rest}
 use Rattle.inp_turn.specs.declared.seat_view.SeatView.{SeatView}
 use Rattle.inp_turn.specs.PassView.{spent_view, OwnsSeen}
 use Rattle.inp_turn.specs.Steps.{Sitting, seat_after_give}
-use Rattle.inp_turn.proofs.OwnPlaces.{owns-give}
+use Rattle.inp_turn.proofs.Places.{owns-give}
 
 -- the slots of a seat between two calls
 abbrev slots_of : {S : Type 0} → Bool → List (ℕ × Option S)

@@ -2,7 +2,4 @@ pub mod PassedOutputs
 pub mod SentEvents
 pub mod ServedEntries
 pub mod Udevs
-pub mod Events
-pub mod FeedbackTurns
-pub mod Waiting
 pub mod Tied

@@ -1,10 +1,9 @@
 -- What a call leaves of a device made by requests.
-use Rattle.std.proofs.Common.{◌≡◌, ℕ, ◌≤◌, ◌<◌, Bool, true, false, if◌then◌else◌, List, [], ◌∷◌, ◌++◌, length, take, drop, reverse, sym, ap, ◌∙◌, subst, arith, ℤ, Option, option_to_list}
+use Rattle.std.proofs.Common.{◌≡◌, ℕ, ◌≤◌, ◌<◌, Bool, true, false, if◌then◌else◌, List, [], ◌∷◌, ◌++◌, length, take, drop, reverse, sym, ap, ◌∙◌, subst, arith, ℤ, Option, option_to_list, ◌-◌, refl, Some, None, ◌+◌, map, get_or, append_assoc}
 use Rattle.std.specs.Prelude.{nat_le, min}
-use Rattle.std.proofs.lemmas.List.{reverse-append, length-take, take_min}
-use Rattle.std.proofs.lemmas.Bool.{le-leb}
-use Rattle.std.proofs.lemmas.Bool.Decides.{nat_tests}
-use Rattle.circular_buffer.specs.Buffer.{buffer}
+use Rattle.std.proofs.lemmas.List.{reverse-append, length-take, take_min, append-nil, length-drop, take_more, get_or-take}
+use Rattle.std.proofs.lemmas.Bool.{le-leb, lt-leb}
+use Rattle.circular_buffer.specs.Buffer.{buffer, Buffer, keep_last}
 use Rattle.inp_model.specs.declared.event.Event.{Event}
 use Rattle.inp_model.specs.declared.taken.Taken.{Taken}
 use Rattle.inp_model.specs.declared.step.Step.{Step}
@@ -19,14 +18,57 @@ use Rattle.inp_feedback.specs.declared.fed.Fed.TheVariants.{Took, Full}
 use Rattle.inp_feedback.specs.declared.fed.TheConstants.{FEEDBACK_MAX}
 use Rattle.inp_feedback.specs.declared.feedback_call.FeedbackCall.{FeedbackCall}
 use Rattle.inp_uinput.specs.declared.outputs.Outputs.{Outputs}
-use Rattle.inp_feedback.specs.UEntry.{steps_in, kept_after_step}
+use Rattle.inp_feedback.specs.UEntry.{steps_in, kept_after_step, kept_after_events}
 use Rattle.inp_feedback.specs.Sent.{sent_at_step}
 use Rattle.inp_uinput.specs.UdevView.{UdevView}
 use Rattle.inp_feedback.specs.Feedback.{feedback_queue, is_full_of_feedback, taken_by_feedback, fed, kept_after_feedback}
 use Rattle.inp_feedback.specs.Kept.{kept_of, StandsWithin}
 use Rattle.inp_uinput.specs.KeptBeside.{with_sent, IsKeptBeside}
-use Rattle.inp_feedback.proofs.Lists.{steps_in-kept_of, feedback_count-kept_of, kept_of-nothing, kept_of-made, kept_of-fed, within-more}
-use Rattle.inp_uinput.proofs.Waiting.{waits_made, waits_fed, waits_first}
+use Rattle.inp_feedback.proofs.Lists.{steps_in-kept_of, feedback_count-kept_of, kept_of-nothing, kept_of-made, kept_of-fed, within-more, reverse-cons}
+use Rattle.inp_model.specs.declared.stamped.Stamped.{Stamped}
+use Rattle.inp_model.specs.Injection.{inject_of}
+use Rattle.inp_device.proofs.Injection.{no_stamped}
+
+-- What waits for the owner
+
+-- The queue has 15 events at most
+
+length-keep_last : (n : ℕ) (xs : List Event) → length (keep_last n xs) ≤ n
+length-keep_last n xs = omega (arith, length-drop (length xs - n) xs)
+
+pub queue_within : (d : Description) (kept : List UEntry) → length (feedback_queue d kept) ≤ FEEDBACK_MAX
+unfolding feedback_queue
+queue_within d [] = omega arith
+queue_within d (Made x ∷ kept) = length-keep_last FEEDBACK_MAX (feedback_queue d kept ++ sent_at_step d (steps_in kept) x)
+queue_within d (Feedback count ∷ kept) = omega (arith, queue_within d kept, length-drop count (feedback_queue d kept))
+
+-- After a step
+
+keep_last-few : (n : ℕ) (xs : List Event) → length xs ≤ n → keep_last n xs ≡ xs
+keep_last-few n xs h = let none : length xs - n ≡ 0 = omega arith in ap (λ k. drop k xs) none
+
+queue-made : (d : Description) (kept : List UEntry) (x : Step) (es : List Event) → es ≡ sent_at_step d (steps_in kept) x → keep_last FEEDBACK_MAX (feedback_queue d kept ++ es) ≡ feedback_queue d (Made x ∷ kept)
+unfolding feedback_queue
+queue-made d kept x es h = ap (λ es. keep_last FEEDBACK_MAX (feedback_queue d kept ++ es)) h
+
+pub waits_made : (d : Description) (kept : List UEntry) (x : Step) (sent : Option Event) (old : Buffer Event) → old ≡ buffer (feedback_queue d kept) FEEDBACK_MAX → option_to_list sent ≡ sent_at_step d (steps_in kept) x
+    → with_sent sent old ≡ buffer (feedback_queue d (Made x ∷ kept)) FEEDBACK_MAX
+waits_made d kept x None old is sends =
+    let queue : List Event = feedback_queue d kept in
+    is ∙ ap (λ es. buffer es FEEDBACK_MAX) (sym (ap (keep_last FEEDBACK_MAX) (append-nil queue) ∙ keep_last-few FEEDBACK_MAX queue (queue_within d kept)) ∙ queue-made d kept x [] sends)
+waits_made d kept x (Some e) old is sends = ap (with_sent (Some e)) is ∙ ap (λ es. buffer es FEEDBACK_MAX) (queue-made d kept x (e ∷ []) sends)
+
+-- After a feedback call
+
+pub waits_fed : (d : Description) (kept : List UEntry) (count : ℕ) (old : Buffer Event) → old ≡ buffer (feedback_queue d kept) FEEDBACK_MAX → buffer (drop count old.items) old.capacity ≡ buffer (feedback_queue d (Feedback count ∷ kept)) FEEDBACK_MAX
+unfolding feedback_queue
+waits_fed d kept count old is = ap (λ (w : Buffer Event). buffer (drop count w.items) w.capacity) is
+
+-- Of a device that keeps nothing
+
+pub waits_first : (d : Description) → buffer [] FEEDBACK_MAX ≡ buffer (feedback_queue d []) FEEDBACK_MAX
+unfolding feedback_queue
+waits_first d = refl
 
 -- A step
 
@@ -92,10 +134,7 @@ module _ (d : Description) (past : List Step) (calls : List FeedbackCall) (room 
   -- where there is room for a call
 
   pub below_limit : length calls < d.log_limit → is_full_of_feedback d kept ≡ false
-  below_limit h = ap (nat_le d.log_limit) (feedback_count-kept_of past calls) ∙ above d.log_limit (length calls) h
-    where
-      above : (a b : ℕ) → b < a → nat_le a b ≡ false
-      above a b h = grind (arith, nat_tests)
+  below_limit h = ap (nat_le d.log_limit) (feedback_count-kept_of past calls) ∙ lt-leb d.log_limit (length calls) h
 
   pub taken_some : is_full_of_feedback d kept ≡ false → taken_by_feedback d kept room ≡ take room queue
   taken_some some = ap (λ b. if b then [] else take room queue) some
@@ -150,3 +189,60 @@ first_view caps d past agains calls device none =
     ap (λ (v : DeviceView). record { description = v.description; kept = kept_of v.past (reverse calls); agains = v.agains }) device
     ∙ ap (λ (calls : List FeedbackCall). record { description = caps; kept = kept_of [] (reverse calls); agains = 0 }) none
     ∙ ap (λ (kept : List UEntry). record { description = caps; kept = kept; agains = 0 }) kept_of-nothing
+
+-- Events that are injected by one call, one after another
+
+-- one event more
+pub kept-event : (events : List Stamped) (stamped : Stamped) (kept : List UEntry) → kept_after_events (events ++ stamped ∷ []) kept ≡ Made (inject_of stamped) ∷ kept_after_events events kept
+kept-event [] stamped kept = refl
+kept-event (first ∷ events) stamped kept = kept-event events stamped (Made (inject_of first) ∷ kept)
+
+pub reverse-kept : (events : List Stamped) (kept : List UEntry) → reverse (kept_after_events events kept) ≡ reverse kept ++ map (λ stamped. Made (inject_of stamped)) events
+reverse-kept [] kept = sym (append-nil (reverse kept))
+reverse-kept (stamped ∷ events) kept =
+    let e : UEntry = Made (inject_of stamped) in
+    let rest : List UEntry = map (λ stamped. Made (inject_of stamped)) events in
+    reverse-kept events (e ∷ kept) ∙ ap (λ (es : List UEntry). es ++ rest) (reverse-cons kept e) ∙ append_assoc (reverse kept) (e ∷ []) rest
+
+-- the history of the steps
+pub events_entered : (events : List Stamped) (kept : List UEntry) → reverse (steps_in (kept_after_events events kept)) ≡ reverse (steps_in kept) ++ map inject_of events
+events_entered [] kept = sym (append-nil (reverse (steps_in kept)))
+events_entered (stamped ∷ events) kept =
+    events_entered events (Made (inject_of stamped) ∷ kept)
+    ∙ ap (λ (ss : List Step). ss ++ map inject_of events) (reverse-cons (steps_in kept) (inject_of stamped))
+    ∙ append_assoc (reverse (steps_in kept)) (inject_of stamped ∷ []) (map inject_of events)
+
+-- Events that are entered one after another
+
+steps_long : (events : List Stamped) (kept : List UEntry) → length (steps_in (kept_after_events events kept)) ≡ length (steps_in kept) + length events
+steps_long [] kept = omega arith
+steps_long (stamped ∷ events) kept = omega (arith, steps_long events (Made (inject_of stamped) ∷ kept))
+
+-- A device after so many of these events, which it had not yet when it was the first one.
+pub record HasKept (first : UdevView) (events : List Stamped) (count : ℕ) (u : UdevView) : Type 0 where
+  pub kept : u ≡ record first { kept = kept_after_events (take count events) first.kept }
+  pub accepted : IsHistory u.description (steps_in u.kept)
+
+-- one of those for which there is room
+pub kept-room : (first : UdevView) (events : List Stamped) (most count : ℕ) (u : UdevView) → HasKept first events count u
+    → most ≡ min (length events) (first.description.log_limit - length (steps_in first.kept)) → count < length (take most events) → length (steps_in u.kept) < u.description.log_limit
+kept-room first events most count u h is below =
+    let few : count < most = omega (arith, below, length-take most events) in
+    let taken : length (take count events) ≡ count = omega (arith, length-take count events, few, is) in
+    let long : length (steps_in u.kept) ≡ length (steps_in first.kept) + length (take count events) = ap (λ (u : UdevView). length (steps_in u.kept)) h.kept ∙ steps_long (take count events) first.kept in
+    let limit : u.description.log_limit ≡ first.description.log_limit = ap (λ (u : UdevView). u.description.log_limit) h.kept in
+    omega (arith, few, is, taken, long, limit)
+
+pub kept-more : (first : UdevView) (events : List Stamped) (most count : ℕ) (u new : UdevView) (stamped : Stamped) → HasKept first events count u → count < length (take most events)
+    → stamped ≡ get_or (take most events) count no_stamped → new ≡ record u { kept = Made (inject_of stamped) ∷ u.kept } → IsHistory new.description (steps_in new.kept) → HasKept first events (count + 1) new
+kept-more first events most count u new stamped h below is made accepted =
+    let few : count < most = omega (arith, below, length-take most events) in
+    let within : count < length events = omega (arith, below, length-take most events) in
+    let item : stamped ≡ get_or events count no_stamped = is ∙ get_or-take most events count no_stamped few in
+    let more : Made (inject_of stamped) ∷ kept_after_events (take count events) first.kept ≡ kept_after_events (take (count + 1) events) first.kept =
+    sym (ap (λ (xs : List Stamped). kept_after_events xs first.kept) (take_more events count no_stamped within) ∙ kept-event (take count events) (get_or events count no_stamped) first.kept
+    ∙ ap (λ (s : Stamped). Made (inject_of s) ∷ kept_after_events (take count events) first.kept) (sym item)) in
+    record {
+      kept = made ∙ ap (λ (u : UdevView). record u { kept = Made (inject_of stamped) ∷ u.kept }) h.kept ∙ ap (λ (kept : List UEntry). record first { kept = kept }) more;
+      accepted = accepted;
+    }

@@ -1,6 +1,5 @@
 use Rattle.std.proofs.Common.{sym, ◌∙◌}
-use Rattle.inp_client.proofs.Locations.{has_client-clients_in, key_in_slab}
-use Rattle.inp_client.proofs.Search.{index_is_some, index_is, location_at_index}
+use Rattle.inp_client.proofs.Locations.{has_client-clients_in, key_in_slab, index_is_some, index_is, location_at_index}
 use Rattle.inp_client.proofs.clients.key_of.Goals as goal
 
 pub unwrap-requires : goal.unwrap-requires

@@ -1,6 +1,6 @@
 use Rattle.std.proofs.Common.{rules}
 use Rattle.std.proofs.lemmas.List.Sorted.{answers_always}
-use Rattle.inp_client.proofs.Search.{index_found, no_index}
+use Rattle.inp_client.proofs.Locations.{index_found, no_index}
 use Rattle.inp_client.proofs.location.index_of.Goals as goal
 
 pub returns-clause-found : goal.returns-clause-found

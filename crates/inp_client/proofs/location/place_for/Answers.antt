@@ -1,6 +1,6 @@
 use Rattle.std.proofs.Common.{nat_lt, rules}
 use Rattle.std.proofs.lemmas.List.Sorted.{IsPartitionPoint-from_clause, IsPartitionedBy-ltb}
-use Rattle.inp_client.proofs.Search.{not_falling, place_is}
+use Rattle.inp_client.proofs.Locations.{not_falling, place_is}
 use Rattle.inp_client.proofs.location.place_for.Goals as goal
 
 pub returns : goal.returns

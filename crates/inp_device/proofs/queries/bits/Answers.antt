@@ -1,10 +1,18 @@
-use Rattle.std.proofs.Common.{ℕ, sym, subst, ap, ◌∙◌}
+use Rattle.std.proofs.Common.{ℕ, sym, subst, ap, ◌∙◌, ◌≡◌, inl, inr}
 use Rattle.inp_model.specs.Raw.{raw}
 use Rattle.inp_model.specs.Reply.{code_on}
 use Rattle.inp_state.specs.State.{StateStandsFor}
-use Rattle.inp_device.proofs.BitKinds.{sound}
 use Rattle.inp_device.proofs.WordLists.{words-same}
+use Rattle.inp_model.specs.declared.event.TheConstants.{EV_KEY, EV_SW, EV_LED, EV_SND}
+use Rattle.inp_device.specs.Present.{HasBits}
 use Rattle.inp_device.proofs.queries.bits.Goals as goal
+
+-- the one that is left
+sound : (kind : ℕ) → HasBits kind → (kind ≡ EV_KEY → ⊥) → (kind ≡ EV_SW → ⊥) → (kind ≡ EV_LED → ⊥) → kind ≡ EV_SND
+sound kind (inl e) key switch led = absurd (key e)
+sound kind (inr (inl e)) key switch led = absurd (switch e)
+sound kind (inr (inr (inl e))) key switch led = absurd (led e)
+sound kind (inr (inr (inr e))) key switch led = e
 
 pub returns-then-kind-eq-EV_KEY : goal.returns-then-kind-eq-EV_KEY
 returns-then-kind-eq-EV_KEY c = record {

@@ -1,4 +1,4 @@
-use Rattle.inp_feedback.proofs.WaitingEvents.{waits_of_all_sent}
+use Rattle.inp_feedback.proofs.Few.{waits_of_all_sent}
 use Rattle.inp_feedback.proofs.laws.waiting.Goals as goal
 
 pub returns : goal.returns

@@ -5,7 +5,7 @@ use Rattle.circular_buffer.specs.Buffer.{Buffer, buffer, keep_last}
 use Rattle.inp_ring.specs.declared.cell.Held.{Held}
 use Rattle.inp_ring.specs.Store.{held_under, holders, holders_of}
 use Rattle.inp_ring.specs.Ring.{times, AreHeldAlone, IsMoved}
-use Rattle.inp_ring.proofs.Kept.{keep_last-all}
+use Rattle.inp_ring.proofs.Rings.{keep_last-all}
 use Rattle.inp_ring.proofs.Times.{once_other}
 use Rattle.inp_ring.proofs.Moves.{moved_add, moved_then, entry_same}
 use Rattle.inp_ring.proofs.removal.replace_all.Goals as goal

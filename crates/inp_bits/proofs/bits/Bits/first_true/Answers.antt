@@ -1,6 +1,6 @@
 use Rattle.std.proofs.Common.{arith}
 use Rattle.inp_bits.proofs.BitsOf.{length_from_words}
-use Rattle.inp_bits.proofs.FirstTrue.{first_true_found, none_true}
+use Rattle.inp_bits.proofs.Indices.{first_true_found, none_true}
 use Rattle.inp_bits.proofs.bits.Bits.first_true.Goals as goal
 
 pub returns-then-word-ne0-clause-found : goal.returns-then-word-ne0-clause-found

@@ -1,6 +1,6 @@
 use Rattle.std.proofs.Common.{◌≡◌, [], ◌∷◌, ◌*◌, ap, sym, ◌∙◌, rules}
 use Rattle.inp_bits.specs.Bits.{true_indices}
-use Rattle.inp_bits.proofs.FirstTrue.{true_indices-first, true_indices-none}
+use Rattle.inp_bits.proofs.Indices.{true_indices-first, true_indices-none}
 use Rattle.inp_bits.proofs.ones.OnesIterator.next.Goals as goal
 
 pub returns-in_err-index-clause-steps : goal.returns-in_err-index-clause-steps

@@ -2,40 +2,35 @@ use Rattle.std.proofs.Common.{◌≡◌, ◌+◌, ◌-◌, sym, ap, ◌∙◌, a
 use Rattle.std.proofs.lemmas.List.Edits.{length-remove}
 use Rattle.inp_client.specs.Clients.{ClientsView, without_client}
 use Rattle.inp_client.specs.Kept.{kept_view}
-use Rattle.inp_client.proofs.Locations.{has_client-clients_in, key_in_slab, located_after_removal}
-use Rattle.inp_client.proofs.Search.{index_is_some, index_is}
+use Rattle.inp_client.proofs.Locations.{has_client-clients_in, key_in_slab, located_after_removal, index_is_some, index_is}
 use Rattle.inp_client.proofs.OneClient.{call_open}
 use Rattle.inp_client.proofs.OpenClose.{close_held, close_cells, stored_close, idle_close, counted_close, list_close, fewer_close}
 use Rattle.inp_client.proofs.clients.Clients.close.Goals as goal
 
 pub unwrap-index-requires : goal.unwrap-index-requires
 unwrap-index-requires c =
-    let locations = c.self.inside.locations.items in
     let found = rw c.deref.ensures.value at c.index_of.ensures.found in
     let none = rw c.deref.ensures.value at c.index_of.ensures.none in
-    index_is_some locations c.args.number c.index_of.result found none
+    index_is_some c.self.inside.locations.items c.args.number c.index_of.result found none
     ∙ sym (has_client-clients_in c.self.invariant.located c.args.number)
     ∙ call_open c.self.inside c.args.number c.args.self.now c.self.view_is c.requires.«open»
 
 pub remove-client-requires : goal.remove-client-requires
 remove-client-requires c =
-    let locations = c.self.inside.locations.items in
     let found = rw c.deref.ensures.value at c.index_of.ensures.found in
-    let index = index_is locations c.args.number c.index_of.result c.unwrap-index.result found c.unwrap-index.ensures in
+    let index = index_is c.self.inside.locations.items c.args.number c.index_of.result c.unwrap-index.result found c.unwrap-index.ensures in
     rw c.remove-location.ensures.value (key_in_slab c.self.invariant.located c.unwrap-index.result c.remove-location.result index.within)
 
 pub clear-requires : goal.clear-requires
 clear-requires c =
-    let locations = c.self.inside.locations.items in
     let found = rw c.deref.ensures.value at c.index_of.ensures.found in
-    let index = index_is locations c.args.number c.index_of.result c.unwrap-index.result found c.unwrap-index.ensures in
+    let index = index_is c.self.inside.locations.items c.args.number c.index_of.result c.unwrap-index.result found c.unwrap-index.ensures in
     record { held = close_held c.self.inside c.self.invariant c.unwrap-index.result index.within c.remove-location.result c.remove-location.result.key c.remove-client.result (ap (λ s. s.key) (sym c.remove-location.ensures.value)) c.remove-client.ensures.value }
 
 pub overflow_sub-self : goal.overflow_sub-self
 overflow_sub-self c =
-    let locations = c.self.inside.locations.items in
     let found = rw c.deref.ensures.value at c.index_of.ensures.found in
-    let index = index_is locations c.args.number c.index_of.result c.unwrap-index.result found c.unwrap-index.ensures in
+    let index = index_is c.self.inside.locations.items c.args.number c.index_of.result c.unwrap-index.result found c.unwrap-index.ensures in
     omega (arith, c.places.ensures.places, c.clear.ensures.cleared.places, close_cells c.self.inside c.self.invariant c.unwrap-index.result index.within c.remove-location.result c.remove-location.result.key c.remove-client.result (ap (λ s. s.key) (sym c.remove-location.ensures.value)) c.remove-client.ensures.value)
 
 pub invariant_of-self : goal.invariant_of-self
@@ -58,9 +53,8 @@ invariant_of-self c =
 
 pub returns : goal.returns
 returns c =
-    let locations = c.self.inside.locations.items in
     let found = rw c.deref.ensures.value at c.index_of.ensures.found in
-    let index = index_is locations c.args.number c.index_of.result c.unwrap-index.result found c.unwrap-index.ensures in
+    let index = index_is c.self.inside.locations.items c.args.number c.index_of.result c.unwrap-index.result found c.unwrap-index.ensures in
     let at = ap (λ s. s.key) (sym c.remove-location.ensures.value) in
     record {
       closed =

@@ -1,9 +1,8 @@
 use Rattle.std.proofs.Common.{sym, ap, ◌∙◌}
 use Rattle.inp_client.specs.Clients.{ClientsView, has_client}
 use Rattle.inp_client.specs.Locations.{clients_in}
-use Rattle.inp_client.proofs.Locations.{has_client-clients_in}
+use Rattle.inp_client.proofs.Locations.{has_client-clients_in, index_is_some}
 use Rattle.inp_client.proofs.OneClient.{has_client-cells_in}
-use Rattle.inp_client.proofs.Search.{index_is_some}
 use Rattle.inp_client.proofs.clients.Clients.is_open.Goals as goal
 
 pub returns : goal.returns

@@ -1,4 +1,4 @@
-use Rattle.std.proofs.Common.{◌≡◌, ℕ, length, ap, ◌∙◌, sym, arith}
+use Rattle.std.proofs.Common.{◌≡◌, length, ap, ◌∙◌, sym, arith}
 use Rattle.std.proofs.lemmas.List.{length-reverse}
 use Rattle.inp_model.specs.declared.reply.Reply.TheVariants.{Done, Refused}
 use Rattle.inp_model.specs.declared.reply.Refusal.TheVariants.{LogFull}
@@ -10,11 +10,11 @@ use Rattle.inp_device.proofs.device.Device.inject.Goals as goal
 
 pub returns-then-at-log-clause-step : goal.returns-then-at-log-clause-step
 returns-then-at-log-clause-step c out cells =
-    let v = c.args.self.now in
-    let limit : c.log.result ≡ v.description.log_limit = c.log.ensures.log ∙ ap (λ (p : Present). p.caps.log_limit) c.deref.ensures ∙ ap (λ (d : StoringView). d.description.log_limit) c.self.view_is in
-    let long : length c.self.inside.steps.items ≡ length v.past = sym (length-reverse c.self.inside.steps.items) ∙ ap (λ (d : StoringView). length d.past) c.self.view_is in
-    inject_refused v.description v.past c.args.event c.args.now c.refuse.result out cells (omega (arith, limit, long, c.len-at.ensures, c.if-at-log.true))
-    (c.refuse.ensures.refused ∙ ap (λ (n : ℕ). Refused n LogFull) (ap length c.deref-then-at-log.ensures.value ∙ long))
+    let limit = c.log.ensures.log ∙ ap (λ (p : Present). p.caps.log_limit) c.deref.ensures in
+    let long = length-reverse c.self.inside.steps.items in
+    rw (← c.self.view_is)
+    (inject_refused _ _ c.args.event c.args.now c.refuse.result out cells (omega (arith, limit, long, c.len-at.ensures, c.if-at-log.true))
+    (c.refuse.ensures.refused ∙ ap (λ n. Refused n LogFull) (ap length c.deref-then-at-log.ensures.value ∙ sym long)))
 
 pub returns-clause-step : goal.returns-clause-step
 returns-clause-step c out cells =

@@ -1,16 +1,13 @@
-use Rattle.std.proofs.Common.{refl}
-use Rattle.inp_model.specs.declared.step.Step.TheVariants.{End}
-use Rattle.std.proofs.Common.{arith}
+use Rattle.std.proofs.Common.{refl, arith}
 use Rattle.inp_device.proofs.StepParts.{made_call, stands_ended, ends_fit}
 use Rattle.inp_device.proofs.Growth.{stored_kept}
 use Rattle.inp_device.proofs.present.Present.end.Goals as goal
 
 pub overflow_add-self : goal.overflow_add-self
-overflow_add-self c = omega (arith, ends_fit c.args.history.now End c.args.self.now c.requires.ready, c.requires.ready.few)
+overflow_add-self c = omega (arith, ends_fit c.requires.ready, c.requires.ready.few)
 
 pub returns : goal.returns
 returns c = record {
-  made = made_call c.args.history.now End c.args.self.now _ c.done.result refl c.done.ensures.done
-      (stands_ended c.args.history.now c.args.self.now _ c.requires.ready refl refl refl refl refl refl);
-  stored = stored_kept c.args.self.now.handler.clients c.args.self.now.handler.clients _ refl;
+  made = made_call refl c.done.ensures.done (stands_ended c.requires.ready refl refl refl refl refl refl);
+  stored = stored_kept c.args.self.now.handler.clients _;
 }

@@ -1,10 +1,9 @@
 use Rattle.std.proofs.Common.{reverse, refl}
-use Rattle.inp_model.specs.declared.step.Step.TheVariants.{Inject}
 use Rattle.inp_device.proofs.StepParts.{framed}
 use Rattle.inp_device.proofs.present.Present.inject.Goals as goal
 
 pub returns : goal.returns
 returns c =
-    let all = framed c.args.history.now (Inject c.args.event c.args.now) c.args.self.now _ c.begin.new.self c.done.result c.requires.ready refl refl c.done.ensures.done c.begin.ensures.begun c.holder.ensures.holder
+    let all = framed c.requires.ready refl refl c.done.ensures.done c.begin.ensures.begun c.holder.ensures.holder
     (c.inject.ensures.enters_inject (reverse c.args.history.now) c.requires.ready.stands.core) c.inject.ensures.made refl refl refl refl refl refl refl in
     record { made = all.0; stored = all.1 }

@@ -1,20 +1,18 @@
-use Rattle.std.proofs.Common.{reverse, refl, ap}
-use Rattle.inp_model.specs.declared.step.Step.TheVariants.{Open}
-use Rattle.std.proofs.Common.{arith}
+use Rattle.std.proofs.Common.{reverse, refl, ap, arith}
 use Rattle.inp_device.proofs.StepParts.{opens_unused, opens_fit, made_open, stands_same}
 use Rattle.inp_client.specs.Numbers.{stored_of}
 use Rattle.inp_device.proofs.Growth.{stored_same}
 use Rattle.inp_device.proofs.present.Present.open.Goals as goal
 
 pub open-requires-clause-unused : goal.open-requires-clause-unused
-open-requires-clause-unused c = opens_unused c.args.history.now c.args.self.now c.requires.ready
+open-requires-clause-unused c = opens_unused c.requires.ready
 
 pub overflow_add-self : goal.overflow_add-self
-overflow_add-self c = omega (arith, opens_fit c.args.history.now Open c.args.self.now c.requires.ready, c.requires.ready.few)
+overflow_add-self c = omega (arith, opens_fit c.requires.ready, c.requires.ready.few)
 
 pub returns-in-Ok : goal.returns-in-Ok
 returns-in-Ok c = record {
-  made = made_open c.args.history.now c.args.self.now _ c.ring-ring.result c.requires.ready c.ring-ring.ensures.ring refl refl refl c.in-Ok.ensures.ok refl refl refl;
+  made = made_open c.requires.ready c.ring-ring.ensures.ring refl refl refl c.in-Ok.ensures.ok refl refl refl;
   stored = stored_same c.args.self.now.handler.clients c.open.new.self _ c.open.ensures.numbers;
 }
 

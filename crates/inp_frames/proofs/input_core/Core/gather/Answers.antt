@@ -3,8 +3,7 @@ use Rattle.inp_model.specs.declared.event.Event.{Event}
 use Rattle.inp_frames.specs.Core.{StandsAfter}
 use Rattle.inp_frames.specs.HandledEvents.{timer_at_frame}
 use Rattle.inp_frames.specs.contracts.input_core.Core.{the_view}
-use Rattle.inp_frames.proofs.HandledEvents.{Handles-from}
-use Rattle.inp_frames.proofs.Cuts.{adds, handles-more, handles-cut}
+use Rattle.inp_frames.proofs.HandledEvents.{Handles-from, adds, handles-more, handles-cut}
 use Rattle.inp_frames.proofs.input_core.Core.gather.Goals as goal
 
 pub returns-then-not-cut-clause-handled : goal.returns-then-not-cut-clause-handled

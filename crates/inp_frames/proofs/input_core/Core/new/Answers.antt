@@ -1,5 +1,5 @@
 use Rattle.std.proofs.Common.{sym, ◌∙◌}
-use Rattle.inp_frames.proofs.Cuts.{stands-first}
+use Rattle.inp_frames.proofs.HandledEvents.{stands-first}
 use Rattle.inp_frames.proofs.input_core.Core.new.Goals as goal
 
 pub returns : goal.returns

@@ -3,8 +3,7 @@ use mathlib.Core.List.{IsPrefix}
 use Rattle.inp_turn.specs.Shared.{shared_id}
 use Rattle.inp_turn.specs.Pass.{view_of}
 use Rattle.inp_model.specs.Reply.{is_accepted}
-use Rattle.inp_port.proofs.Turns.{grown-begins, told_call, turn-begins}
-use Rattle.inp_port.proofs.RefusedTurns.{turn-enters_nothing, turn-own_stays, turn-out_stays, turn-cells_stay}
+use Rattle.inp_port.proofs.Turns.{grown-begins, told_call, turn-begins, turn-enters_nothing, turn-own_stays, turn-out_stays, turn-cells_stay}
 use Rattle.inp_port.proofs.port.PortOf.call.Goals as goal
 
 pub give-requires-clause-grown : goal.give-requires-clause-grown

@@ -3,8 +3,7 @@ use mathlib.Core.List.{IsPrefix}
 use Rattle.inp_turn.specs.Shared.{shared_id}
 use Rattle.inp_turn.specs.Pass.{view_of}
 use Rattle.inp_turn.specs.PassView.{view_after_give}
-use Rattle.inp_port.specs.Turn.{IsServedAllTurn}
-use Rattle.inp_port.proofs.TurnsForAll.{all-begins, turn-served, all-turn-begins, told_all}
+use Rattle.inp_port.proofs.Turns.{all-begins, turn-served, all-turn-begins, told_all}
 use Rattle.inp_port.proofs.port.PortOf.inject_all.Goals as goal
 
 pub give-requires-clause-grown : goal.give-requires-clause-grown

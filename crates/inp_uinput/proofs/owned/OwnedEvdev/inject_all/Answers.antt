@@ -3,7 +3,7 @@ use Rattle.inp_model.specs.Injection.{IsInjectAll}
 use Rattle.inp_model.proofs.Injection.{evdev_injected}
 use Rattle.inp_feedback.specs.UEntry.{steps_in}
 use Rattle.inp_uinput.specs.UdevView.{UdevView, device_of, owned_view}
-use Rattle.inp_uinput.proofs.Events.{events_entered}
+use Rattle.inp_uinput.proofs.Udevs.{events_entered}
 use Rattle.inp_uinput.proofs.Tied.{numbers-events, owned_injected}
 use Rattle.inp_uinput.proofs.owned.OwnedEvdev.inject_all.Goals as goal
 

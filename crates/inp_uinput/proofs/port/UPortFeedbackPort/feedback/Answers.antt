@@ -4,7 +4,7 @@ use Rattle.inp_turn.specs.Shared.{shared_id}
 use Rattle.inp_turn.specs.Pass.{view_of}
 use Rattle.inp_turn.specs.PassView.{view_after_give}
 use Rattle.inp_uinput.specs.UdevView.{UdevView}
-use Rattle.inp_uinput.proofs.FeedbackTurns.{feedback-begins, feedback-turn, feedback-told}
+use Rattle.inp_uinput.proofs.ServedEntries.{feedback-begins, feedback-turn, feedback-told}
 use Rattle.inp_uinput.proofs.port.UPortFeedbackPort.feedback.Goals as goal
 
 pub give-requires-clause-grown : goal.give-requires-clause-grown

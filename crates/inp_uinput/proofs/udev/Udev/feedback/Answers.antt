@@ -10,12 +10,10 @@ use Rattle.inp_feedback.specs.declared.fed.Fed.TheVariants.{Took, Full}
 use Rattle.inp_feedback.specs.declared.feedback_call.FeedbackCall.{FeedbackCall}
 use Rattle.inp_uinput.specs.declared.outputs.Outputs.{Outputs}
 use Rattle.inp_feedback.specs.declared.fed.TheConstants.{FEEDBACK_MAX}
-use Rattle.inp_feedback.specs.Feedback.{feedback_queue, is_full_of_feedback, taken_by_feedback, fed, kept_after_feedback}
-use Rattle.inp_uinput.specs.UdevView.{UdevView}
+use Rattle.inp_feedback.specs.Feedback.{feedback_queue, is_full_of_feedback}
 use Rattle.inp_feedback.specs.Kept.{kept_of}
 use Rattle.inp_uinput.specs.KeptBeside.{IsKeptBeside}
-use Rattle.inp_uinput.proofs.Waiting.{queue_within}
-use Rattle.inp_uinput.proofs.Udevs.{at_limit, full_answer, full_taken, full_kept, below_limit, some_answer, some_written, some_kept, calls_pushed, beside_fed}
+use Rattle.inp_uinput.proofs.Udevs.{queue_within, at_limit, full_answer, full_taken, full_kept, below_limit, some_answer, some_written, some_kept, calls_pushed, beside_fed}
 use Rattle.inp_uinput.proofs.udev.Udev.feedback.Goals as goal
 
 pub returns-then-len-log : goal.returns-then-len-log
@@ -27,13 +25,11 @@ returns-then-len-log c =
     let limit : d.log_limit ≤ length calls = omega (arith, length-reverse c.self.inside.feedbacks.items, c.log.ensures.log, ap (λ (d : Description). d.log_limit) c.caps.ensures.description) in
     let full : is_full_of_feedback d (kept_of past calls) ≡ true = at_limit d past calls room limit in
     let place : length c.history.result.now ≡ length past = ap length c.history.ensures.history ∙ length-reverse past in
-    record {
-      answer = ap (λ at. Full at) place ∙ full_answer d past calls room full ∙ ap (λ (u : UdevView). fed u.description u.kept room) c.self.view_is;
-      written = ap (λ es. written es c.args.out.now) (sym (full_taken d past calls room full))
-          ∙ ap (λ (u : UdevView). written (taken_by_feedback u.description u.kept room) c.args.out.now) c.self.view_is;
-      kept = sym c.self.view_is ∙ ap (λ (kept : List UEntry). record { description = d; kept = kept; agains = c.self.inside.device.agains }) (full_kept d past calls room full)
-          ∙ ap (λ (u : UdevView). record u { kept = kept_after_feedback u.description u.kept room }) c.self.view_is;
-    }
+    rw (← c.self.view_is) (record {
+      answer = ap (λ at. Full at) place ∙ full_answer d past calls room full;
+      written = ap (λ es. written es c.args.out.now) (sym (full_taken d past calls room full));
+      kept = ap (λ (kept : List UEntry). record { description = d; kept = kept; agains = c.self.inside.device.agains }) (full_kept d past calls room full);
+    })
 
 pub overflow_cast-count : goal.overflow_cast-count
 overflow_cast-count c =
@@ -77,12 +73,10 @@ returns c =
     let call : FeedbackCall = record { at = length c.history.result.now; count = c.take-count.result } in
     let pushed : c.push.new.self.items ≡ c.self.inside.feedbacks.items ++ call ∷ [] = c.push.ensures.items ∙ ap (λ r. if is_ok r then c.self.inside.feedbacks.items ++ call ∷ [] else c.self.inside.feedbacks.items) c.unwrap.ensures in
     let turned : call ∷ calls ≡ reverse c.push.new.self.items = calls_pushed c.self.inside.feedbacks.items call ∙ ap reverse (sym pushed) in
-    record {
-      answer = ap (λ at. Took at c.take-count.result) place ∙ some_answer d past calls room c.take-count.result some count ∙ ap (λ (u : UdevView). fed u.description u.kept room) c.self.view_is;
+    rw (← c.self.view_is) (record {
+      answer = ap (λ at. Took at c.take-count.result) place ∙ some_answer d past calls room c.take-count.result some count;
       written = c.take-count.ensures.written ∙ ap (λ (w : Buffer Event). take c.take-count.result w.items ++ drop c.take-count.result c.args.out.now) waits
-          ∙ some_written d past calls room c.take-count.result c.args.out.now some count
-          ∙ ap (λ (u : UdevView). written (taken_by_feedback u.description u.kept room) c.args.out.now) c.self.view_is;
+          ∙ some_written d past calls room c.take-count.result c.args.out.now some count;
       kept = ap (λ (calls : List FeedbackCall). record { description = d; kept = kept_of past calls; agains = c.self.inside.device.agains }) (sym turned)
-          ∙ ap (λ (kept : List UEntry). record { description = d; kept = kept; agains = c.self.inside.device.agains }) (some_kept d past calls room call some place count)
-          ∙ ap (λ (u : UdevView). record u { kept = kept_after_feedback u.description u.kept room }) c.self.view_is;
-    }
+          ∙ ap (λ (kept : List UEntry). record { description = d; kept = kept; agains = c.self.inside.device.agains }) (some_kept d past calls room call some place count);
+    })

@@ -7,8 +7,7 @@ use Rattle.inp_device.proofs.Injection.{no_stamped}
 use Rattle.inp_feedback.specs.UEntry.{steps_in, kept_after_events}
 use Rattle.inp_uinput.specs.UdevView.{UdevView}
 use Rattle.inp_feedback.proofs.Lists.{steps_in-kept_of}
-use Rattle.inp_uinput.proofs.Udevs.{history_over}
-use Rattle.inp_uinput.proofs.Events.{kept-room, kept-more}
+use Rattle.inp_uinput.proofs.Udevs.{history_over, kept-room, kept-more}
 use Rattle.inp_uinput.proofs.udev.Udev.inject_all.Goals as goal
 
 pub loop-stamped-init : goal.loop-stamped-init

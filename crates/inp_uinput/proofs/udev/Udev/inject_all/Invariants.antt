@@ -1,4 +1,4 @@
-use Rattle.inp_uinput.proofs.Events.{HasKept}
+use Rattle.inp_uinput.proofs.Udevs.{HasKept}
 use Rattle.inp_uinput.proofs.udev.Udev.inject_all.Given as goal
 
 abbrev pub invariant-loop-stamped : goal.invariant-loop-stamped

@@ -1,10 +1,7 @@
-use Rattle.std.proofs.Common.{ap, sym, ◌∙◌, ◌∷◌, if◌then◌else◌, subst, reverse}
+use Rattle.std.proofs.Common.{ap, sym, ◌∙◌, ◌∷◌, if◌then◌else◌, reverse}
 use Rattle.std.specs.Prelude.{vec_capacity}
-use Rattle.inp_model.specs.Reply.{IsDeviceStep}
-use Rattle.inp_model.specs.History.{IsHistory}
-use Rattle.inp_feedback.specs.UEntry.{steps_in, kept_after_step}
+use Rattle.inp_feedback.specs.UEntry.{kept_after_step}
 use Rattle.inp_uinput.specs.UdevView.{UdevView}
-use Rattle.inp_feedback.specs.Kept.{kept_of}
 use Rattle.inp_uinput.proofs.Udevs.{step_over, history_over, step_kept, beside_same, beside_made}
 use Rattle.inp_uinput.proofs.udev.Udev.step.Goals as goal
 
@@ -22,10 +19,7 @@ invariant_of-self c =
 
 pub returns-then-is_accepted-clause-step : goal.returns-then-is_accepted-clause-step
 returns-then-is_accepted-clause-step c =
-    let calls = reverse c.self.inside.feedbacks.items in
-    let new = c.step-reply.new in
-    subst (λ (u : UdevView). IsDeviceStep u.description (steps_in u.kept) c.args.step c.step-reply.result c.args.out.now new.out c.args.cells.now new.cells (steps_in (kept_of new.self.past calls))) c.self.view_is
-    (step_over c.self.inside.device.description c.self.inside.device.past new.self.past calls c.args.step c.step-reply.result _ _ _ _ c.step-reply.ensures.step)
+    rw (← c.self.view_is) (step_over c.self.inside.device.description c.self.inside.device.past c.step-reply.new.self.past (reverse c.self.inside.feedbacks.items) c.args.step c.step-reply.result _ _ _ _ c.step-reply.ensures.step)
 
 pub returns-then-is_accepted-clause-kept : goal.returns-then-is_accepted-clause-kept
 returns-then-is_accepted-clause-kept c =
@@ -37,18 +31,15 @@ returns-then-is_accepted-clause-accepted c = history_over c.step-reply.new.self.
 
 pub returns-then-is_accepted-clause-before : goal.returns-then-is_accepted-clause-before
 returns-then-is_accepted-clause-before c =
-    subst (λ (u : UdevView). IsHistory u.description (steps_in u.kept)) c.self.view_is (history_over c.self.inside.device.description c.self.inside.device.past (reverse c.self.inside.feedbacks.items) c.step-reply.ensures.before)
+    rw (← c.self.view_is) (history_over c.self.inside.device.description c.self.inside.device.past (reverse c.self.inside.feedbacks.items) c.step-reply.ensures.before)
 
 pub returns-else-is_accepted-clause-step : goal.returns-else-is_accepted-clause-step
 returns-else-is_accepted-clause-step c =
-    let calls = reverse c.self.inside.feedbacks.items in
-    let new = c.step-reply.new in
-    subst (λ (u : UdevView). IsDeviceStep u.description (steps_in u.kept) c.args.step c.step-reply.result c.args.out.now new.out c.args.cells.now new.cells (steps_in (kept_of new.self.past calls))) c.self.view_is
-    (step_over c.self.inside.device.description c.self.inside.device.past new.self.past calls c.args.step c.step-reply.result _ _ _ _ c.step-reply.ensures.step)
+    rw (← c.self.view_is) (step_over c.self.inside.device.description c.self.inside.device.past c.step-reply.new.self.past (reverse c.self.inside.feedbacks.items) c.args.step c.step-reply.result _ _ _ _ c.step-reply.ensures.step)
 
 pub returns-else-is_accepted-clause-accepted : goal.returns-else-is_accepted-clause-accepted
 returns-else-is_accepted-clause-accepted c = history_over c.step-reply.new.self.description c.step-reply.new.self.past (reverse c.self.inside.feedbacks.items) c.step-reply.ensures.accepted
 
 pub returns-else-is_accepted-clause-before : goal.returns-else-is_accepted-clause-before
 returns-else-is_accepted-clause-before c =
-    subst (λ (u : UdevView). IsHistory u.description (steps_in u.kept)) c.self.view_is (history_over c.self.inside.device.description c.self.inside.device.past (reverse c.self.inside.feedbacks.items) c.step-reply.ensures.before)
+    rw (← c.self.view_is) (history_over c.self.inside.device.description c.self.inside.device.past (reverse c.self.inside.feedbacks.items) c.step-reply.ensures.before)

@@ -2,7 +2,7 @@ use Rattle.std.proofs.Common.{ap, ◌∙◌, reverse, take}
 use Rattle.inp_model.proofs.Injection.{evdev_injected}
 use Rattle.inp_feedback.specs.UEntry.{steps_in}
 use Rattle.inp_uinput.specs.UdevView.{device_of}
-use Rattle.inp_uinput.proofs.Events.{events_entered}
+use Rattle.inp_uinput.proofs.Udevs.{events_entered}
 use Rattle.inp_uinput.proofs.udev.UdevEvdev.inject_all.Goals as goal
 
 pub returns : goal.returns
