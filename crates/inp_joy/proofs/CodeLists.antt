@@ -1,13 +1,13 @@
 -- The codes of a device, one more at a time, and how many there are.
-use Rattle.std.proofs.Common.{◌≡◌, ℕ, zero, suc, ◌+◌, ◌-◌, ◌≤◌, Bool, true, false, cond, List, [], ◌∷◌, ◌++◌, length, take, refl, sym, ap, ◌∙◌, arith, append_assoc, append-nil, length-append, length-take}
+use Rattle.std.proofs.Common.{◌≡◌, ℕ, zero, suc, ◌+◌, ◌-◌, ◌≤◌, Bool, true, false, cond, List, [], ◌∷◌, ◌++◌, length, take, refl, sym, ap, ◌∙◌, arith, append_assoc, append-nil, length-append, length-take, ◌<◌, ◌⊎◌, inl, inr, nat_le}
 use Rattle.std.specs.List.{range_with_len, filter}
+use Rattle.std.proofs.lemmas.Bool.{and_left, and_right, lt-leb}
 use Rattle.std.proofs.lemmas.List.{take_all, take_at}
-use Rattle.std.proofs.lemmas.List.Elements.{filter-append}
 use Rattle.inp_model.specs.declared.event.TheConstants.{EV_KEY, EV_ABS}
-use Rattle.inp_model.specs.Description.{Description, supports}
+use Rattle.inp_model.specs.Description.{Description, supports, is_multi_touch_code}
 use Rattle.inp_reader.specs.Reader.{axes_among}
 use Rattle.inp_joy.specs.Codes.{codes_among, buttons, axes}
-use Rattle.inp_model.proofs.Injection.{range-append}
+use Rattle.inp_reader.proofs.SynthesisedEvents.{passing-more}
 
 -- Lists of at most 64
 
@@ -31,15 +31,7 @@ cut-again (suc n) (x ∷ xs) ys = ap (λ zs. x ∷ zs) (cut-again n xs ys)
 
 codes_among-more : (d : Description) (kind first code : ℕ) → first ≤ code → codes_among d kind first (code + 1 - first) ≡ codes_among d kind first (code - first) ++ cond (supports d kind code) (code ∷ []) []
 unfolding codes_among
-codes_among-more d kind first code h =
-    let n : ℕ = code - first in
-    let e : code + 1 - first ≡ n + 1 = omega (arith, h) in
-    let f : first + n ≡ code = omega (arith, h) in
-    let test : ℕ → Bool = supports d kind in
-    ap (λ k. filter test (range_with_len first k)) e
-    ∙ ap (λ ks. filter test ks) (range-append first n 1)
-    ∙ filter-append test (range_with_len first n) (range_with_len (first + n) 1)
-    ∙ ap (λ i. filter test (range_with_len first n) ++ cond (test i) (i ∷ []) []) f
+codes_among-more d kind first code h = passing-more first code (supports d kind) h
 
 -- none yet
 pub codes-none : (d : Description) (kind first : ℕ) (xs : List ℕ) → length xs ≤ 64 → xs ≡ take 64 (xs ++ codes_among d kind first (first - first))
@@ -67,6 +59,11 @@ codes-skip d kind first code xs list h is before =
     ∙ ap (λ ys. take 64 (xs ++ ys)) (sym (append-nil codes))
     ∙ ap (λ b. take 64 (xs ++ (codes ++ cond b (code ∷ []) []))) (sym is)
     ∙ ap (λ ys. take 64 (xs ++ ys)) (sym (codes_among-more d kind first code h))
+
+-- an axis outside those of slots is no axis of them
+pub single : (code : ℕ) → (code < 47) ⊎ ((62 ≤ code) × (code < 64)) → is_multi_touch_code code ≡ false
+single code (inl h) = and_left (nat_le 47 code) (nat_le code 61) (lt-leb 47 code h)
+single code (inr h) = and_right (nat_le 47 code) (nat_le code 61) (lt-leb code 61 h.0)
 
 -- How many there are
 

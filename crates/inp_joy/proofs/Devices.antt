@@ -1,7 +1,7 @@
 -- Where a view is the device's state, its picture is the device's.
-use Rattle.std.proofs.Common.{◌≡◌, ℕ, zero, suc, ◌+◌, ◌<◌, ◌≤◌, ℤ, pos, Bool, true, false, ◌&&◌, not, cond, nat_le, List, [], ◌∷◌, ◌++◌, map, refl, sym, ap, ◌∙◌, arith}
+use Rattle.std.proofs.Common.{◌≡◌, ℕ, zero, suc, ◌+◌, ◌<◌, ◌≤◌, ℤ, pos, Bool, true, false, ◌&&◌, not, List, [], ◌∷◌, ◌++◌, map, refl, sym, ap, ◌∙◌, arith, ◌⊎◌, inl, inr}
 use Rattle.std.specs.List.{range_with_len, filter}
-use Rattle.std.proofs.lemmas.Bool.Decides.{nat_tests}
+use Rattle.std.proofs.lemmas.Bool.{cond_both}
 use Rattle.std.proofs.lemmas.List.{map-append}
 use Rattle.inp_model.specs.RawItem.{RawItem}
 use Rattle.inp_model.specs.declared.event.TheConstants.{EV_ABS}
@@ -13,7 +13,7 @@ use Rattle.inp_recon.specs.Synchronised.{has_axis}
 use Rattle.inp_joy.specs.Codes.{codes_among, buttons, axes}
 use Rattle.inp_joy.specs.JoyRecord.{within_16_bits}
 use Rattle.inp_joy.specs.Picture.{PictureView, up_to_64, picture_by, is_down_in, value_in, picture_of_view, picture_of_device}
-use Rattle.inp_joy.proofs.CodeLists.{axes-are}
+use Rattle.inp_joy.proofs.CodeLists.{single, axes-are}
 
 map-all : {X : Type 0} (f g : ℕ → X) (codes : List ℕ) → ((c : ℕ) → f c ≡ g c) → map f codes ≡ map g codes
 map-all f g [] same = refl
@@ -23,22 +23,14 @@ map-all f g (c ∷ cs) same = ap (λ x. x ∷ map f cs) (same c) ∙ ap (λ xs. 
 map-among : {X : Type 0} (d : Description) (kind : ℕ) (f g : ℕ → X) (first n : ℕ) → ((c : ℕ) → first ≤ c → c < first + n → supports d kind c ≡ true → f c ≡ g c) → map f (codes_among d kind first n) ≡ map g (codes_among d kind first n)
 unfolding codes_among
 map-among d kind f g first zero same = refl
-map-among d kind f g first (suc n) same = map-if (supports d kind first) f g first (filter (supports d kind) (range_with_len (first + 1) n)) (same first (omega arith) (omega arith)) (map-among d kind f g (first + 1) n (λ c h k. same c (omega (arith, h)) (omega (arith, k))))
-  where
-    map-if : {Y : Type 0} → (b : Bool) (f g : ℕ → Y) (x : ℕ) (xs : List ℕ) → (b ≡ true → f x ≡ g x) → map f xs ≡ map g xs → map f (cond b (x ∷ xs) xs) ≡ map g (cond b (x ∷ xs) xs)
-    map-if true f g x xs h k = ap (λ y. y ∷ map f xs) (h refl) ∙ ap (λ ys. g x ∷ ys) k
-    map-if false f g x xs h k = k
+map-among d kind f g first (suc n) same =
+    let rest : List ℕ = filter (supports d kind) (range_with_len (first + 1) n) in
+    let others : map f rest ≡ map g rest = map-among d kind f g (first + 1) n (λ c h k. same c (omega (arith, h)) (omega (arith, k))) in
+    cond_both (supports d kind first) (first ∷ rest) rest (λ (xs : List ℕ). map f xs ≡ map g xs)
+    (λ is. ap (λ y. y ∷ map f rest) (same first (omega arith) (omega arith) is) ∙ ap (λ ys. g first ∷ ys) others) (λ _. others)
 
--- a supported axis outside those of slots
-has-low : (d : Description) (c : ℕ) → c < 47 → supports d EV_ABS c ≡ true → has_axis d c ≡ true
-has-low d c h is = let low : nat_le 47 c ≡ false = grind (arith, nat_tests, h) in ap (λ (b : Bool). b && not (is_multi_touch_code c)) is ∙ ap (λ (b : Bool). not (b && nat_le c 61)) low
-
-has-high : (d : Description) (c : ℕ) → 62 ≤ c → supports d EV_ABS c ≡ true → has_axis d c ≡ true
-has-high d c h is = let high : nat_le c 61 ≡ false = grind (arith, nat_tests, h) in ap (λ (b : Bool). b && not (is_multi_touch_code c)) is ∙ ap (λ (b : Bool). not (nat_le 47 c && b)) high ∙ off (nat_le 47 c)
-  where
-    off : (b : Bool) → not (b && false) ≡ true
-    off true = refl
-    off false = refl
+has-own : (d : Description) (c : ℕ) → (c < 47) ⊎ ((62 ≤ c) × (c < 64)) → supports d EV_ABS c ≡ true → has_axis d c ≡ true
+has-own d c place is = ap (λ (b : Bool). b && not (is_multi_touch_code c)) is ∙ ap not (single c place)
 
 map-axes : {X : Type 0} (d : Description) (f g : ℕ → X) → ((c : ℕ) → has_axis d c ≡ true → f c ≡ g c) → map f (axes d) ≡ map g (axes d)
 map-axes {X = X} d f g same =
@@ -46,8 +38,8 @@ map-axes {X = X} d f g same =
     let high : List ℕ = codes_among d EV_ABS 62 2 in
     ap (λ (cs : List ℕ). map f cs) (axes-are d)
     ∙ map-append f low high
-    ∙ ap (λ (xs : List X). xs ++ map f high) (map-among d EV_ABS f g 0 47 (λ c h k is. same c (has-low d c (omega (arith, k)) is)))
-    ∙ ap (λ (xs : List X). map g low ++ xs) (map-among d EV_ABS f g 62 2 (λ c h k is. same c (has-high d c h is)))
+    ∙ ap (λ (xs : List X). xs ++ map f high) (map-among d EV_ABS f g 0 47 (λ c h k is. same c (has-own d c (inl (omega (arith, k))) is)))
+    ∙ ap (λ (xs : List X). map g low ++ xs) (map-among d EV_ABS f g 62 2 (λ c h k is. same c (has-own d c (inr (h, omega (arith, k))) is)))
     ∙ sym (map-append g low high)
     ∙ ap (λ (cs : List ℕ). map g cs) (sym (axes-are d))
 

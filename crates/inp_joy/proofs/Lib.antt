@@ -4,17 +4,14 @@ pub mod Startups
 pub mod Pictures
 pub mod Numbers
 pub mod Events
-pub mod AcceptedSteps
 pub mod Nexts
 pub mod ReaderCalls
 pub mod TurnParts
 pub mod TurnEnds
-pub mod LessToDo
 pub mod Devices
 pub mod Outcomes
 pub mod ReadTurns
 pub mod MoreTurns
-pub mod NewJoys
 pub mod TurnCases
 pub mod TurnsWalk
 pub mod Records

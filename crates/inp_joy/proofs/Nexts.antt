@@ -17,7 +17,7 @@ use Rattle.inp_reader.specs.declared.mode.Mode.TheVariants.{Normal, Sync as Sync
 use Rattle.inp_reader.specs.declared.phase.Phase.{Phase}
 use Rattle.inp_reader.specs.declared.phase.Phase.TheVariants.{Needed}
 use Rattle.inp_reader.specs.declared.next.Next.{Next}
-use Rattle.inp_reader.specs.declared.next.Next.TheVariants.{Success, Dropped, Sync, Again, Synced, NoDevice, Closed, Full}
+use Rattle.inp_reader.specs.declared.next.Next.TheVariants.{Success, Dropped, Sync, Synced}
 use Rattle.inp_reader.specs.declared.started.Started.{Started}
 use Rattle.inp_reader.specs.declared.started.Started.TheVariants.{Opened as StartedOn, Refused}
 use Rattle.inp_reader.specs.Reader.{Reading, start_stop_of, after_queries, start_talk, ask_each, queries, stop_of as reader_stop, sync_talk, next_talk, hand_synthesised, after_full_sync, after_failed_sync}
@@ -36,10 +36,7 @@ IsTaken view (Success taken) s = (s.view ≡ view_after_event view taken.event) 
 IsTaken view (Dropped taken) s = is_needed s.phase ≡ true
 IsTaken view (Sync event) s = ⊥
 IsTaken view Synced s = ⊥
-IsTaken view (Again at ends) s = (s.view ≡ view) × (is_needed s.phase ≡ false)
-IsTaken view NoDevice s = (s.view ≡ view) × (is_needed s.phase ≡ false)
-IsTaken view Closed s = (s.view ≡ view) × (is_needed s.phase ≡ false)
-IsTaken view (Full at) s = (s.view ≡ view) × (is_needed s.phase ≡ false)
+IsTaken view _ s = (s.view ≡ view) × (is_needed s.phase ≡ false)
 
 taken-stopped : (r : Reading) (reply : Reply) → is_needed r.phase ≡ false → IsTaken r.view (reader_stop reply) r
 taken-stopped r reply plain = stop-cases (λ next. IsTaken r.view next r) reply (λ at ends is. (refl, plain)) (refl, plain) (refl, plain) (λ at. (refl, plain))
@@ -80,10 +77,7 @@ IsSynced (Success taken) s = ⊥
 IsSynced (Dropped taken) s = ⊥
 IsSynced (Sync event) s = is_needed s.phase ≡ false
 IsSynced Synced s = is_needed s.phase ≡ false
-IsSynced (Again at ends) s = is_needed s.phase ≡ true
-IsSynced NoDevice s = is_needed s.phase ≡ true
-IsSynced Closed s = is_needed s.phase ≡ true
-IsSynced (Full at) s = is_needed s.phase ≡ true
+IsSynced _ s = is_needed s.phase ≡ true
 
 synced-stopped : (s : Reading) (reply : Reply) → is_needed s.phase ≡ true → IsSynced (reader_stop reply) s
 synced-stopped s reply h = stop-cases (λ next. IsSynced next s) reply (λ at ends is. h) h h (λ at. h)

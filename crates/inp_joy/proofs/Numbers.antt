@@ -1,10 +1,10 @@
 -- Codes that occur once, by their numbers, and what a function of them is that changes at one.
-use Rattle.std.proofs.Common.{◌≡◌, ℕ, zero, suc, ◌+◌, ◌-◌, ◌<◌, ◌≤◌, Bool, true, false, cond, nat_eq, nat_lt, List, [], ◌∷◌, ◌++◌, length, map, take, set, get_or, replicate, Some, None, refl, sym, ap, subst, ◌∙◌, arith, inl, inr, ◌⊎◌}
+use Rattle.std.proofs.Common.{◌≡◌, ℕ, zero, suc, ◌+◌, ◌-◌, ◌<◌, ◌≤◌, Bool, true, false, cond, nat_eq, List, [], ◌∷◌, ◌++◌, length, map, take, set, get_or, replicate, Some, None, refl, sym, ap, subst, ◌∙◌, arith, inl, inr, ◌⊎◌}
 use Rattle.std.specs.List.{range_with_len, filter, position_from}
 use Rattle.std.proofs.lemmas.Bool.Decides.{nat_tests}
 use Rattle.std.proofs.lemmas.Iterator.Adapters.{position_from-zero}
 use Rattle.std.proofs.lemmas.List.{set-append_left, length-set}
-use Rattle.std.proofs.lemmas.Bool.{cond_both}
+use Rattle.std.proofs.lemmas.Bool.{cond_both, cases_lt}
 use Rattle.inp_model.specs.declared.event.TheConstants.{EV_KEY, EV_ABS}
 use Rattle.inp_model.specs.Description.{Description, supports}
 use Rattle.inp_joy.specs.Codes.{codes_among, buttons, axes, number_among}
@@ -25,24 +25,26 @@ occurs-append code (x ∷ xs) ys = by_flag (nat_eq x code) (occurs-append code x
     by_flag true h = omega (arith, h)
     by_flag false h = h
 
+-- one more of both, or of the greater alone
+more-if : (b : Bool) (m n : ℕ) → m ≤ n → cond b (suc m) m ≤ cond b (suc n) n
+more-if true m n h = omega (arith, h)
+more-if false m n h = h
+
+at_most-if : (b : Bool) (m n : ℕ) → m ≤ n → m ≤ cond b (suc n) n
+at_most-if true m n h = omega (arith, h)
+at_most-if false m n h = h
+
 occurs-take : (code n : ℕ) (xs : List ℕ) → occurs code (take n xs) ≤ occurs code xs
 occurs-take code zero xs = omega arith
 occurs-take code (suc n) [] = omega arith
-occurs-take code (suc n) (x ∷ xs) = by_flag (nat_eq x code) (occurs-take code n xs)
-  where
-    by_flag : (b : Bool) → occurs code (take n xs) ≤ occurs code xs → cond b (suc (occurs code (take n xs))) (occurs code (take n xs)) ≤ cond b (suc (occurs code xs)) (occurs code xs)
-    by_flag true h = omega (arith, h)
-    by_flag false h = h
+occurs-take code (suc n) (x ∷ xs) = more-if (nat_eq x code) (occurs code (take n xs)) (occurs code xs) (occurs-take code n xs)
 
 occurs-filter : (code : ℕ) (test : ℕ → Bool) (xs : List ℕ) → occurs code (filter test xs) ≤ occurs code xs
 occurs-filter code test [] = omega arith
-occurs-filter code test (x ∷ xs) = by_flags (test x) (nat_eq x code) refl (occurs-filter code test xs)
-  where
-    by_flags : (b e : Bool) → nat_eq x code ≡ e → occurs code (filter test xs) ≤ occurs code xs → occurs code (cond b (x ∷ filter test xs) (filter test xs)) ≤ cond e (suc (occurs code xs)) (occurs code xs)
-    by_flags true true is h = omega (arith, h, ap (λ (e : Bool). cond e (suc (occurs code (filter test xs))) (occurs code (filter test xs))) is)
-    by_flags true false is h = omega (arith, h, ap (λ (e : Bool). cond e (suc (occurs code (filter test xs))) (occurs code (filter test xs))) is)
-    by_flags false true is h = omega (arith, h)
-    by_flags false false is h = h
+occurs-filter code test (x ∷ xs) =
+    let some : ℕ = occurs code (filter test xs) in
+    cond_both (test x) (x ∷ filter test xs) (filter test xs) (λ (ks : List ℕ). occurs code ks ≤ occurs code (x ∷ xs))
+    (λ _. more-if (nat_eq x code) some (occurs code xs) (occurs-filter code test xs)) (λ _. at_most-if (nat_eq x code) some (occurs code xs) (occurs-filter code test xs))
 
 none-if : (code x : ℕ) (n : ℕ) → (x ≡ code → ⊥) → cond (nat_eq x code) (suc n) n ≡ n
 none-if code x n apart =
@@ -60,11 +62,11 @@ occurs-before code first (suc n) h = none-if code first (occurs code (range_with
 
 occurs-range : (code first n : ℕ) → occurs code (range_with_len first n) ≤ 1
 occurs-range code first zero = omega arith
-occurs-range code first (suc n) = by_flag (nat_eq first code) refl (occurs-range code (first + 1) n) (λ e. occurs-past code (first + 1) n (omega (arith, e)))
-  where
-    by_flag : (b : Bool) → nat_eq first code ≡ b → occurs code (range_with_len (first + 1) n) ≤ 1 → (first ≡ code → occurs code (range_with_len (first + 1) n) ≡ 0) → cond b (suc (occurs code (range_with_len (first + 1) n))) (occurs code (range_with_len (first + 1) n)) ≤ 1
-    by_flag true is h k = let e : first ≡ code = grind (arith, nat_tests, is) in omega (arith, k e)
-    by_flag false is h k = h
+occurs-range code first (suc n) =
+    let rest : ℕ = occurs code (range_with_len (first + 1) n) in
+    cond_both (nat_eq first code) (suc rest) rest (λ (k : ℕ). k ≤ 1)
+    (λ is. let e : first ≡ code = grind (arith, nat_tests, is) in omega (arith, occurs-past code (first + 1) n (omega (arith, e))))
+    (λ _. occurs-range code (first + 1) n)
 
 among-past : (d : Description) (kind code first n : ℕ) → code < first → occurs code (codes_among d kind first n) ≡ 0
 unfolding codes_among
@@ -78,14 +80,6 @@ among-once : (d : Description) (kind code first n : ℕ) → occurs code (codes_
 unfolding codes_among
 among-once d kind code first n = omega (arith, occurs-filter code (supports d kind) (range_with_len first n), occurs-range code first n)
 
--- a number is below another, or not
-below : (m n : ℕ) → (m < n) ⊎ (n ≤ m)
-below m n = by_flag (nat_lt m n) refl
-  where
-    by_flag : (b : Bool) → nat_lt m n ≡ b → (m < n) ⊎ (n ≤ m)
-    by_flag true is = inl (grind (arith, nat_tests, is))
-    by_flag false is = inr (grind (arith, nat_tests, is))
-
 buttons-most : (d : Description) (code : ℕ) → occurs code (buttons d) ≤ occurs code (codes_among d EV_KEY 288 480) + occurs code (codes_among d EV_KEY 256 32)
 unfolding buttons
 buttons-most d code =
@@ -94,39 +88,36 @@ buttons-most d code =
 
 -- each button occurs once
 pub buttons-once : (d : Description) (code : ℕ) → occurs code (buttons d) ≤ 1
-buttons-once d code = by_cases (below code 288)
-  where
-    by_cases : (code < 288) ⊎ (288 ≤ code) → occurs code (buttons d) ≤ 1
-    by_cases (inl h) = omega (arith, buttons-most d code, among-past d EV_KEY code 288 480 h, among-once d EV_KEY code 256 32)
-    by_cases (inr h) = omega (arith, buttons-most d code, among-before d EV_KEY code 256 32 h, among-once d EV_KEY code 288 480)
+buttons-once d code = elim (cases_lt code 288) [
+  | inl h ↦ omega (arith, buttons-most d code, among-past d EV_KEY code 288 480 h, among-once d EV_KEY code 256 32)
+  | inr h ↦ omega (arith, buttons-most d code, among-before d EV_KEY code 256 32 h, among-once d EV_KEY code 288 480)
+]
 
 -- and is a key that there is
 pub buttons-within : (d : Description) (code : ℕ) → 1 ≤ occurs code (buttons d) → code < 768
-buttons-within d code h = by_cases (below code 768)
-  where
-    by_cases : (code < 768) ⊎ (768 ≤ code) → code < 768
-    by_cases (inl k) = k
-    by_cases (inr k) = let past : 256 + 32 ≤ code = omega (arith, k) in absurd (omega (arith, h, buttons-most d code, among-before d EV_KEY code 288 480 k, among-before d EV_KEY code 256 32 past))
+buttons-within d code h = elim (cases_lt code 768) [
+  | inl k ↦ k
+  | inr k ↦ (let past : 256 + 32 ≤ code = omega (arith, k) in absurd (omega (arith, h, buttons-most d code, among-before d EV_KEY code 288 480 k, among-before d EV_KEY code 256 32 past)))
+]
 
 axes-all : (d : Description) (code : ℕ) → occurs code (axes d) ≡ occurs code (codes_among d EV_ABS 0 47) + occurs code (codes_among d EV_ABS 62 2)
 axes-all d code = ap (λ (cs : List ℕ). occurs code cs) (axes-are d) ∙ occurs-append code (codes_among d EV_ABS 0 47) (codes_among d EV_ABS 62 2)
 
 pub axes-once : (d : Description) (code : ℕ) → occurs code (axes d) ≤ 1
-axes-once d code = by_cases (below code 62)
-  where
-    by_cases : (code < 62) ⊎ (62 ≤ code) → occurs code (axes d) ≤ 1
-    by_cases (inl h) = omega (arith, axes-all d code, among-past d EV_ABS code 62 2 h, among-once d EV_ABS code 0 47)
-    by_cases (inr h) = let past : 0 + 47 ≤ code = omega (arith, h) in omega (arith, axes-all d code, among-before d EV_ABS code 0 47 past, among-once d EV_ABS code 62 2)
+axes-once d code = elim (cases_lt code 62) [
+  | inl h ↦ omega (arith, axes-all d code, among-past d EV_ABS code 62 2 h, among-once d EV_ABS code 0 47)
+  | inr h ↦ (let past : 0 + 47 ≤ code = omega (arith, h) in omega (arith, axes-all d code, among-before d EV_ABS code 0 47 past, among-once d EV_ABS code 62 2))
+]
 
 -- each axis has a value of its own
 pub axes-within : (d : Description) (code : ℕ) → 1 ≤ occurs code (axes d) → (code < 47) ⊎ ((62 ≤ code) × (code < 64))
-axes-within d code h = by_cases (below code 47) (below code 62) (below code 64)
+axes-within d code h = by (cases_lt code 47) (cases_lt code 62) (cases_lt code 64)
   where
-    by_cases : (code < 47) ⊎ (47 ≤ code) → (code < 62) ⊎ (62 ≤ code) → (code < 64) ⊎ (64 ≤ code) → (code < 47) ⊎ ((62 ≤ code) × (code < 64))
-    by_cases (inl k) l m = inl k
-    by_cases (inr k) (inl l) m = absurd (omega (arith, h, axes-all d code, among-before d EV_ABS code 0 47 k, among-past d EV_ABS code 62 2 l))
-    by_cases (inr k) (inr l) (inl m) = inr (l, m)
-    by_cases (inr k) (inr l) (inr m) = absurd (omega (arith, h, axes-all d code, among-before d EV_ABS code 0 47 k, among-before d EV_ABS code 62 2 m))
+    by : (code < 47) ⊎ (47 ≤ code) → (code < 62) ⊎ (62 ≤ code) → (code < 64) ⊎ (64 ≤ code) → (code < 47) ⊎ ((62 ≤ code) × (code < 64))
+    by (inl k) l m = inl k
+    by (inr k) (inl l) m = absurd (omega (arith, h, axes-all d code, among-before d EV_ABS code 0 47 k, among-past d EV_ABS code 62 2 l))
+    by (inr k) (inr l) (inl m) = inr (l, m)
+    by (inr k) (inr l) (inr m) = absurd (omega (arith, h, axes-all d code, among-before d EV_ABS code 0 47 k, among-before d EV_ABS code 62 2 m))
 
 -- A function of codes, and one that may differ from it at one code
 

@@ -1,10 +1,10 @@
 -- A startup leads a blank picture to the view that it is made from.
-use Rattle.std.proofs.Common.{◌≡◌, ℕ, zero, suc, ◌+◌, ◌-◌, ◌<◌, ◌≤◌, ℤ, pos, Bool, true, false, not, int_eq, List, [], ◌∷◌, ◌++◌, length, map, drop, replicate, set, Some, refl, sym, ap, ◌∙◌, arith, append_assoc, append-nil, length-append}
-use Rattle.std.specs.Prelude.{slice_index_or}
+use Rattle.std.proofs.Common.{◌≡◌, ℕ, suc, ◌+◌, ◌-◌, ◌<◌, ◌≤◌, ℤ, pos, Bool, true, false, not, int_eq, List, [], ◌∷◌, ◌++◌, length, map, drop, replicate, set, Some, refl, sym, ap, ◌∙◌, arith, append_assoc, append-nil, length-append}
 use Rattle.std.specs.List.{slice_get}
 use Rattle.std.proofs.lemmas.List.{length-map, set_at, drop_more, drop_all, replicate-append-replicate}
 use Rattle.std.proofs.lemmas.Option.{get_or_from_slice_get, slice_get_within}
 use Rattle.inp_model.specs.Description.{Description}
+use Rattle.inp_model.proofs.Descriptions.{get_or-replicate_same}
 use Rattle.inp_reader.specs.Synthesis.{bit_value}
 use Rattle.inp_recon.specs.declared.view.View.{View}
 use Rattle.inp_recon.specs.View.{first_view}
@@ -44,31 +44,24 @@ button_next done x values h =
     ap (λ (b : Bool). let q : PictureView = record { buttons = set (up_to_64 false done) (length done) b; axes = values } in q) (button-tells x)
     ∙ ap (λ (bs : List Bool). let q : PictureView = record { buttons = bs; axes = values } in q) (fill-next false x done h)
 
-buttons-fold : (done xs : List Bool) (values : List ℤ) → length done + length xs ≤ 64
-    → picture_after_all (record { buttons = up_to_64 false done; axes = values }) (map_numbered startup_button (length done) xs) ≡ record { buttons = up_to_64 false (done ++ xs); axes = values }
-buttons-fold done [] values h = ap (λ (bs : List Bool). let q : PictureView = record { buttons = up_to_64 false bs; axes = values } in q) (sym (append-nil done))
-buttons-fold done (x ∷ xs) values h =
-    let long : length done + 1 ≡ length (done ++ x ∷ []) = omega (arith, length-append done (x ∷ [])) in
-    ap (λ (p : PictureView). picture_after_all p (map_numbered startup_button (length done + 1) xs)) (button_next done x values (omega (arith, h)))
-    ∙ ap (λ (n : ℕ). picture_after_all (record { buttons = up_to_64 false (done ++ x ∷ []); axes = values }) (map_numbered startup_button n xs)) long
-    ∙ buttons-fold (done ++ x ∷ []) xs values (omega (arith, h, length-append done (x ∷ [])))
-    ∙ ap (λ (bs : List Bool). let q : PictureView = record { buttons = up_to_64 false bs; axes = values } in q) (append_assoc done (x ∷ []) xs)
-
 -- The axes
 
 axis_next : (done : List ℤ) (x : ℤ) (down : List Bool) → length done < 64 → picture_after (record { buttons = down; axes = up_to_64 (pos 0) done }) (startup_axis (length done) x) ≡ record { buttons = down; axes = up_to_64 (pos 0) (done ++ x ∷ []) }
 unfolding picture_after
 axis_next done x down h = ap (λ (zs : List ℤ). let q : PictureView = record { buttons = down; axes = zs } in q) (fill-next (pos 0) x done h)
 
-axes-fold : (done xs : List ℤ) (down : List Bool) → length done + length xs ≤ 64
-    → picture_after_all (record { buttons = down; axes = up_to_64 (pos 0) done }) (map_numbered startup_axis (length done) xs) ≡ record { buttons = down; axes = up_to_64 (pos 0) (done ++ xs) }
-axes-fold done [] down h = ap (λ (zs : List ℤ). let q : PictureView = record { buttons = down; axes = up_to_64 (pos 0) zs } in q) (sym (append-nil done))
-axes-fold done (x ∷ xs) down h =
+-- Records of items one after another fill up one part of a picture, where one record sets the next place.
+
+parts-fold : {X : Type 0} (filler : X) (made : ℕ → X → JoyRecord) (with_part : List X → PictureView)
+    → ((done : List X) (x : X) → length done < 64 → picture_after (with_part (up_to_64 filler done)) (made (length done) x) ≡ with_part (up_to_64 filler (done ++ x ∷ [])))
+    → (done xs : List X) → length done + length xs ≤ 64 → picture_after_all (with_part (up_to_64 filler done)) (map_numbered made (length done) xs) ≡ with_part (up_to_64 filler (done ++ xs))
+parts-fold filler made with_part one done [] h = ap (λ xs. with_part (up_to_64 filler xs)) (sym (append-nil done))
+parts-fold filler made with_part one done (x ∷ xs) h =
     let long : length done + 1 ≡ length (done ++ x ∷ []) = omega (arith, length-append done (x ∷ [])) in
-    ap (λ (p : PictureView). picture_after_all p (map_numbered startup_axis (length done + 1) xs)) (axis_next done x down (omega (arith, h)))
-    ∙ ap (λ (n : ℕ). picture_after_all (record { buttons = down; axes = up_to_64 (pos 0) (done ++ x ∷ []) }) (map_numbered startup_axis n xs)) long
-    ∙ axes-fold (done ++ x ∷ []) xs down (omega (arith, h, length-append done (x ∷ [])))
-    ∙ ap (λ (zs : List ℤ). let q : PictureView = record { buttons = down; axes = up_to_64 (pos 0) zs } in q) (append_assoc done (x ∷ []) xs)
+    ap (λ (p : PictureView). picture_after_all p (map_numbered made (length done + 1) xs)) (one done x (omega (arith, h)))
+    ∙ ap (λ (n : ℕ). picture_after_all (with_part (up_to_64 filler (done ++ x ∷ []))) (map_numbered made n xs)) long
+    ∙ parts-fold filler made with_part one (done ++ x ∷ []) xs (omega (arith, h, length-append done (x ∷ [])))
+    ∙ ap (λ ys. with_part (up_to_64 filler ys)) (append_assoc done (x ∷ []) xs)
 
 -- Both
 
@@ -79,8 +72,8 @@ startup-pictured d v =
     let zs : List ℤ = map (λ code. within_16_bits (value_in v code)) (axes d) in
     let mid : PictureView = record { buttons = up_to_64 false bs; axes = up_to_64 (pos 0) [] } in
     after_all-append blank_picture (startup_buttons d v) (startup_axes d v)
-    ∙ ap (λ (p : PictureView). picture_after_all p (startup_axes d v)) (buttons-fold [] bs (replicate 64 (pos 0)) (omega (arith, length-map (buttons d) (is_down_in v), length-buttons d)))
-    ∙ axes-fold [] zs (up_to_64 false bs) (omega (arith, length-map (axes d) (λ code. within_16_bits (value_in v code)), length-axes d))
+    ∙ ap (λ (p : PictureView). picture_after_all p (startup_axes d v)) (parts-fold false startup_button (λ down. record { buttons = down; axes = replicate 64 (pos 0) }) (λ done x h. button_next done x (replicate 64 (pos 0)) h) [] bs (omega (arith, length-map (buttons d) (is_down_in v), length-buttons d)))
+    ∙ parts-fold (pos 0) startup_axis (λ values. record { buttons = up_to_64 false bs; axes = values }) (λ done x h. axis_next done x (up_to_64 false bs) h) [] zs (omega (arith, length-map (axes d) (λ code. within_16_bits (value_in v code)), length-axes d))
 
 -- a record of a startup more
 pub startup-more : (p end : PictureView) (records : List JoyRecord) (handed : ℕ) (r : JoyRecord) → slice_get records handed ≡ Some r → picture_after_all p (drop handed records) ≡ end → picture_after_all (picture_after p r) (drop (handed + 1) records) ≡ end
@@ -100,11 +93,6 @@ startup-gone p end d v handed past h =
 
 -- A new view has the blank picture.
 
-get_or-blank : {X : Type 0} (n i : ℕ) (x : X) → slice_index_or (replicate n x) i x ≡ x
-get_or-blank zero i x = refl
-get_or-blank (suc n) zero x = refl
-get_or-blank (suc n) (suc i) x = get_or-blank n i x
-
 map-constant : {X : Type 0} (f : ℕ → X) (x : X) (codes : List ℕ) → ((c : ℕ) → f c ≡ x) → map f codes ≡ replicate (length codes) x
 map-constant f x [] same = refl
 map-constant f x (c ∷ cs) same = ap (λ y. y ∷ map f cs) (same c) ∙ ap (λ ys. x ∷ ys) (map-constant f x cs same)
@@ -122,6 +110,6 @@ pub first-blank : (d : Description) → blank_picture ≡ picture_of_view d (fir
 unfolding picture_by first_view
 first-blank d =
     sym (ap (λ (bs : List Bool). let q : PictureView = record { buttons = bs; axes = up_to_64 (pos 0) (map (λ code. within_16_bits (value_in (first_view d) code)) (axes d)) } in q)
-    (blank-fill (is_down_in (first_view d)) false (buttons d) (length-buttons d) (λ c. get_or-blank 768 c false))
+    (blank-fill (is_down_in (first_view d)) false (buttons d) (length-buttons d) (λ c. get_or-replicate_same 768 c false))
     ∙ ap (λ (zs : List ℤ). let q : PictureView = record { buttons = replicate 64 false; axes = zs } in q)
-    (blank-fill (λ code. within_16_bits (value_in (first_view d) code)) (pos 0) (axes d) (omega (arith, length-axes d)) (λ c. ap (λ (z : ℤ). within_16_bits z) (get_or-blank 64 c (pos 0)))))
+    (blank-fill (λ code. within_16_bits (value_in (first_view d) code)) (pos 0) (axes d) (omega (arith, length-axes d)) (λ c. ap (λ (z : ℤ). within_16_bits z) (get_or-replicate_same 64 c (pos 0)))))

@@ -18,7 +18,7 @@ use Rattle.inp_reader.specs.declared.next.Next.TheVariants.{Success}
 use Rattle.inp_reader.specs.Synthesis.{bit_value}
 use Rattle.inp_reader.specs.Talk.{EndsWith}
 use Rattle.inp_joy.specs.declared.joy_read.JoyRead.{JoyRead}
-use Rattle.inp_joy.specs.declared.joy_read.JoyRead.TheVariants.{Record, Frame, Again, NoDevice, Closed, Full, More}
+use Rattle.inp_joy.specs.declared.joy_read.JoyRead.TheVariants.{Record}
 use Rattle.inp_joy.specs.declared.joy_record.JoyRecord.{JoyRecord}
 use Rattle.inp_joy.specs.JoyRecord.{bytes_of_record, record_in, within_16_bits, startup_button, startup_axis}
 use Rattle.inp_joy.specs.Codes.{buttons, axes, number_among}
@@ -113,18 +113,8 @@ event-fits d p taken = by_flags (nat_eq taken.event.kind EV_KEY) (nat_eq taken.e
 abbrev pub HandsOutAsSaid : JoyRead → Option JoyRecord → Type 0
 HandsOutAsSaid Record None = ⊥
 HandsOutAsSaid Record (Some r) = FitsBytes r
-HandsOutAsSaid (Frame place) None = Unit {0}
-HandsOutAsSaid (Frame place) (Some r) = ⊥
-HandsOutAsSaid (Again at ends) None = Unit {0}
-HandsOutAsSaid (Again at ends) (Some r) = ⊥
-HandsOutAsSaid NoDevice None = Unit {0}
-HandsOutAsSaid NoDevice (Some r) = ⊥
-HandsOutAsSaid Closed None = Unit {0}
-HandsOutAsSaid Closed (Some r) = ⊥
-HandsOutAsSaid (Full at) None = Unit {0}
-HandsOutAsSaid (Full at) (Some r) = ⊥
-HandsOutAsSaid More None = Unit {0}
-HandsOutAsSaid More (Some r) = ⊥
+HandsOutAsSaid _ None = Unit {0}
+HandsOutAsSaid _ (Some r) = ⊥
 
 abbrev pub IsAnswerAsSaid : JoyAnswer → Type 0
 IsAnswerAsSaid answer = HandsOutAsSaid answer.read answer.record_out

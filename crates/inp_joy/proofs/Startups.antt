@@ -1,5 +1,5 @@
 -- The records of a startup.
-use Rattle.std.proofs.Common.{◌≡◌, ℕ, ◌+◌, ◌-◌, ◌<◌, ◌≤◌, ℤ, Bool, List, ◌++◌, length, map, Some, None, sym, ap, ◌∙◌, arith, length-append}
+use Rattle.std.proofs.Common.{◌≡◌, ℕ, ◌+◌, ◌-◌, ◌<◌, ◌≤◌, ℤ, List, ◌++◌, length, map, Some, None, sym, ap, ◌∙◌, arith, length-append}
 use Rattle.std.specs.List.{slice_get}
 use Rattle.std.proofs.lemmas.List.{length-map}
 use Rattle.std.proofs.lemmas.Option.{slice_get-map, slice_get_past, slice_get_within}
@@ -9,32 +9,17 @@ use Rattle.inp_recon.specs.declared.view.View.{View}
 use Rattle.inp_joy.specs.declared.joy_record.JoyRecord.{JoyRecord}
 use Rattle.inp_joy.specs.Codes.{buttons, axes, startup_len}
 use Rattle.inp_joy.specs.JoyRecord.{within_16_bits, startup_button, startup_axis}
-use Rattle.inp_joy.specs.Joy.{startup, startup_buttons, startup_axes}
+use Rattle.inp_joy.specs.Joy.{map_numbered, startup, startup_buttons, startup_axes}
 use Rattle.inp_joy.specs.Picture.{is_down_in, value_in}
 use Rattle.inp_joy.proofs.Lists.{slice_get-left, slice_get-right, map_numbered-get, length-map_numbered}
 
 -- One record
 
-pub button-found : (d : Description) (v : View) (codes : List ℕ) (number code : ℕ) (down : Bool) (r : JoyRecord) → codes ≡ buttons d → slice_get codes number ≡ Some code → down ≡ is_down_in v code → r ≡ startup_button number down → slice_get (startup_buttons d v) number ≡ Some r
-button-found d v codes number code down r are at is made =
-    let there : slice_get (map (is_down_in v) (buttons d)) number ≡ Some (is_down_in v code) =
-    slice_get-map (is_down_in v) (buttons d) number ∙ ap (λ (cs : List ℕ). option_map (is_down_in v) (slice_get cs number)) (sym are) ∙ ap (λ o. option_map (is_down_in v) o) at in
+pub record-found : {X : Type 0} (made : ℕ → X → JoyRecord) (f : ℕ → X) (codes all : List ℕ) (number code : ℕ) (x : X) (r : JoyRecord) → codes ≡ all → slice_get codes number ≡ Some code → x ≡ f code → r ≡ made number x → slice_get (map_numbered made 0 (map f all)) number ≡ Some r
+record-found made f codes all number code x r are at is told =
     let e : 0 + number ≡ number = omega arith in
-    map_numbered-get startup_button 0 number (map (is_down_in v) (buttons d)) (is_down_in v code) there
-    ∙ ap (λ (n : ℕ). Some (startup_button n (is_down_in v code))) e
-    ∙ ap (λ (b : Bool). Some (startup_button number b)) (sym is)
-    ∙ ap (λ (x : JoyRecord). Some x) (sym made)
-
-pub axis-found : (d : Description) (v : View) (codes : List ℕ) (number code : ℕ) (value : ℤ) (r : JoyRecord) → codes ≡ axes d → slice_get codes number ≡ Some code → value ≡ within_16_bits (value_in v code) → r ≡ startup_axis number value → slice_get (startup_axes d v) number ≡ Some r
-axis-found d v codes number code value r are at is made =
-    let f : ℕ → ℤ = λ c. within_16_bits (value_in v c) in
-    let there : slice_get (map f (axes d)) number ≡ Some (f code) =
-    slice_get-map f (axes d) number ∙ ap (λ (cs : List ℕ). option_map f (slice_get cs number)) (sym are) ∙ ap (λ o. option_map f o) at in
-    let e : 0 + number ≡ number = omega arith in
-    map_numbered-get startup_axis 0 number (map f (axes d)) (f code) there
-    ∙ ap (λ (n : ℕ). Some (startup_axis n (f code))) e
-    ∙ ap (λ (z : ℤ). Some (startup_axis number z)) (sym is)
-    ∙ ap (λ (x : JoyRecord). Some x) (sym made)
+    map_numbered-get made 0 number (map f all) (f code) (slice_get-map f all number ∙ ap (λ (cs : List ℕ). option_map f (slice_get cs number)) (sym are) ∙ ap (λ o. option_map f o) at)
+    ∙ ap (λ (n : ℕ). Some (made n (f code))) e ∙ ap (λ y. Some (made number y)) (sym is) ∙ ap (λ (s : JoyRecord). Some s) (sym told)
 
 length-startup_buttons : (d : Description) (v : View) → length (startup_buttons d v) ≡ length (buttons d)
 length-startup_buttons d v = length-map_numbered startup_button 0 (map (is_down_in v) (buttons d)) ∙ length-map (buttons d) (is_down_in v)

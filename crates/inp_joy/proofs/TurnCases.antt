@@ -64,7 +64,7 @@ event_turn-case d j calls t plain h =
         let f : (later ≡ []) × (joying_after_next d (with_reading j r) next ≡ t) = finished (joying_after_next d (with_reading j r) next) t later k in
         of_next next r plain (subst (λ (cs : List Call). EndsWith (next_talk d Normal j.reading) cs (next, r)) (sym (alone calls first later whole f.0)) e) f.1
 
-case-of : (d : Description) (j : Joying) (o : Option JoyRecord) (calls : List Call) (t : JoyTurn) → slice_get (startup d j.reading.view) j.handed ≡ o → EndsWith (record_or_turn d j o) calls t → TurnCase d j calls t
+pub case-of : (d : Description) (j : Joying) (o : Option JoyRecord) (calls : List Call) (t : JoyTurn) → slice_get (startup d j.reading.view) j.handed ≡ o → EndsWith (record_or_turn d j o) calls t → TurnCase d j calls t
 case-of d j None calls t is h =
     (cond_both (is_needed j.reading.phase) _ _ (λ x. EndsWith x calls t → TurnCase d j calls t)
     (λ needed k. of_sync needed (synchronises d j calls t k)) (λ plain k. event_turn-case d j calls t plain k)) h

@@ -1,16 +1,17 @@
 -- The synthesised events of keys, LEDs, switches and axes.
 use Rattle.std.proofs.Common.{◌≡◌, ℕ, ◌<◌, ◌≤◌, ℤ, pos, Bool, true, false, not, leb, ltb, eqb, int_eq, List, ◌++◌, length, map, get_or, set, refl, sym, ap, ◌∙◌, arith, inl, inr}
-use Rattle.std.proofs.lemmas.Bool.{cond-true, cond-false, lt-ltb, lt-leb, ne_eqb, eq-eqb, not_from_false, and_left, and_right, not-true, not-false, cases_lt, false≢true}
+use Rattle.std.proofs.lemmas.Bool.{cond-true, cond-false, lt-ltb, lt-leb, ne_eqb, not_from_false, and_left, and_right, not-true, not-false, cases_lt, false≢true}
 use Rattle.std.proofs.lemmas.Bool.Decides.{Decides-int_eq, not_from_Decides}
 use Rattle.inp_bits.specs.Bits.{bits_differ}
 use Rattle.inp_model.specs.declared.event.TheConstants.{EV_KEY, EV_ABS, EV_SW, EV_LED}
 use Rattle.inp_model.specs.declared.event.Event.{Event}
 use Rattle.inp_model.specs.Description.{is_multi_touch_code, is_slot_code}
 use Rattle.inp_recon.specs.declared.view.View.{View}
-use Rattle.inp_recon.specs.View.{view_after_event, view_after_events, keys_after_event, bits_after_event, axes_after_event, slot_after_event, cells_after_event}
-use Rattle.inp_reader.specs.Synthesis.{where_below, bit_value, bit_event, bit_changes, bits_differ_at, value_at, differs_at, axis_event, axis_changes, class_changes}
+use Rattle.inp_recon.specs.View.{view_after_event, view_after_events, with_value_at, keys_after_event, axes_after_event, slot_after_event, cells_after_event}
+use Rattle.inp_reader.specs.Synthesis.{where_below, bit_value, bit_event, bit_changes, bits_differ_at, value_at, differs_at, axis_event, class_changes}
 use Rattle.inp_reader.specs.Laws.{EachChanges, AreOfOneDevice}
-use Rattle.inp_reader.proofs.Puts.{Each, Each-where_below, Tells, mixed-all, puts-below, EachPutChanges-below, differ_at}
+use Rattle.inp_recon.proofs.Each.{Each}
+use Rattle.inp_reader.proofs.Puts.{Each-where_below, Tells, mixed-all, puts-below, EachPutChanges-below, differ_at}
 use Rattle.inp_reader.proofs.Parts.{SetsPart, leads-puts, EachChanges-puts, leads-behind, EachChanges-behind}
 
 -- ---- the tests tell whether two values differ
@@ -57,53 +58,24 @@ part-changes d new old event count P with_part bits_differ tells sets each l m =
 pub LeadsTheView-behind : (u v w : View) (es later : List Event) → LeadsTheView u v es → LeadsTheView v w later → LeadsTheView u w (es ++ later)
 LeadsTheView-behind u v w es later h m = record { to = leads-behind u v es later h.to ∙ m.to; changes = EachChanges-behind u v es later h.to h.changes m.changes }
 
--- ---- keys
+-- ---- keys, LEDs and switches
 
-keys-set : (b : Bool) (keys : List Bool) (k : ℕ) → k < 768 → keys_after_event keys (record { kind = EV_KEY; code = k; value = bit_value b }) ≡ set keys k b
-keys-set true keys k h = cond-true (ltb k 768) (set keys k true) keys (lt-ltb k 768 h)
-keys-set false keys k h = cond-true (ltb k 768) (set keys k false) keys (lt-ltb k 768 h)
+-- the events of one kind set flags of the view, each its own, and nothing else
+leads-flags : (kind count : ℕ) (old new : List Bool) (flags_of : View → List Bool) (with_flags : List Bool → View) → ((xs : List Bool) → flags_of (with_flags xs) ≡ xs)
+    → ((b : Bool) (xs : List Bool) (k : ℕ) → k < count → view_after_event (with_flags xs) (record { kind = kind; code = k; value = bit_value b }) ≡ with_flags (set xs k b))
+    → length old ≡ count → length new ≡ count → LeadsTheView (with_flags old) (with_flags new) (bit_changes kind count old new)
+leads-flags kind count old new flags_of with_flags part sets l m =
+    part-changes false new old (bit_event kind new) count (λ k. k < count) with_flags bits_differ tells_bits
+    (record { part_of = flags_of; part = part; sets = λ k xs h long. sets (get_or new k false) xs k h })
+    (Each-where_below (λ k. k < count) count (bits_differ_at old new) (λ k h t. h)) l m
 
-sets-keys : (v : View) (new : List Bool) (count : ℕ) → count ≤ 768 → SetsPart false new (λ k. k) (bit_event EV_KEY new) count (λ k. k < count) (λ xs. record v { keys = xs })
-unfolding view_after_event
-sets-keys v new count few = record {
-  part_of = λ w. w.keys;
-  part = λ xs. refl;
-  sets = λ k xs h l. ap (λ (ks : List Bool). record v { keys = ks }) (keys-set (get_or new k false) xs k (omega (arith, h, few)));
-}
+flag-set : (count : ℕ) (b : Bool) (xs : List Bool) (k : ℕ) → k < count → with_value_at count xs k (not (int_eq (bit_value b) (pos 0))) ≡ set xs k b
+flag-set count true xs k h = cond-true (ltb k count) (set xs k true) xs (lt-ltb k count h)
+flag-set count false xs k h = cond-true (ltb k count) (set xs k false) xs (lt-ltb k count h)
 
-leads-keys : (v : View) (old new : List Bool) (count : ℕ) → count ≤ 768 → length old ≡ count → length new ≡ count → LeadsTheView (record v { keys = old }) (record v { keys = new }) (bit_changes EV_KEY count old new)
-leads-keys v old new count few l m =
-    part-changes false new old (bit_event EV_KEY new) count (λ k. k < count) (λ xs. record v { keys = xs }) bits_differ tells_bits (sets-keys v new count few) (Each-where_below (λ k. k < count) count (bits_differ_at old new) (λ k h t. h)) l m
-
--- ---- LEDs and switches
-
-bits-set : (kind : ℕ) (b : Bool) (bits : List Bool) (k : ℕ) → k < 64 → bits_after_event kind bits (record { kind = kind; code = k; value = bit_value b }) ≡ set bits k b
-bits-set kind true bits k h = cond-true (eqb kind kind) _ bits (eq-eqb kind kind refl) ∙ cond-true (ltb k 64) (set bits k true) bits (lt-ltb k 64 h)
-bits-set kind false bits k h = cond-true (eqb kind kind) _ bits (eq-eqb kind kind refl) ∙ cond-true (ltb k 64) (set bits k false) bits (lt-ltb k 64 h)
-
-sets-leds : (v : View) (new : List Bool) (count : ℕ) → count ≤ 64 → SetsPart false new (λ k. k) (bit_event EV_LED new) count (λ k. k < count) (λ xs. record v { leds = xs })
-unfolding view_after_event
-sets-leds v new count few = record {
-  part_of = λ w. w.leds;
-  part = λ xs. refl;
-  sets = λ k xs h l. ap (λ (bits : List Bool). record v { leds = bits }) (bits-set EV_LED (get_or new k false) xs k (omega (arith, h, few)));
-}
-
-leads-leds : (v : View) (old new : List Bool) (count : ℕ) → count ≤ 64 → length old ≡ count → length new ≡ count → LeadsTheView (record v { leds = old }) (record v { leds = new }) (bit_changes EV_LED count old new)
-leads-leds v old new count few l m =
-    part-changes false new old (bit_event EV_LED new) count (λ k. k < count) (λ xs. record v { leds = xs }) bits_differ tells_bits (sets-leds v new count few) (Each-where_below (λ k. k < count) count (bits_differ_at old new) (λ k h t. h)) l m
-
-sets-switches : (v : View) (new : List Bool) (count : ℕ) → count ≤ 64 → SetsPart false new (λ k. k) (bit_event EV_SW new) count (λ k. k < count) (λ xs. record v { switches = xs })
-unfolding view_after_event
-sets-switches v new count few = record {
-  part_of = λ w. w.switches;
-  part = λ xs. refl;
-  sets = λ k xs h l. ap (λ (bits : List Bool). record v { switches = bits }) (bits-set EV_SW (get_or new k false) xs k (omega (arith, h, few)));
-}
-
-leads-switches : (v : View) (old new : List Bool) (count : ℕ) → count ≤ 64 → length old ≡ count → length new ≡ count → LeadsTheView (record v { switches = old }) (record v { switches = new }) (bit_changes EV_SW count old new)
-leads-switches v old new count few l m =
-    part-changes false new old (bit_event EV_SW new) count (λ k. k < count) (λ xs. record v { switches = xs }) bits_differ tells_bits (sets-switches v new count few) (Each-where_below (λ k. k < count) count (bits_differ_at old new) (λ k h t. h)) l m
+key-set : (b : Bool) (keys : List Bool) (k : ℕ) → k < 768 → keys_after_event keys (record { kind = EV_KEY; code = k; value = bit_value b }) ≡ set keys k b
+key-set true keys k h = flag-set 768 true keys k h
+key-set false keys k h = flag-set 768 false keys k h
 
 -- ---- axes
 
@@ -171,17 +143,20 @@ leads-axes v old new count few same l m =
 -- ---- all classes
 
 pub leads-classes : (slots : ℕ) (old new : View) (slot : ℤ) (cells : List ℤ) → AreOfOneDevice slots old new → LeadsTheView (record old { slot = slot; cells = cells }) (record new { slot = slot; cells = cells }) (class_changes old new)
+unfolding view_after_event
 leads-classes slots old new slot cells h =
     let v0 : View = record old { slot = slot; cells = cells } in
     let v1 : View = record v0 { keys = new.keys } in
     let v2 : View = record v1 { leds = new.leds } in
     let v3 : View = record v2 { switches = new.switches } in
-    let keys = leads-keys v0 old.keys new.keys 768 (omega arith) h.old_sized.keys h.new_sized.keys in
-    let leds = leads-leds v1 old.leds new.leds 64 (omega arith) h.old_sized.leds h.new_sized.leds in
-    let switches = leads-switches v2 old.switches new.switches 64 (omega arith) h.old_sized.switches h.new_sized.switches in
+    let keys : LeadsTheView v0 v1 (bit_changes EV_KEY 768 old.keys new.keys) =
+    leads-flags EV_KEY 768 old.keys new.keys (λ w. w.keys) (λ xs. record v0 { keys = xs }) (λ xs. refl)
+    (λ b xs k lt. ap (λ (ks : List Bool). record v0 { keys = ks }) (key-set b xs k lt)) h.old_sized.keys h.new_sized.keys in
+    let leds : LeadsTheView v1 v2 (bit_changes EV_LED 64 old.leds new.leds) =
+    leads-flags EV_LED 64 old.leds new.leds (λ w. w.leds) (λ xs. record v1 { leds = xs }) (λ xs. refl)
+    (λ b xs k lt. ap (λ (bits : List Bool). record v1 { leds = bits }) (flag-set 64 b xs k lt)) h.old_sized.leds h.new_sized.leds in
+    let switches : LeadsTheView v2 v3 (bit_changes EV_SW 64 old.switches new.switches) =
+    leads-flags EV_SW 64 old.switches new.switches (λ w. w.switches) (λ xs. record v2 { switches = xs }) (λ xs. refl)
+    (λ b xs k lt. ap (λ (bits : List Bool). record v2 { switches = bits }) (flag-set 64 b xs k lt)) h.old_sized.switches h.new_sized.switches in
     let axes = leads-axes v3 old.axes new.axes 64 (omega arith) h.axes h.old_sized.axes h.new_sized.axes in
-    let w : View = record new { slot = slot; cells = cells } in
-    let ks = bit_changes EV_KEY 768 old.keys new.keys in
-    let ls = bit_changes EV_LED 64 old.leds new.leds in
-    let ss = bit_changes EV_SW 64 old.switches new.switches in
-    LeadsTheView-behind v0 v3 w (ks ++ ls ++ ss) (axis_changes old.axes new.axes) (LeadsTheView-behind v0 v2 v3 (ks ++ ls) ss (LeadsTheView-behind v0 v1 v2 ks ls keys leds) switches) axes
+    LeadsTheView-behind v0 v3 (record new { slot = slot; cells = cells }) _ _ (LeadsTheView-behind v0 v2 v3 _ _ (LeadsTheView-behind v0 v1 v2 _ _ keys leds) switches) axes

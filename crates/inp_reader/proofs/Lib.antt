@@ -10,10 +10,8 @@ pub mod Puts
 pub mod Parts
 pub mod Classes
 pub mod Slots
-pub mod EventsLead
 pub mod Counts
 pub mod UnsetSlotAxes
-pub mod TalkResults
 pub mod SynthesisedViews
 pub mod QueryAnswers
 pub mod LeftByCalls
@@ -25,7 +23,6 @@ pub mod PastsAtCalls
 pub mod StandsAfterTalks
 pub mod Supported
 pub mod SpareAgrees
-pub mod RunsStand
 pub mod AgreedViews
 pub mod TalksKeepSpare
 pub mod RefusedStarts
@@ -33,6 +30,4 @@ pub mod StandsByCalls
 pub mod ClientViews
 pub mod ReadCounts
 pub mod LessEffort
-pub mod UseAlone
 pub mod ShowsDevice
-pub mod Rooms

@@ -1,15 +1,16 @@
 -- A part of a view that events set index by index, and what of the laws holds of events in parts.
-use Rattle.std.proofs.Common.{◌≡◌, ℕ, List, [], ◌∷◌, ◌++◌, length, map, get_or, set, refl, sym, ap, ◌∙◌, subst, pos}
+use Rattle.std.proofs.Common.{◌≡◌, ℕ, List, [], ◌∷◌, ◌++◌, length, map, get_or, set, refl, sym, ap, ◌∙◌, subst}
 use Rattle.std.proofs.lemmas.List.{length-set}
 use Rattle.std.proofs.lemmas.Bool.{true≢false}
-use Rattle.inp_model.specs.declared.event.TheConstants.{EV_SYN, SYN_REPORT}
 use Rattle.inp_model.specs.declared.event.Event.{Event}
 use Rattle.inp_recon.specs.declared.view.View.{View}
 use Rattle.inp_recon.specs.View.{view_after_event, view_after_events}
 use Rattle.inp_recon.proofs.Folds.{view_after_events-append}
 use Rattle.inp_reader.specs.Synthesis.{with_report}
 use Rattle.inp_reader.specs.Laws.{EachChanges}
-use Rattle.inp_reader.proofs.Puts.{Each, puts, EachPutChanges}
+use Rattle.inp_recon.proofs.Each.{Each}
+use Rattle.inp_reader.proofs.SynthesisedEvents.{report}
+use Rattle.inp_reader.proofs.Puts.{puts, EachPutChanges}
 
 -- ---- events in parts
 
@@ -24,9 +25,6 @@ EachChanges-behind v w es later leads h m = EachChanges-append v es later h (sub
 
 pub leads-behind : (v w : View) (es later : List Event) → view_after_events v es ≡ w → view_after_events v (es ++ later) ≡ view_after_events w later
 leads-behind v w es later leads = view_after_events-append v es later ∙ ap (λ x. view_after_events x later) leads
-
-abbrev report : Event
-report = record { kind = EV_SYN; code = SYN_REPORT; value = pos 0 }
 
 after-report : (v : View) → view_after_event v report ≡ v
 unfolding view_after_event

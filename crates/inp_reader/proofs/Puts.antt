@@ -1,18 +1,11 @@
 -- Values of one list that are put into another one, index by index.
 use Rattle.std.proofs.Common.{◌≡◌, ℕ, zero, suc, ◌+◌, ◌<◌, ◌≤◌, Bool, true, false, cond, List, [], ◌∷◌, ◌++◌, length, take, drop, get_or, set, refl, sym, ap, ◌∙◌, subst, arith, append-nil, append_assoc, add-one, length-append, length-drop}
 use Rattle.std.proofs.lemmas.List.{drop_more, take_more, set_at, get_or_at, length-take-le, drop_all, take_all, get_or-set_same}
+use Rattle.inp_recon.proofs.Each.{Each, Each-append}
 use Rattle.inp_reader.specs.Synthesis.{where_below}
 use Rattle.inp_reader.proofs.SynthesisedEvents.{where_below-more}
 
 -- ---- what holds of each of some indices
-
-abbrev pub Each : (ℕ → Type 0) → List ℕ → Type 0
-Each P [] = Unit {0}
-Each P (k ∷ ks) = P k × Each P ks
-
-pub Each-append : (P : ℕ → Type 0) (ks js : List ℕ) → Each P ks → Each P js → Each P (ks ++ js)
-Each-append P [] js h m = m
-Each-append P (k ∷ ks) js h m = (h.0, Each-append P ks js h.1 m)
 
 Each-one : (P : ℕ → Type 0) (k : ℕ) (b : Bool) → (b ≡ true → P k) → Each P (cond b (k ∷ []) [])
 Each-one P k true h = (h refl, tt)

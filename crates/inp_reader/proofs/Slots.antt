@@ -1,8 +1,8 @@
 -- The synthesised events of slots.
-use Rattle.std.proofs.Common.{◌≡◌, ℕ, zero, suc, ◌+◌, ◌*◌, ◌<◌, ◌≤◌, ℤ, pos, negsuc, int_lt, int_eq, Bool, true, false, cond, not, ◌&&◌, leb, eqb, List, [], ◌∷◌, ◌++◌, length, map, take, drop, get_or, set, refl, sym, ap, ◌∙◌, subst, arith, add-one, length-append, length-drop}
+use Rattle.std.proofs.Common.{◌≡◌, ℕ, zero, suc, ◌+◌, ◌*◌, ◌<◌, ◌≤◌, ℤ, pos, negsuc, int_lt, int_eq, Bool, true, false, cond, not, ◌&&◌, leb, eqb, List, [], ◌∷◌, ◌++◌, length, map, take, drop, get_or, set, refl, sym, ap, ◌∙◌, subst, arith, add-one, length-append, length-drop, inl, inr}
 use Rattle.std.specs.List.{range_with_len, filter, list_any}
 use Rattle.std.proofs.lemmas.List.{length-set, length-take-le, get_or-set_same, get_or-set_other}
-use Rattle.std.proofs.lemmas.Bool.{cond-true, cond-false, lt-ltb, le-leb, and_from, ne_eqb, le-ltb, not_from_false, or_parts, true≢false}
+use Rattle.std.proofs.lemmas.Bool.{cond-true, cond-false, lt-ltb, le-leb, and_from, ne_eqb, le-ltb, not_from_false, or_parts, true≢false, cases_Bool}
 use Rattle.std.proofs.lemmas.Bool.Decides.{Decides-int_eq, not_from_Decides}
 use Rattle.inp_model.specs.declared.event.TheConstants.{EV_ABS}
 use Rattle.inp_model.specs.declared.event.Event.{Event}
@@ -13,7 +13,8 @@ use Rattle.inp_recon.specs.Cells.{slot_count, with_cell, cell_index, cell_of, ha
 use Rattle.inp_recon.specs.View.{view_after_event, view_after_events, axes_after_event, slot_after_event, cells_after_event}
 use Rattle.inp_reader.specs.Synthesis.{where_below, to_slot, in_slots, differs_at, axis_event, cell_event, cells_differ, tracking_id, is_replaced, lift, lifts, changes_in, is_changed, cell_changes}
 use Rattle.inp_reader.proofs.SynthesisedEvents.{where_below-skip, where_below-next, in_slots-more, last_slot, last_slot-more, map-filter_from, any-from}
-use Rattle.inp_reader.proofs.Puts.{Each, Each-where_below, mixed, mixed-all, puts, puts-below, EachPutChanges-below}
+use Rattle.inp_recon.proofs.Each.{Each}
+use Rattle.inp_reader.proofs.Puts.{Each-where_below, mixed, mixed-all, puts, puts-below, EachPutChanges-below}
 use Rattle.inp_reader.proofs.Parts.{SetsPart, leads-puts, EachChanges-puts}
 use Rattle.inp_reader.proofs.Classes.{LeadsTheView, LeadsTheView-behind, ints_differ, tells_ints}
 use Rattle.inp_recon.proofs.FaithfulReads.{slot_code}
@@ -91,16 +92,8 @@ walk-more v f test cells n start true t before acts skips =
     let last : ℤ = last_slot slots start in
     let step : LeadsTheView (with_slots v last (cells n)) (with_slots v (pos n) (cells (n + 1))) (to_slot last (pos n) ++ f n) = LeadsTheView-behind _ (with_slots v (pos n) (cells n)) _ (to_slot last (pos n)) (f n) (LeadsTheView-to_slot v (cells n) last (pos n)) (acts t) in
     let both : LeadsTheView (with_slots v start (cells 0)) (with_slots v (pos n) (cells (n + 1))) (in_slots f slots start ++ (to_slot last (pos n) ++ f n)) = LeadsTheView-behind _ (with_slots v last (cells n)) _ (in_slots f slots start) (to_slot last (pos n) ++ f n) before step in
-    let there : LeadsTheView (with_slots v start (cells 0)) (with_slots v (last_slot (slots ++ n ∷ []) start) (cells (n + 1))) (in_slots f (slots ++ n ∷ []) start) =
-    subst (λ es. LeadsTheView (with_slots v start (cells 0)) (with_slots v (last_slot (slots ++ n ∷ []) start) (cells (n + 1))) es) (sym (in_slots-more f slots n start)) (
-    subst (λ (z : ℤ). LeadsTheView (with_slots v start (cells 0)) (with_slots v z (cells (n + 1))) (in_slots f slots start ++ (to_slot last (pos n) ++ f n))) (sym (last_slot-more slots n start)) both
-    ) in
-    subst (λ (ss : List ℕ). LeadsTheView (with_slots v start (cells 0)) (with_slots v (last_slot ss start) (cells (n + 1))) (in_slots f ss start)) (sym (where_below-next test n t)) there
-walk-more v f test cells n start false t before acts skips =
-    let slots : List ℕ = where_below n test in
-    let there : LeadsTheView (with_slots v start (cells 0)) (with_slots v (last_slot slots start) (cells (n + 1))) (in_slots f slots start) =
-    subst (λ (xs : List ℤ). LeadsTheView (with_slots v start (cells 0)) (with_slots v (last_slot slots start) xs) (in_slots f slots start)) (skips t) before in
-    subst (λ (ss : List ℕ). LeadsTheView (with_slots v start (cells 0)) (with_slots v (last_slot ss start) (cells (n + 1))) (in_slots f ss start)) (sym (where_below-skip test n t)) there
+    rw (where_below-next test n t) (rw (in_slots-more f slots n start) (rw (last_slot-more slots n start) both))
+walk-more v f test cells n start false t before acts skips = rw (where_below-skip test n t) (rw (sym (skips t)) before)
 
 pub LeadsTheView-walk : (v : View) (f : ℕ → List Event) (test : ℕ → Bool) (cells : ℕ → List ℤ) (n : ℕ) (start : ℤ) → ((k : ℕ) → k < n → test k ≡ true → LeadsTheView (with_slots v (pos k) (cells k)) (with_slots v (pos k) (cells (k + 1))) (f k))
     → ((k : ℕ) → k < n → test k ≡ false → cells k ≡ cells (k + 1)) → LeadsTheView (with_slots v start (cells 0)) (with_slots v (last_slot (where_below n test) start) (cells n)) (in_slots f (where_below n test) start)
@@ -174,15 +167,14 @@ is_changed-places old new slot = any-from (cells_differ old.cells new.cells slot
 LeadsTheView-cells_by : (slots n : ℕ) (v old new : View) (start : ℤ) → n ≤ slots → length old.cells ≡ 14 * slots → length new.cells ≡ 14 * slots
     → LeadsTheView (with_slots v start old.cells) (with_slots v (last_slot (where_below n (is_changed old new)) start) (mixed (14 * n) new.cells old.cells)) (in_slots (changes_in old new) (where_below n (is_changed old new)) start)
 LeadsTheView-cells_by slots n v old new start few l m =
-    let from : (k : ℕ) → mixed (14 * k + 0) new.cells old.cells ≡ mixed (14 * k) new.cells old.cells = λ k. let e : 14 * k + 0 ≡ 14 * k = omega arith in ap (λ (i : ℕ). mixed i new.cells old.cells) e in
-    let to : (k : ℕ) → mixed (14 * k + 14) new.cells old.cells ≡ mixed (14 * (k + 1)) new.cells old.cells = λ k. let e : 14 * k + 14 ≡ 14 * (k + 1) = omega arith in ap (λ (i : ℕ). mixed i new.cells old.cells) e in
-    LeadsTheView-walk v (changes_in old new) (is_changed old new) (λ k. mixed (14 * k) new.cells old.cells) n start (
-    λ k h t. subst (λ (xs : List ℤ). LeadsTheView (with_slots v (pos k) xs) (with_slots v (pos k) (mixed (14 * (k + 1)) new.cells old.cells)) (changes_in old new k)) (from k) (
-    subst (λ (xs : List ℤ). LeadsTheView (with_slots v (pos k) (mixed (14 * k + 0) new.cells old.cells)) (with_slots v (pos k) xs) (changes_in old new k)) (to k) (
-    subst (λ (es : List Event). LeadsTheView (with_slots v (pos k) (mixed (14 * k + 0) new.cells old.cells)) (with_slots v (pos k) (mixed (14 * k + 14) new.cells old.cells)) es) (sym (changes_in-places old new k)) (LeadsTheView-slot slots v k 14 new.cells old.cells (omega (arith, h, few)) (omega arith) l m)
-    )
-    )
-    ) (λ k h t. sym (from k) ∙ unchanged slots k 14 new.cells old.cells (omega (arith, h, few)) (omega arith) l m (sym (is_changed-places old new k) ∙ t) ∙ to k)
+    let from : (k : ℕ) → 14 * k ≡ 14 * k + 0 = λ k. omega arith in
+    let to : (k : ℕ) → 14 * (k + 1) ≡ 14 * k + 14 = λ k. omega arith in
+    let cells : ℕ → List ℤ = λ i. mixed i new.cells old.cells in
+    LeadsTheView-walk v (changes_in old new) (is_changed old new) (λ k. cells (14 * k)) n start
+    (λ k h t. subst (λ (i : ℕ). LeadsTheView (with_slots v (pos k) (cells i)) (with_slots v (pos k) (cells (14 * (k + 1)))) (changes_in old new k)) (sym (from k))
+    (subst (λ (i : ℕ). LeadsTheView (with_slots v (pos k) (cells (14 * k + 0))) (with_slots v (pos k) (cells i)) (changes_in old new k)) (sym (to k))
+    (rw (changes_in-places old new k) (LeadsTheView-slot slots v k 14 new.cells old.cells (omega (arith, h, few)) (omega arith) l m))))
+    (λ k h t. ap cells (from k) ∙ unchanged slots k 14 new.cells old.cells (omega (arith, h, few)) (omega arith) l m (sym (is_changed-places old new k) ∙ t) ∙ sym (ap cells (to k)))
 
 pub LeadsTheView-cells : (slots : ℕ) (v old new : View) → length old.cells ≡ 14 * slots → length new.cells ≡ 14 * slots
     → LeadsTheView (with_slots v old.slot old.cells) (with_slots v (last_slot (where_below slots (is_changed old new)) old.slot) new.cells) (cell_changes old new)
@@ -210,22 +202,18 @@ length-ended [] cells = refl
 length-ended (slot ∷ slots) cells = length-ended slots (set cells (14 * slot + 9) (negsuc 0)) ∙ length-set cells (14 * slot + 9) (negsuc 0)
 
 -- the contacts of slots further on stay
-ended-later_by : (n : ℕ) (test : ℕ → Bool) (cells : List ℤ) (m : ℕ) (b : Bool) → test n ≡ b → n < m → get_or (ended (where_below n test) cells) (14 * m + 9) (pos 0) ≡ get_or cells (14 * m + 9) (pos 0) → get_or (ended (where_below (n + 1) test) cells) (14 * m + 9) (pos 0) ≡ get_or cells (14 * m + 9) (pos 0)
-ended-later_by n test cells m true t h before =
-    ap (λ (ss : List ℕ). get_or (ended ss cells) (14 * m + 9) (pos 0)) (where_below-next test n t)
-    ∙ ap (λ (xs : List ℤ). get_or xs (14 * m + 9) (pos 0)) (ended-more (where_below n test) n cells)
-    ∙ get_or-set_other (ended (where_below n test) cells) (14 * n + 9) (14 * m + 9) (negsuc 0) (pos 0) (λ e. omega (arith, h, e))
-    ∙ before
-ended-later_by n test cells m false t h before = ap (λ (ss : List ℕ). get_or (ended ss cells) (14 * m + 9) (pos 0)) (where_below-skip test n t) ∙ before
+ended-next : (n : ℕ) (test : ℕ → Bool) (cells : List ℤ) → test n ≡ true → ended (where_below (n + 1) test) cells ≡ set (ended (where_below n test) cells) (14 * n + 9) (negsuc 0)
+ended-next n test cells t = ap (λ (ss : List ℕ). ended ss cells) (where_below-next test n t) ∙ ended-more (where_below n test) n cells
 
 ended-later : (n : ℕ) (test : ℕ → Bool) (cells : List ℤ) (m : ℕ) → n ≤ m → get_or (ended (where_below n test) cells) (14 * m + 9) (pos 0) ≡ get_or cells (14 * m + 9) (pos 0)
 ended-later zero test cells m h = refl
 ended-later (suc n) test cells m h =
-    ap (λ (k : ℕ). get_or (ended (where_below k test) cells) (14 * m + 9) (pos 0)) (sym (add-one n))
-    ∙ ended-later_by n test cells m (test n) refl (omega (arith, h)) (ended-later n test cells m (omega (arith, h)))
-
-ended-next : (n : ℕ) (test : ℕ → Bool) (cells : List ℤ) → test n ≡ true → ended (where_below (n + 1) test) cells ≡ set (ended (where_below n test) cells) (14 * n + 9) (negsuc 0)
-ended-next n test cells t = ap (λ (ss : List ℕ). ended ss cells) (where_below-next test n t) ∙ ended-more (where_below n test) n cells
+    let contact : List ℤ → ℤ = λ xs. get_or xs (14 * m + 9) (pos 0) in
+    let step : contact (ended (where_below (n + 1) test) cells) ≡ contact (ended (where_below n test) cells) = elim (cases_Bool (test n)) [
+      | inl t ↦ ap contact (ended-next n test cells t) ∙ get_or-set_other (ended (where_below n test) cells) (14 * n + 9) (14 * m + 9) (negsuc 0) (pos 0) (λ e. omega (arith, h, e))
+      | inr t ↦ ap (λ (ss : List ℕ). contact (ended ss cells)) (where_below-skip test n t)
+    ] in
+    ap (λ (k : ℕ). contact (ended (where_below k test) cells)) (sym (add-one n)) ∙ step ∙ ended-later n test cells m (omega (arith, h))
 
 had-contact : (a b c : Bool) → (not a && b && c) ≡ true → a ≡ false
 had-contact true b c h = absurd (true≢false (sym h))

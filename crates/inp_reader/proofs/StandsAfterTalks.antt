@@ -194,49 +194,45 @@ asks d client past after (x ∷ xs) view (call ∷ calls) asked h all m ends =
 unfoldable pub IsMadeAnew : Description → ℕ → View → Type 0
 IsMadeAnew d client view = (calls : List Call) → steps_of calls ≡ queries d client → AreAccepted calls → AreAnswered d calls → view_after_answers view calls ≡ view_after_answers (first_view d) calls
 
-taken_events-push : (handed : List Taken) (taken : Taken) → taken_events (handed ++ taken ∷ []) ≡ taken_events handed ++ taken.event ∷ []
-taken_events-push handed taken = map-append (λ (t : Taken). t.event) handed (taken ∷ [])
-
 -- the reader is in step, and this is the last event that it handed out
 pub record IsHandedOut (d : Description) (past : List Step) (r : Reading) (last : Taken) : Type 0 where
-  pub asked : List Call
-  pub reads : List Call
+  pub in_step : IsInStep d past r
   pub before : List Taken
-  pub calls : calls_since d past r.client ≡ asked ++ reads
-  pub queries : steps_of asked ≡ queries d r.client
-  pub reads_only : AreReads reads
-  pub taken : taken_by_calls reads ≡ (before ++ last ∷ []) ++ r.queue
-  pub view : r.view ≡ view_after_events (view_after_answers (first_view d) asked) (taken_events (before ++ last ∷ []))
+  pub handed : in_step.handed ≡ before ++ last ∷ []
 
-handed-in-step : (d : Description) (past : List Step) (r : Reading) (last : Taken) → IsHandedOut d past r last → IsInStep d past r
-handed-in-step d past r last h = record {
-  asked = h.asked;
-  reads = h.reads;
-  handed = h.before ++ last ∷ [];
-  calls = h.calls;
-  queries = h.queries;
-  reads_only = h.reads_only;
-  taken = h.taken;
-  view = h.view;
-}
+AreReads-append : (reads more : List Call) → AreReads reads → AreReads more → AreReads (reads ++ more)
+AreReads-append [] more h k = k
+AreReads-append (read ∷ reads) more h k = (h.0, AreReads-append reads more h.1 k)
 
-handed : (d : Description) (past : List Step) (r : Reading) (taken : Taken) (rest : List Taken) → IsInStep d past r → r.queue ≡ taken ∷ rest → IsHandedOut d past (record r { queue = rest; view = view_after_event r.view taken.event }) taken
-unfolding view_after_events
-handed d past r taken rest i q =
+-- A reader that was in step is so after more reads, where this run of what it had and read is handed out and the rest is queued.
+pub in-step-on : (d : Description) (past after : List Step) (r : Reading) (more : List Call) (run rest : List Taken) (phase : Phase) (left : List Event)
+    → IsInStep d past r → AreReads more → calls_since d after r.client ≡ calls_since d past r.client ++ more → r.queue ++ taken_by_calls more ≡ run ++ rest
+    → IsInStep d after (record { client = r.client; queue = rest; view = view_after_events r.view (taken_events run); phase = phase; left = left })
+in-step-on d past after r more run rest phase left i are since q =
     let begun : View = view_after_answers (first_view d) i.asked in
     record {
       asked = i.asked;
-      reads = i.reads;
-      before = i.handed;
-      calls = i.calls;
+      reads = i.reads ++ more;
+      handed = i.handed ++ run;
+      calls = since ∙ ap (λ (cs : List Call). cs ++ more) i.calls ∙ append_assoc i.asked i.reads more;
       queries = i.queries;
-      reads_only = i.reads_only;
-      taken = i.taken ∙ ap (λ (ts : List Taken). i.handed ++ ts) q ∙ sym (append_assoc i.handed (taken ∷ []) rest);
+      reads_only = AreReads-append i.reads more i.reads_only are;
+      taken =
+          flat_map-append (λ (c : Call). c.answer.events) i.reads more ∙ ap (λ (ts : List Taken). ts ++ taken_by_calls more) i.taken
+          ∙ append_assoc i.handed r.queue (taken_by_calls more) ∙ ap (λ (ts : List Taken). i.handed ++ ts) q ∙ sym (append_assoc i.handed run rest);
       view =
-          ap (λ (v : View). view_after_event v taken.event) i.view
-          ∙ sym (view_after_events-append begun (taken_events i.handed) (taken.event ∷ []))
-          ∙ ap (λ (es : List Event). view_after_events begun es) (sym (taken_events-push i.handed taken));
+          ap (λ (v : View). view_after_events v (taken_events run)) i.view
+          ∙ sym (view_after_events-append begun (taken_events i.handed) (taken_events run))
+          ∙ ap (λ (es : List Event). view_after_events begun es) (sym (map-append (λ (t : Taken). t.event) i.handed run));
     }
+
+-- the first events of the queue are handed out
+pub in-step-handed : (d : Description) (past : List Step) (r : Reading) (run rest : List Taken) (phase : Phase) → IsInStep d past r → r.queue ≡ run ++ rest → IsInStep d past (record r { queue = rest; view = view_after_events r.view (taken_events run); phase = phase })
+in-step-handed d past r run rest phase i q = in-step-on d past past r [] run rest phase r.left i tt (sym (append-nil (calls_since d past r.client))) (append-nil r.queue ∙ q)
+
+handed : (d : Description) (past : List Step) (r : Reading) (taken : Taken) (rest : List Taken) → IsInStep d past r → r.queue ≡ taken ∷ rest → IsHandedOut d past (record r { queue = rest; view = view_after_event r.view taken.event }) taken
+unfolding view_after_events in-step-handed in-step-on
+handed d past r taken rest i q = record { in_step = in-step-handed d past r (taken ∷ []) rest r.phase i q; before = i.handed; handed = refl }
 
 -- what is known of the event that `next` answers
 abbrev pub HandsOut : Description → List Step → Next → Reading → Type 0
@@ -257,43 +253,18 @@ pub record Leaves (d : Description) (past : List Step) (result : Next × Reading
 in-step-moved : (d : Description) (past after : List Step) (r : Reading) (phase : Phase) (left : List Event)
     → IsInStep d past r → calls_since d after r.client ≡ calls_since d past r.client
     → IsInStep d after (record r { phase = phase; left = left })
-in-step-moved d past after r phase left i same = record {
-  asked = i.asked;
-  reads = i.reads;
-  handed = i.handed;
-  calls = same ∙ i.calls;
-  queries = i.queries;
-  reads_only = i.reads_only;
-  taken = i.taken;
-  view = i.view;
-}
+unfolding view_after_events
+in-step-moved d past after r phase left i same = in-step-on d past after r [] [] r.queue phase left i tt (same ∙ sym (append-nil (calls_since d past r.client))) (append-nil r.queue)
 
 -- the same reader, at a past since which nothing was read or asked for
 pub in-step-kept : (d : Description) (past after : List Step) (r : Reading) → IsInStep d past r → calls_since d after r.client ≡ calls_since d past r.client → IsInStep d after r
 in-step-kept d past after r i same = in-step-moved d past after r r.phase r.left i same
 
-AreReads-push : (reads : List Call) (call : Call) → AreReads reads → is_read call.step ≡ true → AreReads (reads ++ call ∷ [])
-AreReads-push [] call h k = (k, tt)
-AreReads-push (read ∷ reads) call h k = (h.0, AreReads-push reads call h.1 k)
-
 -- one more read, of which nothing is handed out yet
 in-step-read : (d : Description) (past after : List Step) (r : Reading) (call : Call) → IsInStep d past r → r.queue ≡ [] → is_read call.step ≡ true → calls_since d after r.client ≡ calls_since d past r.client ++ call ∷ [] → IsInStep d after (record r { queue = call.answer.events })
+unfolding view_after_events
 in-step-read d past after r call i empty read since =
-    let events : List Taken = call.answer.events in
-    let none : i.handed ++ r.queue ≡ i.handed = ap (λ (ts : List Taken). i.handed ++ ts) empty ∙ append-nil i.handed in
-    record {
-      asked = i.asked;
-      reads = i.reads ++ call ∷ [];
-      handed = i.handed;
-      calls = since ∙ ap (λ (cs : List Call). cs ++ call ∷ []) i.calls ∙ append_assoc i.asked i.reads (call ∷ []);
-      queries = i.queries;
-      reads_only = AreReads-push i.reads call i.reads_only read;
-      taken =
-          flat_map-append (λ (c : Call). c.answer.events) i.reads (call ∷ [])
-          ∙ ap (λ (ts : List Taken). taken_by_calls i.reads ++ ts) (append-nil events)
-          ∙ ap (λ (ts : List Taken). ts ++ events) (i.taken ∙ none);
-      view = i.view;
-    }
+    in-step-on d past after r (call ∷ []) [] call.answer.events r.phase r.left i (read, tt) since (ap (λ (ts : List Taken). ts ++ (call.answer.events ++ [])) empty ∙ append-nil call.answer.events)
 
 -- a stop is no event
 stop-hands : (d : Description) (past : List Step) (reply : Reply) (r : Reading) → HandsOut d past (stop_of reply) r
@@ -424,7 +395,7 @@ stands-rules d client mode = record {
   stops = λ p t r a s plain empty m is. stands-stopped_read d client p t r a s m is;
   hands = λ p r taken rest s plain q is.
       let h : IsHandedOut d p (record r { queue = rest; view = view_after_event r.view taken.event }) taken = handed d p r taken rest (s.in_step (not_needed r.phase Plain plain refl)) q in
-      record { stands = record { opened = s.opened; in_step = λ e. handed-in-step d p (record r { queue = rest; view = view_after_event r.view taken.event }) taken h }; hands_out = h };
+      record { stands = record { opened = s.opened; in_step = λ e. h.in_step }; hands_out = h };
   loses = λ p r taken rest s plain q is. record { stands = record { opened = s.opened; in_step = λ e. absurd (true≢false e) }; hands_out = tt };
   empty = λ p r s plain q. record { stands = record { opened = s.opened; in_step = s.in_step }; hands_out = tt };
   idles = λ p r s plain is. record { stands = record { opened = s.opened; in_step = s.in_step }; hands_out = tt };

@@ -37,13 +37,12 @@ other-stays axes code other x h =
 apart : (code other : ℕ) → is_multi_touch_code code ≡ true → is_multi_touch_code other ≡ false → code ≢ other
 apart code other h m e = true≢false (sym h ∙ ap is_multi_touch_code e ∙ m)
 
--- after an event
-axis-event : (axes : List ℤ) (code : ℕ) (e : Event) (b : Bool) → is_multi_touch_code code ≡ true → (eqb e.kind EV_ABS && not (is_multi_touch e)) ≡ b → value_at (cond b (with_value_at 64 axes e.code e.value) axes) code ≡ value_at axes code
-axis-event axes code e true h t =
+-- an event that sets an axis sets one that is no slot's
+pub sets-plain : (e : Event) → (eqb e.kind EV_ABS && not (is_multi_touch e)) ≡ true
+    → (eqb e.kind EV_ABS ≡ true) × (is_multi_touch_code e.code ≡ false)
+sets-plain e t =
     let both = and_parts (eqb e.kind EV_ABS) (not (is_multi_touch e)) t in
-    let plain : is_multi_touch_code e.code ≡ false = ap (λ (b : Bool). b && is_multi_touch_code e.code) (sym both.0) ∙ not-true (is_multi_touch e) both.1 in
-    other-stays axes code e.code e.value (apart code e.code h plain)
-axis-event axes code e false h t = refl
+    (both.0, ap (λ (b : Bool). b && is_multi_touch_code e.code) (sym both.0) ∙ not-true (is_multi_touch e) both.1)
 
 -- after an answer
 axis-reply : (axes : List ℤ) (code asked : ℕ) (reply : Reply) → is_multi_touch_code code ≡ true → value_at (axes_after_reply asked reply axes) code ≡ value_at axes code
@@ -66,7 +65,11 @@ pub IsKeptView-after_event : (d : Description) (v : View) (e : Event) → IsKept
 unfolding view_after_event
 IsKeptView-after_event d v e h = record {
   sized = IsSizedFor-after_event d.slots v e h.sized;
-  axes = λ code from to. axis-event v.axes code e (eqb e.kind EV_ABS && not (is_multi_touch e)) (multi_touch code from to) refl ∙ h.axes code from to;
+  axes = λ code from to.
+      cond_both (eqb e.kind EV_ABS && not (is_multi_touch e)) (with_value_at 64 v.axes e.code e.value) v.axes
+      (λ (xs : List ℤ). value_at xs code ≡ value_at v.axes code)
+      (λ t. other-stays v.axes code e.code e.value (apart code e.code (multi_touch code from to) (sets-plain e t).1)) (λ _. refl)
+      ∙ h.axes code from to;
 }
 
 IsKeptView-after_answer : (d : Description) (v : View) (x : Step) (reply : Reply) (buffer : List ℤ) → HasCells x reply v.cells buffer → IsKeptView d v → IsKeptView d (view_after_answer v x reply buffer)

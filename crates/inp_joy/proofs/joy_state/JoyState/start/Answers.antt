@@ -2,7 +2,7 @@ use Rattle.std.proofs.Common.{◌≡◌, ◌≤◌, refl, List, [], ◌++◌, �
 use Rattle.inp_model.specs.Description.{Description}
 use Rattle.inp_reader.specs.declared.call_made.CallMade.{CallMade}
 use Rattle.inp_reader.specs.Says.{Says}
-use Rattle.inp_reader.proofs.TalkResults.{start-kept}
+use Rattle.inp_reader.proofs.SynthesisedViews.{start-kept}
 use Rattle.inp_joy.specs.declared.joy_state.JoyState.{JoyState}
 use Rattle.inp_joy.specs.Codes.{startup_len}
 use Rattle.inp_joy.specs.Joy.{joy_start, with_reading, joying_after_start}

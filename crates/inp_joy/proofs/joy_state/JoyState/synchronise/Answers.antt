@@ -5,8 +5,7 @@ use Rattle.inp_joy.specs.declared.joy_state.JoyState.{JoyState}
 use Rattle.inp_joy.specs.Joy.{sync_turn, goes_on}
 use Rattle.inp_joy.specs.Kept.{kept_joying, ReaderCalls}
 use Rattle.inp_joy.proofs.ReaderCalls.{calls-weaker}
-use Rattle.inp_joy.proofs.LessToDo.{stop-less}
-use Rattle.inp_joy.proofs.Outcomes.{sync-shows}
+use Rattle.inp_joy.proofs.Outcomes.{stop-less, sync-shows}
 use Rattle.inp_joy.proofs.TurnParts.{says-sync_stopped, says-sync_whole}
 use Rattle.inp_joy.proofs.joy_state.JoyState.synchronise.Goals as goal
 

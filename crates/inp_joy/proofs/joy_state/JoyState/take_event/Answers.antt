@@ -7,9 +7,8 @@ use Rattle.inp_joy.specs.declared.joy_state.JoyState.{JoyState}
 use Rattle.inp_joy.specs.Joy.{joying_after_next, event_turn, sync_turn}
 use Rattle.inp_joy.specs.Kept.{kept_joying, turn_of_end, IsTurnEndLess, ReaderCalls, TurnEndShows}
 use Rattle.inp_joy.proofs.ReaderCalls.{calls-then, calls-weaker}
-use Rattle.inp_joy.proofs.LessToDo.{next-less, less-then}
+use Rattle.inp_joy.proofs.Outcomes.{next-less, less-then, next-shows}
 use Rattle.inp_joy.proofs.Nexts.{lost-needed}
-use Rattle.inp_joy.proofs.Outcomes.{next-shows}
 use Rattle.inp_joy.proofs.TurnParts.{says-event_lost, says-event}
 use Rattle.inp_joy.proofs.joy_state.JoyState.take_event.Goals as goal
 

@@ -6,7 +6,7 @@ use Rattle.inp_joy.specs.Joy.{turn_talk}
 use Rattle.inp_joy.specs.Kept.{kept_joying, IsJoyState, turn_of_end, is_end, ReaderCalls, TurnEndPictures}
 use Rattle.inp_joy.specs.Reads.{IsPictured}
 use Rattle.inp_joy.proofs.ReaderCalls.{calls-none, calls-then, calls-weaker}
-use Rattle.inp_joy.proofs.LessToDo.{less-then}
+use Rattle.inp_joy.proofs.Outcomes.{less-then}
 use Rattle.inp_joy.proofs.ReadTurns.{passed-none, passed-more, passed-last, on-less, on-short, on-agains}
 use Rattle.inp_joy.proofs.joy_state.JoyState.take_turns.Goals as goal
 
