@@ -32,8 +32,7 @@ use Rattle.inp_joy.specs.Picture.{PictureView, picture_after_if, picture_of_view
 use Rattle.inp_joy.specs.Reads.{IsPictured}
 use Rattle.inp_joy.proofs.Events.{event-pictured, report-none}
 use Rattle.inp_joy.proofs.Nexts.{IsLeftByStart, IsTaken, IsSynced, next-taken, next-synced, next-accepted, accepted-append, lost-needed}
-use Rattle.inp_joy.proofs.Pictures.{startup-pictured, startup-more, startup-over, startup-gone, first-blank}
-use Rattle.inp_joy.proofs.Startups.{length-startup}
+use Rattle.inp_joy.proofs.Pictures.{startup-pictured, startup-more, startup-over, startup-gone, first-blank, length-startup}
 use Rattle.inp_joy.proofs.TurnCases.{Synchronises, TurnCase, of_startup, of_sync, of_loss, of_next, case-of, turn-case}
 use Rattle.inp_reader.specs.KeptViews.{IsKeptView}
 use Rattle.inp_reader.proofs.UnsetSlotAxes.{IsKeptView-first_view}
