@@ -11,6 +11,7 @@ use Rattle.inp_model.specs.Evdev.{EvdevView, IsCall, own_after}
 use Rattle.inp_model.specs.Past.{past_at}
 use Rattle.inp_model.specs.Reply.{IsAnswer, is_accepted}
 use Rattle.inp_model.specs.Run.{Call, place_of, next_place, IsLegalFrom, HasPlace}
+use Rattle.inp_recon.proofs.Each.{Each}
 use Rattle.inp_reader.specs.declared.call_made.CallMade.{CallMade}
 use Rattle.inp_reader.specs.LeftEvdev.{accepted_places, LeavesMade}
 use Rattle.inp_model.specs.Leaves.{AreCalls, places_of as places_of_calls}
@@ -165,9 +166,8 @@ place-least d history least place (call ∷ calls) legal (inr h) =
     place_below_next _ = omega arith
 
 -- All of them were accepted.
-unfoldable pub AreAccepted : List Call → Type 0
-AreAccepted [] = Unit {0}
-AreAccepted (call ∷ calls) = (is_accepted call.answer.reply ≡ true) × AreAccepted calls
+abbrev pub AreAccepted : List Call → Type 0
+AreAccepted calls = Each (λ (call : Call). is_accepted call.answer.reply ≡ true) calls
 
 -- Nobody else used the client in between.
 

@@ -1,5 +1,5 @@
 -- Where a reader stands after the talks of `start` and `next`, by the pasts at which its calls were answered.
-use Rattle.std.proofs.Common.{◌≡◌, ◌<◌, ◌⊎◌, inl, inr, ℕ, nat_eq, Bool, true, false, ◌||◌, List, [], ◌∷◌, ◌++◌, length, refl, sym, ap, subst, ◌∙◌, arith, append-nil, append_assoc, if◌then◌else◌, Option, Some, None}
+use Rattle.std.proofs.Common.{◌≡◌, ◌<◌, ◌⊎◌, inl, inr, ℕ, nat_eq, Bool, true, false, ◌||◌, List, [], ◌∷◌, ◌++◌, refl, sym, ap, subst, ◌∙◌, arith, append-nil, append_assoc, if◌then◌else◌}
 use Rattle.std.specs.Prelude.{Result, Ok, Err}
 use Rattle.std.proofs.lemmas.Bool.{true≢false, false≢true, ne_eqb, eq-eqb, and_right, cond-false, cond-true, cond_both}
 use Rattle.std.proofs.lemmas.List.{map-append}
@@ -10,16 +10,16 @@ use Rattle.inp_model.specs.declared.step.Step.{Step}
 use Rattle.inp_model.specs.declared.step.Step.TheVariants.{Open, Read, Discard}
 use Rattle.inp_model.specs.declared.reply.Reply.{Reply}
 use Rattle.inp_model.specs.declared.reply.Reply.TheVariants.{Opened, Refused}
-use Rattle.inp_model.specs.declared.reply.Refusal.TheVariants.{NoMemory}
-use Rattle.inp_model.specs.Description.{Description, ring as ring_of}
+use Rattle.inp_model.specs.Description.{Description}
 use Rattle.inp_model.specs.Past.{opens, is_opening}
-use Rattle.inp_model.specs.Reply.{Answer, IsAnswer, answer, answer_by, accepted, refused, is_accepted, past_after}
+use Rattle.inp_model.specs.Reply.{Answer, IsAnswer, answer, accepted, refused, is_accepted, past_after}
 use Rattle.inp_model.specs.Run.{Call}
 use Rattle.inp_model.specs.Step.{is_open_step}
 use Rattle.inp_recon.specs.declared.view.View.{View}
 use Rattle.inp_recon.specs.View.{first_view, view_after_event, view_after_events, view_after_answer}
 use Rattle.inp_recon.proofs.Each.{Each}
 use Rattle.inp_recon.proofs.Folds.{view_after_events-append}
+use Rattle.inp_reader.proofs.QueryAnswers.{answered-as}
 use Rattle.inp_reader.specs.declared.mode.Mode.{Mode}
 use Rattle.inp_reader.specs.declared.phase.Phase.{Phase}
 use Rattle.inp_reader.specs.declared.phase.Phase.TheVariants.{Plain, Needed, Handing}
@@ -30,7 +30,6 @@ use Rattle.inp_reader.specs.Reader.{Reading, ask_each, queries, start_talk, next
 use Rattle.inp_recon.specs.Synchronised.{is_discard_of, is_start}
 use Rattle.inp_reader.specs.ReaderPlace.{is_use_of, calls_since, steps_of, view_after_answers, taken_by_calls, taken_events, is_read, AreReads, IsInStep, is_needed, has_opened}
 use Rattle.inp_reader.specs.Talk.{Talk, finish, LeadsTo, EndsWith}
-use Rattle.inp_model.proofs.Refused.{refused-not_accepted}
 use Rattle.inp_reader.proofs.Calls.{finished, AreAnswered, AreAccepted}
 use Rattle.inp_reader.proofs.Meets.{Meets, Any, Runs, ends-meet, meets-ends}
 use Rattle.inp_reader.proofs.NextWalk.{Queried, StartRules, start-meets, each-query, Renewed, NextRules, next-ends, stop-cases}
@@ -159,7 +158,7 @@ accepted_if true talk reply calls asked h = (refl, h)
 accepted_if false talk reply calls asked h = let e : (calls ≡ []) × (Err reply ≡ Ok asked) = finished (Err reply) (Ok asked) calls h in absurd (let k : Err reply ≡ Ok asked = e.1 in cc)
 
 none_asked : (d : Description) (client : ℕ) (past after : List Step) (view asked : View) (calls : List Call) → AreMet d client past after calls → calls ≡ [] → view ≡ asked → IsAsked d client past after [] view calls asked
-unfolding AreMet AreAccepted
+unfolding AreMet
 none_asked d client past after view asked [] m none same = record {
   since = ap (λ (p : List Step). calls_since d p client) m ∙ sym (append-nil (calls_since d past client));
   steps = refl;
@@ -169,7 +168,7 @@ none_asked d client past after view asked [] m none same = record {
 none_asked d client past after view asked (call ∷ calls) m none same = absurd cc
 
 asks : (d : Description) (client : ℕ) (past after : List Step) (xs : List Step) (view : View) (calls : List Call) (asked : View) → client < opens past → Each (Asks client) xs → AreMet d client past after calls → EndsWith (ask_each xs view) calls (Ok asked) → IsAsked d client past after xs view calls asked
-unfolding LeadsTo ask_each AreMet AreAccepted
+unfolding LeadsTo ask_each AreMet
 asks d client past after [] view calls asked h all m ends =
     let e : (calls ≡ []) × (Ok view ≡ Ok asked) = finished (Ok view) (Ok asked) calls ends in
     none_asked d client past after view asked calls m e.0 (let k : Ok view ≡ Ok asked = e.1 in cc)
@@ -414,18 +413,10 @@ stands-after-next d mode past after r calls result s anew m ends =
 
 -- an Open that was accepted opens the next client
 pub opened-number : (d : Description) (past : List Step) (x : Step) (given : Answer) (at client ring : ℕ) → x ≡ Open → IsAnswer d past x given → given.reply ≡ Opened at client ring → client ≡ opens past
-opened-number d past x given at client ring opening (inl e) is = by_cases (refused d past Open) refl
-  where
-    by_cases : (o : Option Reply) → refused d past Open ≡ o → client ≡ opens past
-    by_cases None k =
-        let same : Opened at client ring ≡ Opened (length past) (opens past) (ring_of d) = sym is ∙ ap (λ (a : Answer). a.reply) e ∙ ap (λ (y : Step). (answer d past y).reply) opening ∙ ap (λ (o : Option Reply). (answer_by o (accepted d past Open)).reply) k in
-        cc
-    by_cases (Some reply) k =
-        let same : Opened at client ring ≡ reply = sym is ∙ ap (λ (a : Answer). a.reply) e ∙ ap (λ (y : Step). (answer d past y).reply) opening ∙ ap (λ (o : Option Reply). (answer_by o (accepted d past Open)).reply) k in
-        absurd (true≢false (ap is_accepted same ∙ refused-not_accepted d past Open reply k))
-opened-number d past x given at client ring opening (inr l) is =
-    let same : Opened at client ring ≡ Refused (length past) NoMemory = sym is ∙ ap (λ (a : Answer). a.reply) l.2 in
-    absurd cc
+opened-number d past x given at client ring opening are is =
+    answered-as d past Open given (λ a. a.reply ≡ Opened at client ring → client ≡ opens past)
+    (subst (λ (y : Step). IsAnswer d past y given) opening are) (λ same. cc)
+    (λ reply off same. absurd (true≢false (ap is_accepted (sym same) ∙ off))) is
 
 pub open-opens : (past : List Step) (client : ℕ) → client ≡ opens past → client < opens (Open ∷ past)
 unfolding opens

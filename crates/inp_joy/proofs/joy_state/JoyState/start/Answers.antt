@@ -1,11 +1,8 @@
-use Rattle.std.proofs.Common.{◌≡◌, ◌≤◌, refl, List, [], ◌++◌, ◌∙◌, sym, ap, subst}
-use Rattle.inp_model.specs.Description.{Description}
+use Rattle.std.proofs.Common.{refl, List, [], ◌++◌, ◌∙◌, sym, ap, subst}
 use Rattle.inp_reader.specs.declared.call_made.CallMade.{CallMade}
-use Rattle.inp_reader.specs.Says.{Says}
 use Rattle.inp_reader.proofs.SynthesisedViews.{start-kept}
 use Rattle.inp_joy.specs.declared.joy_state.JoyState.{JoyState}
-use Rattle.inp_joy.specs.Codes.{startup_len}
-use Rattle.inp_joy.specs.Joy.{joy_start, with_reading, joying_after_start}
+use Rattle.inp_joy.specs.Joy.{with_reading}
 use Rattle.inp_joy.specs.Kept.{kept_joying, IsJoyState}
 use Rattle.inp_joy.proofs.Nexts.{start-left}
 use Rattle.inp_joy.proofs.TurnParts.{says-started}
@@ -15,7 +12,7 @@ use Rattle.inp_joy.proofs.joy_state.JoyState.start.Goals as goal
 pub after_start-requires : goal.after_start-requires
 after_start-requires g c = record {
   state = rw c.start-started.ensures.reader (record {
-    description = c.start-started.ensures.reader;
+    description = refl;
     buttons = c.requires.state.buttons;
     axes = c.requires.state.axes;
     handed = c.requires.state.handed;

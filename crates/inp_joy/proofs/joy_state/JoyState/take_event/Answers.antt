@@ -1,11 +1,6 @@
-use Rattle.std.proofs.Common.{◌≡◌, List, refl, sym, ap, subst, arith}
-use Rattle.inp_model.specs.Description.{Description}
-use Rattle.inp_reader.specs.declared.call_made.CallMade.{CallMade}
-use Rattle.inp_reader.specs.Effort.{effort}
-use Rattle.inp_reader.specs.Says.{Says}
+use Rattle.std.proofs.Common.{refl, ap, arith}
 use Rattle.inp_joy.specs.declared.joy_state.JoyState.{JoyState}
-use Rattle.inp_joy.specs.Joy.{joying_after_next, event_turn, sync_turn}
-use Rattle.inp_joy.specs.Kept.{kept_joying, turn_of_end, IsTurnEndLess, ReaderCalls, TurnEndShows}
+use Rattle.inp_joy.specs.Kept.{kept_joying}
 use Rattle.inp_joy.proofs.ReaderCalls.{calls-then, calls-weaker}
 use Rattle.inp_joy.proofs.Outcomes.{next-less, less-then, next-shows}
 use Rattle.inp_joy.proofs.Nexts.{lost-needed}
@@ -41,7 +36,7 @@ pub returns-in_default-clause-calls : goal.returns-in_default-clause-calls
 returns-in_default-clause-calls g c =
     let mid = c.next-next.new.self in
     let after = kept_joying c.after_next.new.self in
-    let shows = next-shows _ mid.reader mid.reader.description (kept_joying mid) after c.next-next.result c.after_next.result in
+    let shows = next-shows (g.E.Evdev.told c.next-next.new.dev) mid.reader mid.reader.description (kept_joying mid) after c.next-next.result c.after_next.result in
     rw (ap (λ (s : JoyState). s.made) c.after_next.ensures.rest, ap (λ (s : JoyState). s.reader) c.after_next.ensures.rest)
     (calls-weaker _ _ _ _ _ _ _ _ _ (λ shown. shows c.after_next.ensures.turn shown) c.next-next.ensures.calls)
 

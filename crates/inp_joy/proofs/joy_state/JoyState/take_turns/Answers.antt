@@ -1,10 +1,7 @@
-use Rattle.std.proofs.Common.{refl, ◌≡◌, List, length, false, true, ◌∙◌, sym, ap, subst, arith}
+use Rattle.std.proofs.Common.{refl, ◌≡◌, List, length, false, ◌∙◌, sym, ap, subst, arith}
 use Rattle.inp_model.specs.Description.{Description}
 use Rattle.inp_reader.specs.declared.call_made.CallMade.{CallMade}
-use Rattle.inp_reader.specs.Says.{Says}
-use Rattle.inp_joy.specs.Joy.{turn_talk}
-use Rattle.inp_joy.specs.Kept.{kept_joying, IsJoyState, turn_of_end, is_end, ReaderCalls, TurnEndPictures}
-use Rattle.inp_joy.specs.Reads.{IsPictured}
+use Rattle.inp_joy.specs.Kept.{kept_joying, is_end, ReaderCalls}
 use Rattle.inp_joy.proofs.ReaderCalls.{calls-none, calls-then, calls-weaker}
 use Rattle.inp_joy.proofs.Outcomes.{less-then}
 use Rattle.inp_joy.proofs.ReadTurns.{passed-none, passed-more, passed-last, on-less, on-short, on-agains}
@@ -12,11 +9,12 @@ use Rattle.inp_joy.proofs.joy_state.JoyState.take_turns.Goals as goal
 
 pub loop-outcome-init : goal.loop-outcome-init
 loop-outcome-init g c =
+    let a = g.E.Evdev.told c.args.dev.now in
     let d = c.args.self.now.reader.description in
     let r = c.args.self.now.reader.reading in
     record {
       passed = passed-none _ d (kept_joying c.args.self.now) c.args.self.now.made c.requires.anew;
-      calls = rw c.requires.anew at (calls-none (g.E.Evdev.told c.args.dev.now) c.args.self.now.made d r (Unit {0}) tt);
+      calls = subst (λ (ms : List CallMade). ReaderCalls a a ms c.args.self.now.made d r r (Unit {0})) c.requires.anew (calls-none a c.args.self.now.made d r (Unit {0}) tt);
       agains = refl;
       less = omega arith;
       state = c.requires.state;

@@ -4,6 +4,7 @@ use Rattle.inp_joy.specs.Joy.{next_in_startup}
 use Rattle.inp_joy.specs.Kept.{kept_joying, turn_of_end, ReaderCalls, TurnEndPictures}
 use Rattle.inp_joy.proofs.ReaderCalls.{calls-none, calls-weaker}
 use Rattle.inp_joy.proofs.Outcomes.{hand_out_record-pictures, shows-pictures, startup-less}
+
 use Rattle.inp_joy.proofs.TurnEnds.{over-none, startup_over, record-pictured, turn-pictured, outcome-pictured, IsTurnPictured}
 use Rattle.inp_joy.proofs.TurnParts.{says-turn, says-startup}
 use Rattle.inp_joy.proofs.joy_state.JoyState.turn.Goals as goal
@@ -21,11 +22,11 @@ returns-in-Some-clause-says g c =
 
 pub returns-in-Some-clause-calls : goal.returns-in-Some-clause-calls
 returns-in-Some-clause-calls g c =
+    let a = g.E.Evdev.told c.args.dev.now in
     let d = c.args.self.now.reader.description in
     let k = kept_joying c.hand_startup.new.self in
-    let pictures = hand_out_record-pictures _ d (next_in_startup (kept_joying c.args.self.now)) k c.in-Some.joy_record in
-    rw (ap (λ (s : JoyState). s.made) c.hand_startup.ensures.rest, ap (λ (s : JoyState). s.reader) c.hand_startup.ensures.rest)
-    (calls-none _ c.args.self.now.made d c.args.self.now.reader.reading _ (pictures c.hand_startup.result c.hand_startup.ensures.turn))
+    subst (λ (s : JoyState). ReaderCalls a a c.args.self.now.made s.made d c.args.self.now.reader.reading s.reader.reading (TurnEndPictures a d k c.hand_startup.result)) (sym c.hand_startup.ensures.rest)
+    (calls-none a c.args.self.now.made d c.args.self.now.reader.reading (TurnEndPictures a d k c.hand_startup.result) (hand_out_record-pictures a d (next_in_startup (kept_joying c.args.self.now)) k c.in-Some.joy_record c.hand_startup.result c.hand_startup.ensures.turn))
 
 pub returns-in-Some-clause-pictured : goal.returns-in-Some-clause-pictured
 returns-in-Some-clause-pictured g c =
