@@ -16,9 +16,8 @@ use Rattle.inp_joy.specs.Codes.{buttons, axes, number_among}
 use Rattle.inp_joy.specs.JoyRecord.{within_16_bits, button_record, axis_record}
 use Rattle.inp_joy.specs.Joy.{last_value, record_of_key, record_of_axis, joy_record_of}
 use Rattle.inp_joy.specs.Picture.{PictureView, picture_after, picture_after_if, up_to_64, picture_by, picture_of_view}
-use Rattle.inp_joy.proofs.CodeLists.{single}
+use Rattle.inp_joy.proofs.Numbers.{single, occurs, buttons-once, buttons-within, axes-once, axes-within, map-same, IsSetAt, number-set, number-none, fill-set}
 use Rattle.inp_joy.proofs.Pictures.{button-tells}
-use Rattle.inp_joy.proofs.Numbers.{occurs, buttons-once, buttons-within, axes-once, axes-within, map-same, IsSetAt, number-set, number-none, fill-set}
 
 -- One place of a list
 

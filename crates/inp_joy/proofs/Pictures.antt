@@ -14,7 +14,7 @@ use Rattle.inp_joy.specs.Codes.{buttons, axes, startup_len, codes_among}
 use Rattle.inp_joy.specs.JoyRecord.{within_16_bits, startup_button, startup_axis}
 use Rattle.inp_joy.specs.Joy.{map_numbered, startup, startup_buttons, startup_axes}
 use Rattle.inp_joy.specs.Picture.{PictureView, blank_picture, picture_after, picture_after_all, up_to_64, picture_by, is_down_in, value_in, picture_of_view, picture_of_device}
-use Rattle.inp_joy.proofs.CodeLists.{length-buttons, length-axes, single, axes-are}
+use Rattle.inp_joy.proofs.Numbers.{length-buttons, length-axes, single, axes-are}
 use Rattle.std.specs.Option.{option_map}
 use Rattle.inp_joy.proofs.Lists.{slice_get-left, slice_get-right, map_numbered-get, length-map_numbered}
 use Rattle.std.proofs.lemmas.Bool.{cond_both}

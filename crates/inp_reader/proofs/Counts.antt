@@ -18,8 +18,7 @@ use Rattle.inp_recon.proofs.Sizes.{IsSizedFor-after_events}
 use Rattle.inp_reader.specs.Synthesis.{where_below, with_report, to_slot, in_slots, bit_event, bit_changes, bits_differ_at, value_at, differs_at, axis_event, axis_changes, class_changes, is_replaced, lift, lifts, changes_in, is_changed, cell_changes, slot_changes, synth}
 use Rattle.inp_reader.specs.Laws.{AreOfOneDevice}
 use Rattle.inp_reader.proofs.SynthesisedEvents.{report, where_below-more}
-use Rattle.inp_reader.proofs.Classes.{tells_ints}
-use Rattle.inp_reader.proofs.Slots.{slots-of, changes_in-places}
+use Rattle.inp_reader.proofs.Classes.{tells_ints, slots-of, changes_in-places}
 use Rattle.std.specs.Prelude.{slice_index_or}
 use Rattle.inp_bits.specs.Bits.{bits_differ}
 use Rattle.inp_model.specs.Description.{Description, supports, is_multi_touch_code}

@@ -5,7 +5,7 @@ use Rattle.inp_joy.specs.declared.joy_state.JoyState.{JoyState}
 use Rattle.inp_joy.specs.Joy.{with_reading}
 use Rattle.inp_joy.specs.Kept.{kept_joying, IsJoyState}
 use Rattle.inp_joy.proofs.Nexts.{start-left}
-use Rattle.inp_joy.proofs.TurnParts.{says-started}
+use Rattle.inp_joy.proofs.TurnCases.{says-started}
 use Rattle.inp_joy.proofs.TurnEnds.{start-pictured}
 use Rattle.inp_joy.proofs.joy_state.JoyState.start.Goals as goal
 

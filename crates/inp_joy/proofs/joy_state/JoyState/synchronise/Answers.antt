@@ -3,7 +3,7 @@ use Rattle.inp_joy.specs.declared.joy_state.JoyState.{JoyState}
 use Rattle.inp_joy.specs.Kept.{kept_joying}
 use Rattle.inp_joy.proofs.ReaderCalls.{calls-weaker}
 use Rattle.inp_joy.proofs.Outcomes.{stop-less, sync-shows}
-use Rattle.inp_joy.proofs.TurnParts.{says-sync_stopped, says-sync_whole}
+use Rattle.inp_joy.proofs.TurnCases.{says-sync_stopped, says-sync_whole}
 use Rattle.inp_joy.proofs.joy_state.JoyState.synchronise.Goals as goal
 
 pub returns-in-Some-clause-says : goal.returns-in-Some-clause-says

@@ -4,7 +4,7 @@ use Rattle.inp_joy.specs.Kept.{kept_joying}
 use Rattle.inp_joy.proofs.ReaderCalls.{calls-then, calls-weaker}
 use Rattle.inp_joy.proofs.Outcomes.{next-less, less-then, next-shows}
 use Rattle.inp_joy.proofs.Nexts.{lost-needed}
-use Rattle.inp_joy.proofs.TurnParts.{says-event_lost, says-event}
+use Rattle.inp_joy.proofs.TurnCases.{says-event_lost, says-event}
 use Rattle.inp_joy.proofs.joy_state.JoyState.take_event.Goals as goal
 
 pub synchronise-requires-clause-needed : goal.synchronise-requires-clause-needed
