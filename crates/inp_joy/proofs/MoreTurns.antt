@@ -1,5 +1,5 @@
 -- Where so many turns are enough for a read, more of them change nothing, whatever is answered.
-use Rattle.std.proofs.Common.{ℕ, zero, suc, ◌≤◌, Bool, true, false, if◌then◌else◌, List, Some, None, sym, subst, arith}
+use Rattle.std.proofs.Common.{ℕ, zero, suc, ◌≤◌, true, false, if◌then◌else◌, List, Some, None, sym, subst, arith}
 use Rattle.std.specs.Prelude.{Option}
 use Rattle.inp_model.specs.Description.{Description}
 use Rattle.inp_model.specs.Run.{Call}

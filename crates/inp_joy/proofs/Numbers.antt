@@ -1,11 +1,12 @@
--- The codes of a device, one more at a time and how many there are; codes that occur once, by their numbers, and what a
+-- The codes of a device, one more at a time and how many there are; codes that occur once, by their numbers,
+-- and what a
 -- function of them is that changes at one.
 use Rattle.std.proofs.Common.{◌≡◌, ℕ, zero, suc, ◌+◌, ◌-◌, ◌<◌, ◌≤◌, Bool, true, false, cond, nat_eq, List, [], ◌∷◌, ◌++◌, length, map, take, set, get_or, replicate, Some, None, refl, sym, ap, subst, ◌∙◌, arith, inl, inr, ◌⊎◌, append_assoc, append-nil, length-append, length-take, nat_le}
 use Rattle.std.specs.List.{range_with_len, filter, position_from}
 use Rattle.std.proofs.lemmas.Bool.Decides.{nat_tests}
 use Rattle.std.proofs.lemmas.Iterator.Adapters.{position_from-zero}
 use Rattle.std.proofs.lemmas.List.{set-append_left, length-set, take_all, take_at}
-use Rattle.std.proofs.lemmas.Bool.{cond_both, cases_lt, and_left, and_right, lt-leb}
+use Rattle.std.proofs.lemmas.Bool.{cond_both, cases_lt, and_left, and_right, lt-leb, cond-true, cond-false}
 use Rattle.inp_model.specs.declared.event.TheConstants.{EV_KEY, EV_ABS}
 use Rattle.inp_model.specs.Description.{Description, supports, is_multi_touch_code}
 use Rattle.inp_joy.specs.Codes.{codes_among, buttons, axes, number_among}
@@ -131,14 +132,17 @@ at_most-if false m n h = h
 occurs-take : (code n : ℕ) (xs : List ℕ) → occurs code (take n xs) ≤ occurs code xs
 occurs-take code zero xs = omega arith
 occurs-take code (suc n) [] = omega arith
-occurs-take code (suc n) (x ∷ xs) = more-if (nat_eq x code) (occurs code (take n xs)) (occurs code xs) (occurs-take code n xs)
+occurs-take code (suc n) (x ∷ xs) =
+    more-if (nat_eq x code) (occurs code (take n xs)) (occurs code xs) (occurs-take code n xs)
 
 occurs-filter : (code : ℕ) (test : ℕ → Bool) (xs : List ℕ) → occurs code (filter test xs) ≤ occurs code xs
 occurs-filter code test [] = omega arith
 occurs-filter code test (x ∷ xs) =
     let some : ℕ = occurs code (filter test xs) in
-    cond_both (test x) (x ∷ filter test xs) (filter test xs) (λ (ks : List ℕ). occurs code ks ≤ occurs code (x ∷ xs))
-    (λ _. more-if (nat_eq x code) some (occurs code xs) (occurs-filter code test xs)) (λ _. at_most-if (nat_eq x code) some (occurs code xs) (occurs-filter code test xs))
+    cond_both (test x) (x ∷ filter test xs) (filter test xs)
+    (λ (ks : List ℕ). occurs code ks ≤ occurs code (x ∷ xs))
+    (λ _. more-if (nat_eq x code) some (occurs code xs) (occurs-filter code test xs))
+    (λ _. at_most-if (nat_eq x code) some (occurs code xs) (occurs-filter code test xs))
 
 none-if : (code x : ℕ) (n : ℕ) → (x ≡ code → ⊥) → cond (nat_eq x code) (suc n) n ≡ n
 none-if code x n apart =
@@ -159,7 +163,8 @@ occurs-range code first zero = omega arith
 occurs-range code first (suc n) =
     let rest : ℕ = occurs code (range_with_len (first + 1) n) in
     cond_both (nat_eq first code) (suc rest) rest (λ (k : ℕ). k ≤ 1)
-    (λ is. let e : first ≡ code = grind (arith, nat_tests, is) in omega (arith, occurs-past code (first + 1) n (omega (arith, e))))
+    (λ is. let e : first ≡ code = grind (arith, nat_tests, is) in
+    omega (arith, occurs-past code (first + 1) n (omega (arith, e))))
     (λ _. occurs-range code (first + 1) n)
 
 among-past : (d : Description) (kind code first n : ℕ) → code < first → occurs code (codes_among d kind first n) ≡ 0
@@ -263,8 +268,11 @@ none-from : (code : ℕ) (codes : List ℕ) (i : ℕ) → position_from (λ c. n
 none-from code [] i h = refl
 none-from code (c ∷ cs) i h =
     cond_both (nat_eq c code) (suc (occurs code cs)) (occurs code cs) (λ (n : ℕ). n ≡ 0)
-    (λ is. absurd (let some : Some i ≡ None = sym (cond-true (nat_eq c code) (Some i) (position_from (λ x. nat_eq x code) (i + 1) cs) is) ∙ h in cc))
-    (λ is. none-from code cs (i + 1) (sym (cond-false (nat_eq c code) (Some i) (position_from (λ x. nat_eq x code) (i + 1) cs) is) ∙ h))
+    (λ is. absurd
+    (let some : Some i ≡ None = sym
+    (cond-true (nat_eq c code) (Some i) (position_from (λ x. nat_eq x code) (i + 1) cs) is) ∙ h in cc))
+    (λ is. none-from code cs (i + 1)
+    (sym (cond-false (nat_eq c code) (Some i) (position_from (λ x. nat_eq x code) (i + 1) cs) is) ∙ h))
 
 number-from : (code : ℕ) (codes : List ℕ) → number_among code codes ≡ position_from (λ c. nat_eq c code) 0 codes
 number-from code codes = position_from-zero (λ c. nat_eq c code) codes

@@ -66,15 +66,18 @@ LeadsTheView-behind u v w es later h m = record { to = leads-behind u v es later
 -- ---- keys, LEDs and switches
 
 -- the events of one kind set flags of the view, each its own, and nothing else
-leads-flags : (kind count : ℕ) (old new : List Bool) (flags_of : View → List Bool) (with_flags : List Bool → View) → ((xs : List Bool) → flags_of (with_flags xs) ≡ xs)
+leads-flags : (kind count : ℕ) (old new : List Bool) (flags_of : View → List Bool)
+    (with_flags : List Bool → View) → ((xs : List Bool) → flags_of (with_flags xs) ≡ xs)
     → ((b : Bool) (xs : List Bool) (k : ℕ) → k < count → view_after_event (with_flags xs) (record { kind = kind; code = k; value = bit_value b }) ≡ with_flags (set xs k b))
-    → length old ≡ count → length new ≡ count → LeadsTheView (with_flags old) (with_flags new) (bit_changes kind count old new)
+    → length old ≡ count → length new ≡ count
+    → LeadsTheView (with_flags old) (with_flags new) (bit_changes kind count old new)
 leads-flags kind count old new flags_of with_flags part sets l m =
     part-changes false new old (bit_event kind new) count (λ k. k < count) with_flags bits_differ tells_bits
     (record { part_of = flags_of; part = part; sets = λ k xs h long. sets (get_or new k false) xs k h })
     (Each-where_below (λ k. k < count) count (bits_differ_at old new) (λ k h t. h)) l m
 
-flag-set : (count : ℕ) (b : Bool) (xs : List Bool) (k : ℕ) → k < count → with_value_at count xs k (not (int_eq (bit_value b) (pos 0))) ≡ set xs k b
+flag-set : (count : ℕ) (b : Bool) (xs : List Bool) (k : ℕ) → k < count
+    → with_value_at count xs k (not (int_eq (bit_value b) (pos 0))) ≡ set xs k b
 flag-set count true xs k h = cond-true (ltb k count) (set xs k true) xs (lt-ltb k count h)
 flag-set count false xs k h = cond-true (ltb k count) (set xs k false) xs (lt-ltb k count h)
 
@@ -156,15 +159,20 @@ leads-classes slots old new slot cells h =
     let v3 : View = record v2 { switches = new.switches } in
     let keys : LeadsTheView v0 v1 (bit_changes EV_KEY 768 old.keys new.keys) =
     leads-flags EV_KEY 768 old.keys new.keys (λ w. w.keys) (λ xs. record v0 { keys = xs }) (λ xs. refl)
-    (λ b xs k lt. ap (λ (ks : List Bool). record v0 { keys = ks }) (key-set b xs k lt)) h.old_sized.keys h.new_sized.keys in
+    (λ b xs k lt. ap (λ (ks : List Bool). record v0 { keys = ks })
+    (key-set b xs k lt)) h.old_sized.keys h.new_sized.keys in
     let leds : LeadsTheView v1 v2 (bit_changes EV_LED 64 old.leds new.leds) =
     leads-flags EV_LED 64 old.leds new.leds (λ w. w.leds) (λ xs. record v1 { leds = xs }) (λ xs. refl)
-    (λ b xs k lt. ap (λ (bits : List Bool). record v1 { leds = bits }) (flag-set 64 b xs k lt)) h.old_sized.leds h.new_sized.leds in
+    (λ b xs k lt. ap (λ (bits : List Bool). record v1 { leds = bits })
+    (flag-set 64 b xs k lt)) h.old_sized.leds h.new_sized.leds in
     let switches : LeadsTheView v2 v3 (bit_changes EV_SW 64 old.switches new.switches) =
-    leads-flags EV_SW 64 old.switches new.switches (λ w. w.switches) (λ xs. record v2 { switches = xs }) (λ xs. refl)
-    (λ b xs k lt. ap (λ (bits : List Bool). record v2 { switches = bits }) (flag-set 64 b xs k lt)) h.old_sized.switches h.new_sized.switches in
+    leads-flags EV_SW 64 old.switches new.switches (λ w. w.switches) (λ xs. record v2 { switches = xs })
+    (λ xs. refl)
+    (λ b xs k lt. ap (λ (bits : List Bool). record v2 { switches = bits })
+    (flag-set 64 b xs k lt)) h.old_sized.switches h.new_sized.switches in
     let axes = leads-axes v3 old.axes new.axes 64 (omega arith) h.axes h.old_sized.axes h.new_sized.axes in
-    LeadsTheView-behind v0 v3 (record new { slot = slot; cells = cells }) _ _ (LeadsTheView-behind v0 v2 v3 _ _ (LeadsTheView-behind v0 v1 v2 _ _ keys leds) switches) axes
+    LeadsTheView-behind v0 v3 (record new { slot = slot; cells = cells }) _ _
+    (LeadsTheView-behind v0 v2 v3 _ _ (LeadsTheView-behind v0 v1 v2 _ _ keys leds) switches) axes
 
 -- a view with this current slot and these values
 abbrev pub with_slots : View → ℤ → List ℤ → View
@@ -239,8 +247,10 @@ walk-more v f test cells n start true t before acts skips =
     let last : ℤ = last_slot slots start in
     let step : LeadsTheView (with_slots v last (cells n)) (with_slots v (pos n) (cells (n + 1))) (to_slot last (pos n) ++ f n) = LeadsTheView-behind _ (with_slots v (pos n) (cells n)) _ (to_slot last (pos n)) (f n) (LeadsTheView-to_slot v (cells n) last (pos n)) (acts t) in
     let both : LeadsTheView (with_slots v start (cells 0)) (with_slots v (pos n) (cells (n + 1))) (in_slots f slots start ++ (to_slot last (pos n) ++ f n)) = LeadsTheView-behind _ (with_slots v last (cells n)) _ (in_slots f slots start) (to_slot last (pos n) ++ f n) before step in
-    rw (where_below-next test n t) (rw (in_slots-more f slots n start) (rw (last_slot-more slots n start) both))
-walk-more v f test cells n start false t before acts skips = rw (where_below-skip test n t) (rw (sym (skips t)) before)
+    rw (where_below-next test n t)
+    (rw (in_slots-more f slots n start) (rw (last_slot-more slots n start) both))
+walk-more v f test cells n start false t before acts skips =
+    rw (where_below-skip test n t) (rw (sym (skips t)) before)
 
 pub LeadsTheView-walk : (v : View) (f : ℕ → List Event) (test : ℕ → Bool) (cells : ℕ → List ℤ) (n : ℕ) (start : ℤ) → ((k : ℕ) → k < n → test k ≡ true → LeadsTheView (with_slots v (pos k) (cells k)) (with_slots v (pos k) (cells (k + 1))) (f k))
     → ((k : ℕ) → k < n → test k ≡ false → cells k ≡ cells (k + 1)) → LeadsTheView (with_slots v start (cells 0)) (with_slots v (last_slot (where_below n test) start) (cells n)) (in_slots f (where_below n test) start)
@@ -319,8 +329,10 @@ LeadsTheView-cells_by slots n v old new start few l m =
     let cells : ℕ → List ℤ = λ i. mixed i new.cells old.cells in
     LeadsTheView-walk v (changes_in old new) (is_changed old new) (λ k. cells (14 * k)) n start
     (λ k h t. subst (λ (i : ℕ). LeadsTheView (with_slots v (pos k) (cells i)) (with_slots v (pos k) (cells (14 * (k + 1)))) (changes_in old new k)) (sym (from k))
-    (subst (λ (i : ℕ). LeadsTheView (with_slots v (pos k) (cells (14 * k + 0))) (with_slots v (pos k) (cells i)) (changes_in old new k)) (sym (to k))
-    (rw (changes_in-places old new k) (LeadsTheView-slot slots v k 14 new.cells old.cells (omega (arith, h, few)) (omega arith) l m))))
+    (subst (λ (i : ℕ). LeadsTheView (with_slots v (pos k) (cells (14 * k + 0)))
+    (with_slots v (pos k) (cells i)) (changes_in old new k)) (sym (to k))
+    (rw (changes_in-places old new k)
+    (LeadsTheView-slot slots v k 14 new.cells old.cells (omega (arith, h, few)) (omega arith) l m))))
     (λ k h t. ap cells (from k) ∙ unchanged slots k 14 new.cells old.cells (omega (arith, h, few)) (omega arith) l m (sym (is_changed-places old new k) ∙ t) ∙ sym (ap cells (to k)))
 
 pub LeadsTheView-cells : (slots : ℕ) (v old new : View) → length old.cells ≡ 14 * slots → length new.cells ≡ 14 * slots
@@ -356,11 +368,15 @@ ended-later : (n : ℕ) (test : ℕ → Bool) (cells : List ℤ) (m : ℕ) → n
 ended-later zero test cells m h = refl
 ended-later (suc n) test cells m h =
     let contact : List ℤ → ℤ = λ xs. get_or xs (14 * m + 9) (pos 0) in
-    let step : contact (ended (where_below (n + 1) test) cells) ≡ contact (ended (where_below n test) cells) = elim (cases_Bool (test n)) [
-      | inl t ↦ ap contact (ended-next n test cells t) ∙ get_or-set_other (ended (where_below n test) cells) (14 * n + 9) (14 * m + 9) (negsuc 0) (pos 0) (λ e. omega (arith, h, e))
+    let step : contact (ended (where_below (n + 1) test) cells) ≡ contact (ended (where_below n test) cells) =
+    elim (cases_Bool (test n)) [
+      | inl t ↦ ap contact (ended-next n test cells t)
+      ∙ get_or-set_other (ended (where_below n test) cells) (14 * n + 9) (14 * m + 9) (negsuc 0) (pos 0)
+      (λ e. omega (arith, h, e))
       | inr t ↦ ap (λ (ss : List ℕ). contact (ended ss cells)) (where_below-skip test n t)
     ] in
-    ap (λ (k : ℕ). contact (ended (where_below k test) cells)) (sym (add-one n)) ∙ step ∙ ended-later n test cells m (omega (arith, h))
+    ap (λ (k : ℕ). contact (ended (where_below k test) cells)) (sym (add-one n)) ∙ step
+    ∙ ended-later n test cells m (omega (arith, h))
 
 had-contact : (a b c : Bool) → (not a && b && c) ≡ true → a ≡ false
 had-contact true b c h = absurd (true≢false (sym h))

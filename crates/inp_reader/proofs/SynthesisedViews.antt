@@ -1,4 +1,5 @@
--- The views that a reader keeps, and the synthesised events: they lead from the view that it had to the one that it has, and
+-- The views that a reader keeps, and the synthesised events: they lead from the view that it had to the one
+-- that it has, and
 -- each but a report changes the view.
 use Rattle.std.proofs.Common.{◌≡◌, List, [], ◌∷◌, refl, sym, ap, ◌∙◌, subst, ℕ, ◌*◌, ℤ, ◌++◌, length}
 use Rattle.inp_model.specs.declared.event.Event.{Event}
