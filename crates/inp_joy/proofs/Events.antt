@@ -1,9 +1,9 @@
 -- The record of an event leads the picture to the view that took it.
-use Rattle.std.proofs.Common.{◌≡◌, ℕ, ◌<◌, ◌≤◌, ℤ, pos, Bool, true, false, ◌&&◌, not, cond, if◌then◌else◌, nat_eq, nat_le, nat_lt, int_eq, List, length, map, set, Some, None, refl, sym, ap, ◌∙◌, arith, inl, inr, ◌⊎◌}
+use Rattle.std.proofs.Common.{◌≡◌, ℕ, ◌<◌, ◌≤◌, ℤ, pos, Bool, true, false, ◌&&◌, not, cond, if◌then◌else◌, nat_eq, nat_lt, int_eq, List, length, map, set, Some, None, refl, sym, ap, ◌∙◌, arith, inl, inr, ◌⊎◌}
 use Rattle.std.specs.Prelude.{Option, slice_index_or}
 use Rattle.std.proofs.lemmas.Bool.Decides.{nat_tests, Decides-int_eq}
 use Rattle.std.proofs.lemmas.List.{get_or-set_same, get_or-set_other, length-map, set-get_or}
-use Rattle.std.proofs.lemmas.Bool.{cond_both}
+use Rattle.std.proofs.lemmas.Bool.{cond_both, cond-false, and_parts}
 use Rattle.inp_model.specs.declared.event.Event.{Event}
 use Rattle.inp_model.specs.declared.event.TheConstants.{EV_SYN, EV_KEY, EV_ABS, SYN_REPORT}
 use Rattle.inp_model.specs.declared.taken.Taken.{Taken}
@@ -11,12 +11,14 @@ use Rattle.inp_model.specs.Description.{Description, is_multi_touch_code}
 use Rattle.inp_model.specs.Event.{is_report, is_repeat, is_set, is_multi_touch}
 use Rattle.inp_recon.specs.declared.view.View.{View}
 use Rattle.inp_recon.specs.View.{keys_after_event, axes_after_event, with_flag, with_value_at, view_after_event}
+use Rattle.inp_joy.specs.declared.joy_record.JoyRecord.{JoyRecord}
+use Rattle.inp_reader.proofs.UnsetSlotAxes.{other-after_event}
 use Rattle.inp_joy.specs.Codes.{buttons, axes, number_among}
 use Rattle.inp_joy.specs.JoyRecord.{within_16_bits, button_record, axis_record}
 use Rattle.inp_joy.specs.Joy.{last_value, record_of_key, record_of_axis, joy_record_of}
 use Rattle.inp_joy.specs.Picture.{PictureView, picture_after, picture_after_if, up_to_64, picture_by, picture_of_view}
+use Rattle.inp_joy.proofs.Numbers.{single, occurs, buttons-once, buttons-within, axes-once, axes-within, map-same, IsSetAt, number-set, number-none, fill-set}
 use Rattle.inp_joy.proofs.Pictures.{button-tells}
-use Rattle.inp_joy.proofs.Numbers.{occurs, buttons-once, buttons-within, axes-once, axes-within, map-same, IsSetAt, number-set, number-none, fill-set}
 
 -- One place of a list
 
@@ -43,9 +45,6 @@ key-other keys e c h =
     cond_both (nat_eq e.kind EV_KEY && not (is_repeat e)) _ _ (λ x. slice_index_or x c false ≡ slice_index_or keys c false)
     (λ _. at-other 768 keys e.code c (is_set e) false h) (λ _. refl)
 
-keys-kept : (keys : List Bool) (e : Event) (b : Bool) → nat_eq e.kind EV_KEY && not (is_repeat e) ≡ b → b ≡ false → keys_after_event keys e ≡ keys
-keys-kept keys e b is off = ap (λ (x : Bool). cond x (with_flag 768 keys e) keys) (is ∙ off)
-
 keys-set : (keys : List Bool) (e : Event) → nat_eq e.kind EV_KEY ≡ true → is_repeat e ≡ false → keys_after_event keys e ≡ with_flag 768 keys e
 keys-set keys e is once =
     ap (λ (x : Bool). cond (x && not (is_repeat e)) (with_flag 768 keys e) keys) is ∙ ap (λ (x : Bool). cond (true && not x) (with_flag 768 keys e) keys) once
@@ -53,21 +52,7 @@ keys-set keys e is once =
 -- Axes
 
 axis-other : (values : List ℤ) (e : Event) (c : ℕ) → nat_eq c e.code ≡ false → slice_index_or (axes_after_event values e) c (pos 0) ≡ slice_index_or values c (pos 0)
-axis-other values e c h =
-    cond_both (nat_eq e.kind EV_ABS && not (is_multi_touch e)) _ _ (λ x. slice_index_or x c (pos 0) ≡ slice_index_or values c (pos 0))
-    (λ _. at-other 64 values e.code c e.value (pos 0) h) (λ _. refl)
-
-axes-kept : (values : List ℤ) (e : Event) → nat_eq e.kind EV_ABS ≡ false → axes_after_event values e ≡ values
-axes-kept values e off = ap (λ (x : Bool). cond (x && not (is_multi_touch e)) (with_value_at 64 values e.code e.value) values) off
-
--- of an axis with a value of its own
-single : (code : ℕ) → (code < 47) ⊎ ((62 ≤ code) × (code < 64)) → is_multi_touch_code code ≡ false
-single code (inl h) = let low : nat_le 47 code ≡ false = grind (arith, nat_tests, h) in ap (λ (b : Bool). b && nat_le code 61) low
-single code (inr h) = let high : nat_le code 61 ≡ false = grind (arith, nat_tests, h.0) in ap (λ (b : Bool). nat_le 47 code && b) high ∙ off (nat_le 47 code)
-  where
-    off : (b : Bool) → b && false ≡ false
-    off true = refl
-    off false = refl
+axis-other values e c h = other-after_event values c e (λ _ _. differ-from c e.code h)
 
 within : (code : ℕ) → (code < 47) ⊎ ((62 ≤ code) × (code < 64)) → code < 64
 within code (inl h) = omega (arith, h)
@@ -146,10 +131,13 @@ abbrev of_view_after : Description → View → Event → PictureView
 of_view_after d v e = seen (down_by d (keys_after_event v.keys e)) (values_by d (axes_after_event v.axes e))
 
 keys-stay : (d : Description) (v : View) (e : Event) → nat_eq e.kind EV_KEY && not (is_repeat e) ≡ false → down_by d v.keys ≡ down_by d (keys_after_event v.keys e)
-keys-stay d v e off = ap (λ (ks : List Bool). down_by d ks) (sym (keys-kept v.keys e false off refl))
+keys-stay d v e off =
+    ap (λ (ks : List Bool). down_by d ks) (sym (cond-false _ (with_flag 768 v.keys e) v.keys off))
 
 axes-stay : (d : Description) (v : View) (e : Event) → nat_eq e.kind EV_ABS ≡ false → values_by d v.axes ≡ values_by d (axes_after_event v.axes e)
-axes-stay d v e off = ap (λ (zs : List ℤ). values_by d zs) (sym (axes-kept v.axes e off))
+axes-stay d v e off =
+    let still = ap (λ (b : Bool). b && not (is_multi_touch e)) off in
+    ap (λ (zs : List ℤ). values_by d zs) (sym (cond-false _ (with_value_at 64 v.axes e.code e.value) v.axes still))
 
 no_key : (e : Event) → nat_eq e.kind EV_KEY ≡ false → nat_eq e.kind EV_KEY && not (is_repeat e) ≡ false
 no_key e off = ap (λ (b : Bool). b && not (is_repeat e)) off
@@ -159,34 +147,28 @@ after-key : (d : Description) (v : View) (taken : Taken) (o : Option ℕ) → le
 unfolding picture_after
 after-key d v taken None long is off at =
     same-parts _ _ _ _ (down-none d v.keys taken.event (number-none taken.event.code (buttons d) at)) (axes-stay d v taken.event off)
-after-key d v taken (Some number) long is off at = by_repeat (is_repeat taken.event) refl
-  where
-    pressed : is_repeat taken.event ≡ false → picture_after (of_view d v) (button_record number taken) ≡ of_view_after d v taken.event
-    pressed once =
-        same-parts _ _ _ _ (ap (λ (b : Bool). set (down_by d v.keys) number b) (button-tells (is_set taken.event)) ∙ down-set d v.keys taken.event number long is once at) (axes-stay d v taken.event off)
-
-    by_repeat : (b : Bool) → is_repeat taken.event ≡ b → picture_after_if (of_view d v) (if b then None else Some (button_record number taken)) ≡ of_view_after d v taken.event
-    by_repeat true again =
-        let still : nat_eq taken.event.kind EV_KEY && not (is_repeat taken.event) ≡ false = ap (λ (b : Bool). b && not (is_repeat taken.event)) is ∙ ap (λ (b : Bool). true && not b) again in
-        same-parts _ _ _ _ (keys-stay d v taken.event still) (axes-stay d v taken.event off)
-    by_repeat false once = pressed once
+after-key d v taken (Some number) long is off at =
+    cond_both (is_repeat taken.event) None (Some (button_record number taken))
+    (λ (o : Option JoyRecord). picture_after_if (of_view d v) o ≡ of_view_after d v taken.event)
+    (λ again.
+    let still : nat_eq taken.event.kind EV_KEY && not (is_repeat taken.event) ≡ false = ap (λ (b : Bool). b && not (is_repeat taken.event)) is ∙ ap (λ (b : Bool). true && not b) again in
+    same-parts _ _ _ _ (keys-stay d v taken.event still) (axes-stay d v taken.event off))
+    (λ once. same-parts _ _ _ _ (ap (λ (b : Bool). set (down_by d v.keys) number b) (button-tells (is_set taken.event)) ∙ down-set d v.keys taken.event number long is once at) (axes-stay d v taken.event off))
 
 -- an axis
 after-axis : (d : Description) (v : View) (taken : Taken) (o : Option ℕ) → length v.axes ≡ 64 → nat_eq taken.event.kind EV_ABS ≡ true → nat_eq taken.event.kind EV_KEY ≡ false → number_among taken.event.code (axes d) ≡ o → picture_after_if (of_view d v) (record_of_axis (of_view d v) o taken) ≡ of_view_after d v taken.event
 unfolding picture_after
 after-axis d v taken None long is off at =
     same-parts _ _ _ _ (keys-stay d v taken.event (no_key taken.event off)) (values-none d v.axes taken.event (number-none taken.event.code (axes d) at))
-after-axis d v taken (Some number) long is off at = by_value (int_eq (within_16_bits taken.event.value) (last_value (of_view d v) number)) refl
-  where
-    moved : Moved d v.axes taken.event number
-    moved = values-set d v.axes taken.event number long is at
-
-    told_anew : picture_after (of_view d v) (axis_record number taken) ≡ of_view_after d v taken.event
-    told_anew = same-parts _ _ _ _ (keys-stay d v taken.event (no_key taken.event off)) moved.set_is
-
-    by_value : (b : Bool) → int_eq (within_16_bits taken.event.value) (last_value (of_view d v) number) ≡ b → picture_after_if (of_view d v) (if b then None else Some (axis_record number taken)) ≡ of_view_after d v taken.event
-    by_value true same = same-parts _ _ _ _ (keys-stay d v taken.event (no_key taken.event off)) (moved.same_is ((Decides-int_eq (within_16_bits taken.event.value) (last_value (of_view d v) number)).0 same))
-    by_value false other = told_anew
+after-axis d v taken (Some number) long is off at =
+    let value : ℤ = within_16_bits taken.event.value in
+    let moved : Moved d v.axes taken.event number = values-set d v.axes taken.event number long is at in
+    let keys = keys-stay d v taken.event (no_key taken.event off) in
+    cond_both (int_eq value (last_value (of_view d v) number)) None (Some (axis_record number taken))
+    (λ (o : Option JoyRecord). picture_after_if (of_view d v) o ≡ of_view_after d v taken.event)
+    (λ same. same-parts _ _ _ _ keys
+    (moved.same_is ((Decides-int_eq value (last_value (of_view d v) number)).0 same)))
+    (λ other. same-parts _ _ _ _ keys moved.set_is)
 
 -- any event
 after-kind : (d : Description) (v : View) (taken : Taken) (key abs : Bool) → length v.keys ≡ 768 → length v.axes ≡ 64 → nat_eq taken.event.kind EV_KEY ≡ key → nat_eq taken.event.kind EV_ABS ≡ abs
@@ -201,12 +183,8 @@ unfolding picture_by view_after_event
 event-pictured d v taken keys_long axes_long = after-kind d v taken (nat_eq taken.event.kind EV_KEY) (nat_eq taken.event.kind EV_ABS) keys_long axes_long refl refl
 
 -- a report gives no record
-both-first : (b c : Bool) → b && c ≡ true → b ≡ true
-both-first true c h = refl
-both-first false c h = h
-
 pub report-none : (d : Description) (p : PictureView) (taken : Taken) → is_report taken.event ≡ true → joy_record_of d p taken ≡ None
 report-none d p taken h =
-    let syn : nat_eq taken.event.kind EV_SYN ≡ true = both-first (nat_eq taken.event.kind EV_SYN) (nat_eq taken.event.code SYN_REPORT) h in
+    let syn : nat_eq taken.event.kind EV_SYN ≡ true = (and_parts (nat_eq taken.event.kind EV_SYN) (nat_eq taken.event.code SYN_REPORT) h).0 in
     let is : taken.event.kind ≡ 0 = grind (arith, nat_tests, syn) in
     ap (λ (kind : ℕ). if nat_eq kind EV_KEY then record_of_key (number_among taken.event.code (buttons d)) taken else if nat_eq kind EV_ABS then record_of_axis p (number_among taken.event.code (axes d)) taken else None) is

@@ -1,5 +1,5 @@
 -- What a `next` or a start of a reader leaves, by its talk.
-use Rattle.std.proofs.Common.{◌≡◌, ℕ, Bool, true, false, ◌&&◌, List, [], ◌∷◌, ◌++◌, None, refl, sym, ap, subst, ◌∙◌, inl, inr, ◌⊎◌}
+use Rattle.std.proofs.Common.{◌≡◌, ℕ, Bool, true, false, ◌&&◌, List, [], ◌∷◌, None, refl, sym, ap, subst, ◌∙◌, inl, inr, ◌⊎◌}
 use Rattle.std.specs.Prelude.{Result, Ok, Err}
 use Rattle.std.proofs.lemmas.Bool.{true≢false}
 use Rattle.inp_model.specs.declared.event.Event.{Event}
@@ -17,7 +17,7 @@ use Rattle.inp_reader.specs.declared.mode.Mode.TheVariants.{Normal, Sync as Sync
 use Rattle.inp_reader.specs.declared.phase.Phase.{Phase}
 use Rattle.inp_reader.specs.declared.phase.Phase.TheVariants.{Needed}
 use Rattle.inp_reader.specs.declared.next.Next.{Next}
-use Rattle.inp_reader.specs.declared.next.Next.TheVariants.{Success, Dropped, Sync, Again, Synced, NoDevice, Closed, Full}
+use Rattle.inp_reader.specs.declared.next.Next.TheVariants.{Success, Dropped, Sync, Synced}
 use Rattle.inp_reader.specs.declared.started.Started.{Started}
 use Rattle.inp_reader.specs.declared.started.Started.TheVariants.{Opened as StartedOn, Refused}
 use Rattle.inp_reader.specs.Reader.{Reading, start_stop_of, after_queries, start_talk, ask_each, queries, stop_of as reader_stop, sync_talk, next_talk, hand_synthesised, after_full_sync, after_failed_sync}
@@ -36,10 +36,7 @@ IsTaken view (Success taken) s = (s.view ≡ view_after_event view taken.event) 
 IsTaken view (Dropped taken) s = is_needed s.phase ≡ true
 IsTaken view (Sync event) s = ⊥
 IsTaken view Synced s = ⊥
-IsTaken view (Again at ends) s = (s.view ≡ view) × (is_needed s.phase ≡ false)
-IsTaken view NoDevice s = (s.view ≡ view) × (is_needed s.phase ≡ false)
-IsTaken view Closed s = (s.view ≡ view) × (is_needed s.phase ≡ false)
-IsTaken view (Full at) s = (s.view ≡ view) × (is_needed s.phase ≡ false)
+IsTaken view _ s = (s.view ≡ view) × (is_needed s.phase ≡ false)
 
 taken-stopped : (r : Reading) (reply : Reply) → is_needed r.phase ≡ false → IsTaken r.view (reader_stop reply) r
 taken-stopped r reply plain = stop-cases (λ next. IsTaken r.view next r) reply (λ at ends is. (refl, plain)) (refl, plain) (refl, plain) (λ at. (refl, plain))
@@ -80,10 +77,7 @@ IsSynced (Success taken) s = ⊥
 IsSynced (Dropped taken) s = ⊥
 IsSynced (Sync event) s = is_needed s.phase ≡ false
 IsSynced Synced s = is_needed s.phase ≡ false
-IsSynced (Again at ends) s = is_needed s.phase ≡ true
-IsSynced NoDevice s = is_needed s.phase ≡ true
-IsSynced Closed s = is_needed s.phase ≡ true
-IsSynced (Full at) s = is_needed s.phase ≡ true
+IsSynced _ s = is_needed s.phase ≡ true
 
 synced-stopped : (s : Reading) (reply : Reply) → is_needed s.phase ≡ true → IsSynced (reader_stop reply) s
 synced-stopped s reply h = stop-cases (λ next. IsSynced next s) reply (λ at ends is. h) h h (λ at. h)
@@ -106,11 +100,6 @@ next-synced d r calls result needed ends =
 
 -- Where it answers none of those that end a read, all calls were accepted
 
-pub accepted-append : (calls more : List Call) → AreAccepted calls → AreAccepted more → AreAccepted (calls ++ more)
-unfolding AreAccepted
-accepted-append [] more h k = k
-accepted-append (call ∷ calls) more h k = (h.0, accepted-append calls more h.1 k)
-
 -- so far
 abbrev all_accepted : Bool → List Call → Bool
 all_accepted b [] = b
@@ -129,7 +118,6 @@ none-accepted [] h = cc
 none-accepted (call ∷ calls) h = none-accepted calls h
 
 are-accepted : (calls : List Call) → all_accepted true calls ≡ true → AreAccepted calls
-unfolding AreAccepted
 are-accepted [] h = tt
 are-accepted (call ∷ calls) h = by_flag (is_accepted call.answer.reply) (λ k. are-accepted calls k) h
   where

@@ -1,5 +1,5 @@
--- The turns of a read, one after another.
-use Rattle.std.proofs.Common.{◌≡◌, ℕ, suc, ◌+◌, ◌<◌, Bool, true, false, ◌&&◌, if◌then◌else◌, nat_le, List, [], ◌++◌, length, Some, refl, sym, ap, subst, ◌∙◌, arith, length-append}
+-- The turns of a read, one after another, and how many steps of them were accepted.
+use Rattle.std.proofs.Common.{◌≡◌, ℕ, suc, ◌+◌, ◌<◌, Bool, true, false, ◌&&◌, if◌then◌else◌, nat_le, List, [], ◌++◌, length, Some, refl, sym, ap, subst, ◌∙◌, arith, length-append, ◌∷◌}
 use Rattle.std.specs.Prelude.{Option}
 use Rattle.std.proofs.lemmas.Bool.{true≢false}
 use Rattle.std.proofs.lemmas.Bool.Decides.{nat_tests}
@@ -9,15 +9,43 @@ use Rattle.inp_model.specs.Leaves.{AreCalls}
 use Rattle.inp_model.specs.Run.{Call}
 use Rattle.inp_model.proofs.Leaves.{AreCalls-append}
 use Rattle.inp_reader.specs.declared.call_made.CallMade.{CallMade}
-use Rattle.inp_reader.specs.Says.{Says, calls_kept}
-use Rattle.inp_reader.specs.Talk.{Talk, finish, LeadsTo, EndsWith}
+use Rattle.inp_reader.specs.Says.{Says, calls_kept, kept_call}
+use Rattle.inp_reader.specs.Talk.{Talk, finish, LeadsTo, EndsWith, ask}
 use Rattle.inp_reader.proofs.Talks.{LeadsTo-append, LeadsTo-and_then, calls_kept-append}
 use Rattle.inp_joy.specs.declared.turn_end.TurnEnd.{TurnEnd}
 use Rattle.inp_joy.specs.declared.turn_end.TurnEnd.TheVariants.{Hands, Stops, GoesOn}
 use Rattle.inp_joy.specs.Joy.{Joying, JoyAnswer, JoyTurn, goes_on, is_startup_over, is_long, turn_talk, with_count, after_turn, turns}
 use Rattle.inp_joy.specs.Kept.{answer_of_turn, turn_of_end, is_end, IsTurnEndLess, agains_after_turn, HasTurned}
-use Rattle.inp_joy.proofs.AcceptedSteps.{count_after, with_count-ends, count-kept}
 use Rattle.inp_joy.proofs.TurnEnds.{turn-accepted}
+use Rattle.inp_model.specs.declared.step.Step.{Step}
+use Rattle.inp_model.specs.declared.reply.Reply.{Reply}
+use Rattle.inp_model.specs.declared.reply.Reply.TheVariants.{Again}
+use Rattle.inp_model.specs.Reply.{is_accepted}
+use Rattle.inp_reader.proofs.Calls.{AreAccepted}
+
+-- so many before, and those of these calls that were accepted
+abbrev pub count_after : List Call → ℕ → ℕ
+count_after [] n = n
+count_after (call ∷ calls) n = count_after calls (if is_accepted call.answer.reply then n + 1 else n)
+
+pub with_count-ends : {A : Type 0} (talk : Talk A) (calls : List Call) (a : A) (n : ℕ) → EndsWith talk calls a → EndsWith (with_count talk n) calls (count_after calls n, a)
+unfolding LeadsTo
+with_count-ends (finish b) [] a n h = let e : b ≡ a = cc in ap (λ x. finish (n, x)) e
+with_count-ends (finish b) (call ∷ calls) a n h = elim h [ ]
+with_count-ends (ask x rest) [] a n h = absurd cc
+with_count-ends (ask x rest) (call ∷ calls) a n h = (h.0, with_count-ends (rest call.answer) calls a (if is_accepted call.answer.reply then n + 1 else n) h.1)
+
+kept_one : (x : Step) (reply : Reply) → is_accepted reply ≡ true → length (kept_call x reply) ≡ 1
+kept_one x (Again at ends) h = absurd (true≢false (sym h))
+kept_one x _ h = refl
+
+-- where all were accepted each of them is kept
+pub count-kept : (calls : List Call) (n : ℕ) → AreAccepted calls → count_after calls n ≡ n + length (calls_kept calls)
+count-kept [] n h = omega arith
+count-kept (call ∷ calls) n h =
+    let one : length (kept_call call.step call.answer.reply) ≡ 1 = kept_one call.step call.answer.reply h.0 in
+    let long : length (kept_call call.step call.answer.reply ++ calls_kept calls) ≡ length (kept_call call.step call.answer.reply) + length (calls_kept calls) = length-append (kept_call call.step call.answer.reply) (calls_kept calls) in
+    ap (λ (b : Bool). count_after calls (if b then n + 1 else n)) h.0 ∙ count-kept calls (n + 1) h.1 ∙ omega (arith, one, long)
 
 -- so many turns were made, all calls of which were accepted and kept, and the read goes on from here
 pub record Passed (before now : EvdevView) (d : Description) (start here : Joying) (made : List CallMade) : Type 0 where
@@ -58,10 +86,11 @@ goes d go_on n (Hands r) j h = absurd (true≢false h)
 goes d go_on n (Stops read) j h = absurd (true≢false h)
 goes d go_on n GoesOn j h = ap (λ (b : Bool). if b then finish (Some (answer_of_turn GoesOn j)) else go_on n j) h
 
-went-on : (d : Description) (outcome : TurnEnd) (j : Joying) (n : ℕ) → is_end d outcome j n ≡ false → turn_of_end outcome j ≡ goes_on j
-went-on d (Hands r) j n h = absurd (true≢false h)
-went-on d (Stops read) j n h = absurd (true≢false h)
-went-on d GoesOn j n h = refl
+-- it goes on alone where it is no end
+only-on : (d : Description) (outcome : TurnEnd) (j : Joying) (n : ℕ) → is_end d outcome j n ≡ false → outcome ≡ GoesOn
+only-on d (Hands r) j n h = absurd (true≢false h)
+only-on d (Stops read) j n h = absurd (true≢false h)
+only-on d GoesOn j n h = refl
 
 -- the count of the calls that were accepted is that of those that were kept
 with_count-kept : (d : Description) (here next : Joying) (calls : List Call) (made new : List CallMade) → EndsWith (turn_talk d here) calls (goes_on next) → new ≡ made ++ calls_kept calls → count_after calls (length made) ≡ length new
@@ -71,7 +100,7 @@ with_count-kept d here next calls made new h kept =
 -- after a turn that goes on
 pub passed-more : (before between after : EvdevView) (d : Description) (start here next : Joying) (made new : List CallMade) (outcome : TurnEnd) → Passed before between d start here made → Says between after made new (turn_talk d here) (turn_of_end outcome next) → is_end d outcome next (length new) ≡ false → Passed before after d start next new
 passed-more before between after d start here next made new outcome s h on =
-    let ends : EndsWith (turn_talk d here) h.calls (goes_on next) = subst (λ (t : JoyTurn). EndsWith (turn_talk d here) h.calls t) (went-on d outcome next (length new) on) h.talk_ends in
+    let ends : EndsWith (turn_talk d here) h.calls (goes_on next) = subst (λ (t : JoyTurn). EndsWith (turn_talk d here) h.calls t) (ap (λ (o : TurnEnd). turn_of_end o next) (only-on d outcome next (length new) on)) h.talk_ends in
     record {
       count = s.count + 1;
       calls = s.calls ++ h.calls;
@@ -109,9 +138,8 @@ passed-last before between after d start here next made new outcome s h end = re
 -- What a turn that goes on leaves
 
 pub on-less : (d : Description) (outcome : TurnEnd) (j : Joying) (n after before : ℕ) → is_end d outcome j n ≡ false → IsTurnEndLess outcome after before → after < before
-on-less d (Hands r) j n after before on h = absurd (true≢false on)
-on-less d (Stops read) j n after before on h = absurd (true≢false on)
-on-less d GoesOn j n after before on h = h
+on-less d outcome j n after before on h =
+    subst (λ (o : TurnEnd). IsTurnEndLess o after before) (only-on d outcome j n on) h
 
 pub on-short : (d : Description) (outcome : TurnEnd) (j : Joying) (n : ℕ) → is_end d outcome j n ≡ false → is_startup_over d j ≡ true → n < 64
 on-short d (Hands r) j n on over = absurd (true≢false on)
@@ -120,6 +148,4 @@ on-short d GoesOn j n on over =
     let few : nat_le 64 n ≡ false = sym (ap (λ (b : Bool). b && nat_le 64 n) over) ∙ on in grind (arith, nat_tests, few)
 
 pub on-agains : (d : Description) (outcome : TurnEnd) (j : Joying) (n count : ℕ) → is_end d outcome j n ≡ false → agains_after_turn outcome count ≡ count
-on-agains d (Hands r) j n count on = absurd (true≢false on)
-on-agains d (Stops read) j n count on = absurd (true≢false on)
-on-agains d GoesOn j n count on = refl
+on-agains d outcome j n count on = ap (λ (o : TurnEnd). agains_after_turn o count) (only-on d outcome j n on)

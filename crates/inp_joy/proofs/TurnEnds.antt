@@ -1,7 +1,7 @@
 -- What a turn leaves, by its talk.
-use Rattle.std.proofs.Common.{◌≡◌, ℕ, ◌≤◌, ◌<◌, Bool, true, false, if◌then◌else◌, nat_le, List, [], ◌∷◌, ◌++◌, length, Some, None, refl, sym, ap, subst, ◌∙◌, arith, inl, inr, ◌⊎◌}
+use Rattle.std.proofs.Common.{◌≡◌, ℕ, ◌≤◌, Bool, true, false, if◌then◌else◌, List, [], length, Some, None, refl, sym, ap, subst, ◌∙◌, arith, inl, inr, ◌⊎◌, get_or, pos, ◌+◌}
 use Rattle.std.specs.Prelude.{Option, slice_get}
-use Rattle.std.proofs.lemmas.Bool.{true≢false, cond_both}
+use Rattle.std.proofs.lemmas.Bool.{true≢false, cases_lt}
 use Rattle.std.proofs.lemmas.Bool.Decides.{nat_tests}
 use Rattle.std.proofs.lemmas.Option.{slice_get-get_or}
 use Rattle.inp_model.specs.declared.taken.Taken.{Taken}
@@ -9,45 +9,49 @@ use Rattle.inp_model.specs.Description.{Description}
 use Rattle.inp_model.specs.Event.{is_report}
 use Rattle.inp_model.specs.Run.{Call}
 use Rattle.inp_recon.specs.declared.view.View.{View}
-use Rattle.inp_recon.specs.View.{IsSizedFor, view_after_event}
+use Rattle.inp_recon.specs.View.{IsSizedFor, view_after_event, first_view}
+use Rattle.inp_model.specs.Reply.{is_accepted}
+use Rattle.inp_recon.proofs.Each.{Each-append}
 use Rattle.inp_reader.specs.declared.mode.Mode.TheVariants.{Normal, Sync as Synchronising}
 use Rattle.inp_reader.specs.declared.next.Next.{Next}
-use Rattle.inp_reader.specs.declared.next.Next.TheVariants.{Success, Dropped, Sync, Again as NothingVisible, Synced, NoDevice as Revoked, Closed as NotOpen, Full as FullHistory}
+use Rattle.inp_reader.specs.declared.next.Next.TheVariants.{Success, Dropped, Sync, Synced}
 use Rattle.inp_reader.specs.declared.started.Started.{Started}
 use Rattle.inp_reader.specs.declared.started.Started.TheVariants.{Opened, Refused}
-use Rattle.inp_reader.specs.Reader.{Reading, next_talk}
+use Rattle.inp_reader.specs.Reader.{Reading}
 use Rattle.inp_reader.specs.ReaderPlace.{is_needed}
-use Rattle.inp_reader.specs.Talk.{finish, EndsWith}
-use Rattle.inp_reader.proofs.Calls.{IsSplit, split-and_then, finished, AreAccepted}
+use Rattle.inp_reader.specs.Talk.{EndsWith}
+use Rattle.inp_reader.proofs.Calls.{AreAccepted}
 use Rattle.inp_joy.specs.declared.joy_read.JoyRead.{JoyRead}
 use Rattle.inp_joy.specs.declared.joy_read.JoyRead.TheVariants.{Frame}
 use Rattle.inp_joy.specs.declared.joy_record.JoyRecord.{JoyRecord}
 use Rattle.inp_joy.specs.declared.turn_end.TurnEnd.{TurnEnd}
 use Rattle.inp_joy.specs.declared.turn_end.TurnEnd.TheVariants.{Hands, Stops, GoesOn}
-use Rattle.inp_joy.specs.Codes.{startup_len}
-use Rattle.inp_joy.specs.Joy.{Joying, JoyAnswer, JoyTurn, gives, goes_on, hand_out_record, stop_with, with_reading, with_startup, without_startup, next_in_startup, is_startup_over, joying_after_start, startup, joy_read_of, joy_record_of, record_or_on, joying_after_event, stop_or_on, joying_after_next, joying_after_sync, sync_turn, after_normal, event_turn, record_or_turn, turn_talk}
-use Rattle.inp_joy.specs.Kept.{turn_of_end}
-use Rattle.inp_joy.specs.Picture.{PictureView, picture_after_if, picture_of_view}
+use Rattle.inp_joy.specs.Codes.{startup_len, buttons, axes}
+use Rattle.inp_joy.specs.JoyRecord.{startup_axis}
+use Rattle.inp_joy.specs.Joy.{Joying, JoyAnswer, JoyTurn, gives, goes_on, hand_out_record, stop_with, with_reading, with_startup, without_startup, next_in_startup, is_startup_over, joying_after_start, startup, joy_read_of, joy_record_of, record_or_on, joying_after_event, stop_or_on, joying_after_next, joying_after_sync, record_or_turn, turn_talk}
+use Rattle.inp_joy.specs.Kept.{turn_of_end, IsJoyState, IsJoy, kept_joying}
+use Rattle.inp_joy.specs.Picture.{PictureView, picture_after_if, picture_of_view, seen_as, blank_picture}
 use Rattle.inp_joy.specs.Reads.{IsPictured}
 use Rattle.inp_joy.proofs.Events.{event-pictured, report-none}
-use Rattle.inp_joy.proofs.Nexts.{IsLeftByStart, IsTaken, IsSynced, next-taken, next-synced, next-accepted, accepted-append}
-use Rattle.inp_joy.proofs.Pictures.{startup-pictured, startup-more, startup-over, startup-gone}
-use Rattle.inp_joy.proofs.Startups.{length-startup}
+use Rattle.inp_joy.proofs.Nexts.{IsLeftByStart, IsTaken, IsSynced, next-taken, next-synced, next-accepted, lost-needed}
+use Rattle.inp_joy.proofs.Pictures.{startup-pictured, startup-more, startup-over, startup-gone, first-blank, length-startup}
+use Rattle.inp_joy.proofs.TurnCases.{Synchronises, TurnCase, of_startup, of_sync, of_loss, of_next, case-of, turn-case}
+use Rattle.inp_reader.specs.KeptViews.{IsKeptView}
+use Rattle.inp_reader.proofs.UnsetSlotAxes.{IsKeptView-first_view}
+use Rattle.inp_joy.specs.declared.joy_state.JoyState.{JoyState}
 
 -- The end of a startup
 
 pub over-none : (d : Description) (v : View) (handed : ℕ) → None ≡ slice_get (startup d v) handed → startup_len d ≤ handed
-over-none d v handed none = by_flag (nat_le (startup_len d) handed) refl
+over-none d v handed none = elim (cases_lt handed (startup_len d)) [
+  | inl left ↦
+      (let item = slice_get-get_or (startup d v) handed no_record (omega (arith, left, length-startup d v)) in
+      absurd (let no : None ≡ Some (get_or (startup d v) handed no_record) = none ∙ item in cc))
+  | inr over ↦ over
+]
   where
-    by_flag : (b : Bool) → nat_le (startup_len d) handed ≡ b → startup_len d ≤ handed
-    by_flag true is = grind (arith, nat_tests, is)
-    by_flag false is =
-        let left : handed < length (startup d v) = let less : handed < startup_len d = grind (arith, nat_tests, is) in omega (arith, less, length-startup d v) in
-        absurd (by_item (startup d v) left none)
-      where
-        by_item : (rs : List JoyRecord) → handed < length rs → None ≡ slice_get rs handed → ⊥
-        by_item [] l e = omega (arith, l)
-        by_item (r ∷ rs) l e = let some : slice_get (r ∷ rs) handed ≡ Some _ = slice_get-get_or (r ∷ rs) handed r l in let no = e ∙ some in cc
+    no_record : JoyRecord
+    no_record = startup_axis 0 (pos 0)
 
 pub startup_over : (d : Description) (j : Joying) → startup_len d ≤ j.handed → is_startup_over d j ≡ true
 startup_over d j h = grind (arith, nat_tests, h)
@@ -86,17 +90,13 @@ sync-pictured d j (Success taken) r h = absurd h
 sync-pictured d j (Dropped taken) r h = absurd h
 sync-pictured d j (Sync event) r h = begun-pictured d r
 sync-pictured d j Synced r h = begun-pictured d r
-sync-pictured d j (NothingVisible at ends) r h = (needed-pictured d (with_reading j r) h, tt)
-sync-pictured d j Revoked r h = (needed-pictured d (with_reading j r) h, tt)
-sync-pictured d j NotOpen r h = (needed-pictured d (with_reading j r) h, tt)
-sync-pictured d j (FullHistory at) r h = (needed-pictured d (with_reading j r) h, tt)
+sync-pictured d j _ r h = (needed-pictured d (with_reading j r) h, tt)
 
-sync_turn-pictured : (d : Description) (j : Joying) (calls : List Call) (t : JoyTurn) → is_needed j.reading.phase ≡ true → EndsWith (sync_turn d j) calls t → IsTurnPictured d t
-unfolding sync_turn
-sync_turn-pictured d j calls t needed h =
-    let s : IsSplit (next_talk d Synchronising j.reading) (λ o. finish (joying_after_sync j o)) calls t = split-and_then (next_talk d Synchronising j.reading) (λ o. finish (joying_after_sync j o)) calls t h in
-    turn-same d (joying_after_sync j s.between) t (finished (joying_after_sync j s.between) t s.later s.later_ends).1
-    (sync-pictured d j s.between.0 s.between.1 (next-synced d j.reading s.first s.between needed s.first_ends))
+sync_turn-pictured : (d : Description) (j : Joying) (calls : List Call) (t : JoyTurn) → is_needed j.reading.phase ≡ true → Synchronises d j calls t → IsTurnPictured d t
+sync_turn-pictured d j calls t needed s =
+    turn-same d (joying_after_sync j (s.next, s.reading)) t s.comes_to
+    (sync-pictured d j s.next s.reading
+    (next-synced d j.reading calls (s.next, s.reading) needed s.talk_ends))
 
 -- an event
 event-gives : (d : Description) (j : Joying) (o : Option JoyRecord) → startup_len d ≤ j.handed → picture_after_if j.picture o ≡ picture_of_view d j.reading.view → IsTurnPictured d (record_or_on j o)
@@ -123,29 +123,25 @@ next-pictured d j (Success taken) r sized over shown h = taken-pictured d (with_
 next-pictured d j (Dropped taken) r sized over shown h = needed-pictured d (with_reading j r) h
 next-pictured d j (Sync event) r sized over shown h = absurd h
 next-pictured d j Synced r sized over shown h = absurd h
-next-pictured d j (NothingVisible at ends) r sized over shown h = (stopped-pictured d j r over shown h.0, tt)
-next-pictured d j Revoked r sized over shown h = (stopped-pictured d j r over shown h.0, tt)
-next-pictured d j NotOpen r sized over shown h = (stopped-pictured d j r over shown h.0, tt)
-next-pictured d j (FullHistory at) r sized over shown h = (stopped-pictured d j r over shown h.0, tt)
-
-normal-pictured : (d : Description) (j : Joying) (next : Next) (r : Reading) (later : List Call) (t : JoyTurn) → IsSizedFor d.slots j.reading.view → startup_len d ≤ j.handed → j.picture ≡ picture_of_view d j.reading.view → IsTaken j.reading.view next r → EndsWith (after_normal d j (next, r)) later t → IsTurnPictured d t
-normal-pictured d j (Dropped taken) r later t sized over shown h ends = sync_turn-pictured d (with_reading j r) later t h ends
-normal-pictured d j next r later t sized over shown h ends =
-    turn-same d (joying_after_next d (with_reading j r) next) t (finished (joying_after_next d (with_reading j r) next) t later ends).1 (next-pictured d j next r sized over shown h)
-
-event_turn-pictured : (d : Description) (j : Joying) (calls : List Call) (t : JoyTurn) → IsSizedFor d.slots j.reading.view → startup_len d ≤ j.handed → is_needed j.reading.phase ≡ false → IsPictured d j → EndsWith (event_turn d j) calls t → IsTurnPictured d t
-unfolding event_turn
-event_turn-pictured d j calls t sized over plain pictured h =
-    let s : IsSplit (next_talk d Normal j.reading) (after_normal d j) calls t = split-and_then (next_talk d Normal j.reading) (after_normal d j) calls t h in
-    let shown : j.picture ≡ picture_of_view d j.reading.view = startup-over j.picture (picture_of_view d j.reading.view) d j.reading.view j.handed over (pictured plain) in
-    normal-pictured d j s.between.0 s.between.1 s.later t sized over shown (next-taken d j.reading s.first s.between plain s.first_ends) s.later_ends
+next-pictured d j _ r sized over shown h = (stopped-pictured d j r over shown h.0, tt)
 
 -- any turn
 pub turn-pictured : (d : Description) (j : Joying) (calls : List Call) (t : JoyTurn) → IsSizedFor d.slots j.reading.view → IsPictured d j → None ≡ slice_get (startup d j.reading.view) j.handed → EndsWith (record_or_turn d j None) calls t → IsTurnPictured d t
-turn-pictured d j calls t sized pictured none h =
-    (cond_both (is_needed j.reading.phase) _ _ (λ x. EndsWith x calls t → IsTurnPictured d t)
-    (λ needed k. sync_turn-pictured d j calls t needed k)
-    (λ plain k. event_turn-pictured d j calls t sized (over-none d j.reading.view j.handed none) plain pictured k)) h
+turn-pictured d j calls t sized pictured none h = by (case-of d j None calls t (sym none) h)
+  where
+    over : startup_len d ≤ j.handed
+    over = over-none d j.reading.view j.handed none
+
+    by : TurnCase d j calls t → IsTurnPictured d t
+    by (of_startup r at no_call is) = absurd (let both : None ≡ Some r = none ∙ at in cc)
+    by (of_sync needed s) = sync_turn-pictured d j calls t needed s
+    by (of_loss first second taken r plain whole ends s) =
+        sync_turn-pictured d (with_reading j r) second t (lost-needed d j.reading r first taken plain ends) s
+    by (of_next next r plain ends is) =
+        turn-same d (joying_after_next d (with_reading j r) next) t is
+        (next-pictured d j next r sized over
+        (startup-over j.picture (picture_of_view d j.reading.view) d j.reading.view j.handed over
+        (pictured plain)) (next-taken d j.reading calls (next, r) plain ends))
 
 -- as an outcome
 pub outcome-pictured : (d : Description) (k : Joying) (outcome : TurnEnd) → IsTurnPictured d (turn_of_end outcome k) → IsPictured d k
@@ -176,38 +172,50 @@ stop-none : (j here k : Joying) (o : Option JoyRead) → stop_or_on j here o ≡
 stop-none j here k None h = refl
 stop-none j here k (Some read) h = absurd (gives-goes (stop_with read j) k h)
 
-sync_turn-accepted : (d : Description) (j k : Joying) (calls : List Call) → EndsWith (sync_turn d j) calls (goes_on k) → AreAccepted calls
-unfolding sync_turn AreAccepted
-sync_turn-accepted d j k calls h =
-    let s : IsSplit (next_talk d Synchronising j.reading) (λ o. finish (joying_after_sync j o)) calls (goes_on k) = split-and_then (next_talk d Synchronising j.reading) (λ o. finish (joying_after_sync j o)) calls (goes_on k) h in
-    let f : (s.later ≡ []) × (joying_after_sync j s.between ≡ goes_on k) = finished (joying_after_sync j s.between) (goes_on k) s.later s.later_ends in
-    subst (λ (cs : List Call). AreAccepted cs) (sym s.calls_are)
-    (accepted-append s.first s.later (next-accepted d Synchronising j.reading s.first s.between (stop-none (with_reading j s.between.1) (with_startup s.between.1) k (joy_read_of s.between.0) f.1) s.first_ends)
-    (subst (λ (cs : List Call). AreAccepted cs) (sym f.0) tt))
+sync_turn-accepted : (d : Description) (j k : Joying) (calls : List Call) → Synchronises d j calls (goes_on k) → AreAccepted calls
+sync_turn-accepted d j k calls s =
+    next-accepted d Synchronising j.reading calls (s.next, s.reading)
+    (stop-none (with_reading j s.reading) (with_startup s.reading) k
+    (joy_read_of s.next) s.comes_to) s.talk_ends
 
 next-none : (d : Description) (j k : Joying) (next : Next) → joying_after_next d j next ≡ goes_on k → joy_read_of next ≡ None
 next-none d j k (Success taken) h = refl
 next-none d j k next h = stop-none j j k (joy_read_of next) h
 
-normal-accepted : (d : Description) (j k : Joying) (next : Next) (r : Reading) (first later : List Call) → EndsWith (next_talk d Normal j.reading) first (next, r) → EndsWith (after_normal d j (next, r)) later (goes_on k) → AreAccepted (first ++ later)
-unfolding AreAccepted
-normal-accepted d j k (Dropped taken) r first later n h = accepted-append first later (next-accepted d Normal j.reading first (Dropped taken, r) refl n) (sync_turn-accepted d (with_reading j r) k later h)
-normal-accepted d j k next r first later n h =
-    let f : (later ≡ []) × (joying_after_next d (with_reading j r) next ≡ goes_on k) = finished (joying_after_next d (with_reading j r) next) (goes_on k) later h in
-    accepted-append first later (next-accepted d Normal j.reading first (next, r) (next-none d (with_reading j r) k next f.1) n) (subst (λ (cs : List Call). AreAccepted cs) (sym f.0) tt)
-
-event_turn-accepted : (d : Description) (j k : Joying) (calls : List Call) → EndsWith (event_turn d j) calls (goes_on k) → AreAccepted calls
-unfolding event_turn
-event_turn-accepted d j k calls h =
-    let s : IsSplit (next_talk d Normal j.reading) (after_normal d j) calls (goes_on k) = split-and_then (next_talk d Normal j.reading) (after_normal d j) calls (goes_on k) h in
-    subst (λ (cs : List Call). AreAccepted cs) (sym s.calls_are) (normal-accepted d j k s.between.0 s.between.1 s.first s.later s.first_ends s.later_ends)
-
-record_or-accepted : (d : Description) (j k : Joying) (o : Option JoyRecord) (calls : List Call) → EndsWith (record_or_turn d j o) calls (goes_on k) → AreAccepted calls
-record_or-accepted d j k None calls h =
-    (cond_both (is_needed j.reading.phase) _ _ (λ x. EndsWith x calls (goes_on k) → AreAccepted calls)
-    (λ _ m. sync_turn-accepted d j k calls m) (λ _ m. event_turn-accepted d j k calls m)) h
-record_or-accepted d j k (Some r) calls h =
-    let answer : JoyAnswer = hand_out_record (next_in_startup j) r in absurd (gives-goes answer k (finished (gives answer) (goes_on k) calls h).1)
-
 pub turn-accepted : (d : Description) (j k : Joying) (calls : List Call) → EndsWith (turn_talk d j) calls (goes_on k) → AreAccepted calls
-turn-accepted d j k calls h = record_or-accepted d j k (slice_get (startup d j.reading.view) j.handed) calls h
+turn-accepted d j k calls h = by (turn-case d j calls (goes_on k) h)
+  where
+    by : TurnCase d j calls (goes_on k) → AreAccepted calls
+    by (of_startup r at none is) = absurd (gives-goes (hand_out_record (next_in_startup j) r) k is)
+    by (of_sync needed s) = sync_turn-accepted d j k calls s
+    by (of_loss first second taken r plain whole ends s) =
+        subst (λ (cs : List Call). AreAccepted cs) (sym whole)
+        (Each-append (λ (call : Call). is_accepted call.answer.reply ≡ true) first second
+        (next-accepted d Normal j.reading first (Dropped taken, r) refl ends)
+        (sync_turn-accepted d (with_reading j r) k second s))
+    by (of_next next r plain ends is) =
+        next-accepted d Normal j.reading calls (next, r) (next-none d (with_reading j r) k next is) ends
+
+-- A new joystick client
+
+new-handed : (d : Description) (s : JoyState) → s.buttons ≡ buttons d → s.axes ≡ axes d → s.handed ≡ length s.buttons + length s.axes → s.handed ≡ startup_len d
+new-handed d s h k m = omega (arith, m, ap length h, ap length k)
+
+new-pictured : (d : Description) (s : JoyState) → s.buttons ≡ buttons d → s.axes ≡ axes d → s.handed ≡ length s.buttons + length s.axes → s.reader.reading.view ≡ first_view d → seen_as s.picture ≡ blank_picture → IsPictured d (kept_joying s)
+new-pictured d s h k m is blank =
+    shown-pictured d (kept_joying s) (omega (arith, new-handed d s h k m)) (blank ∙ first-blank d ∙ ap (λ (v : View). picture_of_view d v) (sym is))
+
+pub new-joy : (d : Description) (s : JoyState) → s.reader.description ≡ d → s.buttons ≡ buttons d → s.axes ≡ axes d → s.handed ≡ length s.buttons + length s.axes → s.reader.reading.view ≡ first_view d → seen_as s.picture ≡ blank_picture → s.made ≡ [] → IsJoy (record { state = s })
+new-joy d s same h k m is blank none =
+    let back : d ≡ s.reader.description = sym same in
+    record {
+      state = subst (λ (e : Description). IsJoyState e s) back (record {
+        description = same;
+        buttons = h;
+        axes = k;
+        handed = omega (arith, new-handed d s h k m);
+        view = subst (λ (v : View). IsKeptView d v) (sym is) (IsKeptView-first_view d);
+      });
+      few = omega (arith, ap length none);
+      pictured = subst (λ (e : Description). IsPictured e (kept_joying s)) back (new-pictured d s h k m is blank);
+    }

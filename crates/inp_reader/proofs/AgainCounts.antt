@@ -5,8 +5,7 @@ use Rattle.std.specs.Prelude.{Result, Ok, Err}
 use Rattle.inp_model.specs.declared.step.Step.{Step}
 use Rattle.inp_model.specs.declared.step.Step.TheVariants.{Open, Read}
 use Rattle.inp_model.specs.declared.reply.Reply.{Reply}
-use Rattle.inp_model.specs.declared.reply.Reply.TheVariants.{Again as NothingVisible, Refused as StepRefused}
-use Rattle.inp_model.specs.declared.reply.Refusal.TheVariants.{NoDevice as Revoked, LogFull}
+use Rattle.inp_model.specs.declared.reply.Reply.TheVariants.{Again as NothingVisible}
 use Rattle.inp_model.specs.Description.{Description}
 use Rattle.inp_model.specs.Evdev.{EvdevView, is_again, agains_after}
 use Rattle.inp_model.specs.Past.{past_at}
@@ -24,7 +23,7 @@ use Rattle.inp_reader.specs.ReaderPlace.{is_read}
 use Rattle.inp_reader.specs.Reader.{Reading, queries, start_talk, next_talk, stop_of}
 use Rattle.inp_reader.specs.Says.{Says}
 use Rattle.inp_reader.proofs.Meets.{Any, IsCallOn, says-meets}
-use Rattle.inp_reader.proofs.NextWalk.{OfQueries, each-query, sync_steps, each-sync, AskRules, asked-meets, sync-meets, Queried, start-meets, Renewed, NextRules, next-says}
+use Rattle.inp_reader.proofs.NextWalk.{OfQueries, each-query, sync_steps, each-sync, AskRules, asked-meets, sync-meets, Queried, start-meets, Renewed, NextRules, next-says, stop-cases}
 
 -- Only a read is answered Again
 
@@ -109,23 +108,19 @@ counts-asks d n Q whole stopped = record {
 
 -- `next`
 
-again_stop : (reply : Reply) (n : ℕ) → is_accepted reply ≡ false → agains_after reply n ≡ agains_after_next (stop_of reply) n
-again_stop (NothingVisible at ends) n h = refl
-again_stop (StepRefused at Revoked) n h = refl
-again_stop (StepRefused at LogFull) n h = refl
-again_stop (StepRefused at _) n h = refl
-again_stop _ n h = absurd (true≢false h)
+again_stopped : (reply : Reply) (n : ℕ) → is_again reply ≡ false → n ≡ agains_after_next (stop_of reply) n
+again_stopped reply n h =
+    stop-cases (λ next. n ≡ agains_after_next next n) reply
+    (λ at ends is. absurd (true≢false (sym (ap is_again is) ∙ h)))
+    refl refl (λ at. refl)
+
+again_stop : (reply : Reply) (n : ℕ) → agains_after reply n ≡ agains_after_next (stop_of reply) n
+again_stop (NothingVisible at ends) n = refl
+again_stop reply n = agains_after-same reply n refl ∙ again_stopped reply n refl
 
 accepted-same : (reply : Reply) (n : ℕ) → is_accepted reply ≡ true → agains_after reply n ≡ n
 accepted-same (NothingVisible at ends) n h = absurd (false≢true h)
 accepted-same _ n h = refl
-
-again_stopped : (reply : Reply) (n : ℕ) → is_again reply ≡ false → n ≡ agains_after_next (stop_of reply) n
-again_stopped (NothingVisible at ends) n h = absurd (true≢false h)
-again_stopped (StepRefused at Revoked) n h = refl
-again_stopped (StepRefused at LogFull) n h = refl
-again_stopped (StepRefused at _) n h = refl
-again_stopped _ n h = refl
 
 abbrev Rises : ℕ → EvdevView → Next × Reading → Type 0
 Rises n told result = told.agains ≡ agains_after_next result.0 n
@@ -134,7 +129,7 @@ rises-rules : (d : Description) (n : ℕ) (mode : Mode) → NextRules Any IsCall
 rises-rules d n mode = record {
   asks_read = λ s r c. tt;
   reads = λ s t r a c plain none h is. counts-on d n s t (Read r.client 64) a c h (accepted-same a.reply s.agains is);
-  stops = λ s t r a c plain none h is. h.agains ∙ again_stop a.reply s.agains is ∙ ap (λ (k : ℕ). agains_after_next (stop_of a.reply) k) c.count;
+  stops = λ s t r a c plain none h is. h.agains ∙ again_stop a.reply s.agains ∙ ap (λ (k : ℕ). agains_after_next (stop_of a.reply) k) c.count;
   hands = λ s r taken rest c plain q is. c.count;
   loses = λ s r taken rest c plain q is. c.count;
   empty = λ s r c plain q. c.count;

@@ -1,8 +1,8 @@
 -- Two views that keep what their device cannot have agree after the answers to all that is asked for.
-use Rattle.std.proofs.Common.{◌≡◌, ◌≤◌, ◌<◌, inl, inr, ℕ, zero, suc, ◌+◌, ◌*◌, nat_eq, nat_lt, nat_le, ℤ, pos, Bool, true, false, ◌&&◌, ◌||◌, not, List, [], ◌∷◌, ◌++◌, length, take, set, refl, sym, ap, subst, ◌∙◌, arith, if◌then◌else◌, Option, Some, None}
+use Rattle.std.proofs.Common.{◌≡◌, ◌≤◌, ◌<◌, inl, inr, ℕ, zero, suc, ◌+◌, ◌*◌, nat_eq, nat_lt, nat_le, ℤ, pos, Bool, true, false, ◌&&◌, ◌||◌, not, List, [], ◌∷◌, ◌++◌, length, take, set, refl, sym, ap, subst, ◌∙◌, arith, if◌then◌else◌}
 use Rattle.std.specs.Prelude.{slice_index_or}
 use Rattle.std.specs.List.{list_any, range_with_len, filter}
-use Rattle.std.proofs.lemmas.Bool.{true≢false, false≢true, eq-eqb, ne_eqb, ltb-true, ltb-false, not-true, and_left, and_right, cases_eq, cases_lt, and_parts, or_parts, or_left, or_right, false_from_ne_true, cond_both, lt-ltb, le-leb}
+use Rattle.std.proofs.lemmas.Bool.{true≢false, eq-eqb, ltb-true, ltb-false, not-true, cases_eq, cases_lt, and_parts, or_parts, or_left, or_right, false_from_ne_true, cond_both, lt-ltb, le-leb, le-ltb, cond-true, cond-false, eqb-true}
 use Rattle.std.proofs.lemmas.List.{get_or-set_other, get_or-set_same, get_or_past, ext_get_or, nil_from_length, map-append}
 use Rattle.std.proofs.lemmas.List.Folds.{list_any-append}
 use Rattle.inp_model.specs.declared.event.TheConstants.{EV_KEY, EV_ABS, EV_SW, EV_LED}
@@ -12,16 +12,16 @@ use Rattle.inp_model.specs.declared.step.Step.TheVariants.{GetKeys, GetSwitches,
 use Rattle.inp_model.specs.declared.reply.Reply.{Reply}
 use Rattle.inp_model.specs.declared.reply.Reply.TheVariants.{Bits, Axis, Cells}
 use Rattle.inp_model.specs.Description.{Description, has_kind, supports, is_multi_touch_code}
-use Rattle.inp_model.specs.Reply.{Answer, IsAnswer, answer_by, accepted, refused, is_accepted}
+use Rattle.inp_model.specs.Reply.{Answer, IsAnswer, accepted, is_accepted}
 use Rattle.inp_model.specs.Run.{Call}
 use Rattle.inp_recon.specs.declared.view.View.{View}
 use Rattle.inp_recon.specs.View.{code_count, with_value_at, keys_after_answer, switches_after_answer, leds_after_answer, axes_after_answer, axes_after_reply, slot_after_answer, cells_after_answer, flags_after_reply, slot_after_reply, cells_after_reply, first_view, view_after_answer}
 use Rattle.inp_recon.proofs.Sizes.{length-axes_after_answer, length-cells_after_answer}
+use Rattle.inp_reader.proofs.QueryAnswers.{answered-as}
 use Rattle.inp_reader.specs.Reader.{queries, bit_queries, axis_queries, plain_axes, slot_queries, only_if, axes_among}
 use Rattle.inp_recon.specs.Synchronised.{has_axis}
 use Rattle.inp_reader.specs.Spare.{IsSpare}
 use Rattle.inp_reader.specs.ReaderPlace.{steps_of, view_after_answers}
-use Rattle.inp_model.proofs.Refused.{refused-not_accepted}
 use Rattle.inp_reader.proofs.Calls.{AreAnswered, AreAccepted}
 use Rattle.inp_reader.proofs.SpareAgrees.{IsSpare-first_view}
 use Rattle.inp_reader.proofs.StandsAfterTalks.{IsMadeAnew}
@@ -88,14 +88,11 @@ tells-accepted d past (GetAxis client code) = (_, _, refl)
 tells-accepted d past (SyncSlots client) = (_, _, _, refl)
 tells-accepted d past _ = tt
 
-tells-by : (d : Description) (past : List Step) (x : Step) (o : Option Reply) → refused d past x ≡ o → is_accepted (answer_by o (accepted d past x)).reply ≡ true → Tells x (answer_by o (accepted d past x)).reply
-tells-by d past x None h is = tells-accepted d past x
-tells-by d past x (Some reply) h is = absurd (true≢false (sym is ∙ refused-not_accepted d past x reply h))
-
 tells : (d : Description) (past : List Step) (x : Step) (given : Answer) → IsAnswer d past x given → is_accepted given.reply ≡ true → Tells x given.reply
-tells d past x given (inl e) is =
-    subst (λ (a : Answer). Tells x a.reply) (sym e) (tells-by d past x (refused d past x) refl (ap (λ (a : Answer). is_accepted a.reply) (sym e) ∙ is))
-tells d past x given (inr l) is = absurd (false≢true (ap (λ (a : Answer). is_accepted a.reply) (sym l.2) ∙ is))
+tells d past x given are =
+    answered-as d past x given (λ a. is_accepted a.reply ≡ true → Tells x a.reply) are
+    (λ is. tells-accepted d past x)
+    (λ reply off is. absurd (true≢false (sym is ∙ off)))
 
 -- One answer
 
@@ -124,32 +121,44 @@ cells-agree (SyncSlots client) reply xs buffer v w t long h none =
 cells-agree _ reply xs buffer v w t long h none = h none
 
 -- a value that is set in both, or another one in which they agreed
+pub set-in-both : (v w : List ℤ) (index code : ℕ) (value : ℤ) → length v ≡ code_count → length w ≡ code_count
+    → ((code ≡ index → index < code_count → ⊥) → slice_index_or v code (pos 0) ≡ slice_index_or w code (pos 0))
+    → slice_index_or (with_value_at code_count v index value) code (pos 0)
+    ≡ slice_index_or (with_value_at code_count w index value) code (pos 0)
+set-in-both v w index code value long_v long_w h = elim (cases_lt index code_count) [
+  | inl within ↦
+      (let at : List ℤ → ℤ = λ xs. slice_index_or xs code (pos 0) in
+      let is : nat_lt index code_count ≡ true = lt-ltb index code_count within in
+      let both : at (set v index value) ≡ at (set w index value) = elim (cases_eq code index) [
+        | inl same ↦
+            (ap (λ (i : ℕ). slice_index_or (set v index value) i (pos 0)) same
+            ∙ get_or-set_same v index value (pos 0) (omega (arith, within, long_v))
+            ∙ sym (get_or-set_same w index value (pos 0) (omega (arith, within, long_w)))
+            ∙ ap (λ (i : ℕ). slice_index_or (set w index value) i (pos 0)) (sym same))
+        | inr apart ↦
+            (get_or-set_other v index code value (pos 0) apart ∙ h (λ e lt. apart e)
+            ∙ sym (get_or-set_other w index code value (pos 0) apart))
+      ] in
+      ap at (cond-true (nat_lt index code_count) (set v index value) v is) ∙ both
+      ∙ sym (ap at (cond-true (nat_lt index code_count) (set w index value) w is)))
+  | inr past ↦
+      (let at : List ℤ → ℤ = λ xs. slice_index_or xs code (pos 0) in
+      let is : nat_lt index code_count ≡ false = le-ltb index code_count past in
+      ap at (cond-false (nat_lt index code_count) (set v index value) v is)
+      ∙ h (λ e lt. omega (arith, past, lt))
+      ∙ sym (ap at (cond-false (nat_lt index code_count) (set w index value) w is)))
+]
+
 value-agrees : (v w : List ℤ) (index code : ℕ) (value : ℤ) (rest : Bool) → length v ≡ code_count → length w ≡ code_count → is_multi_touch_code index ≡ false
     → ((nat_eq index code && (nat_lt index code_count && not (is_multi_touch_code index)) || rest) ≡ false → slice_index_or v code (pos 0) ≡ slice_index_or w code (pos 0)) → rest ≡ false
     → slice_index_or (with_value_at code_count v index value) code (pos 0) ≡ slice_index_or (with_value_at code_count w index value) code (pos 0)
-value-agrees v w index code value rest long_v long_w own h none = by (nat_lt index code_count) refl
-  where
-    other : (nat_eq index code && nat_lt index code_count) ≡ false → slice_index_or v code (pos 0) ≡ slice_index_or w code (pos 0)
-    other k = h (spared (nat_eq index code) (nat_lt index code_count) (is_multi_touch_code index) rest k none)
-      where
-        spared : (a b c r : Bool) → (a && b) ≡ false → r ≡ false → (a && (b && not c) || r) ≡ false
-        spared true true c r x y = absurd (true≢false x)
-        spared true false c r x y = y
-        spared false b c r x y = y
-
-    by : (b : Bool) → nat_lt index code_count ≡ b → slice_index_or (if b then set v index value else v) code (pos 0) ≡ slice_index_or (if b then set w index value else w) code (pos 0)
-    by true within = elim (cases_eq code index) [
-      | inl same ↦ at_it same (ltb-true index code_count within)
-      | inr apart ↦ get_or-set_other v index code value (pos 0) apart ∙ other (and_left (nat_eq index code) _ (ne_eqb index code (λ e. apart (sym e)))) ∙ sym (get_or-set_other w index code value (pos 0) apart)
-    ]
-      where
-        at_it : code ≡ index → index < code_count → slice_index_or (set v index value) code (pos 0) ≡ slice_index_or (set w index value) code (pos 0)
-        at_it same k =
-            ap (λ (i : ℕ). slice_index_or (set v index value) i (pos 0)) same
-            ∙ get_or-set_same v index value (pos 0) (omega (arith, k, long_v))
-            ∙ sym (get_or-set_same w index value (pos 0) (omega (arith, k, long_w)))
-            ∙ ap (λ (i : ℕ). slice_index_or (set w index value) i (pos 0)) (sym same)
-    by false past = other (and_right (nat_eq index code) _ past)
+value-agrees v w index code value rest long_v long_w own h none =
+    set-in-both v w index code value long_v long_w (λ spare.
+    let asked : Bool = nat_eq index code && (nat_lt index code_count && not (is_multi_touch_code index)) in
+    h (ap (λ (b : Bool). b || rest) (false_from_ne_true asked (λ t.
+    let p = and_parts (nat_eq index code) _ t in
+    spare (sym (eqb-true index code p.0))
+    (ltb-true index code_count (and_parts (nat_lt index code_count) _ p.1).0))) ∙ none))
 
 axis-told : (index code : ℕ) (value : ℤ) (rest touch : Bool) (v w : List ℤ) → is_multi_touch_code index ≡ touch → length v ≡ code_count → length w ≡ code_count
     → ((nat_eq index code && (nat_lt index code_count && not (is_multi_touch_code index)) || rest) ≡ false → slice_index_or v code (pos 0) ≡ slice_index_or w code (pos 0)) → rest ≡ false
@@ -196,7 +205,7 @@ sized-answer d past x given v are sized = length-cells_after_answer x given.repl
 -- All answers
 
 pub agree-answers : (which : Compared) (d : Description) (calls : List Call) (v w : View) → AreAnswered d calls → AreAccepted calls → length v.cells ≡ 14 * d.slots → AgreeBut which (steps_of calls) v w → AgreeBut which [] (view_after_answers v calls) (view_after_answers w calls)
-unfolding AreAnswered AreAccepted
+unfolding AreAnswered
 agree-answers which d [] v w are accepted sized a = a
 agree-answers which d (call ∷ calls) v w are accepted sized a =
     let next : View = view_after_answer v call.step call.answer.reply call.answer.cells in
@@ -204,22 +213,21 @@ agree-answers which d (call ∷ calls) v w are accepted sized a =
     agree-answers which d calls next other are.2 accepted.1 (sized-answer d are.0 call.step call.answer v are.1 sized)
     (agree-answer which d are.0 call.step (steps_of calls) call.answer v w are.1 accepted.0 sized a)
 
-same-views : (v w : View) → v.keys ≡ w.keys → v.switches ≡ w.switches → v.leds ≡ w.leds → v.axes ≡ w.axes → v.slot ≡ w.slot → v.cells ≡ w.cells → v ≡ w
-same-views v w keys switches leds axes slot cells =
-    ap (λ (x : List Bool). record v { keys = x }) keys
-    ∙ ap (λ (x : List Bool). record v { keys = w.keys; switches = x }) switches
-    ∙ ap (λ (x : List Bool). record v { keys = w.keys; switches = w.switches; leds = x }) leds
-    ∙ ap (λ (x : List ℤ). record v { keys = w.keys; switches = w.switches; leds = w.leds; axes = x }) axes
-    ∙ ap (λ (x : ℤ). record v { keys = w.keys; switches = w.switches; leds = w.leds; axes = w.axes; slot = x }) slot
-    ∙ ap (λ (x : List ℤ). record v { keys = w.keys; switches = w.switches; leds = w.leds; axes = w.axes; slot = w.slot; cells = x }) cells
-
 -- all is compared
 abbrev whole : Compared
 whole = record { keys = true; switches = true; leds = true; axes = λ code. true; slots = true }
 
 agree-whole : (v w : View) → AgreeBut whole [] v w → v ≡ w
-agree-whole v w a =
-    same-views v w (a.keys refl refl) (a.switches refl refl) (a.leds refl refl) (ext_get_or (pos 0) v.axes w.axes (a.left_long ∙ sym a.right_long) (λ code within. a.axes code refl refl)) (a.slot refl refl) (a.cells refl refl)
+agree-whole v w a = λ i. record {
+  keys = a.keys refl refl i;
+  switches = a.switches refl refl i;
+  leds = a.leds refl refl i;
+  axes =
+      ext_get_or (pos 0) v.axes w.axes (a.left_long ∙ sym a.right_long)
+      (λ code within. a.axes code refl refl) i;
+  slot = a.slot refl refl i;
+  cells = a.cells refl refl i;
+}
 
 -- What is not asked for
 
@@ -227,22 +235,24 @@ asked-if : (p : Step → Bool) (wanted : Bool) (x : Step) → p x ≡ true → l
 asked-if p true x h = ap (λ (b : Bool). b || false) h
 asked-if p false x h = refl
 
+none-of : (p : Step → Bool) (xs ys : List Step) → list_any p (xs ++ ys) ≡ false
+    → (list_any p xs ≡ false) × (list_any p ys ≡ false)
+none-of p xs ys h = or_parts (list_any p xs) (list_any p ys) (sym (list_any-append p xs ys) ∙ h)
+
 -- what the parts of all queries ask for
 parts : (p : Step → Bool) (d : Description) (client : ℕ) → list_any p (queries d client) ≡ false
     → (list_any p (only_if (has_kind d EV_KEY) (GetKeys client)) ≡ false) × (list_any p (only_if (has_kind d EV_LED) (GetLeds client)) ≡ false) × (list_any p (only_if (has_kind d EV_SW) (GetSwitches client)) ≡ false)
     × (list_any p (axis_queries client (plain_axes d)) ≡ false) × (list_any p (slot_queries d client) ≡ false)
 unfolding queries
 parts p d client h =
+    let bits : List Step = bit_queries d client in
+    let axes : List Step = axis_queries client (plain_axes d) in
     let keys : List Step = only_if (has_kind d EV_KEY) (GetKeys client) in
     let leds : List Step = only_if (has_kind d EV_LED) (GetLeds client) in
-    let switches : List Step = only_if (has_kind d EV_SW) (GetSwitches client) in
-    let axes : List Step = axis_queries client (plain_axes d) in
-    let slots : List Step = slot_queries d client in
-    let bits : List Step = bit_queries d client in
-    let a : (list_any p (bits ++ axes) ≡ false) × (list_any p slots ≡ false) = or_parts (list_any p (bits ++ axes)) (list_any p slots) (sym (list_any-append p (bits ++ axes) slots) ∙ h) in
-    let b : (list_any p bits ≡ false) × (list_any p axes ≡ false) = or_parts (list_any p bits) (list_any p axes) (sym (list_any-append p bits axes) ∙ a.0) in
-    let c : (list_any p (keys ++ leds) ≡ false) × (list_any p switches ≡ false) = or_parts (list_any p (keys ++ leds)) (list_any p switches) (sym (list_any-append p (keys ++ leds) switches) ∙ b.0) in
-    let e : (list_any p keys ≡ false) × (list_any p leds ≡ false) = or_parts (list_any p keys) (list_any p leds) (sym (list_any-append p keys leds) ∙ c.0) in
+    let a = none-of p (bits ++ axes) (slot_queries d client) h in
+    let b = none-of p bits axes a.0 in
+    let c = none-of p (keys ++ leds) (only_if (has_kind d EV_SW) (GetSwitches client)) b.0 in
+    let e = none-of p keys leds c.0 in
     (e.0, e.1, c.1, b.1, a.1)
 
 pub keys-spared : (d : Description) (client : ℕ) → list_any is_get_keys (queries d client) ≡ false → has_kind d EV_KEY ≡ false
@@ -314,7 +324,7 @@ plain-asked d client code h below = false_from_ne_true (has_axis d code) (λ is.
 
 agree-spare : (d : Description) (client : ℕ) (v w : View) → IsSpare d v → IsSpare d w → AgreeBut whole (queries d client) v w
 agree-spare d client v w s t = record {
-  keys = λ is h. let none : has_kind d EV_KEY ≡ false = keys-spared d client h in s.keys none ∙ sym (t.keys none);
+  keys = λ is h. s.keys (keys-spared d client h) ∙ sym (t.keys (keys-spared d client h));
   switches = λ is h. let none : has_kind d EV_SW ≡ false = switches-spared d client h in s.switches none ∙ sym (t.switches none);
   leds = λ is h. let none : has_kind d EV_LED ≡ false = leds-spared d client h in s.leds none ∙ sym (t.leds none);
   axes = λ code is h. elim (cases_lt code 64) [

@@ -1,5 +1,5 @@
 -- The view that a client makes of a history, by what it read and asked for since its start.
-use Rattle.std.proofs.Common.{◌≡◌, ◌≤◌, ◌<◌, ◌⊎◌, inl, inr, ℕ, suc, ◌+◌, ◌-◌, nat_eq, nat_lt, Bool, true, false, ◌||◌, List, [], ◌∷◌, ◌++◌, length, map, take, refl, sym, ap, subst, ◌∙◌, arith, append-nil, append_assoc, length-append, if◌then◌else◌, ℤ, Option, Some, None}
+use Rattle.std.proofs.Common.{◌≡◌, ◌≤◌, ◌<◌, inl, inr, ℕ, suc, ◌+◌, ◌-◌, nat_eq, nat_lt, Bool, true, false, List, [], ◌∷◌, ◌++◌, length, map, take, refl, sym, ap, subst, ◌∙◌, arith, append-nil, append_assoc, length-append, if◌then◌else◌, ℤ, Option, Some, None}
 use Rattle.std.proofs.lemmas.Bool.{true≢false, false≢true, false_from_ne_true, eqb-true, cond-false, cond-true, and_from, and_parts, cases_lt, lt-ltb, le-ltb, ltb-true, ltb-false, cond_both}
 use Rattle.std.proofs.lemmas.List.{map-append, take-append-le, length-map, take-map}
 use Rattle.std.proofs.lemmas.List.Concat.{flat_map-append}
@@ -24,6 +24,7 @@ use Rattle.inp_model.specs.History.{IsHistory}
 use Rattle.inp_recon.proofs.Folds.{view_after_events-append}
 use Rattle.inp_recon.proofs.Sizes.{IsSizedFor-first_view}
 use Rattle.inp_recon.proofs.ViewSteps.{client_view-sized}
+use Rattle.inp_reader.proofs.QueryAnswers.{answered-as}
 use Rattle.inp_reader.specs.Reader.{queries}
 use Rattle.inp_recon.specs.Synchronised.{is_start}
 use Rattle.inp_reader.specs.ReaderPlace.{is_use, is_use_of, calls_since, steps_of, view_after_answers, taken_by_calls, taken_events, is_read, AreReads}
@@ -91,9 +92,39 @@ unfoldable pub taken_at_start : Description → List Step → ℕ → List Entry
 taken_at_start d [] client = []
 taken_at_start d (x ∷ past) client = if is_start past client x then took d past client else taken_at_start d past client
 
-start_of : (b c : Bool) → (b || c) ≡ true → (b ≡ true) ⊎ (c ≡ true)
-start_of true c h = inl refl
-start_of false c h = inr h
+-- What a step makes of all that is since a client's start: a start begins anew, and a use is one call more.
+since-step : (d : Description) (past : List Step) (client : ℕ) (x : Step)
+    (P : View → List Entry → List Call → Type 0)
+    → (is_start past client x ≡ true → P (client_view d past client) (took d past client) [])
+    → (is_use_of client x ≡ true → P (view_at_start d past client) (taken_at_start d past client)
+        (calls_since d past client ++ record { step = x; answer = answer d past x } ∷ []))
+    → (is_use_of client x ≡ false → P (view_at_start d past client) (taken_at_start d past client)
+        (calls_since d past client))
+    → P (view_at_start d (x ∷ past) client) (taken_at_start d (x ∷ past) client)
+        (calls_since d (x ∷ past) client)
+unfolding calls_since view_at_start taken_at_start
+since-step d past client x P starts used idle =
+    by (is_start past client x) (is_use_of client x) starts used idle
+  where
+    V : View
+    V = view_at_start d past client
+
+    T : List Entry
+    T = taken_at_start d past client
+
+    C : List Call
+    C = calls_since d past client
+
+    more : List Call
+    more = C ++ record { step = x; answer = answer d past x } ∷ []
+
+    by : (s u : Bool) → (s ≡ true → P (client_view d past client) (took d past client) [])
+        → (u ≡ true → P V T more) → (u ≡ false → P V T C)
+        → P (if s then client_view d past client else V) (if s then took d past client else T)
+            (if s then [] else if u then more else C)
+    by true u starts used idle = starts refl
+    by false true starts used idle = used refl
+    by false false starts used idle = idle refl
 
 -- a start changes nothing of the view, and takes nothing
 start-idle : (d : Description) (past : List Step) (client : ℕ) (x : Step) (v : View) → is_start past client x ≡ true → (view_after_step (eaten d) d past client x v ≡ v) × (taken_by d past client x ≡ [])
@@ -117,22 +148,17 @@ used-view d past client x v accepts used =
 pub client_view-since : (d : Description) (past : List Step) (client : ℕ) → IsHistory d past → client_view d past client ≡ fold_calls (view_at_start d past client) (calls_since d past client)
 unfolding client_view_with calls_since view_at_start fold_calls
 client_view-since d [] client h = refl
-client_view-since d (x ∷ past) client h = by (is_start past client x) (is_use_of client x) refl refl (client_view-since d past client h.0)
-  where
-    call : Call
-    call = record { step = x; answer = answer d past x }
-
-    v : View
-    v = client_view d past client
-
-    by : (starts used : Bool) → is_start past client x ≡ starts → is_use_of client x ≡ used → client_view d past client ≡ fold_calls (view_at_start d past client) (calls_since d past client)
-        → view_after_step (eaten d) d past client x v ≡ fold_calls (if starts then v else view_at_start d past client) (if starts then [] else if used then calls_since d past client ++ call ∷ [] else calls_since d past client)
-    by true used s u rest = (start-idle d past client x v s).0
-    by false true s u rest =
-        used-view d past client x v h.1 u
-        ∙ ap (λ (w : View). view_after_answer (view_after_events w (taken_events call.answer.events)) x call.answer.reply call.answer.cells) rest
-        ∙ sym (fold_calls-push (view_at_start d past client) (calls_since d past client) call)
-    by false false s u rest = idle-step d past client x v u ∙ rest
+client_view-since d (x ∷ past) client h =
+    let call : Call = record { step = x; answer = answer d past x } in
+    let rest : client_view d past client ≡ fold_calls (view_at_start d past client)
+    (calls_since d past client) = client_view-since d past client h.0 in
+    since-step d past client x
+    (λ v taken calls. view_after_step (eaten d) d past client x (client_view d past client) ≡ fold_calls v calls)
+    (λ s. (start-idle d past client x (client_view d past client) s).0)
+    (λ u. used-view d past client x (client_view d past client) h.1 u
+    ∙ ap (λ (w : View). view_after_answer (view_after_events w (taken_events call.answer.events)) x call.answer.reply call.answer.cells) rest
+    ∙ sym (fold_calls-push (view_at_start d past client) (calls_since d past client) call))
+    (λ u. idle-step d past client x (client_view d past client) u ∙ rest)
 
 pub idle-taken : (d : Description) (past : List Step) (client : ℕ) (x : Step) → is_use_of client x ≡ false → taken_by d past client x ≡ []
 idle-taken d past client (Read named count) h = cond-false (nat_eq named client) _ [] h
@@ -149,32 +175,21 @@ used-taken d past client x accepts used = sym (taken-told d past client x used) 
 pub took-since : (d : Description) (past : List Step) (client : ℕ) → IsHistory d past → map taken_of (took d past client) ≡ map taken_of (taken_at_start d past client) ++ taken_by_calls (calls_since d past client)
 unfolding took_with calls_since taken_at_start
 took-since d [] client h = refl
-took-since d (x ∷ past) client h = by (is_start past client x) (is_use_of client x) refl refl (took-since d past client h.0)
-  where
-    call : Call
-    call = record { step = x; answer = answer d past x }
-
-    T : List Entry
-    T = took d past client
-
-    E : List Entry
-    E = taken_by d past client x
-
-    B : List Entry
-    B = taken_at_start d past client
-
-    C : List Call
-    C = calls_since d past client
-
-    by : (starts used : Bool) → is_start past client x ≡ starts → is_use_of client x ≡ used → map taken_of (took d past client) ≡ map taken_of (taken_at_start d past client) ++ taken_by_calls (calls_since d past client)
-        → map taken_of (T ++ E) ≡ map taken_of (if starts then T else B) ++ taken_by_calls (if starts then [] else if used then C ++ call ∷ [] else C)
-    by true used s u rest = ap (λ (es : List Entry). map taken_of (T ++ es)) (start-idle d past client x (first_view d) s).1 ∙ ap (λ (es : List Entry). map taken_of es) (append-nil T) ∙ sym (append-nil (map taken_of T))
-    by false true s u rest =
-        map-append taken_of T E ∙ ap (λ (ts : List Taken). ts ++ map taken_of E) rest
-        ∙ append_assoc (map taken_of B) (taken_by_calls C) (map taken_of E)
-        ∙ ap (λ (ts : List Taken). map taken_of B ++ (taken_by_calls C ++ ts)) (used-taken d past client x h.1 u)
-        ∙ ap (λ (ts : List Taken). map taken_of B ++ ts) (sym (taken_by_calls-push C call))
-    by false false s u rest = ap (λ (es : List Entry). map taken_of (T ++ es)) (idle-taken d past client x u) ∙ ap (λ (es : List Entry). map taken_of es) (append-nil T) ∙ rest
+took-since d (x ∷ past) client h =
+    let T : List Entry = took d past client in
+    let E : List Entry = taken_by d past client x in
+    let B : List Taken = map taken_of (taken_at_start d past client) in
+    let C : List Call = calls_since d past client in
+    since-step d past client x
+    (λ v taken calls. map taken_of (T ++ E) ≡ map taken_of taken ++ taken_by_calls calls)
+    (λ s. ap (λ (es : List Entry). map taken_of (T ++ es)) (start-idle d past client x (first_view d) s).1 ∙ ap (λ (es : List Entry). map taken_of es) (append-nil T) ∙ sym (append-nil (map taken_of T)))
+    (λ u. map-append taken_of T E
+    ∙ ap (λ (ts : List Taken). ts ++ map taken_of E) (took-since d past client h.0)
+    ∙ append_assoc B (taken_by_calls C) (map taken_of E)
+    ∙ ap (λ (ts : List Taken). B ++ (taken_by_calls C ++ ts)) (used-taken d past client x h.1 u)
+    ∙ ap (λ (ts : List Taken). B ++ ts)
+    (sym (taken_by_calls-push C (record { step = x; answer = answer d past x }))))
+    (λ u. ap (λ (es : List Entry). map taken_of (T ++ es)) (idle-taken d past client x u) ∙ ap (λ (es : List Entry). map taken_of es) (append-nil T) ∙ took-since d past client h.0)
 
 pub length-took : (d : Description) (past : List Step) (client : ℕ) → IsHistory d past → length (took d past client) ≡ length (taken_at_start d past client) + length (taken_by_calls (calls_since d past client))
 length-took d past client h =
@@ -194,18 +209,17 @@ view_upto v (call ∷ calls) j =
 upto-before : (v : View) (calls : List Call) (call : Call) (j : ℕ) → j < length (taken_by_calls calls) → view_upto v (calls ++ call ∷ []) j ≡ view_upto v calls j
 unfolding view_upto
 upto-before v [] call j h = absurd (omega (arith, h))
-upto-before v (c ∷ calls) call j h = by (nat_lt j n) refl (λ k. upto-before next calls call (j - n) k)
-  where
-    n : ℕ
-    n = length c.answer.events
-
-    next : View
-    next = view_after_answer (view_after_events v (taken_events c.answer.events)) c.step c.answer.reply c.answer.cells
-
-    by : (b : Bool) → nat_lt j n ≡ b → (j - n < length (taken_by_calls calls) → view_upto next (calls ++ call ∷ []) (j - n) ≡ view_upto next calls (j - n))
-        → (if b then view_after_events v (taken_events (take (suc j) c.answer.events)) else view_upto next (calls ++ call ∷ []) (j - n)) ≡ (if b then view_after_events v (taken_events (take (suc j) c.answer.events)) else view_upto next calls (j - n))
-    by true is rest = refl
-    by false is rest = rest (let above : n ≤ j = ltb-false j n is in omega (arith, h, above, length-append c.answer.events (taken_by_calls calls)))
+upto-before v (c ∷ calls) call j h =
+    let n : ℕ = length c.answer.events in
+    let next : View = view_after_answer (view_after_events v (taken_events c.answer.events)) c.step c.answer.reply c.answer.cells in
+    let here : View = view_after_events v (taken_events (take (suc j) c.answer.events)) in
+    elim (cases_lt j n) [
+      | inl below ↦ cond-true (nat_lt j n) here (view_upto next (calls ++ call ∷ []) (j - n))
+      (lt-ltb j n below) ∙ sym (cond-true (nat_lt j n) here (view_upto next calls (j - n)) (lt-ltb j n below))
+      | inr above ↦ ap (λ (w : View). if nat_lt j n then here else w)
+      (upto-before next calls call (j - n)
+      (omega (arith, h, above, length-append c.answer.events (taken_by_calls calls))))
+    ]
 
 upto-last : (v : View) (calls : List Call) (call : Call) (j : ℕ) → length (taken_by_calls calls) ≤ j → j < length (taken_by_calls calls) + length call.answer.events
     → view_upto v (calls ++ call ∷ []) j ≡ view_after_events (fold_calls v calls) (taken_events (take (suc j - length (taken_by_calls calls)) call.answer.events))
@@ -247,54 +261,40 @@ pub view_at-since : (d : Description) (past : List Step) (client j : ℕ) (at : 
     → slice_get (read_entries d past client) (length (taken_at_start d past client) + j) ≡ Some at → view_at d client at ≡ view_upto (view_at_start d past client) (calls_since d past client) j
 unfolding calls_since view_at_start taken_at_start
 view_at-since d [] client j at h k is = absurd (omega (arith, k))
-view_at-since d (x ∷ past) client j at h k is = by (is_start past client x) (is_use_of client x) refl refl k is (λ m e. view_at-since d past client j at h.0 m e)
-  where
-    call : Call
-    call = record { step = x; answer = answer d past x }
-
-    T : List Entry
-    T = took d past client
-
-    B : List Entry
-    B = taken_at_start d past client
-
-    C : List Call
-    C = calls_since d past client
-
-    v : View
-    v = view_at_start d past client
-
-    long : length T ≡ length B + length (taken_by_calls C)
-    long = length-took d past client h.0
-
-    by : (starts used : Bool) → is_start past client x ≡ starts → is_use_of client x ≡ used → j < length (taken_by_calls (if starts then [] else if used then C ++ call ∷ [] else C))
-        → slice_get (read_entries d (x ∷ past) client) (length (if starts then T else B) + j) ≡ Some at
-        → (j < length (taken_by_calls C) → slice_get (read_entries d past client) (length B + j) ≡ Some at → view_at d client at ≡ view_upto v C j)
-        → view_at d client at ≡ view_upto (if starts then client_view d past client else v) (if starts then [] else if used then C ++ call ∷ [] else C) j
-    by true used s u below found rest = absurd (omega (arith, below))
-    by false true s u below found rest = elim (cases_lt j (length (taken_by_calls C))) [
-      | inl before ↦ rest before (sym (entry-before (eaten d) d past client (length B + j) x (omega (arith, long, before))) ∙ found) ∙ sym (upto-before v C call j before)
+view_at-since d (x ∷ past) client j at h k is =
+    let call : Call = record { step = x; answer = answer d past x } in
+    let B : List Entry = taken_at_start d past client in
+    let C : List Call = calls_since d past client in
+    let v : View = view_at_start d past client in
+    let n : ℕ = suc (length B + j) - length (took d past client) in
+    let long : length (took d past client) ≡ length B + length (taken_by_calls C) =
+    length-took d past client h.0 in
+    since-step d past client x
+    (λ w taken calls. j < length (taken_by_calls calls) → slice_get (read_entries d (x ∷ past) client)
+    (length taken + j) ≡ Some at → view_at d client at ≡ view_upto w calls j)
+    (λ s below found. absurd (omega (arith, below)))
+    (λ u below found. elim (cases_lt j (length (taken_by_calls C))) [
+      | inl before ↦ view_at-since d past client j at h.0 before (sym (entry-before (eaten d) d past client (length B + j) x (omega (arith, long, before))) ∙ found) ∙ sym (upto-before v C call j before)
       | inr behind ↦
-          (let n : ℕ = suc (length B + j) - length T in
-          let same : n ≡ suc j - length (taken_by_calls C) = omega (arith, long, behind) in
+          (let same : n ≡ suc j - length (taken_by_calls C) = omega (arith, long, behind) in
           let within : j < length (taken_by_calls C) + length call.answer.events = omega (arith, below, ap (λ (ts : List Taken). length ts) (taken_by_calls-push C call), length-append (taken_by_calls C) call.answer.events) in
           at-last d past client (length B + j) x at (omega (arith, long, behind)) found
           ∙ ap (λ (es : List Event). view_after_events (client_view d past client) es) (taken-events d past client n x h.1 u)
           ∙ ap (λ (w : View). view_after_events w (taken_events (take n call.answer.events))) (client_view-since d past client h.0)
           ∙ ap (λ (m : ℕ). view_after_events (fold_calls v C) (taken_events (take m call.answer.events))) same
           ∙ sym (upto-last v C call j behind within))
-    ]
-    by false false s u below found rest = rest below (sym (entry-before (eaten d) d past client (length B + j) x (omega (arith, long, below))) ∙ found)
+    ])
+    (λ u below found. view_at-since d past client j at h.0 below (sym (entry-before (eaten d) d past client (length B + j) x (omega (arith, long, below))) ∙ found))
+    k is
 
 -- Queries, and then reads
 
 -- none of these calls took anything
-unfoldable NoneTakes : List Call → Type 0
-NoneTakes [] = Unit {0}
-NoneTakes (call ∷ calls) = (call.answer.events ≡ []) × NoneTakes calls
+abbrev NoneTakes : List Call → Type 0
+NoneTakes calls = Each (λ (call : Call). call.answer.events ≡ []) calls
 
 upto-asked : (v : View) (calls more : List Call) (j : ℕ) → NoneTakes calls → view_upto v (calls ++ more) j ≡ view_upto (view_after_answers v calls) more j
-unfolding NoneTakes view_upto
+unfolding view_upto
 upto-asked v [] more j h = refl
 upto-asked v (call ∷ calls) more j h =
     let next : View = view_after_answer (view_after_events v (taken_events call.answer.events)) call.step call.answer.reply call.answer.cells in
@@ -344,113 +344,90 @@ upto-reads v (call ∷ reads) j are h = by (nat_lt j n) refl (λ k. upto-reads (
         ∙ ap (λ (ts : List Taken). view_after_events v (taken_events ts)) (sym (take-append-add E R (suc (j - n))))
         ∙ ap (λ (m : ℕ). view_after_events v (taken_events (take m (E ++ R)))) same
 
+accepted-takes : (d : Description) (past : List Step) (x : Step) → is_read x ≡ false → (accepted d past x).events ≡ []
+accepted-takes d past (Read client count) h = absurd (true≢false h)
+accepted-takes d past _ h = refl
+
+query-takes : (d : Description) (past : List Step) (x : Step) (given : Answer) → is_read x ≡ false → IsAnswer d past x given → given.events ≡ []
+query-takes d past x given h are =
+    answered-as d past x given (λ a. a.events ≡ []) are (accepted-takes d past x h) (λ reply off. refl)
+
 -- a query takes nothing
 pub no_read-takes : (d : Description) (past : List Step) (x : Step) → is_read x ≡ false → (answer d past x).events ≡ []
-no_read-takes d past x h = by (refused d past x)
-  where
-    nothing : (y : Step) → is_read y ≡ false → (accepted d past y).events ≡ []
-    nothing (Read client count) k = absurd (true≢false k)
-    nothing _ k = refl
+no_read-takes d past x h = query-takes d past x (answer d past x) h (inl refl)
 
-    by : (o : Option Reply) → (answer_by o (accepted d past x)).events ≡ []
-    by None = nothing x h
-    by (Some reply) = refl
-
--- each call since the start is answered so after some past
-unfoldable AreOfPasts : Description → List Call → Type 0
-AreOfPasts d [] = Unit {0}
-AreOfPasts d (call ∷ calls) = (past : List Step) × (call.answer ≡ answer d past call.step) × AreOfPasts d calls
-
-of_pasts-push : (d : Description) (calls : List Call) (call : Call) → AreOfPasts d calls → ((past : List Step) × (call.answer ≡ answer d past call.step)) → AreOfPasts d (calls ++ call ∷ [])
-unfolding AreOfPasts
-of_pasts-push d [] call h k = (k.0, k.1, tt)
-of_pasts-push d (c ∷ calls) call h k = (h.0, h.1, of_pasts-push d calls call h.2 k)
-
-of_pasts-since : (d : Description) (past : List Step) (client : ℕ) → AreOfPasts d (calls_since d past client)
-unfolding calls_since AreOfPasts
-of_pasts-since d [] client = tt
-of_pasts-since d (x ∷ past) client = by (is_start past client x) (is_use_of client x) (of_pasts-since d past client)
-  where
-    call : Call
-    call = record { step = x; answer = answer d past x }
-
-    by : (starts used : Bool) → AreOfPasts d (calls_since d past client) → AreOfPasts d (if starts then [] else if used then calls_since d past client ++ call ∷ [] else calls_since d past client)
-    by true used h = tt
-    by false true h = of_pasts-push d (calls_since d past client) call h (past, refl)
-    by false false h = h
-
-none-takes : (d : Description) (asked reads : List Call) → AreOfPasts d (asked ++ reads) → Each IsNoRead (steps_of asked) → NoneTakes asked
-unfolding AreOfPasts NoneTakes
-none-takes d [] reads h no_reads = tt
-none-takes d (call ∷ asked) reads h no_reads =
-    (ap (λ (a : Answer). a.events) h.1 ∙ no_read-takes d h.0 call.step no_reads.0, none-takes d asked reads h.2 no_reads.1)
-
--- The view at event j of what came behind the queries, which are all of a start.
-pub view_at-behind : (d : Description) (past : List Step) (client j : ℕ) (asked reads : List Call) (at : ReadEntry) → IsHistory d past → calls_since d past client ≡ asked ++ reads → steps_of asked ≡ queries d client → AreReads reads → j < length (taken_by_calls reads)
-    → slice_get (read_entries d past client) (length (taken_at_start d past client) + j) ≡ Some at
-    → view_at d client at ≡ view_after_events (view_after_answers (view_at_start d past client) asked) (taken_events (take (suc j) (taken_by_calls reads)))
-view_at-behind d past client j asked reads at h since steps are below is =
-    let no_reads : Each IsNoRead (steps_of asked) = subst (λ (xs : List Step). Each IsNoRead xs) (sym steps) (no_read-queries d client) in
-    let of_pasts : AreOfPasts d (asked ++ reads) = subst (λ (cs : List Call). AreOfPasts d cs) since (of_pasts-since d past client) in
-    let none : NoneTakes asked = none-takes d asked reads of_pasts no_reads in
-    let all : taken_by_calls (calls_since d past client) ≡ taken_by_calls asked ++ taken_by_calls reads = ap (λ (cs : List Call). taken_by_calls cs) since ∙ flat_map-append (λ (c : Call). c.answer.events) asked reads in
-    let within : j < length (taken_by_calls (calls_since d past client)) = omega (arith, below, ap (λ (ts : List Taken). length ts) all, length-append (taken_by_calls asked) (taken_by_calls reads)) in
-    view_at-since d past client j at h within is
-    ∙ ap (λ (cs : List Call). view_upto (view_at_start d past client) cs j) since
-    ∙ upto-asked (view_at_start d past client) asked reads j none
-    ∙ upto-reads (view_after_answers (view_at_start d past client) asked) reads j are below
-
--- what the client took since its start, where all queries came first
-pub taken-behind : (d : Description) (past : List Step) (client : ℕ) (asked reads : List Call) → calls_since d past client ≡ asked ++ reads → steps_of asked ≡ queries d client → taken_by_calls (calls_since d past client) ≡ taken_by_calls reads
-unfolding NoneTakes
-taken-behind d past client asked reads since steps =
-    let no_reads : Each IsNoRead (steps_of asked) = subst (λ (xs : List Step). Each IsNoRead xs) (sym steps) (no_read-queries d client) in
-    let of_pasts : AreOfPasts d (asked ++ reads) = subst (λ (cs : List Call). AreOfPasts d cs) since (of_pasts-since d past client) in
-    ap (λ (cs : List Call). taken_by_calls cs) since ∙ flat_map-append (λ (c : Call). c.answer.events) asked reads ∙ ap (λ (ts : List Taken). ts ++ taken_by_calls reads) (none-taken asked (none-takes d asked reads of_pasts no_reads))
-  where
-    none-taken : (calls : List Call) → NoneTakes calls → taken_by_calls calls ≡ []
-    none-taken [] k = refl
-    none-taken (call ∷ calls) k = ap (λ (ts : List Taken). ts ++ taken_by_calls calls) k.0 ∙ none-taken calls k.1
+none-takes : (d : Description) (asked : List Call) → AreAnswered d asked → Each IsNoRead (steps_of asked) → NoneTakes asked
+unfolding AreAnswered
+none-takes d [] are no_reads = tt
+none-takes d (call ∷ asked) are no_reads =
+    (query-takes d are.0 call.step call.answer no_reads.0 are.1, none-takes d asked are.2 no_reads.1)
 
 -- each call since the start was accepted, and answered as the one-thread device answers it
-
 pub accepted-accepts : (d : Description) (past : List Step) (x : Step) → is_accepted (accepted d past x).reply ≡ true
 accepted-accepts d past Open = refl
 accepted-accepts d past _ = refl
 
 good-push : (d : Description) (calls : List Call) (call : Call) (past : List Step) → IsAnswer d past call.step call.answer → is_accepted call.answer.reply ≡ true → AreAnswered d calls × AreAccepted calls → AreAnswered d (calls ++ call ∷ []) × AreAccepted (calls ++ call ∷ [])
-unfolding AreAnswered AreAccepted
+unfolding AreAnswered
 good-push d [] call past are is h = ((past, are, tt), (is, tt))
 good-push d (c ∷ calls) call past are is h =
     let rest : AreAnswered d (calls ++ call ∷ []) × AreAccepted (calls ++ call ∷ []) = good-push d calls call past are is (h.0.2, h.1.1) in
     ((h.0.0, h.0.1, rest.0), (h.1.0, rest.1))
 
 pub since-good : (d : Description) (past : List Step) (client : ℕ) → IsHistory d past → AreAnswered d (calls_since d past client) × AreAccepted (calls_since d past client)
-unfolding calls_since AreAnswered AreAccepted
+unfolding calls_since AreAnswered
 since-good d [] client h = (tt, tt)
-since-good d (x ∷ past) client h = by (is_start past client x) (is_use_of client x) (since-good d past client h.0)
-  where
-    call : Call
-    call = record { step = x; answer = answer d past x }
-
-    C : List Call
-    C = calls_since d past client
-
-    by : (starts used : Bool) → AreAnswered d C × AreAccepted C → AreAnswered d (if starts then [] else if used then C ++ call ∷ [] else C) × AreAccepted (if starts then [] else if used then C ++ call ∷ [] else C)
-    by true used k = (tt, tt)
-    by false true k = good-push d C call past (inl refl) (ap (λ (a : Answer). is_accepted a.reply) (accepted-answer d past x h.1) ∙ accepted-accepts d past x) k
-    by false false k = k
+since-good d (x ∷ past) client h =
+    let call : Call = record { step = x; answer = answer d past x } in
+    since-step d past client x (λ v taken calls. AreAnswered d calls × AreAccepted calls)
+    (λ s. (tt, tt))
+    (λ u. good-push d (calls_since d past client) call past (inl refl) (ap (λ (a : Answer). is_accepted a.reply) (accepted-answer d past x h.1) ∙ accepted-accepts d past x) (since-good d past client h.0))
+    (λ u. since-good d past client h.0)
 
 pub good-first : (d : Description) (calls more : List Call) → AreAnswered d (calls ++ more) × AreAccepted (calls ++ more) → AreAnswered d calls × AreAccepted calls
-unfolding AreAnswered AreAccepted
+unfolding AreAnswered
 good-first d [] more h = (tt, tt)
 good-first d (c ∷ calls) more h =
     let rest : AreAnswered d calls × AreAccepted calls = good-first d calls more (h.0.2, h.1.1) in
     ((h.0.0, h.0.1, rest.0), (h.1.0, rest.1))
 
+-- the calls of a start's queries took nothing
+none-asked : (d : Description) (past : List Step) (client : ℕ) (asked reads : List Call) → IsHistory d past → calls_since d past client ≡ asked ++ reads → steps_of asked ≡ queries d client → NoneTakes asked
+none-asked d past client asked reads h since steps =
+    none-takes d asked
+    (good-first d asked reads
+    (subst (λ (cs : List Call). AreAnswered d cs × AreAccepted cs) since (since-good d past client h))).0
+    (subst (λ (xs : List Step). Each IsNoRead xs) (sym steps) (no_read-queries d client))
+
+-- The view at event j of what came behind the queries, which are all of a start.
+pub view_at-behind : (d : Description) (past : List Step) (client j : ℕ) (asked reads : List Call) (at : ReadEntry) → IsHistory d past → calls_since d past client ≡ asked ++ reads → steps_of asked ≡ queries d client → AreReads reads → j < length (taken_by_calls reads)
+    → slice_get (read_entries d past client) (length (taken_at_start d past client) + j) ≡ Some at
+    → view_at d client at ≡ view_after_events (view_after_answers (view_at_start d past client) asked) (taken_events (take (suc j) (taken_by_calls reads)))
+view_at-behind d past client j asked reads at h since steps are below is =
+    let all : taken_by_calls (calls_since d past client) ≡ taken_by_calls asked ++ taken_by_calls reads = ap (λ (cs : List Call). taken_by_calls cs) since ∙ flat_map-append (λ (c : Call). c.answer.events) asked reads in
+    let within : j < length (taken_by_calls (calls_since d past client)) = omega (arith, below, ap (λ (ts : List Taken). length ts) all, length-append (taken_by_calls asked) (taken_by_calls reads)) in
+    view_at-since d past client j at h within is
+    ∙ ap (λ (cs : List Call). view_upto (view_at_start d past client) cs j) since
+    ∙ upto-asked (view_at_start d past client) asked reads j
+    (none-asked d past client asked reads h since steps)
+    ∙ upto-reads (view_after_answers (view_at_start d past client) asked) reads j are below
+
+-- what the client took since its start, where all queries came first
+pub taken-behind : (d : Description) (past : List Step) (client : ℕ) (asked reads : List Call) → IsHistory d past → calls_since d past client ≡ asked ++ reads → steps_of asked ≡ queries d client → taken_by_calls (calls_since d past client) ≡ taken_by_calls reads
+taken-behind d past client asked reads h since steps =
+    ap (λ (cs : List Call). taken_by_calls cs) since
+    ∙ flat_map-append (λ (c : Call). c.answer.events) asked reads
+    ∙ ap (λ (ts : List Taken). ts ++ taken_by_calls reads)
+    (none-taken asked (none-asked d past client asked reads h since steps))
+  where
+    none-taken : (calls : List Call) → NoneTakes calls → taken_by_calls calls ≡ []
+    none-taken [] k = refl
+    none-taken (call ∷ calls) k = ap (λ (ts : List Taken). ts ++ taken_by_calls calls) k.0 ∙ none-taken calls k.1
+
 pub sized-at-start : (d : Description) (past : List Step) (client : ℕ) → IsSizedFor d.slots (view_at_start d past client)
 unfolding view_at_start
 sized-at-start d [] client = IsSizedFor-first_view d
 sized-at-start d (x ∷ past) client =
-    (cond_both (is_start past client x) _ _ (λ x. IsSizedFor d.slots (view_at_start d past client) → IsSizedFor d.slots x)
-    (λ _ h. client_view-sized d past client) (λ _ h. h)) (sized-at-start d past client)
+    since-step d past client x (λ v taken calls. IsSizedFor d.slots v)
+    (λ s. client_view-sized d past client) (λ u. sized-at-start d past client)
+    (λ u. sized-at-start d past client)

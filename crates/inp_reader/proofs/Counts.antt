@@ -1,8 +1,15 @@
 -- How many synthesised events there are at most.
-use Rattle.std.proofs.Common.{◌≡◌, ℕ, zero, suc, ◌+◌, ◌-◌, ◌*◌, ◌<◌, ◌≤◌, ℤ, Bool, true, false, cond, int_eq, List, [], ◌∷◌, ◌++◌, length, map, refl, sym, ap, ◌∙◌, arith, add-one, length-append, le_trans, mul-le-mul_left, pos}
+use Rattle.std.proofs.Common.{◌≡◌, ℕ, zero, suc, ◌+◌, ◌-◌, ◌*◌, ◌<◌, ◌≤◌, ℤ, Bool, true, false, cond, int_eq, List, [], ◌∷◌, ◌++◌, length, map, refl, sym, ap, ◌∙◌, arith, length-append, le_trans, mul-le-mul_left, pos, zero-add, ◌&&◌, not}
+use Rattle.std.specs.List.{range_with_len, filter}
 use Rattle.std.proofs.lemmas.List.{length-map}
-use Rattle.std.proofs.lemmas.Bool.{false_from_ne_true}
-use Rattle.inp_model.specs.declared.event.TheConstants.{EV_SYN, EV_KEY, EV_SW, EV_LED, SYN_REPORT}
+use Rattle.std.proofs.lemmas.List.Elements.{filter-append}
+use Rattle.std.proofs.lemmas.List.FromFn.{length-range_with_len}
+use Rattle.std.proofs.lemmas.List.Sums.{length-filter, count_by-le-length}
+use Rattle.inp_bits.proofs.Indices.{filter_none}
+use Rattle.inp_model.proofs.Injection.{range-append}
+use Rattle.inp_model.specs.Event.{slot_event}
+use Rattle.std.proofs.lemmas.Bool.{false_from_ne_true, cond_both, true_from_ne_false, true≢false}
+use Rattle.inp_model.specs.declared.event.TheConstants.{EV_KEY, EV_SW, EV_LED, EV_ABS}
 use Rattle.inp_model.specs.declared.event.Event.{Event}
 use Rattle.inp_recon.specs.declared.view.View.{View}
 use Rattle.inp_recon.specs.View.{IsSizedFor, view_after_events}
@@ -10,54 +17,46 @@ use Rattle.inp_recon.specs.Cells.{slot_count}
 use Rattle.inp_recon.proofs.Sizes.{IsSizedFor-after_events}
 use Rattle.inp_reader.specs.Synthesis.{where_below, with_report, to_slot, in_slots, bit_event, bit_changes, bits_differ_at, value_at, differs_at, axis_event, axis_changes, class_changes, is_replaced, lift, lifts, changes_in, is_changed, cell_changes, slot_changes, synth}
 use Rattle.inp_reader.specs.Laws.{AreOfOneDevice}
-use Rattle.inp_reader.proofs.SynthesisedEvents.{where_below-more, where_below-skip}
-use Rattle.inp_reader.proofs.Classes.{tells_ints}
-use Rattle.inp_reader.proofs.Slots.{slots-of, changes_in-places}
+use Rattle.inp_reader.proofs.SynthesisedEvents.{report, where_below-more}
+use Rattle.inp_reader.proofs.Classes.{tells_ints, slots-of, changes_in-places}
+use Rattle.std.specs.Prelude.{slice_index_or}
+use Rattle.inp_bits.specs.Bits.{bits_differ}
+use Rattle.inp_model.specs.Description.{Description, supports, is_multi_touch_code}
+use Rattle.inp_recon.specs.Synchronised.{has_axis}
+use Rattle.inp_reader.specs.RoomyEvents.{code_total}
+use Rattle.inp_reader.specs.Spare.{IsSpare}
 
 -- ---- how many numbers pass a test
 
-length-one : (k : ℕ) (b : Bool) → length (cond b (k ∷ []) []) ≤ 1
-length-one k true = omega arith
-length-one k false = omega arith
+-- the numbers below a greater bound are those below the first, and more
+where_below-add : (n more : ℕ) (test : ℕ → Bool)
+    → where_below (n + more) test ≡ where_below n test ++ filter test (range_with_len n more)
+where_below-add n more test =
+    ap (λ (xs : List ℕ). filter test xs) (range-append 0 n more)
+    ∙ filter-append test (range_with_len 0 n) (range_with_len (0 + n) more)
+    ∙ ap (λ (k : ℕ). where_below n test ++ filter test (range_with_len k more)) (zero-add n)
 
-length-where_below_more : (n : ℕ) (test : ℕ → Bool) → length (where_below (n + 1) test) ≤ length (where_below n test) + 1
-length-where_below_more n test = omega (arith, ap length (where_below-more n test), length-append (where_below n test) (cond (test n) (n ∷ []) []), length-one n (test n))
+length-passing : (test : ℕ → Bool) (first n : ℕ) → length (filter test (range_with_len first n)) ≤ n
+length-passing test first n =
+    omega (arith, length-filter test (range_with_len first n), count_by-le-length test
+    (range_with_len first n), length-range_with_len first n)
 
 -- so many more numbers
 length-where_below_add : (n more : ℕ) (test : ℕ → Bool) → length (where_below (n + more) test) ≤ length (where_below n test) + more
-length-where_below_add n zero test = let e : n + zero ≡ n = omega arith in omega (arith, ap (λ (k : ℕ). length (where_below k test)) e)
-length-where_below_add n (suc more) test =
-    let e : n + suc more ≡ n + more + 1 = omega arith in
-    omega (arith, ap (λ (k : ℕ). length (where_below k test)) e, length-where_below_more (n + more) test, length-where_below_add n more test)
-
--- so many more numbers of which none passes
-length-where_below_same : (n more : ℕ) (test : ℕ → Bool) → ((k : ℕ) → n ≤ k → k < n + more → test k ≡ false) → length (where_below (n + more) test) ≡ length (where_below n test)
-length-where_below_same n zero test h = let e : n + zero ≡ n = omega arith in ap (λ (k : ℕ). length (where_below k test)) e
-length-where_below_same n (suc more) test h =
-    let e : n + suc more ≡ n + more + 1 = omega arith in
-    ap (λ (k : ℕ). length (where_below k test)) e
-    ∙ ap length (where_below-skip test (n + more) (h (n + more) (omega arith) (omega arith)))
-    ∙ length-where_below_same n more test (λ k l m. h k l (omega (arith, m)))
+length-where_below_add n more test =
+    omega (arith, ap length (where_below-add n more test), length-append (where_below n test)
+    (filter test (range_with_len n more)), length-passing test n more)
 
 length-where_below : (n : ℕ) (test : ℕ → Bool) → length (where_below n test) ≤ n
-length-where_below zero test = omega arith
-length-where_below (suc n) test = omega (arith, ap (λ (k : ℕ). length (where_below k test)) (sym (add-one n)), length-where_below_more n test, length-where_below n test)
+length-where_below n test = length-passing test 0 n
 
 -- below a greater bound no fewer pass
-length-where_below_grows : (n more : ℕ) (test : ℕ → Bool) → length (where_below n test) ≤ length (where_below (n + more) test)
-length-where_below_grows n zero test = let e : n + zero ≡ n = omega arith in omega (arith, ap (λ (k : ℕ). length (where_below k test)) e)
-length-where_below_grows n (suc more) test =
-    let e : n + suc more ≡ n + more + 1 = omega arith in
-    omega (
-      arith,
-      ap (λ (k : ℕ). length (where_below k test)) e,
-      ap length (where_below-more (n + more) test),
-      length-append (where_below (n + more) test) (cond (test (n + more)) ((n + more) ∷ []) []),
-      length-where_below_grows n more test,
-    )
-
 pub length-where_below_least : (n m : ℕ) (test : ℕ → Bool) → n ≤ m → length (where_below n test) ≤ length (where_below m test)
-length-where_below_least n m test le = let e : n + (m - n) ≡ m = omega (arith, le) in omega (arith, ap (λ (k : ℕ). length (where_below k test)) e, length-where_below_grows n (m - n) test)
+length-where_below_least n m test le =
+    let e : n + (m - n) ≡ m = omega (arith, le) in
+    omega (arith, ap (λ (k : ℕ). length (where_below k test)) e, ap length
+    (where_below-add n (m - n) test), length-append (where_below n test)
+    (filter test (range_with_len n (m - n))))
 
 -- fewer pass a test that only those pass that pass another one
 pub length-where_below_fewer : (n : ℕ) (a b : ℕ → Bool) → ((k : ℕ) → k < n → a k ≡ true → b k ≡ true) → length (where_below n a) ≤ length (where_below n b)
@@ -105,25 +104,21 @@ length-axis_changes_by first same last old new h =
       arith,
       length-map (where_below (first + same + last) test) (λ code. axis_event new code code),
       length-where_below_add (first + same) last test,
-      length-where_below_same first same test h,
+      ap length (where_below-add first same test),
+      length-append (where_below first test) (filter test (range_with_len first same)),
+      ap length (filter_none test first same h),
       length-where_below first test,
     )
 
 length-axis_changes : (old new : List ℤ) → ((code : ℕ) → 47 ≤ code → code ≤ 61 → value_at old code ≡ value_at new code) → length (axis_changes old new) ≤ 49
 length-axis_changes old new h = length-axis_changes_by 47 15 2 old new (λ k l m. false_from_ne_true (differs_at old new k) (λ t. tells_ints.apart (value_at old k) (value_at new k) t (h k l (omega (arith, m)))))
 
--- the same where nothing is known of the middle
-length-axis_changes_any : (old new : List ℤ) → length (axis_changes old new) ≤ 64
-length-axis_changes_any old new = omega (arith, length-map (where_below 64 (differs_at old new)) (λ code. axis_event new code code), length-where_below 64 (differs_at old new))
-
 -- ---- slots
 
-length-cond : (e : Event) (b : Bool) → length (cond b [] (e ∷ [])) ≤ 1
-length-cond e true = omega arith
-length-cond e false = omega arith
-
 length-to_slot : (from to : ℤ) → length (to_slot from to) ≤ 1
-length-to_slot from to = length-cond _ (int_eq from to)
+length-to_slot from to =
+    cond_both (int_eq from to) [] (slot_event to ∷ []) (λ (es : List Event). length es ≤ 1) (λ _. omega arith)
+    (λ _. omega arith)
 
 length-in_slots : (most : ℕ) (f : ℕ → List Event) (slots : List ℕ) (current : ℤ) → ((k : ℕ) → length (f k) ≤ most) → length (in_slots f slots current) ≤ (most + 1) * length slots
 length-in_slots most f [] current h = omega arith
@@ -162,28 +157,15 @@ length-slot_changes slots old new l =
 
 -- ---- all of them
 
-abbrev report : Event
-report = record { kind = EV_SYN; code = SYN_REPORT; value = pos 0 }
-
 length-with_report_most : (es : List Event) → length (with_report es) ≤ length es + 1
 length-with_report_most [] = omega arith
 length-with_report_most (e ∷ es) = omega (arith, length-append (e ∷ es) (report ∷ []))
 
--- four lists, one behind the other
-length-four : (a b c d : List Event) (i j k l : ℕ) → length a ≤ i → length b ≤ j → length c ≤ k → length d ≤ l → length (a ++ b ++ c ++ d) ≤ i + j + k + l
-length-four a b c d i j k l ha hb hc hd = omega (arith, length-append (a ++ b ++ c) d, length-append (a ++ b) c, length-append a b, ha, hb, hc, hd)
-
-length-class_changes : (slots : ℕ) (old new : View) → AreOfOneDevice slots old new → length (class_changes old new) ≤ 945
-length-class_changes slots old new h =
-    length-four (bit_changes EV_KEY 768 old.keys new.keys) (bit_changes EV_LED 64 old.leds new.leds) (bit_changes EV_SW 64 old.switches new.switches) (axis_changes old.axes new.axes) 768 64 64 49 (
-    length-bit_changes EV_KEY 768 old.keys new.keys
-    ) (length-bit_changes EV_LED 64 old.leds new.leds) (length-bit_changes EV_SW 64 old.switches new.switches) (length-axis_changes old.axes new.axes h.axes)
-
-length-class_changes_any : (old new : View) → length (class_changes old new) ≤ 960
-length-class_changes_any old new =
-    length-four (bit_changes EV_KEY 768 old.keys new.keys) (bit_changes EV_LED 64 old.leds new.leds) (bit_changes EV_SW 64 old.switches new.switches) (axis_changes old.axes new.axes) 768 64 64 64 (
-    length-bit_changes EV_KEY 768 old.keys new.keys
-    ) (length-bit_changes EV_LED 64 old.leds new.leds) (length-bit_changes EV_SW 64 old.switches new.switches) (length-axis_changes_any old.axes new.axes)
+-- where so many axes change
+length-class_changes : (most : ℕ) (old new : View) → length (axis_changes old.axes new.axes) ≤ most
+    → length (class_changes old new) ≤ 896 + most
+length-class_changes most old new few =
+    omega (arith, length-classes old new, length-bit_changes EV_KEY 768 old.keys new.keys, length-bit_changes EV_LED 64 old.leds new.leds, length-bit_changes EV_SW 64 old.switches new.switches, few)
 
 length-groups : (slots most : ℕ) (first classes cells : List Event) → length first ≤ 2 * slots → length classes ≤ most → length cells ≤ 15 * slots + 1 → length (with_report first ++ with_report (classes ++ cells)) ≤ most + 3 + 17 * slots
 length-groups slots most first classes cells h l m =
@@ -203,7 +185,10 @@ unfolding synth
 length-synth slots old new h =
     let mid : View = view_after_events old (lifts old new) in
     let sized : IsSizedFor slots mid = IsSizedFor-after_events slots old (lifts old new) h.old_sized in
-    length-groups slots 945 (lifts old new) (class_changes old new) (slot_changes mid new) (length-lifts slots old new h.old_sized.cells) (length-class_changes slots old new h) (length-slot_changes slots mid new sized.cells)
+    length-groups slots 945 (lifts old new) (class_changes old new) (slot_changes mid new)
+    (length-lifts slots old new h.old_sized.cells)
+    (length-class_changes 49 old new (length-axis_changes old.axes new.axes h.axes))
+    (length-slot_changes slots mid new sized.cells)
 
 -- the same where nothing is known of the axes whose values belong to slots
 pub length-synth_sized : (slots : ℕ) (old new : View) → IsSizedFor slots old → length (synth old new) ≤ 963 + 17 * slots
@@ -211,4 +196,42 @@ unfolding synth
 length-synth_sized slots old new h =
     let mid : View = view_after_events old (lifts old new) in
     let sized : IsSizedFor slots mid = IsSizedFor-after_events slots old (lifts old new) h in
-    length-groups slots 960 (lifts old new) (class_changes old new) (slot_changes mid new) (length-lifts slots old new h.cells) (length-class_changes_any old new) (length-slot_changes slots mid new sized.cells)
+    length-groups slots 960 (lifts old new) (class_changes old new) (slot_changes mid new)
+    (length-lifts slots old new h.cells)
+    (length-class_changes 64 old new
+    (omega (arith, length-map (where_below 64 (differs_at old.axes new.axes))
+    (λ code. axis_event new.axes code code), length-where_below 64 (differs_at old.axes new.axes))))
+    (length-slot_changes slots mid new sized.cells)
+
+-- ---- of a device, as many as it has codes
+
+-- of a type no more codes change than the device has
+bits_few : (d : Description) (kind count : ℕ) (old new : List Bool) → ((code : ℕ) → supports d kind code ≡ false → slice_index_or old code false ≡ false) → ((code : ℕ) → supports d kind code ≡ false → slice_index_or new code false ≡ false)
+    → length (bit_changes kind count old new) ≤ code_total d kind count
+bits_few d kind count old new off_old off_new =
+    omega (arith, length-map (where_below count (bits_differ_at old new)) (bit_event kind new), length-where_below_fewer count (bits_differ_at old new) (supports d kind) had)
+  where
+    had : (k : ℕ) → k < count → bits_differ_at old new k ≡ true → supports d kind k ≡ true
+    had k lt differ =
+        true_from_ne_false (supports d kind k) (λ is. true≢false (sym differ ∙ (λ i. bits_differ (off_old k is i) (off_new k is i))))
+
+axes_few : (d : Description) (old new : View) → IsSpare d old → IsSpare d new → length (axis_changes old.axes new.axes) ≤ code_total d EV_ABS 64
+axes_few d old new a b =
+    omega (arith, length-map (where_below 64 (differs_at old.axes new.axes)) (λ code. axis_event new.axes code code), length-where_below_fewer 64 (differs_at old.axes new.axes) (supports d EV_ABS) had)
+  where
+    had : (k : ℕ) → k < 64 → differs_at old.axes new.axes k ≡ true → supports d EV_ABS k ≡ true
+    had k lt differ = true_from_ne_false (supports d EV_ABS k) (λ is.
+        let none : has_axis d k ≡ false = ap (λ (s : Bool). s && not (is_multi_touch_code k)) is in
+        true≢false (sym differ ∙ (λ i. not (int_eq (a.axes k none i) (b.axes k none i)))))
+
+-- of all types
+pub classes_few : (d : Description) (old new : View) → IsSpare d old → IsSpare d new → length (class_changes old new) ≤ code_total d EV_KEY 768 + code_total d EV_LED 64 + code_total d EV_SW 64 + code_total d EV_ABS 64
+classes_few d old new a b =
+    omega (
+      arith,
+      length-classes old new,
+      bits_few d EV_KEY 768 old.keys new.keys a.key_codes b.key_codes,
+      bits_few d EV_LED 64 old.leds new.leds a.led_codes b.led_codes,
+      bits_few d EV_SW 64 old.switches new.switches a.switch_codes b.switch_codes,
+      axes_few d old new a b,
+    )

@@ -22,11 +22,9 @@ use Rattle.inp_reader.proofs.ClientViews.{accepted-answer}
 -- An accepted read is answered from its client's queue
 
 read-answer : (d : Description) (past : List Step) (client count : ℕ) (given : Answer) → IsAnswer d past (Read client count) given → is_accepted given.reply ≡ true → given ≡ accepted d past (Read client count)
-read-answer d past client count given h is = by h
-  where
-    by : IsAnswer d past (Read client count) given → given ≡ accepted d past (Read client count)
-    by (inl e) = e ∙ accepted-answer d past (Read client count) (accepted-unrefused d past (Read client count) given h is)
-    by (inr l) = absurd (true≢false (sym is ∙ ap (λ (a : Answer). is_accepted a.reply) l.2))
+read-answer d past client count given (inl e) is =
+    e ∙ accepted-answer d past (Read client count) (accepted-unrefused d past (Read client count) given (inl e) is)
+read-answer d past client count given (inr l) is = absurd (true≢false (sym is ∙ ap (λ (a : Answer). is_accepted a.reply) l.2))
 
 -- No more than it asks for
 

@@ -1,16 +1,25 @@
--- The first events of a queue that are handed out in one go, and what is left behind them.
+-- The first events of a queue that are handed out in one go, what is left behind them, and what the reader is
+-- then.
 use Rattle.std.proofs.Common.{◌≡◌, ℕ, zero, suc, ◌+◌, ◌-◌, ◌<◌, ◌≤◌, List, [], ◌∷◌, ◌++◌, length, map, take, drop, get_or, Bool, true, false, ◌||◌, if◌then◌else◌, refl, sym, ap, subst, ◌∙◌, arith, append-nil, append_assoc, length-append, add-one}
 use Rattle.std.proofs.Math.Bool.{or-false}
 use Rattle.std.proofs.Math.Seq.{drop-cons, drop-length}
 use Rattle.std.proofs.lemmas.List.{length-take-le, nil_from_length, take_at, take_more}
-use Rattle.std.proofs.lemmas.Bool.{cond_both}
+use Rattle.std.proofs.lemmas.Bool.{cond_both, true≢false}
 use Rattle.inp_model.specs.declared.taken.Taken.{Taken}
 use Rattle.inp_recon.specs.declared.view.View.{View}
 use Rattle.inp_recon.specs.Synchronised.{is_dropped}
-use Rattle.inp_recon.specs.View.{view_after_events}
+use Rattle.inp_recon.specs.View.{view_after_events, view_after_event}
 use Rattle.inp_reader.specs.declared.phase.Phase.{Phase}
 use Rattle.inp_reader.specs.declared.phase.Phase.TheVariants.{Needed}
 use Rattle.inp_reader.specs.Reader.{Reading, first_run, has_loss, is_plain_phase, queued_run, after_run}
+use Rattle.std.specs.List.{All}
+use Rattle.std.proofs.lemmas.List.Elements.{All-head, All-tail, All-same}
+use Rattle.inp_model.specs.declared.step.Step.{Step}
+use Rattle.inp_model.specs.Description.{Description}
+use Rattle.inp_reader.specs.Spare.{IsSpare, is_event_of, HasSpare}
+use Rattle.inp_reader.specs.ReaderPlace.{StandsAt, is_needed}
+use Rattle.inp_reader.proofs.StandsAfterTalks.{in-step-handed}
+use Rattle.inp_reader.proofs.SpareAgrees.{IsSpare-after_event}
 
 -- the run is a front part of its queue, and behind it stands the rest
 pub run-front : (most : ℕ) (q : List Taken) → first_run most q ++ drop (length (first_run most q)) q ≡ q
@@ -160,3 +169,37 @@ run-taken count r run queue view lost phase many is rest taken loss goes =
     ∙ ap (λ (v : View). record r { queue = drop (length run) r.queue; view = v; phase = phase }) taken
     ∙ ap (λ (p : Phase). record r { queue = drop (length run) r.queue; view = view_after_events r.view (map (λ (t : Taken). t.event) run); phase = p }) (goes ∙ ap (λ (b : Bool). if b then Needed else r.phase) loss)
     ∙ ap (λ (ts : List Taken). after_run r ts) is
+
+-- its view keeps what its devices cannot have, and so will the rest of its queue
+spare-run : (d : Description) (v : View) (run rest : List Taken) → All (λ (t : Taken). is_event_of d t.event ≡ true) (run ++ rest) → IsSpare d v
+    → IsSpare d (view_after_events v (map (λ (t : Taken). t.event) run)) × All (λ (t : Taken). is_event_of d t.event ≡ true) rest
+unfolding view_after_events
+spare-run d v [] rest all h = (h, all)
+spare-run d v (t ∷ run) rest all h =
+    let P : Taken → Type 0 = λ (x : Taken). is_event_of d x.event ≡ true in
+    spare-run d (view_after_event v t.event) run rest (All-tail P t (run ++ rest) all)
+    (IsSpare-after_event d v t.event (All-head P t (run ++ rest) all) h)
+
+pub keeps-run : (d : Description) (most : ℕ) (r : Reading) → HasSpare d r → HasSpare d (after_run r (queued_run most r))
+keeps-run d most r h =
+    let run : List Taken = queued_run most r in
+    let rest : List Taken = drop (length run) r.queue in
+    let kept = spare-run d r.view run rest (All-same (λ (t : Taken). is_event_of d t.event ≡ true) (run ++ rest) r.queue (queue-run most r) h.queue) h.view in
+    record { view = kept.0; queue = kept.1 }
+
+-- it stands where it stood
+not_lost : (lost : Bool) (phase : Phase) → is_needed (if lost then Needed else phase) ≡ false → is_needed phase ≡ false
+not_lost true phase h = absurd (true≢false h)
+not_lost false phase h = h
+
+pub stands-run : (d : Description) (past : List Step) (most : ℕ) (r : Reading) → StandsAt d past r → StandsAt d past (after_run r (queued_run most r))
+stands-run d past most r s =
+    let run : List Taken = queued_run most r in
+    record {
+      history = s.history;
+      opened = s.opened;
+      in_step =
+          λ e. in-step-handed d past r run (drop (length run) r.queue)
+          (if has_loss run then Needed else r.phase) (s.in_step (not_lost (has_loss run) r.phase e))
+          (sym (queue-run most r));
+    }

@@ -17,7 +17,7 @@ use Rattle.inp_model.specs.Leaves.{AreCalls}
 use Rattle.inp_reader.specs.Says.{kept_call, calls_kept, Says}
 use Rattle.inp_reader.proofs.QueryAnswers.{view-answered}
 use Rattle.inp_model.proofs.Leaves.{AreCalls-append}
-use Rattle.inp_reader.proofs.Talks.{LeadsTo-append, LeadsTo-and_then, EndsWith-ask_each, EndsWith-stop, calls_kept-append, told as told_view, stopped_at}
+use Rattle.inp_reader.proofs.Talks.{LeadsTo-append, LeadsTo-and_then, calls_kept-append, told as told_view, stopped_at, ask_on, ask_each-append}
 
 kept_after : (old mid new : List CallMade) (calls more : List Call) → mid ≡ old ++ calls_kept calls → new ≡ mid ++ calls_kept more → new ≡ old ++ calls_kept (calls ++ more)
 kept_after old mid new calls more h k =
@@ -39,37 +39,27 @@ says-then before between after old mid new talk next a b s t = record {
 
 -- steps that are accepted, and then others
 pub says-each : (before between after : EvdevView) (old mid new : List CallMade) (xs ys : List Step) (view asked : View) (result : Result View Reply) → Says before between old mid (ask_each xs view) (Ok asked) → Says between after mid new (ask_each ys asked) result → Says before after old new (ask_each (xs ++ ys) view) result
-says-each before between after old mid new xs ys view asked result s t = record {
-  calls = s.calls ++ t.calls;
-  talk_ends = EndsWith-ask_each xs ys view asked result s.calls t.calls s.talk_ends t.talk_ends;
-  are_calls = AreCalls-append before between after s.calls t.calls s.are_calls t.are_calls;
-  kept = kept_after old mid new s.calls t.calls s.kept t.kept;
-}
+says-each before between after old mid new xs ys view asked result s t =
+    subst (λ (talk : Talk (Result View Reply)). Says before after old new talk result)
+    (ask_each-append xs ys view)
+    (says-then before between after old mid new (ask_each xs view) (ask_on ys) (Ok asked) result s t)
 
 -- steps of which one is refused: the others are not asked for
 pub says-stop : (before after : EvdevView) (old new : List CallMade) (xs ys : List Step) (view : View) (stop : Reply) → Says before after old new (ask_each xs view) (Err stop) → Says before after old new (ask_each (xs ++ ys) view) (Err stop)
-says-stop before after old new xs ys view stop s = record {
-  calls = s.calls;
-  talk_ends = EndsWith-stop xs ys view stop s.calls s.talk_ends;
-  are_calls = s.are_calls;
-  kept = s.kept;
-}
+says-stop before after old new xs ys view stop s =
+    subst (λ (talk : Talk (Result View Reply)). Says before after old new talk (Err stop))
+    (ask_each-append xs ys view)
+    (says-then before after after old new new (ask_each xs view) (ask_on ys) (Err stop) (Err stop) s
+    (says-nothing after new (finish (Err stop)) (Err stop) refl))
 
--- one call
-pub says-call : (before after : EvdevView) (old new : List CallMade) (x : Step) (answer : Answer) → IsCall before after (record { step = x; answer = answer }) → new ≡ old ++ kept_call x answer.reply → Says before after old new (ask x finish) answer
+-- one call, after which nothing more is asked
+pub says-one : {A : Type 0} (before after : EvdevView) (old new : List CallMade) (x : Step) (answer : Answer)
+    (rest : Answer → Talk A) (result : A)
+    → IsCall before after (record { step = x; answer = answer }) → new ≡ old ++ kept_call x answer.reply
+    → rest answer ≡ finish result
+    → Says before after old new (ask x rest) result
 unfolding LeadsTo AreCalls
-says-call before after old new x answer call kept = record {
-  calls = record { step = x; answer = answer } ∷ [];
-  talk_ends = (refl, refl);
-  are_calls = (after, call, refl);
-  kept = kept ∙ ap (λ ms. old ++ ms) (sym (append-nil (kept_call x answer.reply)));
-}
-
--- one call that a query makes
-query_call : (before after : EvdevView) (old new : List CallMade) (x : Step) (answer : Answer) (view : View) (result : Result View Reply) → IsCall before after (record { step = x; answer = answer }) → new ≡ old ++ kept_call x answer.reply
-    → (if is_accepted answer.reply then finish (Ok (view_after_answer view x answer.reply answer.cells)) else finish (Err answer.reply)) ≡ finish result → Says before after old new (ask_each (x ∷ []) view) result
-unfolding LeadsTo ask_each AreCalls
-query_call before after old new x answer view result call kept ended = record {
+says-one before after old new x answer rest result call kept ended = record {
   calls = record { step = x; answer = answer } ∷ [];
   talk_ends = (refl, ended);
   are_calls = (after, call, refl);
@@ -79,21 +69,23 @@ query_call before after old new x answer view result call kept ended = record {
 -- a query that is accepted sets the view
 pub says-accepted : (d : Description) (before after : EvdevView) (old new : List CallMade) (x : Step) (reply : Reply) (cells new_cells : List ℤ) (view asked : View) → before.description ≡ d → length view.cells ≡ 14 * d.slots
     → Asks before after old new x reply cells new_cells → is_accepted reply ≡ true → asked ≡ view_after_answer view x reply new_cells → Says before after old new (ask_each (x ∷ []) view) (Ok asked)
+unfolding ask_each
 says-accepted d before after old new x reply cells new_cells view asked same fits a accepted set =
     let told : View = view_after_answer view x a.answer.reply a.answer.cells in
     let goes_on : Bool → Talk (Result View Reply) = λ b. if b then finish (Ok told) else finish (Err a.answer.reply) in
     let is : is_accepted a.answer.reply ≡ true = ap is_accepted (sym a.replied) ∙ accepted in
     let e : told ≡ asked = sym (view-answered d before after x a.answer reply cells new_cells view asked same fits a.is_call a.replied a.cells_written set) in
-    query_call before after old new x a.answer view (Ok asked) a.is_call a.kept (ap goes_on is ∙ ap (λ (v : View). told_view v) e)
+    says-one before after old new x a.answer _ (Ok asked) a.is_call a.kept (ap goes_on is ∙ ap (λ (v : View). told_view v) e)
 
 -- a query that is not stops
 pub says-refused : (before after : EvdevView) (old new : List CallMade) (x : Step) (reply : Reply) (cells new_cells : List ℤ) (view : View)
     → Asks before after old new x reply cells new_cells → is_accepted reply ≡ false → Says before after old new (ask_each (x ∷ []) view) (Err reply)
+unfolding ask_each
 says-refused before after old new x reply cells new_cells view a refused =
     let told : View = view_after_answer view x a.answer.reply a.answer.cells in
     let goes_on : Bool → Talk (Result View Reply) = λ b. if b then finish (Ok told) else finish (Err a.answer.reply) in
     let is : is_accepted a.answer.reply ≡ false = ap is_accepted (sym a.replied) ∙ refused in
-    query_call before after old new x a.answer view (Err reply) a.is_call a.kept (ap goes_on is ∙ ap (λ (r : Reply). stopped_at r) (sym a.replied))
+    says-one before after old new x a.answer _ (Err reply) a.is_call a.kept (ap goes_on is ∙ ap (λ (r : Reply). stopped_at r) (sym a.replied))
 
 -- a query that is not wanted
 pub says-unwanted : (told : EvdevView) (made : List CallMade) (wanted : Bool) (x : Step) (view : View) → wanted ≡ false → Says told told made made (ask_each (only_if wanted x) view) (Ok view)

@@ -1,27 +1,24 @@
 -- Facts on `Says` for the talks of `start` and `next`.
-use Rattle.std.proofs.Common.{◌≡◌, ℕ, List, [], ◌∷◌, ◌++◌, refl, sym, ap, subst, ◌∙◌, Bool, true, false, if◌then◌else◌}
-use Rattle.std.specs.Prelude.{Result, Ok, Err}
-use Rattle.inp_model.specs.declared.event.Event.{Event}
-use Rattle.inp_model.specs.declared.taken.Taken.{Taken}
+use Rattle.std.proofs.Common.{◌≡◌, List, [], ◌∷◌, ◌++◌, refl, sym, ap, subst, ◌∙◌, Bool, true, false, if◌then◌else◌, ℕ}
+use Rattle.std.specs.Prelude.{Result}
 use Rattle.inp_model.specs.declared.step.Step.{Step}
-use Rattle.inp_model.specs.declared.step.Step.TheVariants.{Open, Read}
 use Rattle.inp_model.specs.declared.reply.Reply.{Reply}
-use Rattle.inp_model.specs.declared.reply.Reply.TheVariants.{Opened}
 use Rattle.inp_model.specs.Description.{Description}
 use Rattle.inp_model.specs.Evdev.{EvdevView, IsCall}
 use Rattle.inp_model.specs.Reply.{Answer, is_accepted}
 use Rattle.inp_recon.specs.declared.view.View.{View}
 use Rattle.inp_reader.specs.declared.call_made.CallMade.{CallMade}
-use Rattle.inp_reader.specs.declared.mode.Mode.{Mode}
-use Rattle.inp_reader.specs.declared.phase.Phase.TheVariants.{Plain, Needed}
-use Rattle.inp_reader.specs.declared.next.Next.{Next}
-use Rattle.inp_reader.specs.declared.started.Started.{Started}
-use Rattle.inp_reader.specs.declared.started.Started.TheVariants.{Opened as StartedOn}
 use Rattle.inp_reader.specs.Talk.{Talk, finish, ask, and_then}
 use Rattle.inp_reader.specs.ReaderCalls.{MakesRead}
-use Rattle.inp_reader.specs.Reader.{Reading, ask_each, read_or_hand_out, read_talk, after_read, hand_out, stop_of, start_stop_of, after_open, after_queries, start_talk, after_failed_sync, talk_after_sync}
-use Rattle.inp_reader.specs.Says.{Says, kept_call}
-use Rattle.inp_reader.proofs.SaysInTurn.{says-nothing, says-then, says-call}
+use Rattle.inp_reader.specs.Reader.{ask_each, Reading, read_or_hand_out, read_talk, after_read, hand_out, stop_of, start_stop_of, after_open, after_queries, start_talk, talk_after_sync}
+use Rattle.inp_reader.specs.Says.{kept_call, Says}
+use Rattle.inp_model.specs.declared.taken.Taken.{Taken}
+use Rattle.inp_model.specs.declared.step.Step.TheVariants.{Open, Read}
+use Rattle.inp_model.specs.declared.reply.Reply.TheVariants.{Opened}
+use Rattle.inp_reader.specs.declared.mode.Mode.{Mode}
+use Rattle.inp_reader.specs.declared.next.Next.{Next}
+use Rattle.inp_reader.specs.declared.started.Started.{Started}
+use Rattle.inp_reader.proofs.SaysInTurn.{says-nothing, says-then, says-one}
 
 -- no call, and the calls that were kept stay
 pub says-still : {A : Type 0} (told : EvdevView) (old new : List CallMade) (talk : Talk A) (result : A) → new ≡ old → talk ≡ finish result → Says told told old new talk result
@@ -30,7 +27,7 @@ says-still told old new talk result h k = subst (λ (ms : List CallMade). Says t
 -- one call, and then what its answer says
 pub says-first : {A : Type 0} (before between after : EvdevView) (old mid new : List CallMade) (x : Step) (answer : Answer) (rest : Answer → Talk A) (result : A) → IsCall before between (record { step = x; answer = answer }) → mid ≡ old ++ kept_call x answer.reply → Says between after mid new (rest answer) result → Says before after old new (ask x rest) result
 says-first before between after old mid new x answer rest result call kept s =
-    says-then before between after old mid new (ask x finish) rest answer result (says-call before between old mid x answer call kept) s
+    says-then before between after old mid new (ask x finish) rest answer result (says-one before between old mid x answer finish answer call kept refl) s
 
 -- the same view
 pub says-view : (before after : EvdevView) (old new : List CallMade) (xs : List Step) (view same : View) (result : Result View Reply) → view ≡ same → Says before after old new (ask_each xs view) result → Says before after old new (ask_each xs same) result
@@ -90,42 +87,30 @@ says-queued told old new r result h kept handed =
 
 -- Synchronising
 
--- one that was stopped
-pub says-unsynchronised : (before after : EvdevView) (old new : List CallMade) (talk : Talk (Result View Reply)) (mode : Mode) (r s : Reading) (reply : Reply) (next : Next)
-    → Says before after old new talk (Err reply) → s ≡ after_failed_sync r → next ≡ stop_of reply → Says before after old new (and_then talk (talk_after_sync mode r)) (next, s)
-says-unsynchronised before after old new talk mode r s reply next h same stopped =
-    let result : Next × Reading = (next, s) in
-    says-then before after after old new new talk (talk_after_sync mode r) (Err reply) result h
-    (says-still after new new (talk_after_sync mode r (Err reply)) result refl
-    (ap (λ (n : Next). finish (n, after_failed_sync r)) (sym stopped) ∙ ap (λ (t : Reading). finish (next, t)) (sym same)))
-
--- one that was not, and what follows it
-pub says-synchronised : (before between after : EvdevView) (old mid new : List CallMade) (talk : Talk (Result View Reply)) (rest : Talk (Next × Reading)) (mode : Mode) (r : Reading) (view : View) (result : Next × Reading)
-    → Says before between old mid talk (Ok view) → rest ≡ talk_after_sync mode r (Ok view) → Says between after mid new rest result → Says before after old new (and_then talk (talk_after_sync mode r)) result
-says-synchronised before between after old mid new talk rest mode r view result h is k =
-    says-then before between after old mid new talk (talk_after_sync mode r) (Ok view) result h (subst (λ (t : Talk (Next × Reading)). Says between after mid new t result) is k)
+-- and what follows it
+pub says-synchronised : (before between after : EvdevView) (old mid new : List CallMade)
+    (talk : Talk (Result View Reply))
+    (rest : Talk (Next × Reading)) (mode : Mode) (r : Reading) (asked : Result View Reply)
+        (result : Next × Reading)
+    → Says before between old mid talk asked → rest ≡ talk_after_sync mode r asked → Says between after mid new rest result
+    → Says before after old new (and_then talk (talk_after_sync mode r)) result
+says-synchronised before between after old mid new talk rest mode r asked result h is k =
+    says-then before between after old mid new talk (talk_after_sync mode r) asked result h
+    (subst (λ (t : Talk (Next × Reading)). Says between after mid new t result) is k)
 
 -- Starting
 
--- the queries of a start, of which one was refused
-pub says-begun_in_part : (before after : EvdevView) (old new : List CallMade) (xs : List Step) (client ring : ℕ) (r : Reading) (queue : List Taken) (left : List Event) (reply : Reply) (started : Started) → Says before after old new (ask_each xs r.view) (Err reply) → queue ≡ [] → left ≡ [] → started ≡ start_stop_of reply
-    → Says before after old new (and_then (ask_each xs r.view) (λ asked. finish (after_queries client ring r asked))) (started, record { client = client; queue = queue; view = r.view; phase = Needed; left = left })
-says-begun_in_part before after old new xs client ring r queue left reply started h none nothing stopped =
-    let result : Started × Reading = (started, record { client = client; queue = queue; view = r.view; phase = Needed; left = left }) in
-    let made : Started → List Taken → List Event → Talk (Started × Reading) = λ n q l. finish (n, record { client = client; queue = q; view = r.view; phase = Needed; left = l }) in
-    says-then before after after old new new (ask_each xs r.view) (λ (asked : Result View Reply). finish (after_queries client ring r asked)) (Err reply) result h
-    (says-still after new new (finish (after_queries client ring r (Err reply))) result refl
-    (ap (λ (n : Started). made n [] []) (sym stopped) ∙ ap (λ (q : List Taken). made started q []) (sym none) ∙ ap (λ (l : List Event). made started queue l) (sym nothing)))
-
 -- the queries of a start
-pub says-begun : (before after : EvdevView) (old new : List CallMade) (xs : List Step) (client ring : ℕ) (r : Reading) (queue : List Taken) (left : List Event) (view asked : View) → Says before after old new (ask_each xs r.view) (Ok asked) → queue ≡ [] → left ≡ [] → view ≡ asked
-    → Says before after old new (and_then (ask_each xs r.view) (λ asked. finish (after_queries client ring r asked))) (StartedOn client ring, record { client = client; queue = queue; view = view; phase = Plain; left = left })
-says-begun before after old new xs client ring r queue left view asked h none nothing same =
-    let result : Started × Reading = (StartedOn client ring, record { client = client; queue = queue; view = view; phase = Plain; left = left }) in
-    let made : View → List Taken → List Event → Talk (Started × Reading) = λ v q l. finish (StartedOn client ring, record { client = client; queue = q; view = v; phase = Plain; left = l }) in
-    says-then before after after old new new (ask_each xs r.view) (λ (asked : Result View Reply). finish (after_queries client ring r asked)) (Ok asked) result h
-    (says-still after new new (finish (after_queries client ring r (Ok asked))) result refl
-    (ap (λ (v : View). made v [] []) (sym same) ∙ ap (λ (q : List Taken). made view q []) (sym none) ∙ ap (λ (l : List Event). made view queue l) (sym nothing)))
+pub says-begun : (before after : EvdevView) (old new : List CallMade) (xs : List Step) (client ring : ℕ)
+    (r : Reading)
+    (asked : Result View Reply) (result : Started × Reading)
+    → Says before after old new (ask_each xs r.view) asked → after_queries client ring r asked ≡ result
+    → Says before after old new
+        (and_then (ask_each xs r.view) (λ o. finish (after_queries client ring r o))) result
+says-begun before after old new xs client ring r asked result h is =
+    let next : Result View Reply → Talk (Started × Reading) = λ o. finish (after_queries client ring r o) in
+    says-then before after after old new new (ask_each xs r.view) next asked result h
+    (says-still after new new (next asked) result refl (ap (λ (o : Started × Reading). finish o) is))
 
 -- a start, once its Open was accepted
 pub says-opened : (before between after : EvdevView) (old mid new : List CallMade) (d : Description) (r : Reading) (reply : Reply) (result : Started × Reading) → (answer : Answer) → reply ≡ answer.reply → IsCall before between (record { step = Open; answer = answer }) → mid ≡ old ++ kept_call Open answer.reply

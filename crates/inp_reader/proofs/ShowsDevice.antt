@@ -1,9 +1,9 @@
 -- The view of a reader that stands is the device's state.
-use Rattle.std.proofs.Common.{◌≡◌, ◌<◌, inl, inr, ℕ, zero, suc, ◌+◌, nat_eq, nat_lt, Bool, true, false, ◌&&◌, not, List, [], ◌∷◌, ◌++◌, length, map, take, replicate, set, refl, sym, ap, subst, ◌∙◌, arith, append_assoc, length-append, if◌then◌else◌, ℤ, pos, Some}
+use Rattle.std.proofs.Common.{◌≡◌, ◌<◌, inl, inr, ℕ, zero, suc, ◌+◌, nat_eq, nat_lt, Bool, true, false, ◌&&◌, not, List, [], ◌∷◌, ◌++◌, length, map, take, replicate, refl, sym, ap, subst, ◌∙◌, arith, append_assoc, length-append, ℤ, pos, Some}
 use Rattle.std.specs.Prelude.{slice_index_or}
 use Rattle.std.specs.List.{slice_get}
-use Rattle.std.proofs.lemmas.Bool.{true≢false, and_left, cases_lt, cases_eq, lt-ltb}
-use Rattle.std.proofs.lemmas.List.{length-map, take_at, get_or_at, get_or_past, get_or-set_same, get_or-set_other, set_past, nil_from_length}
+use Rattle.std.proofs.lemmas.Bool.{true≢false, and_left, cases_lt, cases_Bool, cond-true, cond-false, lt-ltb}
+use Rattle.std.proofs.lemmas.List.{length-map, take_at, get_or_at, get_or_past, nil_from_length}
 use Rattle.std.proofs.lemmas.Option.{slice_get-get_or}
 use Rattle.inp_model.specs.declared.event.Event.{Event}
 use Rattle.inp_model.specs.declared.event.TheConstants.{EV_KEY, EV_ABS, EV_SW, EV_LED}
@@ -21,6 +21,7 @@ use Rattle.inp_recon.specs.ClientView.{ReadEntry, read_entries, view_at}
 use Rattle.inp_recon.proofs.ReadEntries.{HasEntry, entry-of}
 use Rattle.inp_model.specs.RawItem.{RawItem}
 use Rattle.inp_model.specs.Left.{eaten}
+use Rattle.inp_model.proofs.Descriptions.{get_or-replicate_same}
 use Rattle.inp_model.specs.History.{IsHistory}
 use Rattle.inp_recon.specs.Faithful.{IsDeviceState, AreFaithful}
 use Rattle.inp_recon.proofs.Sizes.{IsSizedFor-first_view, length-axes_after_event, length-cells_after_event}
@@ -28,20 +29,25 @@ use Rattle.inp_reader.specs.Reader.{Reading, queries}
 use Rattle.inp_reader.specs.TrueView.{index_handed_out, ShowsTheDevice}
 use Rattle.inp_recon.specs.Synchronised.{has_axis}
 use Rattle.inp_reader.specs.Spare.{IsSpare}
-use Rattle.inp_reader.specs.ReaderPlace.{calls_since, steps_of, view_after_answers, taken_by_calls, taken_events}
-use Rattle.inp_reader.proofs.SpareAgrees.{never_down, never_on, all_same}
+use Rattle.inp_reader.specs.ReaderPlace.{IsInStep, calls_since, steps_of, view_after_answers, taken_by_calls, taken_events}
+use Rattle.inp_reader.proofs.SpareAgrees.{never_down, never_on}
 use Rattle.inp_reader.proofs.StandsAfterTalks.{IsHandedOut}
-use Rattle.inp_reader.proofs.AgreedViews.{Compared, AgreeBut, agree-answers, keys-spared, switches-spared, leds-spared, slots-spared, plain-asked}
+use Rattle.inp_reader.proofs.AgreedViews.{Compared, set-in-both, AgreeBut, agree-answers, keys-spared, switches-spared, leds-spared, slots-spared, plain-asked}
 use Rattle.inp_reader.proofs.Calls.{AreAnswered, AreAccepted}
 use Rattle.inp_reader.proofs.ClientViews.{view_at_start, taken_at_start, took-since, length-took, view_at-behind, taken-behind, since-good, good-first, sized-at-start}
 use Rattle.inp_recon.proofs.ViewSteps.{length-rows}
 
 -- which event was handed out last
 
+-- all that it read, by what it handed out
+read-so-far : (d : Description) (past : List Step) (r : Reading) (t : Taken) (h : IsHandedOut d past r t)
+    → taken_by_calls h.in_step.reads ≡ (h.before ++ t ∷ []) ++ r.queue
+read-so-far d past r t h = h.in_step.taken ∙ ap (λ (ts : List Taken). ts ++ r.queue) h.handed
+
 index-is : (d : Description) (past : List Step) (r : Reading) (t : Taken) (h : IsHandedOut d past r t) → IsHistory d past → index_handed_out d past r ≡ length (taken_at_start d past r.client) + length h.before
 index-is d past r t h history =
     let all : length (took d past r.client) ≡ length (taken_at_start d past r.client) + length (taken_by_calls (calls_since d past r.client)) = length-took d past r.client history in
-    let behind : length (taken_by_calls (calls_since d past r.client)) ≡ length ((h.before ++ t ∷ []) ++ r.queue) = ap (λ (ts : List Taken). length ts) (taken-behind d past r.client h.asked h.reads h.calls h.queries ∙ h.taken) in
+    let behind : length (taken_by_calls (calls_since d past r.client)) ≡ length ((h.before ++ t ∷ []) ++ r.queue) = ap (λ (ts : List Taken). length ts) (taken-behind d past r.client h.in_step.asked h.in_step.reads history h.in_step.calls h.in_step.queries ∙ read-so-far d past r t h) in
     omega (arith, all, behind, length-append (h.before ++ t ∷ []) r.queue, length-append h.before (t ∷ []))
 
 pub at-it : (xs ys zs : List Taken) (t : Taken) (i : ℕ) → i ≡ length xs + length ys → slice_get (xs ++ ((ys ++ t ∷ []) ++ zs)) i ≡ Some t
@@ -56,21 +62,28 @@ pub handed-is-taken : (d : Description) (past : List Step) (r : Reading) (t : Ta
 handed-is-taken d past r t h history =
     let B : List Taken = map taken_of (taken_at_start d past r.client) in
     let all : map taken_of (took d past r.client) ≡ B ++ ((h.before ++ t ∷ []) ++ r.queue) =
-    took-since d past r.client history ∙ ap (λ (ts : List Taken). B ++ ts) (taken-behind d past r.client h.asked h.reads h.calls h.queries ∙ h.taken) in
+    took-since d past r.client history
+    ∙ ap (λ (ts : List Taken). B ++ ts)
+    (taken-behind d past r.client h.in_step.asked h.in_step.reads history h.in_step.calls h.in_step.queries
+    ∙ read-so-far d past r t h) in
     ap (λ (ts : List Taken). slice_get ts (index_handed_out d past r)) all
     ∙ at-it B h.before r.queue t (index_handed_out d past r) (index-is d past r t h history ∙ ap (λ (n : ℕ). n + length h.before) (sym (length-map (taken_at_start d past r.client) taken_of)))
 
 -- the client's view then: the same answers and events, from the view at its start
 view-then : (d : Description) (past : List Step) (r : Reading) (t : Taken) (at : ReadEntry) (h : IsHandedOut d past r t) → IsHistory d past → slice_get (read_entries d past r.client) (index_handed_out d past r) ≡ Some at
-    → view_at d r.client at ≡ view_after_events (view_after_answers (view_at_start d past r.client) h.asked) (taken_events (h.before ++ t ∷ []))
+    → view_at d r.client at
+    ≡ view_after_events (view_after_answers (view_at_start d past r.client) h.in_step.asked)
+    (taken_events h.in_step.handed)
 view-then d past r t at h history is =
+    let i : IsInStep d past r = h.in_step in
     let j : ℕ = length h.before in
-    let front : length (h.before ++ t ∷ []) ≡ suc j = length-append h.before (t ∷ []) ∙ omega arith in
-    let below : j < length (taken_by_calls h.reads) = omega (arith, front, ap (λ (ts : List Taken). length ts) h.taken, length-append (h.before ++ t ∷ []) r.queue) in
-    let first : take (suc j) (taken_by_calls h.reads) ≡ h.before ++ t ∷ [] = ap (λ (ts : List Taken). take (suc j) ts) h.taken ∙ take_at (h.before ++ t ∷ []) r.queue (suc j) front in
-    view_at-behind d past r.client j h.asked h.reads at history h.calls h.queries h.reads_only below
-    (ap (λ (i : ℕ). slice_get (read_entries d past r.client) i) (sym (index-is d past r t h history)) ∙ is)
-    ∙ ap (λ (ts : List Taken). view_after_events (view_after_answers (view_at_start d past r.client) h.asked) (taken_events ts)) first
+    let front : length i.handed ≡ suc j =
+    ap (λ (ts : List Taken). length ts) h.handed ∙ length-append h.before (t ∷ []) ∙ omega arith in
+    let below : j < length (taken_by_calls i.reads) = omega (arith, front, ap (λ (ts : List Taken). length ts) i.taken, length-append i.handed r.queue) in
+    let first : take (suc j) (taken_by_calls i.reads) ≡ i.handed = ap (λ (ts : List Taken). take (suc j) ts) i.taken ∙ take_at i.handed r.queue (suc j) front in
+    view_at-behind d past r.client j i.asked i.reads at history i.calls i.queries i.reads_only below
+    (ap (λ (k : ℕ). slice_get (read_entries d past r.client) k) (sym (index-is d past r t h history)) ∙ is)
+    ∙ ap (λ (ts : List Taken). view_after_events (view_after_answers (view_at_start d past r.client) i.asked) (taken_events ts)) first
 
 -- Two views that agree in what the device has
 
@@ -94,33 +107,26 @@ agree-had d client v w s t = record {
   cells_long = s.cells ∙ sym t.cells;
 }
 
-axis-same : (abs own : Bool) (v w : List ℤ) (index code : ℕ) (value : ℤ) → length v ≡ length w → slice_index_or v code (pos 0) ≡ slice_index_or w code (pos 0)
-    → slice_index_or (if abs && own then with_value_at 64 v index value else v) code (pos 0) ≡ slice_index_or (if abs && own then with_value_at 64 w index value else w) code (pos 0)
-axis-same true true v w index code value long h = by (nat_lt index 64)
-  where
-    by : (b : Bool) → slice_index_or (if b then set v index value else v) code (pos 0) ≡ slice_index_or (if b then set w index value else w) code (pos 0)
-    by true = elim (cases_eq code index) [
-      | inl same ↦ elim (cases_lt index (length v)) [
-        | inl within ↦
-            (ap (λ (i : ℕ). slice_index_or (set v index value) i (pos 0)) same ∙ get_or-set_same v index value (pos 0) within
-            ∙ sym (get_or-set_same w index value (pos 0) (omega (arith, within, long))) ∙ ap (λ (i : ℕ). slice_index_or (set w index value) i (pos 0)) (sym same))
-        | inr past ↦
-            (ap (λ (xs : List ℤ). slice_index_or xs code (pos 0)) (set_past v index value past) ∙ h
-            ∙ ap (λ (xs : List ℤ). slice_index_or xs code (pos 0)) (sym (set_past w index value (omega (arith, past, long)))))
-      ]
-      | inr apart ↦ get_or-set_other v index code value (pos 0) apart ∙ h ∙ sym (get_or-set_other w index code value (pos 0) apart)
-    ]
-    by false = h
-axis-same true false v w index code value long h = h
-axis-same false own v w index code value long h = h
-
 agree-event : (which : Compared) (v w : View) (e : Event) → AgreeBut which [] v w → AgreeBut which [] (view_after_event v e) (view_after_event w e)
 unfolding view_after_event
 agree-event which v w e a = record {
   keys = λ is h. ap (λ (xs : List Bool). keys_after_event xs e) (a.keys is h);
   switches = λ is h. ap (λ (xs : List Bool). bits_after_event EV_SW xs e) (a.switches is h);
   leds = λ is h. ap (λ (xs : List Bool). bits_after_event EV_LED xs e) (a.leds is h);
-  axes = λ code is h. axis-same (nat_eq e.kind EV_ABS) (not (is_multi_touch e)) v.axes w.axes e.code code e.value (a.left_long ∙ sym a.right_long) (a.axes code is h);
+  axes = λ code is h. elim (cases_Bool (nat_eq e.kind EV_ABS && not (is_multi_touch e))) [
+    | inl sets ↦
+        (ap (λ (xs : List ℤ). slice_index_or xs code (pos 0))
+        (cond-true _ (with_value_at 64 v.axes e.code e.value) v.axes sets)
+        ∙ set-in-both v.axes w.axes e.code code e.value a.left_long a.right_long (λ other. a.axes code is h)
+        ∙ sym (ap (λ (xs : List ℤ). slice_index_or xs code (pos 0))
+        (cond-true _ (with_value_at 64 w.axes e.code e.value) w.axes sets)))
+    | inr stays ↦
+        (ap (λ (xs : List ℤ). slice_index_or xs code (pos 0))
+        (cond-false _ (with_value_at 64 v.axes e.code e.value) v.axes stays)
+        ∙ a.axes code is h
+        ∙ sym (ap (λ (xs : List ℤ). slice_index_or xs code (pos 0))
+        (cond-false _ (with_value_at 64 w.axes e.code e.value) w.axes stays)))
+  ];
   slot = λ is h. ap (λ (s : ℤ). slot_after_event s e) (a.slot is h);
   cells = λ is h. ap (λ (xs : List ℤ). cells_after_event xs v.slot e) (a.cells is h) ∙ ap (λ (s : ℤ). cells_after_event w.cells s e) (a.slot is h);
   left_long = length-axes_after_event v.axes e ∙ a.left_long;
@@ -137,13 +143,13 @@ agree-events which v w (e ∷ es) a = agree-events which (view_after_event v e) 
 pub agree-then : (d : Description) (past : List Step) (r : Reading) (t : Taken) (at : ReadEntry) → IsHandedOut d past r t → IsHistory d past → slice_get (read_entries d past r.client) (index_handed_out d past r) ≡ Some at → AgreeBut (what_is_had d) [] (view_at d r.client at) r.view
 agree-then d past r t at h history is =
     let base : View = view_at_start d past r.client in
-    let good : AreAnswered d h.asked × AreAccepted h.asked = good-first d h.asked h.reads (subst (λ (cs : List Call). AreAnswered d cs × AreAccepted cs) h.calls (since-good d past r.client history)) in
-    let begun : AgreeBut (what_is_had d) (steps_of h.asked) base (first_view d) = subst (λ (xs : List Step). AgreeBut (what_is_had d) xs base (first_view d)) (sym h.queries) (agree-had d r.client base (first_view d) (sized-at-start d past r.client) (IsSizedFor-first_view d)) in
-    let told : AgreeBut (what_is_had d) [] (view_after_answers base h.asked) (view_after_answers (first_view d) h.asked) = agree-answers (what_is_had d) d h.asked base (first_view d) good.0 good.1 (sized-at-start d past r.client).cells begun in
-    let es : List Event = taken_events (h.before ++ t ∷ []) in
-    let then_it : AgreeBut (what_is_had d) [] (view_after_events (view_after_answers base h.asked) es) (view_after_events (view_after_answers (first_view d) h.asked) es) = agree-events (what_is_had d) (view_after_answers base h.asked) (view_after_answers (first_view d) h.asked) es told in
+    let good : AreAnswered d h.in_step.asked × AreAccepted h.in_step.asked = good-first d h.in_step.asked h.in_step.reads (subst (λ (cs : List Call). AreAnswered d cs × AreAccepted cs) h.in_step.calls (since-good d past r.client history)) in
+    let begun : AgreeBut (what_is_had d) (steps_of h.in_step.asked) base (first_view d) = subst (λ (xs : List Step). AgreeBut (what_is_had d) xs base (first_view d)) (sym h.in_step.queries) (agree-had d r.client base (first_view d) (sized-at-start d past r.client) (IsSizedFor-first_view d)) in
+    let told : AgreeBut (what_is_had d) [] (view_after_answers base h.in_step.asked) (view_after_answers (first_view d) h.in_step.asked) = agree-answers (what_is_had d) d h.in_step.asked base (first_view d) good.0 good.1 (sized-at-start d past r.client).cells begun in
+    let es : List Event = taken_events h.in_step.handed in
+    let then_it : AgreeBut (what_is_had d) [] (view_after_events (view_after_answers base h.in_step.asked) es) (view_after_events (view_after_answers (first_view d) h.in_step.asked) es) = agree-events (what_is_had d) (view_after_answers base h.in_step.asked) (view_after_answers (first_view d) h.in_step.asked) es told in
     subst (λ (v : View). AgreeBut (what_is_had d) [] v r.view) (sym (view-then d past r t at h history is))
-    (subst (λ (w : View). AgreeBut (what_is_had d) [] (view_after_events (view_after_answers base h.asked) es) w) (sym h.view) then_it)
+    (subst (λ (w : View). AgreeBut (what_is_had d) [] (view_after_events (view_after_answers base h.in_step.asked) es) w) (sym h.in_step.view) then_it)
 
 -- What the device cannot have is off
 
@@ -155,7 +161,7 @@ nothing-on d r kind code h = never_on d r kind code (and_left (has_kind d kind) 
 
 flag-shown : (had on : Bool) (v w : List Bool) (n code : ℕ) → (had ≡ true → v ≡ w) → (had ≡ false → w ≡ replicate n false) → (had ≡ false → on ≡ false) → slice_index_or v code false ≡ on → slice_index_or w code false ≡ on
 flag-shown true on v w n code same none off h = ap (λ (xs : List Bool). slice_index_or xs code false) (sym (same refl)) ∙ h
-flag-shown false on v w n code same none off h = ap (λ (xs : List Bool). slice_index_or xs code false) (none refl) ∙ all_same false n code ∙ sym (off refl)
+flag-shown false on v w n code same none off h = ap (λ (xs : List Bool). slice_index_or xs code false) (none refl) ∙ get_or-replicate_same n code false ∙ sym (off refl)
 
 -- All values
 

@@ -1,8 +1,8 @@
 -- A reader's view keeps what its device cannot have as in a new view, and two such views agree after all answers.
-use Rattle.std.proofs.Common.{◌≡◌, ◌≤◌, ℕ, zero, suc, nat_eq, nat_lt, ℤ, pos, Bool, true, false, ◌&&◌, not, List, [], ◌∷◌, length, replicate, Option, Some, None, refl, sym, ap, subst, ◌∙◌, if◌then◌else◌, inl, inr, arith}
+use Rattle.std.proofs.Common.{◌≡◌, ◌≤◌, ℕ, nat_eq, nat_lt, ℤ, pos, Bool, true, false, ◌&&◌, not, List, [], ◌∷◌, length, refl, sym, ap, subst, ◌∙◌, if◌then◌else◌, inl, inr, arith}
 use Rattle.std.specs.Prelude.{slice_index_or}
 use Rattle.std.specs.List.{range_with_len}
-use Rattle.std.proofs.lemmas.Bool.{true≢false, false≢true, eqb-true, ne_eqb, cond-false, cond_both, and_parts, cases_lt}
+use Rattle.std.proofs.lemmas.Bool.{true≢false, false≢true, eqb-true, ne_eqb, cond-false, cond_both, and_parts, cases_lt, cases_eq}
 use Rattle.std.proofs.lemmas.List.{get_or-set_other, get_or_past, length-map}
 use Rattle.std.proofs.lemmas.List.FromFn.{length-range_with_len}
 use Rattle.inp_model.specs.declared.event.Event.{Event}
@@ -11,21 +11,22 @@ use Rattle.inp_model.specs.declared.multi_touch.TheConstants.{ABS_MT_SLOT}
 use Rattle.inp_model.specs.declared.step.Step.{Step}
 use Rattle.inp_model.specs.declared.step.Step.TheVariants.{GetKeys, GetSwitches, GetLeds, GetAxis, SyncSlots}
 use Rattle.inp_model.specs.declared.reply.Reply.{Reply}
-use Rattle.inp_model.specs.declared.reply.Reply.TheVariants.{Axis, Bits}
+use Rattle.inp_model.specs.declared.reply.Reply.TheVariants.{Bits}
 use Rattle.inp_model.specs.RawItem.{RawItem, Occurred, Described}
 use Rattle.inp_model.specs.Raw.{raw}
 use Rattle.inp_model.specs.State.{key_down, turned_on}
 use Rattle.inp_model.specs.Description.{Description, has_kind, has_code, supports, is_multi_touch_code}
 use Rattle.inp_model.specs.Event.{is_repeat, is_set}
-use Rattle.inp_model.specs.Reply.{Answer, IsAnswer, answer_by, refused, accepted, is_accepted, code_on, bitmap_of, bits_answer}
-use Rattle.inp_model.proofs.Refused.{refused-not_accepted}
+use Rattle.inp_model.specs.Reply.{Answer, IsAnswer, accepted, is_accepted, code_on, bitmap_of, bits_answer}
+use Rattle.inp_model.proofs.Descriptions.{get_or-replicate_same}
 use Rattle.inp_recon.proofs.ToldBits.{told_flag}
 use Rattle.inp_recon.specs.declared.view.View.{View}
-use Rattle.inp_recon.specs.View.{bit_in, bits_in, flags_after_reply, key_count, code_count, with_value_at, with_flag, axes_after_event, slot_after_event, keys_after_answer, switches_after_answer, leds_after_answer, axes_after_answer, axes_after_reply, slot_after_answer, first_view, view_after_event, view_after_answer}
+use Rattle.inp_recon.specs.View.{bit_in, bits_in, flags_after_reply, key_count, code_count, with_flag, axes_after_event, slot_after_event, keys_after_answer, switches_after_answer, leds_after_answer, axes_after_answer, slot_after_answer, first_view, view_after_event, view_after_answer}
 use Rattle.inp_recon.proofs.Sizes.{IsSizedFor-first_view, IsSizedFor-after_event, IsSizedFor-after_answer}
 use Rattle.inp_recon.specs.Synchronised.{has_axis}
+use Rattle.inp_reader.proofs.QueryAnswers.{answered-as}
 use Rattle.inp_reader.specs.Spare.{IsSpare, is_event_of}
-use Rattle.inp_reader.proofs.UnsetSlotAxes.{other-stays, has_cells}
+use Rattle.inp_reader.proofs.UnsetSlotAxes.{other-after_reply, other-after_event, has_cells}
 
 -- An event of the device
 
@@ -71,36 +72,30 @@ flags-after d kind count flags e code b of own told none =
 
 -- an axis of its own that an event is about is one that the device has
 axis-supported : (d : Description) (code : ℕ) (value : ℤ) → is_event_of d (record { kind = EV_ABS; code = code; value = value }) ≡ true → is_multi_touch_code code ≡ false → has_axis d code ≡ true
-axis-supported d code value is own = by (nat_eq code ABS_MT_SLOT) refl
-  where
-    plain : supports d EV_ABS code ≡ true → has_axis d code ≡ true
-    plain h = ap (λ (b : Bool). b && not (is_multi_touch_code code)) h ∙ ap (λ (b : Bool). not b) own
-
-    by : (b : Bool) → nat_eq code ABS_MT_SLOT ≡ b → has_axis d code ≡ true
-    by true k = absurd (true≢false (sym (ap (λ (n : ℕ). is_multi_touch_code n) (eqb-true code ABS_MT_SLOT k)) ∙ own))
-    by false k = plain (sym (ap (λ (b : Bool). if b then nat_lt 0 d.slots else supports d EV_ABS code) k) ∙ is)
+axis-supported d code value is own = elim (cases_eq code ABS_MT_SLOT) [
+  | inl same ↦ absurd (true≢false (ap (λ (n : ℕ). is_multi_touch_code n) (sym same) ∙ own))
+  | inr other ↦
+      ap (λ (b : Bool). b && not (is_multi_touch_code code)) (sym (ap (λ (b : Bool). if b then nat_lt 0 d.slots else supports d EV_ABS code) (ne_eqb code ABS_MT_SLOT other)) ∙ is)
+      ∙ ap (λ (b : Bool). not b) own
+]
 
 apart : (d : Description) (code other : ℕ) → has_axis d code ≡ false → has_axis d other ≡ true → code ≡ other → ⊥
 apart d code other h k e = true≢false (sym k ∙ ap (λ (n : ℕ). has_axis d n) (sym e) ∙ h)
 
 axis-after_event : (d : Description) (axes : List ℤ) (e : Event) (code : ℕ) → is_event_of d e ≡ true → has_axis d code ≡ false → slice_index_or (axes_after_event axes e) code (pos 0) ≡ slice_index_or axes code (pos 0)
-axis-after_event d axes e code is none = by (nat_eq e.kind EV_ABS) (is_multi_touch_code e.code) refl refl
-  where
-    by : (abs touch : Bool) → nat_eq e.kind EV_ABS ≡ abs → is_multi_touch_code e.code ≡ touch → slice_index_or (if abs && not (abs && touch) then with_value_at code_count axes e.code e.value else axes) code (pos 0) ≡ slice_index_or axes code (pos 0)
-    by true true h k = refl
-    by true false h k = other-stays axes code e.code e.value (apart d code e.code none (axis-supported d e.code e.value (of-kind d e EV_ABS (eqb-true e.kind EV_ABS h) is) k))
-    by false touch h k = refl
+axis-after_event d axes e code is none = other-after_event axes code e (λ abs own.
+    let there : is_event_of d (record e { kind = EV_ABS }) ≡ true = of-kind d e EV_ABS (eqb-true e.kind EV_ABS abs) is in
+    apart d code e.code none (axis-supported d e.code e.value there own))
 
 slot-after_event : (d : Description) (slot : ℤ) (e : Event) → is_event_of d e ≡ true → d.slots ≡ 0 → slot_after_event slot e ≡ slot
-slot-after_event d slot e is none = by (nat_eq e.kind EV_ABS) (nat_eq e.code ABS_MT_SLOT) refl refl
-  where
-    by : (abs named : Bool) → nat_eq e.kind EV_ABS ≡ abs → nat_eq e.code ABS_MT_SLOT ≡ named → (if abs && named then e.value else slot) ≡ slot
-    by true true h k =
-        let there : is_event_of d (record e { kind = EV_ABS }) ≡ true = of-kind d e EV_ABS (eqb-true e.kind EV_ABS h) is in
-        let some : nat_lt 0 d.slots ≡ true = sym (ap (λ (b : Bool). if b then nat_lt 0 d.slots else supports d EV_ABS e.code) k) ∙ there in
-        absurd (false≢true (ap (λ (n : ℕ). nat_lt 0 n) (sym none) ∙ some))
-    by true false h k = refl
-    by false named h k = refl
+slot-after_event d slot e is none =
+    cond_both (nat_eq e.kind EV_ABS && nat_eq e.code ABS_MT_SLOT) e.value slot (λ (z : ℤ). z ≡ slot)
+    (λ t.
+    let both = and_parts (nat_eq e.kind EV_ABS) (nat_eq e.code ABS_MT_SLOT) t in
+    let there : is_event_of d (record e { kind = EV_ABS }) ≡ true = of-kind d e EV_ABS (eqb-true e.kind EV_ABS both.0) is in
+    let some : nat_lt 0 d.slots ≡ true = sym (ap (λ (b : Bool). if b then nat_lt 0 d.slots else supports d EV_ABS e.code) both.1) ∙ there in
+    absurd (false≢true (ap (λ (n : ℕ). nat_lt 0 n) (sym none) ∙ some)))
+    (λ _. refl)
 
 pub IsSpare-after_event : (d : Description) (v : View) (e : Event) → is_event_of d e ≡ true → IsSpare d v → IsSpare d (view_after_event v e)
 unfolding view_after_event
@@ -151,26 +146,12 @@ flags_refused count _ flags h = refl
 -- what is told is the bits, or a refusal
 told_bits : (d : Description) (past : List Step) (x : Step) (kind count code : ℕ) (given : Answer) (flags : List Bool) → accepted d past x ≡ bits_answer d past kind → count ≤ 768 → code_on d (raw d past) kind code ≡ false → IsAnswer d past x given → slice_index_or flags code false ≡ false
     → slice_index_or (flags_after_reply count given.reply flags) code false ≡ false
-told_bits d past x kind count code given flags gives few off are was = elim are [
-  | inl e ↦ subst (λ (a : Answer). slice_index_or (flags_after_reply count a.reply flags) code false ≡ false) (sym e) (by (refused d past x) refl)
-  | inr l ↦ subst (λ (a : Answer). slice_index_or (flags_after_reply count a.reply flags) code false ≡ false) (sym l.2) was
-]
-  where
-    by : (o : Option Reply) → refused d past x ≡ o → slice_index_or (flags_after_reply count (answer_by o (accepted d past x)).reply flags) code false ≡ false
-    by None none = subst (λ (a : Answer). slice_index_or (flags_after_reply count a.reply flags) code false ≡ false) (sym gives) (told-off count kind d past code few off)
-    by (Some reply) is = subst (λ (q : List Bool). slice_index_or q code false ≡ false) (sym (flags_refused count reply flags (refused-not_accepted d past x reply is))) was
-
-key_codes-answer : (d : Description) (past : List Step) (x : Step) (given : Answer) (keys : List Bool) (code : ℕ) → supports d EV_KEY code ≡ false → IsAnswer d past x given → slice_index_or keys code false ≡ false → slice_index_or (keys_after_answer x given.reply keys) code false ≡ false
-key_codes-answer d past (GetKeys client) given keys code none are was = told_bits d past (GetKeys client) EV_KEY key_count code given keys refl (omega arith) (never_down d (raw d past) code none) are was
-key_codes-answer d past _ given keys code none are was = was
-
-switch_codes-answer : (d : Description) (past : List Step) (x : Step) (given : Answer) (flags : List Bool) (code : ℕ) → supports d EV_SW code ≡ false → IsAnswer d past x given → slice_index_or flags code false ≡ false → slice_index_or (switches_after_answer x given.reply flags) code false ≡ false
-switch_codes-answer d past (GetSwitches client) given flags code none are was = told_bits d past (GetSwitches client) EV_SW code_count code given flags refl (omega arith) (never_on d (raw d past) EV_SW code none) are was
-switch_codes-answer d past _ given flags code none are was = was
-
-led_codes-answer : (d : Description) (past : List Step) (x : Step) (given : Answer) (flags : List Bool) (code : ℕ) → supports d EV_LED code ≡ false → IsAnswer d past x given → slice_index_or flags code false ≡ false → slice_index_or (leds_after_answer x given.reply flags) code false ≡ false
-led_codes-answer d past (GetLeds client) given flags code none are was = told_bits d past (GetLeds client) EV_LED code_count code given flags refl (omega arith) (never_on d (raw d past) EV_LED code none) are was
-led_codes-answer d past _ given flags code none are was = was
+told_bits d past x kind count code given flags gives few off are was =
+    let P : Answer → Type 0 =
+    λ a. slice_index_or (flags_after_reply count a.reply flags) code false ≡ false in
+    answered-as d past x given P are (subst P (sym gives) (told-off count kind d past code few off))
+    (λ reply off. subst (λ (q : List Bool). slice_index_or q code false ≡ false)
+    (sym (flags_refused count reply flags off)) was)
 
 unfoldable pub IsWanted : Description → Step → Type 0
 IsWanted d (GetKeys client) = has_kind d EV_KEY ≡ true
@@ -180,30 +161,45 @@ IsWanted d (GetAxis client code) = has_axis d code ≡ true
 IsWanted d (SyncSlots client) = nat_lt 0 d.slots ≡ true
 IsWanted d _ = Unit {0}
 
-spare-keys : (d : Description) (x : Step) (reply : Reply) (keys : List Bool) → IsWanted d x → has_kind d EV_KEY ≡ false → keys_after_answer x reply keys ≡ keys
-unfolding IsWanted
-spare-keys d (GetKeys client) reply keys wanted none = absurd (true≢false (sym wanted ∙ none))
-spare-keys d _ reply keys wanted none = refl
+-- flags of a kind stay as they are where the device has not the kind, and a code off that it has not
+abbrev StaysOff : Description → ℕ → List Bool → List Bool → Type 0
+StaysOff d kind flags new =
+    (has_kind d kind ≡ false → new ≡ flags) ×
+    ((code : ℕ) → supports d kind code ≡ false → slice_index_or flags code false
+        ≡ false → slice_index_or new code false ≡ false)
 
-spare-switches : (d : Description) (x : Step) (reply : Reply) (switches : List Bool) → IsWanted d x → has_kind d EV_SW ≡ false → switches_after_answer x reply switches ≡ switches
+keys-answer : (d : Description) (past : List Step) (x : Step) (given : Answer) (keys : List Bool)
+    → IsWanted d x → IsAnswer d past x given → StaysOff d EV_KEY keys (keys_after_answer x given.reply keys)
 unfolding IsWanted
-spare-switches d (GetSwitches client) reply switches wanted none = absurd (true≢false (sym wanted ∙ none))
-spare-switches d _ reply switches wanted none = refl
+keys-answer d past (GetKeys client) given keys wanted are =
+    (λ none. absurd (true≢false (sym wanted ∙ none)), λ code none was. told_bits d past
+    (GetKeys client) EV_KEY key_count code given keys refl (omega arith)
+    (never_down d (raw d past) code none) are was)
+keys-answer d past _ given keys wanted are = (λ none. refl, λ code none was. was)
 
-spare-leds : (d : Description) (x : Step) (reply : Reply) (leds : List Bool) → IsWanted d x → has_kind d EV_LED ≡ false → leds_after_answer x reply leds ≡ leds
+switches-answer : (d : Description) (past : List Step) (x : Step) (given : Answer) (flags : List Bool)
+    → IsWanted d x → IsAnswer d past x given
+    → StaysOff d EV_SW flags (switches_after_answer x given.reply flags)
 unfolding IsWanted
-spare-leds d (GetLeds client) reply leds wanted none = absurd (true≢false (sym wanted ∙ none))
-spare-leds d _ reply leds wanted none = refl
+switches-answer d past (GetSwitches client) given flags wanted are =
+    (λ none. absurd (true≢false (sym wanted ∙ none)), λ code none was. told_bits d past
+    (GetSwitches client) EV_SW code_count code given flags refl (omega arith)
+    (never_on d (raw d past) EV_SW code none) are was)
+switches-answer d past _ given flags wanted are = (λ none. refl, λ code none was. was)
 
-axis-after_reply : (axes : List ℤ) (index code : ℕ) (reply : Reply) → (code ≡ index → ⊥) → slice_index_or (axes_after_reply index reply axes) code (pos 0) ≡ slice_index_or axes code (pos 0)
-axis-after_reply axes index code (Axis at info) h =
-    cond_both (is_multi_touch_code index) _ _ (λ x. slice_index_or x code (pos 0) ≡ slice_index_or axes code (pos 0))
-    (λ _. refl) (λ _. other-stays axes code index info.value h)
-axis-after_reply axes index code _ h = refl
+leds-answer : (d : Description) (past : List Step) (x : Step) (given : Answer) (flags : List Bool)
+    → IsWanted d x → IsAnswer d past x given → StaysOff d EV_LED flags (leds_after_answer x given.reply flags)
+unfolding IsWanted
+leds-answer d past (GetLeds client) given flags wanted are =
+    (λ none. absurd (true≢false (sym wanted ∙ none)), λ code none was. told_bits d past
+    (GetLeds client) EV_LED code_count code given flags refl (omega arith)
+    (never_on d (raw d past) EV_LED code none) are was)
+leds-answer d past _ given flags wanted are = (λ none. refl, λ code none was. was)
 
 spare-axes : (d : Description) (x : Step) (reply : Reply) (axes : List ℤ) (code : ℕ) → IsWanted d x → has_axis d code ≡ false → slice_index_or (axes_after_answer x reply axes) code (pos 0) ≡ slice_index_or axes code (pos 0)
 unfolding IsWanted
-spare-axes d (GetAxis client index) reply axes code wanted none = axis-after_reply axes index code reply (apart d code index none wanted)
+spare-axes d (GetAxis client index) reply axes code wanted none =
+    other-after_reply axes code index reply (λ _. apart d code index none wanted)
 spare-axes d _ reply axes code wanted none = refl
 
 spare-slot : (d : Description) (x : Step) (reply : Reply) (slot : ℤ) → IsWanted d x → d.slots ≡ 0 → slot_after_answer x reply slot ≡ slot
@@ -215,22 +211,17 @@ pub IsSpare-after_answer : (d : Description) (past : List Step) (v : View) (x : 
 unfolding view_after_answer
 IsSpare-after_answer d past v x given wanted are s = record {
   sized = IsSizedFor-after_answer d.slots v x given.reply given.cells (has_cells d past x given v.cells are s.sized.cells) s.sized;
-  keys = λ none. spare-keys d x given.reply v.keys wanted none ∙ s.keys none;
-  switches = λ none. spare-switches d x given.reply v.switches wanted none ∙ s.switches none;
-  leds = λ none. spare-leds d x given.reply v.leds wanted none ∙ s.leds none;
-  key_codes = λ code none. key_codes-answer d past x given v.keys code none are (s.key_codes code none);
-  switch_codes = λ code none. switch_codes-answer d past x given v.switches code none are (s.switch_codes code none);
-  led_codes = λ code none. led_codes-answer d past x given v.leds code none are (s.led_codes code none);
+  keys = λ none. (keys-answer d past x given v.keys wanted are).0 none ∙ s.keys none;
+  switches = λ none. (switches-answer d past x given v.switches wanted are).0 none ∙ s.switches none;
+  leds = λ none. (leds-answer d past x given v.leds wanted are).0 none ∙ s.leds none;
+  key_codes = λ code none. (keys-answer d past x given v.keys wanted are).1 code none (s.key_codes code none);
+  switch_codes = λ code none. (switches-answer d past x given v.switches wanted are).1 code none (s.switch_codes code none);
+  led_codes = λ code none. (leds-answer d past x given v.leds wanted are).1 code none (s.led_codes code none);
   axes = λ code none. spare-axes d x given.reply v.axes code wanted none ∙ s.axes code none;
   slot = λ none. spare-slot d x given.reply v.slot wanted none ∙ s.slot none;
 }
 
 -- A new view
-
-pub all_same : {X : Type 0} (x : X) (n code : ℕ) → slice_index_or (replicate n x) code x ≡ x
-all_same x zero code = refl
-all_same x (suc n) zero = refl
-all_same x (suc n) (suc code) = all_same x n code
 
 pub IsSpare-first_view : (d : Description) → IsSpare d (first_view d)
 unfolding first_view
@@ -239,9 +230,9 @@ IsSpare-first_view d = record {
   keys = λ none. refl;
   switches = λ none. refl;
   leds = λ none. refl;
-  key_codes = λ code none. all_same false key_count code;
-  switch_codes = λ code none. all_same false code_count code;
-  led_codes = λ code none. all_same false code_count code;
-  axes = λ code none. all_same (pos 0) code_count code;
+  key_codes = λ code none. get_or-replicate_same key_count code false;
+  switch_codes = λ code none. get_or-replicate_same code_count code false;
+  led_codes = λ code none. get_or-replicate_same code_count code false;
+  axes = λ code none. get_or-replicate_same code_count code (pos 0);
   slot = λ none. refl;
 }

@@ -47,7 +47,7 @@ events-more f test n wanted event before list new = events-one f test n (where_b
 abbrev pub passing : ℕ → (ℕ → Bool) → ℕ → List ℕ
 passing first test code = filter test (range_with_len first (code - first))
 
-passing-more : (first code : ℕ) (test : ℕ → Bool) → first ≤ code → passing first test (code + 1) ≡ passing first test code ++ cond (test code) (code ∷ []) []
+pub passing-more : (first code : ℕ) (test : ℕ → Bool) → first ≤ code → passing first test (code + 1) ≡ passing first test code ++ cond (test code) (code ∷ []) []
 passing-more first code test h =
     let n : ℕ = code - first in
     let e : code + 1 - first ≡ n + 1 = omega (arith, h) in
@@ -189,7 +189,7 @@ four-parts old one two three four a b c d h1 h2 h3 h4 =
 
 -- All of it
 
-abbrev report : Event
+abbrev pub report : Event
 report = record { kind = EV_SYN; code = SYN_REPORT; value = pos 0 }
 
 pub length-with_report : (list : List Event) → length list ≤ length (with_report list)

@@ -1,5 +1,7 @@
--- The synthesised events that a reader hands out lead from the view that it had to the one that it has.
-use Rattle.std.proofs.Common.{◌≡◌, List, [], ◌∷◌, refl, sym, ap, ◌∙◌, subst}
+-- The views that a reader keeps, and the synthesised events: they lead from the view that it had to the one
+-- that it has, and
+-- each but a report changes the view.
+use Rattle.std.proofs.Common.{◌≡◌, List, [], ◌∷◌, refl, sym, ap, ◌∙◌, subst, ℕ, ◌*◌, ℤ, ◌++◌, length}
 use Rattle.inp_model.specs.declared.event.Event.{Event}
 use Rattle.inp_model.specs.declared.reply.Reply.{Reply}
 use Rattle.inp_model.specs.Description.{Description}
@@ -11,13 +13,103 @@ use Rattle.inp_reader.specs.declared.mode.Mode.TheVariants.{Sync as Synchronisin
 use Rattle.inp_reader.specs.declared.phase.Phase.TheVariants.{Plain, Needed, Handing}
 use Rattle.inp_reader.specs.declared.next.Next.{Next}
 use Rattle.inp_reader.specs.Laws.{AreOfOneDevice}
-use Rattle.inp_reader.specs.Reader.{Reading, stop_of, hand_synthesised, after_full_sync, after_failed_sync, next_talk}
+use Rattle.inp_reader.specs.Reader.{Reading, stop_of, hand_synthesised, after_full_sync, after_failed_sync, next_talk, queries, start_talk, sync_talk}
 use Rattle.inp_reader.specs.Says.{Says}
-use Rattle.inp_reader.specs.KeptViews.{IsKeptView, synthesised_in, LeadsOn}
-use Rattle.inp_reader.proofs.EventsLead.{LeadsTheView-synth}
-use Rattle.inp_reader.proofs.Meets.{Any, IsCallOn}
-use Rattle.inp_reader.proofs.NextWalk.{Renewed, NextRules, next-says, stop-cases}
-use Rattle.inp_reader.proofs.TalkResults.{KeepsOn, sync-kept}
+use Rattle.inp_reader.specs.KeptViews.{IsKeptView, synthesised_in, LeadsOn, KeepsTheView}
+use Rattle.inp_reader.proofs.Meets.{Any, IsCallOn, Meets, says-meets}
+use Rattle.inp_reader.proofs.NextWalk.{Renewed, NextRules, next-says, stop-cases, AskRules, asked-meets, sync-meets, Queried, start-meets}
+use Rattle.std.specs.Prelude.{Result, Ok, Err}
+use Rattle.inp_model.specs.declared.step.Step.{Step}
+use Rattle.inp_reader.specs.declared.mode.Mode.{Mode}
+use Rattle.inp_reader.proofs.UnsetSlotAxes.{IsKeptView-after_event, IsKeptView-after_call}
+use Rattle.inp_reader.specs.Synthesis.{where_below, to_slot, with_report, is_replaced, lifts, is_changed, class_changes, cell_changes, slot_changes, synth}
+use Rattle.inp_reader.proofs.SynthesisedEvents.{last_slot}
+use Rattle.inp_reader.proofs.Puts.{leads-with_report, EachChanges-with_report}
+use Rattle.inp_reader.proofs.Classes.{LeadsTheView, LeadsTheView-behind, leads-classes, with_slots, LeadsTheView-to_slot, LeadsTheView-cells, ended, length-ended, LeadsTheView-lifts}
+
+LeadsTheView-with_report : (v w : View) (es : List Event) → LeadsTheView v w es → LeadsTheView v w (with_report es)
+LeadsTheView-with_report v w es h = record { to = leads-with_report v es ∙ h.to; changes = EachChanges-with_report v es h.changes }
+
+-- from the current slot and the values of an old view to the new one
+LeadsTheView-slots : (slots : ℕ) (old new : View) → length old.cells ≡ 14 * slots → length new.cells ≡ 14 * slots → LeadsTheView (with_slots new old.slot old.cells) new (slot_changes old new)
+LeadsTheView-slots slots old new l m =
+    let last : ℤ = last_slot (where_below slots (is_changed old new)) old.slot in
+    let is_last : (view_after_events old (cell_changes old new)).slot ≡ last = ap (λ (v : View). v.slot) (LeadsTheView-cells slots old old new l m).to in
+    subst (λ (z : ℤ). LeadsTheView (with_slots new old.slot old.cells) new (cell_changes old new ++ to_slot z new.slot)) (sym is_last) (
+    LeadsTheView-behind (with_slots new old.slot old.cells) (with_slots new last new.cells) new (cell_changes old new) (to_slot last new.slot) (LeadsTheView-cells slots new old new l m) (LeadsTheView-to_slot new new.cells last new.slot)
+    )
+
+pub LeadsTheView-synth : (slots : ℕ) (old new : View) → AreOfOneDevice slots old new → LeadsTheView old new (synth old new)
+unfolding synth
+LeadsTheView-synth slots old new h =
+    let replaced : List ℕ = where_below slots (is_replaced old new) in
+    let slot : ℤ = last_slot replaced old.slot in
+    let cells : List ℤ = ended replaced old.cells in
+    let mid : View = with_slots old slot cells in
+    let first : LeadsTheView old mid (lifts old new) = LeadsTheView-lifts slots old old new h.old_sized.cells in
+    let classes : LeadsTheView mid (with_slots new slot cells) (class_changes old new) = leads-classes slots old new slot cells h in
+    let slots_changed : LeadsTheView (with_slots new slot cells) new (slot_changes mid new) = LeadsTheView-slots slots mid new (length-ended replaced old.cells ∙ h.old_sized.cells) h.new_sized.cells in
+    let second : LeadsTheView mid new (class_changes old new ++ slot_changes mid new) = LeadsTheView-behind mid (with_slots new slot cells) new (class_changes old new) (slot_changes mid new) classes slots_changed in
+    subst (λ (v : View). LeadsTheView old new (with_report (lifts old new) ++ with_report (class_changes old new ++ slot_changes v new))) (sym first.to) (
+    LeadsTheView-behind old mid new (with_report (lifts old new)) (with_report (class_changes old new ++ slot_changes mid new)) (LeadsTheView-with_report old mid (lifts old new) first) (
+    LeadsTheView-with_report mid new (class_changes old new ++ slot_changes mid new) second
+    )
+    )
+
+-- a view of this evdev's device
+abbrev pub KeepsOn : Description → EvdevView → View → Type 0
+KeepsOn d told view = (told.description ≡ d) × IsKeptView d view
+
+abbrev KeepsSoFar : Description → EvdevView → View → List Step → Type 0
+KeepsSoFar d told view left = KeepsOn d told view
+
+kept-asks : (d : Description) (Q : EvdevView → Result View Reply → Type 0) → ((told : EvdevView) (view : View) → KeepsOn d told view → Q told (Ok view)) → ((told : EvdevView) (reply : Reply) → told.description ≡ d → Q told (Err reply)) → AskRules Any IsCallOn (KeepsSoFar d) Q
+kept-asks d Q whole stopped = record {
+  asks = λ s view x xs k. tt;
+  told = λ s t view x xs a k h is. (h.description ∙ k.0, IsKeptView-after_call d s t view (record { step = x; answer = a }) k.0 h k.1);
+  stopped = λ s t view x xs a k h is. stopped t a.reply (h.description ∙ k.0);
+  whole = whole;
+}
+
+pub sync-kept : (d : Description) (Q : EvdevView → Result View Reply → Type 0) (told : EvdevView) (r : Reading) → KeepsOn d told r.view
+    → ((t : EvdevView) (view : View) → KeepsOn d t view → Q t (Ok view)) → ((t : EvdevView) (reply : Reply) → t.description ≡ d → Q t (Err reply)) → Meets Any IsCallOn Q told (sync_talk d r)
+sync-kept d Q told r k whole stopped = sync-meets Any IsCallOn (KeepsSoFar d) Q d told r (kept-asks d Q whole stopped) k
+
+abbrev HasKept : {A : Type 0} → Description → EvdevView → A × Reading → Type 0
+HasKept d told result = IsKeptView d result.1.view
+
+abbrev IsOf : Description → EvdevView → Reading → Type 0
+IsOf d told r = KeepsOn d told r.view
+
+kept-rules : (d : Description) (mode : Mode) → NextRules Any IsCallOn (IsOf d) (HasKept d) d mode
+kept-rules d mode = record {
+  asks_read = λ s r k. tt;
+  reads = λ s t r a k plain none h is. (h.description ∙ k.0, k.1);
+  stops = λ s t r a k plain none h is. k.1;
+  hands = λ s r taken rest k plain q is. IsKeptView-after_event d r.view taken.event k.1;
+  loses = λ s r taken rest k plain q is. IsKeptView-after_event d r.view taken.event k.1;
+  empty = λ s r k plain q. k.1;
+  idles = λ s r k plain is. k.1;
+  syncs = λ s r k needed. sync-kept d (Renewed (IsOf d) (HasKept d) r) s r k (λ t view told. told) (λ t reply same. k.1);
+  makes = λ s r event left k handing sync is. k.1;
+  made_all = λ s r k handing sync is. k.1;
+  goes_on = λ s r k handing is. k;
+}
+
+pub next-kept : (d : Description) (mode : Mode) (r : Reading) → KeepsTheView d r (next_talk d mode r)
+next-kept d mode r before after old new result same kept says = next-says (IsOf d) (HasKept d) d mode (kept-rules d mode) before after old new r result (same, kept) says
+
+pub start-kept : (d : Description) (r : Reading) → KeepsTheView d r (start_talk d r)
+start-kept d r before after old new result same kept says =
+    says-meets Any (HasKept d) before after old new (start_talk d r) result
+    (start-meets Any IsCallOn (HasKept d) d r before (record {
+      asks_open = tt;
+      opened = λ t a at client ring h is.
+          asked-meets Any IsCallOn (KeepsSoFar d) (Queried (HasKept d) client ring r) (kept-asks d (Queried (HasKept d) client ring r) (λ u view told. told.1) (λ u reply there. kept)) t (queries d client) r.view (h.description ∙ same, kept);
+      refused = λ t a h other. kept;
+    })) says
+
+-- Handed out
 
 -- two views that a reader of such devices keeps are of one device
 pub AreOfOneDevice-kept : (d : Description) (old new : View) → IsKeptView d old → IsKeptView d new → AreOfOneDevice d.slots old new

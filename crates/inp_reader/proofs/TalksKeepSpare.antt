@@ -1,6 +1,7 @@
 -- `start` and `next` keep in a reader's view what its device cannot have.
-use Rattle.std.proofs.Common.{◌≡◌, ℕ, true, List, [], ◌∷◌, refl, sym, subst}
-use Rattle.std.specs.Prelude.{Result, Ok, Err}
+use Rattle.std.proofs.Common.{◌≡◌, ℕ, true, false, List, [], ◌∷◌, refl, sym, subst}
+use Rattle.std.specs.Prelude.{Result, Ok, Err, Option, Some, None, is_some}
+use Rattle.std.proofs.lemmas.Bool.{true≢false}
 use Rattle.std.specs.List.{All}
 use Rattle.std.proofs.lemmas.List.Elements.{All-nil, All-head, All-tail, All-same}
 use Rattle.inp_model.specs.declared.taken.Taken.{Taken}
@@ -20,6 +21,7 @@ use Rattle.inp_reader.specs.declared.next.Next.{Next}
 use Rattle.inp_reader.specs.declared.started.Started.{Started}
 use Rattle.inp_reader.specs.Reader.{Reading, queries, sync_talk, start_talk, next_talk}
 use Rattle.inp_reader.specs.Spare.{IsSpare, is_event_of, HasSpare}
+use Rattle.inp_reader.specs.ReaderCalls.{asked_result}
 use Rattle.inp_reader.specs.Says.{Says}
 use Rattle.inp_reader.specs.Talk.{EndsWith}
 use Rattle.inp_reader.proofs.Calls.{AreAnswered, answered}
@@ -97,14 +99,16 @@ keeps-next d mode r calls result h are ends =
 
 -- a synchronisation
 
-abbrev pub SpareView : Description → Unit {0} → Result View Reply → Type 0
+abbrev SpareView : Description → Unit {0} → Result View Reply → Type 0
 SpareView d s (Ok view) = IsSpare d view
 SpareView d s (Err reply) = Unit {0}
 
-pub says-keeps_sync : (d : Description) (before after : EvdevView) (old new : List CallMade) (r : Reading) (result : Result View Reply) → before.description ≡ d → IsSpare d r.view → Says before after old new (sync_talk d r) result → SpareView d tt result
-says-keeps_sync d before after old new r result same s h =
-    meets-ends Any (Answered d) (SpareView d) tt tt (sync_talk d r) h.calls result
-    (sync-meets Any (Answered d) (IsSpareSoFar d) (SpareView d) d tt r (spare-asks d (SpareView d) (λ view told. told) (λ reply. tt)) (s, wanted-sync d r.client)) (answered-run d h.calls (answered d before after h.calls same h.are_calls)) h.talk_ends
+-- one that was not refused
+pub spare-synced : (d : Description) (before after : EvdevView) (old new : List CallMade) (r : Reading) (stop : Option Reply) (view : View) → before.description ≡ d → IsSpare d r.view → Says before after old new (sync_talk d r) (asked_result stop view) → is_some stop ≡ false → IsSpare d view
+spare-synced d before after old new r (Some reply) view same s h whole = absurd (true≢false whole)
+spare-synced d before after old new r None view same s h whole =
+    meets-ends Any (Answered d) (SpareView d) tt tt (sync_talk d r) h.calls (Ok view)
+    (sync-meets Any (Answered d) (IsSpareSoFar d) (SpareView d) d tt r (spare-asks d (SpareView d) (λ told is. is) (λ reply. tt)) (s, wanted-sync d r.client)) (answered-run d h.calls (answered d before after h.calls same h.are_calls)) h.talk_ends
 
 -- `start`
 

@@ -1,11 +1,11 @@
 -- The views that a reader keeps: no event and no answer sets an axis whose values belong to slots.
-use Rattle.std.proofs.Common.{◌≡◌, ◌≢◌, ℕ, ◌*◌, ◌≤◌, ℤ, pos, Bool, true, false, cond, not, ◌&&◌, leb, ltb, eqb, List, [], length, set, refl, sym, ap, ◌∙◌, arith, inl, inr, Option, Some, None, subst}
+use Rattle.std.proofs.Common.{◌≡◌, ◌≢◌, ℕ, ◌*◌, ◌≤◌, ℤ, pos, Bool, true, false, cond, not, ◌&&◌, leb, ltb, eqb, List, [], length, set, refl, sym, ap, ◌∙◌, arith}
 use Rattle.std.proofs.lemmas.List.{get_or-set_other, get_or-replicate}
 use Rattle.std.proofs.lemmas.Bool.{cond_both, and_parts, and_from, le-leb, not-true, true≢false}
 use Rattle.inp_model.specs.declared.event.TheConstants.{EV_ABS}
 use Rattle.inp_model.specs.declared.event.Event.{Event}
 use Rattle.inp_model.specs.declared.step.Step.{Step}
-use Rattle.inp_model.specs.declared.step.Step.TheVariants.{Open, GetAxis, SyncSlots}
+use Rattle.inp_model.specs.declared.step.Step.TheVariants.{GetAxis, SyncSlots}
 use Rattle.inp_model.specs.declared.reply.Reply.{Reply}
 use Rattle.inp_model.specs.declared.reply.Reply.TheVariants.{Axis, Cells}
 use Rattle.inp_model.specs.Description.{Description, is_multi_touch_code}
@@ -14,13 +14,13 @@ use Rattle.inp_model.specs.Evdev.{EvdevView, IsCall}
 use Rattle.inp_model.specs.Past.{past_at}
 use Rattle.inp_model.specs.Raw.{raw}
 use Rattle.inp_model.specs.Run.{Call, place_of}
-use Rattle.inp_model.specs.Reply.{Answer, IsAnswer, answer_by, accepted, refused, is_accepted}
+use Rattle.inp_model.specs.Reply.{Answer, IsAnswer, is_accepted}
 use Rattle.inp_recon.specs.declared.view.View.{View}
-use Rattle.inp_recon.specs.View.{first_view, view_after_event, view_after_answer, with_value_at, axes_after_reply, axes_after_answer, AreCells, HasCells}
+use Rattle.inp_recon.specs.View.{first_view, view_after_event, view_after_answer, with_value_at, axes_after_event, axes_after_reply, axes_after_answer, AreCells, HasCells}
 use Rattle.inp_recon.proofs.Sizes.{IsSizedFor-first_view, IsSizedFor-after_event, IsSizedFor-after_answer}
+use Rattle.inp_reader.proofs.QueryAnswers.{answered-as}
 use Rattle.inp_reader.specs.Synthesis.{value_at}
 use Rattle.inp_reader.specs.KeptViews.{IsKeptView}
-use Rattle.inp_model.proofs.Refused.{refused-not_accepted}
 use Rattle.inp_recon.proofs.ViewSteps.{length-rows}
 
 -- ---- one axis
@@ -37,23 +37,33 @@ other-stays axes code other x h =
 apart : (code other : ℕ) → is_multi_touch_code code ≡ true → is_multi_touch_code other ≡ false → code ≢ other
 apart code other h m e = true≢false (sym h ∙ ap is_multi_touch_code e ∙ m)
 
--- after an event
-axis-event : (axes : List ℤ) (code : ℕ) (e : Event) (b : Bool) → is_multi_touch_code code ≡ true → (eqb e.kind EV_ABS && not (is_multi_touch e)) ≡ b → value_at (cond b (with_value_at 64 axes e.code e.value) axes) code ≡ value_at axes code
-axis-event axes code e true h t =
+-- an event that sets an axis sets one that is no slot's
+sets-plain : (e : Event) → (eqb e.kind EV_ABS && not (is_multi_touch e)) ≡ true
+    → (eqb e.kind EV_ABS ≡ true) × (is_multi_touch_code e.code ≡ false)
+sets-plain e t =
     let both = and_parts (eqb e.kind EV_ABS) (not (is_multi_touch e)) t in
-    let plain : is_multi_touch_code e.code ≡ false = ap (λ (b : Bool). b && is_multi_touch_code e.code) (sym both.0) ∙ not-true (is_multi_touch e) both.1 in
-    other-stays axes code e.code e.value (apart code e.code h plain)
-axis-event axes code e false h t = refl
+    (both.0, ap (λ (b : Bool). b && is_multi_touch_code e.code) (sym both.0)
+    ∙ not-true (is_multi_touch e) both.1)
 
 -- after an answer
-axis-reply : (axes : List ℤ) (code asked : ℕ) (reply : Reply) → is_multi_touch_code code ≡ true → value_at (axes_after_reply asked reply axes) code ≡ value_at axes code
-axis-reply axes code asked (Axis at info) h =
+-- nor does an answer or an event on another one change it
+pub other-after_reply : (axes : List ℤ) (code asked : ℕ) (reply : Reply)
+    → (is_multi_touch_code asked ≡ false → code ≢ asked) → value_at (axes_after_reply asked reply axes) code ≡ value_at axes code
+other-after_reply axes code asked (Axis at info) h =
     cond_both (is_multi_touch_code asked) _ _ (λ (xs : List ℤ). value_at xs code ≡ value_at axes code)
-    (λ _. refl) (λ m. other-stays axes code asked info.value (apart code asked h m))
-axis-reply axes code asked _ h = refl
+    (λ _. refl) (λ m. other-stays axes code asked info.value (h m))
+other-after_reply axes code asked _ h = refl
+
+pub other-after_event : (axes : List ℤ) (code : ℕ) (e : Event)
+    → (eqb e.kind EV_ABS ≡ true → is_multi_touch_code e.code ≡ false → code ≢ e.code)
+    → value_at (axes_after_event axes e) code ≡ value_at axes code
+other-after_event axes code e h =
+    cond_both (eqb e.kind EV_ABS && not (is_multi_touch e)) (with_value_at 64 axes e.code e.value) axes
+    (λ (xs : List ℤ). value_at xs code ≡ value_at axes code)
+    (λ t. let own = sets-plain e t in other-stays axes code e.code e.value (h own.0 own.1)) (λ _. refl)
 
 axis-answer : (axes : List ℤ) (code : ℕ) (x : Step) (reply : Reply) → is_multi_touch_code code ≡ true → value_at (axes_after_answer x reply axes) code ≡ value_at axes code
-axis-answer axes code (GetAxis client asked) reply h = axis-reply axes code asked reply h
+axis-answer axes code (GetAxis client asked) reply h = other-after_reply axes code asked reply (apart code asked h)
 axis-answer axes code _ reply h = refl
 
 -- ---- a view
@@ -66,7 +76,8 @@ pub IsKeptView-after_event : (d : Description) (v : View) (e : Event) → IsKept
 unfolding view_after_event
 IsKeptView-after_event d v e h = record {
   sized = IsSizedFor-after_event d.slots v e h.sized;
-  axes = λ code from to. axis-event v.axes code e (eqb e.kind EV_ABS && not (is_multi_touch e)) (multi_touch code from to) refl ∙ h.axes code from to;
+  axes = λ code from to.
+      other-after_event v.axes code e (λ _ own. apart code e.code (multi_touch code from to) own) ∙ h.axes code from to;
 }
 
 IsKeptView-after_answer : (d : Description) (v : View) (x : Step) (reply : Reply) (buffer : List ℤ) → HasCells x reply v.cells buffer → IsKeptView d v → IsKeptView d (view_after_answer v x reply buffer)
@@ -82,13 +93,11 @@ refused_cells : (reply : Reply) (cells buffer : List ℤ) → is_accepted reply 
 refused_cells (Cells at count slot) cells buffer h = absurd (true≢false h)
 refused_cells _ cells buffer h = tt
 
-has_cells_by : (d : Description) (past : List Step) (client : ℕ) (cells : List ℤ) (o : Option Reply) → refused d past (SyncSlots client) ≡ o → length cells ≡ 14 * d.slots → (let given : Answer = answer_by o (accepted d past (SyncSlots client)) in AreCells given.reply cells given.cells)
-has_cells_by d past client cells None e fits = omega (arith, fits, length-rows d (raw d past))
-has_cells_by d past client cells (Some reply) e fits = refused_cells reply cells [] (refused-not_accepted d past (SyncSlots client) reply e)
-
 pub has_cells : (d : Description) (past : List Step) (x : Step) (given : Answer) (cells : List ℤ) → IsAnswer d past x given → length cells ≡ 14 * d.slots → HasCells x given.reply cells given.cells
-has_cells d past (SyncSlots client) given cells (inl e) fits = let P : Answer → Type 0 = λ a. AreCells a.reply cells a.cells in subst P (sym e) (has_cells_by d past client cells (refused d past (SyncSlots client)) refl fits)
-has_cells d past (SyncSlots client) given cells (inr l) fits = let no : SyncSlots client ≡ Open = l.0 in absurd cc
+has_cells d past (SyncSlots client) given cells are fits =
+    answered-as d past (SyncSlots client) given (λ a. AreCells a.reply cells a.cells) are
+    (omega (arith, fits, length-rows d (raw d past)))
+    (λ reply off. refused_cells reply cells [] off)
 has_cells d past _ given cells h fits = tt
 
 pub IsKeptView-after_call : (d : Description) (before after : EvdevView) (v : View) (call : Call) → before.description ≡ d → IsCall before after call → IsKeptView d v → IsKeptView d (view_after_answer v call.step call.answer.reply call.answer.cells)

@@ -1,5 +1,5 @@
 -- The laws of the synthesised events.
-use Rattle.inp_reader.proofs.EventsLead.{LeadsTheView-synth}
+use Rattle.inp_reader.proofs.SynthesisedViews.{LeadsTheView-synth}
 use Rattle.inp_reader.proofs.Counts.{length-synth}
 use Rattle.inp_reader.proofs.laws.synthesis.Goals as goal
 

@@ -1,7 +1,6 @@
 -- The laws of the views that a reader keeps.
 use Rattle.inp_reader.proofs.UnsetSlotAxes.{IsKeptView-first_view}
-use Rattle.inp_reader.proofs.TalkResults.{start-kept, next-kept}
-use Rattle.inp_reader.proofs.SynthesisedViews.{AreOfOneDevice-kept, leads-next, leads-from_needed, leads-from_handing}
+use Rattle.inp_reader.proofs.SynthesisedViews.{start-kept, next-kept, AreOfOneDevice-kept, leads-next, leads-from_needed, leads-from_handing}
 use Rattle.inp_reader.proofs.laws.views.Goals as goal
 
 pub returns : goal.returns

@@ -1,6 +1,6 @@
 use Rattle.std.proofs.Common.{◌+◌, length, ap, ◌∙◌, arith}
 use Rattle.inp_reader.specs.Reader.{Reading}
-use Rattle.inp_joy.proofs.NewJoys.{new-joy}
+use Rattle.inp_joy.proofs.TurnEnds.{new-joy}
 use Rattle.inp_joy.proofs.joy.Joy.new.Goals as goal
 
 pub invariant_of-result : goal.invariant_of-result

@@ -1,6 +1,6 @@
 use Rattle.std.proofs.Common.{◌++◌, ◌∙◌, ap, List}
 use Rattle.inp_reader.specs.declared.call_made.CallMade.{CallMade}
-use Rattle.inp_reader.proofs.TalkResults.{next-kept}
+use Rattle.inp_reader.proofs.SynthesisedViews.{next-kept}
 use Rattle.inp_joy.proofs.ReaderCalls.{calls-next}
 use Rattle.inp_joy.proofs.joy_state.JoyState.next.Goals as goal
 

@@ -5,7 +5,7 @@ use Rattle.inp_reader.specs.Reader.{Reading, ReaderView}
 use Rattle.inp_reader.specs.Session.{reading_of}
 use Rattle.inp_reader.specs.Spare.{HasSpare}
 use Rattle.inp_reader.specs.ReaderPlace.{StandsAt}
-use Rattle.inp_reader.proofs.RunsStand.{keeps-run, stands-run}
+use Rattle.inp_reader.proofs.Runs.{keeps-run, stands-run}
 use Rattle.inp_reader.proofs.reader.Reader.take_queued.Goals as goal
 
 pub invariant_of-self : goal.invariant_of-self

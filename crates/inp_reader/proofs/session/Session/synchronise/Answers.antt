@@ -4,8 +4,9 @@ use Rattle.inp_reader.specs.Reader.{queries, sync_talk}
 use Rattle.inp_reader.proofs.SaysSessions.{says-view}
 use Rattle.inp_reader.specs.Session.{reading_of}
 use Rattle.inp_reader.specs.Spare.{IsSpare}
-use Rattle.inp_reader.proofs.Slots.{slots-of}
-use Rattle.inp_reader.proofs.Rooms.{classes_few, spare-synced}
+use Rattle.inp_reader.proofs.Classes.{slots-of}
+use Rattle.inp_reader.proofs.Counts.{classes_few}
+use Rattle.inp_reader.proofs.TalksKeepSpare.{spare-synced}
 use Rattle.inp_reader.proofs.session.Session.synchronise.Goals as goal
 
 pub returns-then-is_some-clause-says : goal.returns-then-is_some-clause-says
