@@ -1,5 +1,5 @@
 pub mod Lists
-pub mod LineRuns
+pub mod LinesWalk
 pub mod Entries
 pub mod views
 pub mod memory

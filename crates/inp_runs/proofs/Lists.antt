@@ -1,5 +1,5 @@
 -- Lists by their elements: one that is replaced, those that a test keeps, and sums over them.
-use Rattle.std.proofs.Common.{◌≡◌, ℕ, zero, suc, ◌+◌, Bool, true, false, if◌then◌else◌, cond, nat_eq, List, [], ◌∷◌, map, refl, sym, ap, ◌∙◌, arith, zero-add, ◌⊎◌, inl, inr, Option, Some, None}
+use Rattle.std.proofs.Common.{◌≡◌, ℕ, zero, suc, ◌+◌, Bool, true, false, if◌then◌else◌, cond, nat_eq, List, [], ◌∷◌, map, refl, sym, ap, ◌∙◌, arith, zero-add, ◌⊎◌, inl, inr, Option, Some, None, ◌<◌, length}
 use Rattle.std.specs.Prelude.{filter, slice_get, slice_set, option_map}
 use Rattle.std.specs.List.{enumerate_from, range_with_len, sum_by}
 use Rattle.std.proofs.lemmas.Bool.Decides.{nat_tests}
@@ -55,6 +55,11 @@ pub slice_get-numbered : {X : Type 0} (first : ℕ) (xs : List X) (i : ℕ) → 
 slice_get-numbered first [] i = refl
 slice_get-numbered first (x ∷ xs) zero = let same : first ≡ first + 0 = omega arith in ap (λ (n : ℕ). Some (n, x)) same
 slice_get-numbered {X = X} first (y ∷ xs) (suc i) = let same : (first + 1) + i ≡ first + suc i = omega arith in slice_get-numbered (first + 1) xs i ∙ ap (λ (n : ℕ). option_map (λ (x : X). (n, x)) (slice_get xs i)) same
+
+pub there-is : {X : Type 0} (xs : List X) (i : ℕ) → i < length xs → (x : X) × (slice_get xs i ≡ Some x)
+there-is [] i h = absurd (omega (arith, h))
+there-is (x ∷ xs) zero h = (x, refl)
+there-is (x ∷ xs) (suc i) h = there-is xs i (omega (arith, h))
 
 -- an element of a map
 pub record IsImage {X Y : Type 0} (f : X → Y) (o : Option X) (y : Y) : Type 0 where

@@ -1,6 +1,6 @@
 -- Each loss in a queue has its cause.
 use Rattle.std.proofs.lemmas.Bool.{true≢false, cond_both, eqb-true}
-use Rattle.std.proofs.Common.{◌≡◌, ◌≤◌, ◌<◌, ◌⊎◌, ℕ, zero, suc, ◌*◌, Bool, true, false, ◌&&◌, ◌||◌, if◌then◌else◌, nat_eq, nat_lt, nat_le, min, List, [], ◌∷◌, ◌++◌, length, drop, refl, sym, ap, subst, ◌∙◌, inl, inr, Option, Some, None, arith, append_assoc, length-append}
+use Rattle.std.proofs.Common.{◌≡◌, ◌≤◌, ◌<◌, ◌⊎◌, ℕ, zero, suc, ◌*◌, Bool, true, false, ◌&&◌, ◌||◌, if◌then◌else◌, nat_eq, nat_lt, nat_le, min, List, [], ◌∷◌, ◌++◌, length, refl, sym, ap, subst, ◌∙◌, inl, inr, Option, Some, None, arith, append_assoc, length-append, length-drop}
 use Rattle.std.specs.List.{slice_get}
 use Rattle.std.proofs.lemmas.Bool.Decides.{nat_tests}
 use Rattle.inp_model.specs.declared.clock.Clock.{Clock}
@@ -61,11 +61,6 @@ put_all-room : (places : ℕ) (q xs : List Entry) → 64 ≤ places → length q
 put_all-room places q [] most room = room
 put_all-room places q (x ∷ xs) most room = put_all-room places (put event_of entry_dropped_at places q x) xs most (put-room places q x most room)
 
-drop-length : (n : ℕ) (q : List Entry) → length (drop n q) ≤ length q
-drop-length zero q = omega arith
-drop-length (suc n) [] = omega arith
-drop-length (suc n) (x ∷ q) = omega (arith, drop-length n q)
-
 flush_for-length : (o : Option Query) (q : List Entry) → length (flush_for event_of o q) ≤ length q
 flush_for-length None q = omega arith
 flush_for-length (Some query) q = flush-length event_of (is_part_of query) q
@@ -77,8 +72,8 @@ clock-room false e (x ∷ q) places most room = omega (arith, most)
 
 call-room : (d : Description) (past : List Step) (x : Step) (q : List Entry) → length q < ring d → length (left_by_call d past x q) < ring d
 call-room d past Open q room = omega (arith, room)
-call-room d past (Read client count) q room = omega (arith, room, drop-length (min count (visible event_of q)) q)
-call-room d past (Discard client) q room = omega (arith, room, drop-length (visible event_of q) q)
+call-room d past (Read client count) q room = omega (arith, room, length-drop (min count (visible event_of q)) q)
+call-room d past (Discard client) q room = omega (arith, room, length-drop (visible event_of q) q)
 call-room d past (ToClock client clock now) q room = clock-room (is_same_clock (clock_of past client) clock) (clock_entry d past clock now) q (ring d) (ring-places d) room
 call-room d past x q room = omega (arith, room, flush_for-length (query_of x) q)
 

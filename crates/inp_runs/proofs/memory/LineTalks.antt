@@ -24,7 +24,7 @@ use Rattle.inp_joy.specs.declared.joy_read.JoyRead.TheVariants.{Again as Nothing
 use Rattle.inp_joy.specs.declared.joy_record.JoyRecord.{JoyRecord}
 use Rattle.inp_joy.specs.JoyRecord.{bytes_of_record}
 use Rattle.inp_joy.specs.Joy as joy
-use Rattle.inp_joy.specs.Joy.{Joying, JoyAnswer, JoyTurn, gives, goes_on as reads_on, startup, with_reading, joy_started, joy_start, joy_record_of, record_or_on, joying_after_event, joying_after_sync, sync_turn, after_normal, event_turn, record_or_turn, turn_talk, with_count, is_long, after_turn, turns}
+use Rattle.inp_joy.specs.Joy.{Joying, JoyAnswer, with_reading, joy_started, joy_start, turns}
 use Rattle.inp_joy.proofs.TurnsWalk.{OfAnswer, TurnRules, turns-meets}
 use Rattle.inp_reader.specs.ReaderPlace.{is_needed}
 use Rattle.inp_reader.specs.Talk.{Talk, finish, and_then}
@@ -38,14 +38,14 @@ use Rattle.inp_script.specs.Legal.{is_call_entry}
 use Rattle.inp_script.specs.Line.{after_call, event_of_taken, after_tap_call}
 use Rattle.inp_script.specs.Sight.{call_sight, again_sight, taken_sight, sight_of_call, noted, start_lacks_memory, stop_after_start}
 use Rattle.inp_script.proofs.Told.{no_calls_taken, call_kept, again_kept}
-use Rattle.inp_runs.specs.Job.{on_job, lines_talk}
+use Rattle.inp_runs.specs.Job.{lines_talk}
 use Rattle.inp_runs.proofs.Entries.{call_entries}
 use Rattle.inp_script.specs.declared.waiting.Waiting.{Waiting}
 use Rattle.inp_reader.proofs.Meets.{Meets, Any, meets-then, meets-weaker}
 use Rattle.inp_script.proofs.LineWalk.{NotedBy, meets-noted, OfJob, OfTurn, OfGoing, read_so, start_job-meets, round-meets, LineRules, line-meets}
 use Rattle.inp_script.proofs.JoyWalk.{AfterRead, AfterTurns, joystick-meets}
-use Rattle.inp_runs.proofs.memory.LeftByTalks.{EntriesBy, Leaves}
-use Rattle.inp_runs.proofs.memory.ReaderTalks.{Both, IsSizedReader, LeavesNext, IsStarted, IsNext, again_of, sized-answered, answers-start, answers-next}
+use Rattle.inp_runs.proofs.memory.ReaderTalks.{EntriesBy, Leaves, Both, IsSizedReader, LeavesNext, IsStarted, IsNext, again_of, sized-answered, answers-start, answers-next}
+use Rattle.inp_runs.proofs.LinesWalk.{any-lines, lines-keep}
 
 -- the job's view has the device's slots, and its sight tells of these calls
 abbrev pub IsKept : Description → Job → List Sight → Type 0
@@ -243,12 +243,6 @@ leaves-line role d streams n command j entries h = line-meets (EntriesBy d) (Kep
 
 -- Lines, one after another
 pub leaves-lines : (role : Role) (d : Description) (streams : List (List Stamped)) (n : ℕ) (lines : List Line) (j : Job) (entries : List Sight) → IsKept d j entries → Leaves d (IsKeptIfSome d) entries (lines_talk role d streams None n lines j)
-unfolding lines_talk
-leaves-lines role d streams n [] j entries h = h
-leaves-lines role d streams n (line ∷ lines) j entries h =
-    meets-then Any (EntriesBy d) (OfJob (KeptAt d)) (OfJob (KeptAt d)) entries (line_talk role d streams None n line.command j) (on_job (lines_talk role d streams None n lines)) (leaves-line role d streams n line.command j entries h)
-    (λ es o k. by o es (λ (mid : Job) m. leaves-lines role d streams n lines mid es m) k)
-  where
-    by : (o : Option Job) (es : List Sight) → ((mid : Job) → IsKept d mid es → Leaves d (IsKeptIfSome d) es (lines_talk role d streams None n lines mid)) → IsKeptIfSome d o es → Leaves d (IsKeptIfSome d) es (on_job (lines_talk role d streams None n lines) o)
-    by None es more k = tt
-    by (Some mid) es more k = more mid k
+leaves-lines role d streams n lines j entries h =
+    lines-keep (EntriesBy d) (KeptAt d) (λ command. Unit {0}) role d streams None n
+    (λ command any s k. leaves-line role d streams n command k s) (λ s k i. i) lines (any-lines lines) entries j h

@@ -44,7 +44,8 @@ use Rattle.inp_script.specs.Sight.{noted, call_sight}
 use Rattle.inp_script.proofs.Replies.{answer_has}
 use Rattle.inp_runs.specs.Job.{on_job, last_talk, lines_talk, call_lacks_memory}
 use Rattle.inp_runs.proofs.views.Folded.{AreOfRole}
-use Rattle.inp_runs.proofs.memory.LeftByTalks.{AreAnswered}
+use Rattle.inp_runs.proofs.memory.ReaderTalks.{AreAnswered}
+use Rattle.inp_runs.proofs.LinesWalk.{is_open_if}
 
 -- where an Open is refused for want of memory nothing more is asked, and there is no job
 abbrev pub GivesUp : Talk (Option Job) → Type 0
@@ -127,10 +128,6 @@ gives_up-start d j = ((λ e n. refl), λ answer. by_reply answer.reply (j.sight 
     by_reply _ sight = tt
 
 -- Single calls
-
-abbrev is_open_if : Option Step → Bool
-is_open_if None = false
-is_open_if (Some x) = is_open_step x
 
 gives_up-call : (o : Option Step) (j : Job) → is_open_if o ≡ false → GivesUp (call_if j o)
 gives_up-call None j h = tt
@@ -246,10 +243,7 @@ gives_up-end (Some stop) j = tt
 gives_up-last : (wait : Option Waiting) (role : Role) (j : Job) → GivesUp (last_talk wait role j)
 gives_up-last None role j = tt
 gives_up-last (Some waiting) Source j = gives_up-end j.stop j
-gives_up-last (Some waiting) Client j = tt
-gives_up-last (Some waiting) Tap j = tt
-gives_up-last (Some waiting) Joy j = tt
-gives_up-last (Some waiting) Owner j = tt
+gives_up-last (Some waiting) _ j = tt
 
 pub gives_up-lines : (role : Role) (d : Description) (streams : List (List Stamped)) (wait : Option Waiting) (n : ℕ) (lines : List Line) (j : Job) → AreOfRole role lines → GivesUp (lines_talk role d streams wait n lines j)
 unfolding lines_talk

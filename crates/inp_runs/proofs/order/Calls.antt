@@ -17,7 +17,7 @@ use Rattle.inp_script.proofs.Replies.{answer_has}
 use Rattle.inp_script.proofs.Runs.{runs-on}
 use Rattle.inp_model.proofs.Leaves.{seen-kept}
 use Rattle.inp_runs.specs.Job.{call_lacks_memory}
-use Rattle.inp_runs.proofs.memory.LeftByTalks.{AreAnswered}
+use Rattle.inp_runs.proofs.memory.ReaderTalks.{AreAnswered}
 use Rattle.inp_runs.proofs.memory.Memory.{answered-memory}
 
 -- the calls that a talk makes are its own

@@ -21,7 +21,7 @@ use Rattle.inp_script.specs.Job.{ActorView}
 use Rattle.inp_script.specs.Owner.{Owning, after_feedback}
 use Rattle.inp_runs.specs.Job.{lines_by}
 use Rattle.inp_runs.specs.Owner.{rooms_of}
-use Rattle.inp_runs.proofs.LineRuns.{lines_by-more, lines_by-other}
+use Rattle.inp_runs.proofs.LinesWalk.{lines_by-more, lines_by-other}
 use Rattle.inp_runs.proofs.Lists.{eq_true, eq_false, slice_get-set, slice_get-set_same}
 use Rattle.inp_runs.specs.Play.{Stage, description_at, feedback_calls_after, after_line, after_lines}
 use Rattle.inp_runs.proofs.order.Calls.{AreExact}

@@ -1,5 +1,5 @@
 -- The calls of a job have each use of each client that it opened.
-use Rattle.std.proofs.Common.{◌≡◌, ◌<◌, ℕ, Bool, true, false, not, if◌then◌else◌, List, [], ◌∷◌, length, refl, sym, ap, ◌∙◌, arith, Option, Some, None}
+use Rattle.std.proofs.Common.{◌≡◌, ◌<◌, ℕ, true, List, length, sym, ap, arith, Option, Some, None}
 use Rattle.std.specs.Prelude.{slice_get}
 use Rattle.std.specs.List.{list_any}
 use Rattle.std.proofs.lemmas.Bool.{true≢false, and_parts, eqb-true}
@@ -7,7 +7,7 @@ use Rattle.inp_model.specs.declared.stamped.Stamped.{Stamped}
 use Rattle.inp_model.specs.declared.step.Step.{Step}
 use Rattle.inp_model.specs.Description.{Description}
 use Rattle.inp_model.specs.Past.{opens, is_open}
-use Rattle.inp_model.specs.Reply.{Case, refusals, first_reply, refused, is_bad_client}
+use Rattle.inp_model.specs.Reply.{refused, is_bad_client}
 use Rattle.inp_model.specs.Run.{Call, IsLegalRun}
 use Rattle.inp_model.specs.Step.{client_of, is_same}
 use Rattle.inp_actors.specs.declared.line.Line.{Line}
@@ -23,6 +23,7 @@ use Rattle.inp_runs.specs.Job.{lines_talk, AreTold}
 use Rattle.inp_runs.proofs.Entries.{told-counts}
 use Rattle.inp_runs.proofs.views.JobClients.{job-names}
 use Rattle.inp_runs.proofs.owners.Owners.{HasOwners, is_opened_as, own-steps}
+use Rattle.inp_model.proofs.Allowed.{named_open, head_fails}
 
 -- each use of a client that these calls opened is one of them
 abbrev pub OwnsItsUses : List Step → List Call → Type 0
@@ -44,27 +45,9 @@ pub own-uses : (role : Role) (d : Description) (history : List Step) (streams : 
 own-uses role d history streams wait rounds lines jobs i job last calls owners is_job legal told follows = λ client place x opened at used.
     own-steps d history jobs i job (record { calls = calls; legal = legal; told = told-counts wait calls job.sight told; names = (job-names role d streams wait rounds lines last calls follows).0 }) client place x owners is_job opened at (use-names client x used)
 
-abbrev first_holds : List Case → Bool
-first_holds [] = false
-first_holds (case ∷ cases) = case.holds
-
-first-none : (cases : List Case) → first_reply cases ≡ None → first_holds cases ≡ false
-first-none [] h = refl
-first-none (case ∷ cases) h = by case.holds h
-  where
-    by : (b : Bool) → (if b then Some case.reply else first_reply cases) ≡ None → b ≡ false
-    by true e = absurd cc
-    by false e = refl
-
 -- a step that names a client and is not refused has one that is open
 pub names-open : (d : Description) (past : List Step) (x : Step) (client : ℕ) → refused d past x ≡ None → client_of x ≡ Some client → is_open past client ≡ true
-names-open d past x client accepts names =
-    let good : is_bad_client past (client_of x) ≡ false = first-none (refusals d past x) accepts in
-    by (is_open past client) (sym (ap (λ (o : Option ℕ). is_bad_client past o) names) ∙ good)
-  where
-    by : (b : Bool) → not b ≡ false → b ≡ true
-    by true h = refl
-    by false h = absurd (true≢false h)
+names-open d past x client accepts names = named_open past x client names (head_fails (is_bad_client past (client_of x)) _ _ accepts)
 
 -- no client of a short history has the last number
 pub opened-number : (past : List Step) (client : ℕ) → length past < NO_CLIENT → client < opens past → client < NO_CLIENT

@@ -4,8 +4,8 @@ use Rattle.std.specs.Prelude.{slice_get}
 use Rattle.std.specs.List.{list_any, sum_by}
 use Rattle.std.proofs.lemmas.Bool.{true≢false, cases_lt, cond-true, lt-ltb, eqb-true}
 use Rattle.std.proofs.lemmas.List.{reverse-append, length-reverse, length-take, take_all}
-use Rattle.std.proofs.lemmas.List.Sums.{sum_by-cons}
-use Rattle.std.proofs.lemmas.Option.{slice_get_within, same_Some}
+use Rattle.std.proofs.lemmas.List.Sums.{sum_by-cons, get_or-le-sum_by}
+use Rattle.std.proofs.lemmas.Option.{slice_get_within, same_Some, get_or_from_slice_get}
 use Rattle.inp_model.specs.declared.limits.TheConstants.{LOG_MAX}
 use Rattle.inp_model.specs.declared.stamped.Stamped.{Stamped}
 use Rattle.inp_model.specs.declared.step.Step.{Step}
@@ -63,13 +63,7 @@ short-history d history is h =
 -- Sums of one
 
 term-within : {X : Type 0} (f : X → ℕ) (xs : List X) (i : ℕ) (x : X) → slice_get xs i ≡ Some x → f x ≤ sum_by f xs
-term-within f [] i x h = absurd cc
-term-within f (z ∷ xs) zero x h =
-    let same : z ≡ x = cc in
-    omega (arith, ap f same, sum_by-cons f z xs)
-term-within f (z ∷ xs) (suc i) x h =
-    let more : f x ≤ sum_by f xs = term-within f xs i x h in
-    omega (arith, more, sum_by-cons f z xs)
+term-within f xs i x h = omega (arith, get_or-le-sum_by f xs i x (slice_get_within xs i x h), ap f (get_or_from_slice_get xs i x x h))
 
 -- where a sum is one at most, one item alone counts
 only-one : {X : Type 0} (f : X → ℕ) (xs : List X) (i k : ℕ) (x y : X) → slice_get xs i ≡ Some x → slice_get xs k ≡ Some y → sum_by f xs ≤ 1 → 1 ≤ f x → 1 ≤ f y → x ≡ y

@@ -3,10 +3,9 @@ use Rattle.std.proofs.Common.{◌≡◌, ◌≤◌, ◌<◌, inl, inr, ℕ, zero
 use Rattle.std.specs.Prelude.{slice_get}
 use Rattle.std.specs.List.{All}
 use Rattle.std.proofs.lemmas.Bool.{true≢false, cond-false, cases_lt, lt-ltb, false_from_ne_true, cond_both}
-use Rattle.std.proofs.lemmas.List.{ext_get_or, length-replicate, length-take, nil_from_length, reverse-append, take_more}
+use Rattle.std.proofs.lemmas.List.{ext_get_or, length-replicate, length-take, nil_from_length, reverse-append}
 use Rattle.std.proofs.lemmas.List.Elements.{All-nil, All-head, All-tail, All-take}
 use Rattle.std.proofs.lemmas.List.FromFn.{length-map-range_with_len}
-use Rattle.std.proofs.lemmas.Option.{slice_get_within, get_or_from_slice_get}
 use Rattle.inp_model.specs.declared.event.Event.{Event}
 use Rattle.inp_model.specs.declared.event.TheConstants.{EV_KEY, EV_SW, EV_LED}
 use Rattle.inp_model.specs.declared.taken.Taken.{Taken}
@@ -44,11 +43,15 @@ use Rattle.inp_reader.proofs.SpareAgrees.{no-keys, no-switches, no-leds, keys-st
 use Rattle.inp_reader.proofs.Supported.{events-of}
 use Rattle.inp_script.specs.declared.sight.Sight.{Sight}
 use Rattle.inp_script.specs.declared.sight.Sight.TheVariants.{Call as CallSight, Took, Made, Again as AgainSight, Record}
-use Rattle.inp_script.specs.Sight.{call_sight, again_sight}
+use Rattle.inp_script.specs.Sight.{call_sight, again_sight, taken_sight}
+use Rattle.inp_script.specs.Job.{Job}
+use Rattle.inp_script.specs.Line.{after_call}
+use Rattle.inp_reader.proofs.Meets.{Runs}
 use Rattle.inp_script.proofs.Told.{noted_sight}
 use Rattle.inp_runs.specs.JobViews.{AgreesIn, ShowsAt}
 use Rattle.inp_script.proofs.Runs.{next_place-within}
 use Rattle.inp_model.proofs.Injection.{past-shorter}
+use Rattle.inp_runs.proofs.owners.Owners.{past-next}
 
 -- ---- what a sight took
 
@@ -90,7 +93,32 @@ at_each-noted P before (call ∷ calls) =
     at_each-append P before (call_sight call.step call.answer.reply) (noted_sight calls) (at_each-call P before call.step call.answer.reply)
     (at_each-noted P (before ++ call_sight call.step call.answer.reply) calls)
 
+-- what a call tells of, and then the events that it gave
+pub at_each-told : (P : List Sight → Taken → Type 0) (sight : List Sight) (x : Step) (reply : Reply) (events : List Taken)
+    → AtEach P [] sight → AtEach P (sight ++ (call_sight x reply ++ again_sight reply)) (map taken_sight events)
+    → AtEach P [] (sight ++ ((call_sight x reply ++ again_sight reply) ++ map taken_sight events))
+at_each-told P sight x reply events s es =
+    at_each-append P [] sight ((call_sight x reply ++ again_sight reply) ++ map taken_sight events) s
+    (at_each-append P sight (call_sight x reply ++ again_sight reply) (map taken_sight events)
+    (at_each-append P sight (call_sight x reply) (again_sight reply) (at_each-call P sight x reply)
+    (at_each-again P (sight ++ call_sight x reply) reply)) es)
+
+-- a call that gave no event
+pub at_each-eventless : (P : List Sight → Taken → Type 0) (j : Job) (x : Step) (a : Answer) → a.events ≡ []
+    → AtEach P [] j.sight → AtEach P [] (after_call j x a).sight
+at_each-eventless P j x a none s =
+    at_each-told P j.sight x a.reply a.events s
+    (subst (λ (ts : List Taken). AtEach P (j.sight ++ (call_sight x a.reply ++ again_sight a.reply)) (map taken_sight ts)) (sym none) tt)
+
 -- ---- a history that grows
+
+-- what is shown, told by what is the same
+pub shows-as : (d : Description) (past : List Step) (client now : ℕ) (own here : Option ℕ) (taken : Taken) (view shown : View)
+    → now ≡ client → here ≡ own → shown ≡ view → ShowsAt d past client own taken view → ShowsAt d past now here taken shown
+shows-as d past client now own here taken view shown n o v s =
+    subst (λ (m : ℕ). ShowsAt d past m here taken shown) (sym n)
+    (subst (λ (i : Option ℕ). ShowsAt d past client i taken shown) (sym o)
+    (subst (λ (w : View). ShowsAt d past client own taken w) (sym v) s))
 
 shows-one : (d : Description) (past : List Step) (client : ℕ) (own : Option ℕ) (taken : Taken) (view : View) (x : Step) → ShowsAt d past client own taken view → ShowsAt d (x ∷ past) client own taken view
 shows-one d past client own taken view x s = record {
@@ -271,15 +299,6 @@ pub record AreToCome (d : Description) (h : List Step) (Q : ℕ → Type 0) (lea
   pub own : (client : ℕ) → Q client → AreAllOwn client least h calls
   pub opened : Each (λ (call : Call). (at client ring : ℕ) → call.answer.reply ≡ Opened at client ring → Q client) calls
 
-past-next : (h : List Step) (at : ℕ) (x : Step) → slice_get h at ≡ Some x → past_at h (suc at) ≡ x ∷ past_at h at
-past-next h at x there =
-    let within : at < length h = slice_get_within h at x there in
-    let last : get_or h at x ≡ x = get_or_from_slice_get h at x x there in
-    let one : suc at ≡ at + 1 = omega arith in
-    ap (λ (n : ℕ). past_at h n) one
-    ∙ ap (λ (xs : List Step). reverse xs) (take_more h at x within ∙ ap (λ (y : Step). take at h ++ y ∷ []) last)
-    ∙ reverse-append (take at h) (x ∷ [])
-
 at_most_next : (reply : Reply) (b : Bool) → place_of reply ≤ (if b then suc (place_of reply) else place_of reply)
 at_most_next reply true = omega arith
 at_most_next reply false = omega arith
@@ -342,3 +361,43 @@ unfolding AreMet
 calls-met d h Q client least [] second c q = refl
 calls-met d h Q client least (call ∷ first) second c q =
     (past_at h (next_place call.answer.reply), call-met d h Q client least call (first ++ second) c q, calls-met d h Q client (next_place call.answer.reply) first second (to-come-next d h Q least call (first ++ second) c) q)
+
+-- ---- a walk of talks, which meets these calls
+
+-- the place from which on calls are to come
+pub record Coming (d : Description) (h : List Step) (Q : ℕ → Type 0) : Type 0 where
+  pub place : ℕ
+  pub left : List Call
+  pub to_come : AreToCome d h Q place left
+
+-- the first of them is made
+abbrev pub Comes : (d : Description) (h : List Step) (Q : ℕ → Type 0) → Coming d h Q → Step → Answer → Coming d h Q → Type 0
+Comes d h Q s x a t = (s.left ≡ record { step = x; answer = a } ∷ t.left) × (t.place ≡ next_place a.reply)
+
+pub coming-run : (d : Description) (h : List Step) (Q : ℕ → Type 0) (least : ℕ) (calls : List Call) (c : AreToCome d h Q least calls)
+    → (t : Coming d h Q) × Runs (Comes d h Q) (record { place = least; left = calls; to_come = c }) calls t
+unfolding Runs
+coming-run d h Q least [] c = (record { place = least; left = []; to_come = c }, refl)
+coming-run d h Q least (call ∷ calls) c =
+    let later : AreToCome d h Q (next_place call.answer.reply) calls = to-come-next d h Q least call calls c in
+    let rest = coming-run d h Q (next_place call.answer.reply) calls later in
+    (rest.0, (record { place = next_place call.answer.reply; left = calls; to_come = later }, (refl, refl), rest.1))
+
+-- these calls were to come between the two
+pub record HaveCome (d : Description) (h : List Step) (Q : ℕ → Type 0) (s t : Coming d h Q) (calls : List Call) : Type 0 where
+  pub to_come : AreToCome d h Q s.place (calls ++ t.left)
+  pub place : t.place ≡ place_behind s.place calls
+
+were-left : (d : Description) (h : List Step) (Q : ℕ → Type 0) (s t : Coming d h Q) (calls : List Call)
+    → Runs (Comes d h Q) s calls t → (s.left ≡ calls ++ t.left) × (t.place ≡ place_behind s.place calls)
+unfolding Runs
+were-left d h Q s t [] run = (ap (λ (u : Coming d h Q). u.left) (sym run), ap (λ (u : Coming d h Q). u.place) run)
+were-left d h Q s t (call ∷ calls) run =
+    let rest = were-left d h Q run.0 t calls run.2 in
+    (run.1.0 ∙ ap (λ (cs : List Call). call ∷ cs) rest.0, rest.1 ∙ ap (λ (n : ℕ). place_behind n calls) run.1.1)
+
+pub have-come : (d : Description) (h : List Step) (Q : ℕ → Type 0) (s t : Coming d h Q) (calls : List Call)
+    → Runs (Comes d h Q) s calls t → HaveCome d h Q s t calls
+have-come d h Q s t calls run =
+    let w = were-left d h Q s t calls run in
+    record { to_come = subst (AreToCome d h Q s.place) w.0 s.to_come; place = w.1 }

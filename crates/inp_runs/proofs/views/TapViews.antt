@@ -1,8 +1,9 @@
 -- At each report that a tap took, its view is its client's in the history.
 use Rattle.std.proofs.Common.{◌≡◌, ◌≤◌, ◌<◌, ◌⊎◌, inl, inr, ℕ, zero, suc, ◌+◌, ◌-◌, nat_eq, nat_lt, Bool, true, false, ◌&&◌, ◌||◌, not, if◌then◌else◌, ℤ, pos, List, [], ◌∷◌, ◌++◌, length, map, take, drop, reverse, refl, sym, ap, subst, ◌∙◌, arith, append-nil, append_assoc, length-append, Option, Some, None}
 use Rattle.std.specs.Prelude.{slice_get, slice_index_or}
-use Rattle.std.specs.List.{All, list_all, range_with_len}
-use Rattle.std.proofs.lemmas.Bool.{true≢false, false≢true, cond-false, cond-true, and_parts, cases_lt, eqb-true, eq-eqb, lt-ltb}
+use Rattle.std.specs.List.{All, list_all, list_any, range_with_len}
+use Rattle.std.proofs.Math.Bool.{and-false}
+use Rattle.std.proofs.lemmas.Bool.{true≢false, false≢true, cond_both, cond-false, cond-true, and_parts, cases_lt, eqb-true, eq-eqb, lt-ltb}
 use Rattle.std.proofs.lemmas.List.{length-map, length-reverse, length-take, map-append, take_at, get_or_past}
 use Rattle.std.proofs.lemmas.List.Elements.{All-take}
 use Rattle.inp_model.specs.declared.event.Event.{Event}
@@ -31,14 +32,16 @@ use Rattle.inp_recon.specs.ClientView.{client_view, client_view_with, view_at}
 use Rattle.inp_recon.proofs.ReadEntries.{IsOfRead, HasEntry, of-read, entry-behind, entry-of}
 use Rattle.inp_model.specs.Left.{eaten}
 use Rattle.inp_model.specs.History.{IsHistory}
-use Rattle.inp_recon.specs.Synchronised.{Part, AllKeys, AllSwitches, AllLeds, OneAxis, AllSlots, asks_for, has_asked, has_asked_where, has_axis, is_synchronised, is_synchronised_with, is_start}
+use Rattle.inp_recon.specs.Synchronised.{Part, AllKeys, AllSwitches, AllLeds, OneAxis, AllSlots, asks_for, has_asked, has_asked_where, has_axis, is_synchronised, is_start}
 use Rattle.inp_recon.proofs.Each.{and-left, and-right}
+use Rattle.inp_recon.proofs.FaithfulReads.{HasAskedForAll, all-asked}
+use Rattle.inp_reader.proofs.Meets.{Any, Meets}
+use Rattle.inp_script.proofs.LineWalk.{OfJob}
 use Rattle.inp_recon.proofs.Sizes.{IsSizedFor-after_events, IsSizedFor-after_answer, IsSizedFor-first_view}
 use Rattle.inp_recon.proofs.ViewSteps.{client_view-sized}
 use Rattle.inp_reader.specs.declared.reader.TheConstants.{NO_CLIENT}
 use Rattle.inp_reader.specs.Spare.{is_event_of}
 use Rattle.inp_reader.specs.ReaderPlace.{is_use, is_use_of, is_read, taken_events}
-use Rattle.inp_reader.specs.Talk.{LeadsTo, EndsWith}
 use Rattle.inp_reader.proofs.AgreedViews.{Compared, AgreeBut, is_get_keys, is_get_switches, is_get_leds, is_get_axis, is_sync_slots, agree-answer}
 use Rattle.inp_reader.proofs.ClientViews.{accepted-answer, accepted-accepts, at-last, idle-step, no-events, no_read-takes, read-view, taken-events, used-taken, used-view}
 use Rattle.inp_reader.proofs.PastsAtCalls.{AreQuiet}
@@ -49,16 +52,15 @@ use Rattle.inp_script.specs.declared.sight.Sight.{Sight}
 use Rattle.inp_script.specs.declared.sight.Sight.TheVariants.{Call as CallSight, Took, Made, Again as AgainSight, Record}
 use Rattle.inp_script.specs.Fold.{tap_fold}
 use Rattle.inp_script.specs.Job.{Job, first_job}
-use Rattle.inp_script.specs.Line.{step_of, tap_client_after, event_of_taken, view_after_call, after_tap_call, tap_call_if, tap_talk, unless_lacking}
+use Rattle.inp_script.specs.Line.{step_of, tap_client_after, event_of_taken, view_after_call, after_tap_call, tap_call_if, tap_talk}
 use Rattle.inp_script.specs.Sight.{call_sight, again_sight, taken_sight, lacks_memory}
 use Rattle.inp_script.proofs.Folds.{tap_fold-append, call-folds, entries-fold, fold-taken, again_sets_nothing}
-use Rattle.inp_reader.proofs.Calls.{finished}
 use Rattle.inp_runs.specs.JobViews.{client_after_sight, reads_as, index_in_history, ShowsAt, IsSeenAt}
-use Rattle.inp_runs.proofs.views.AtHand.{accepted-exact, index-read}
-use Rattle.inp_runs.proofs.views.LastReads.{read-as}
-use Rattle.inp_runs.proofs.views.Reports.{AtEach, at_each-append, at_each-call, at_each-again, shows-later, history-at, whole-past, HasNoOthers, no-others-first, no-others-events, no-others-answer, no-others-at, agrees-had, sized-at, AreToCome, quiet-before, past-entered, place_behind}
-use Rattle.inp_script.proofs.Told.{memory_there}
+use Rattle.inp_runs.proofs.views.AtHand.{accepted-exact, index-read, read-as}
+use Rattle.inp_runs.proofs.LinesWalk.{OfStep}
+use Rattle.inp_runs.proofs.views.Reports.{AtEach, at_each-told, Coming, Comes, shows-as, shows-later, history-at, whole-past, HasNoOthers, no-others-first, no-others-events, no-others-answer, no-others-at, agrees-had, sized-at, AreToCome, quiet-before, past-entered}
 use Rattle.inp_reader.proofs.UnsetSlotAxes.{has_cells}
+use Rattle.inp_runs.proofs.views.JobClients.{stays-last}
 
 -- ---- what was asked for since the client's start
 
@@ -71,16 +73,31 @@ asked_at past client = record {
   slots = has_asked AllSlots past client;
 }
 
--- less is compared
-narrower : (which other : Compared) (v w : View) → AgreeBut which [] v w → (other.keys ≡ true → which.keys ≡ true) → (other.switches ≡ true → which.switches ≡ true) → (other.leds ≡ true → which.leds ≡ true)
-    → ((code : ℕ) → other.axes code ≡ true → which.axes code ≡ true) → (other.slots ≡ true → which.slots ≡ true) → AgreeBut other [] v w
-narrower which other v w a keys switches leds axes slots = record {
-  keys = λ is h. a.keys (keys is) h;
-  switches = λ is h. a.switches (switches is) h;
-  leds = λ is h. a.leds (leds is) h;
-  axes = λ code is h. a.axes code (axes code is) h;
-  slot = λ is h. a.slot (slots is) h;
-  cells = λ is h. a.cells (slots is) h;
+-- whether a part of a view is compared, and whether these steps ask for it
+abbrev compared : Compared → Part → Bool
+compared which AllKeys = which.keys
+compared which AllSwitches = which.switches
+compared which AllLeds = which.leds
+compared which (OneAxis code) = which.axes code
+compared which AllSlots = which.slots
+
+abbrev told_by : List Step → Part → Bool
+told_by xs AllKeys = list_any is_get_keys xs
+told_by xs AllSwitches = list_any is_get_switches xs
+told_by xs AllLeds = list_any is_get_leds xs
+told_by xs (OneAxis code) = list_any (is_get_axis code) xs
+told_by xs AllSlots = list_any is_sync_slots xs
+
+-- less is compared, but for what these steps ask for
+narrower : (which other : Compared) (xs : List Step) (v w : View) → AgreeBut which [] v w
+    → ((part : Part) → compared other part ≡ true → told_by xs part ≡ false → compared which part ≡ true) → AgreeBut other xs v w
+narrower which other xs v w a had = record {
+  keys = λ is none. a.keys (had AllKeys is none) refl;
+  switches = λ is none. a.switches (had AllSwitches is none) refl;
+  leds = λ is none. a.leds (had AllLeds is none) refl;
+  axes = λ code is none. a.axes code (had (OneAxis code) is none) refl;
+  slot = λ is none. a.slot (had AllSlots is none) refl;
+  cells = λ is none. a.cells (had AllSlots is none) refl;
   left_long = a.left_long;
   right_long = a.right_long;
   cells_long = a.cells_long;
@@ -110,21 +127,28 @@ had-before part past client x none h = by (is_start past client x) (asks_for par
     by false true k e = absurd (true≢false k)
     by false false k e = e
 
-and-first : (a b c : Bool) → (a ≡ true → c ≡ true) → (a && b) ≡ true → (c && b) ≡ true
-and-first true b c f h = ap (λ (x : Bool). x && b) (f refl) ∙ h
-and-first false b c f h = absurd (false≢true h)
+-- an axis with a value of its own, or another part
+abbrev is_plain : Part → Bool
+is_plain (OneAxis code) = nat_lt code code_count && not (is_multi_touch_code code)
+is_plain _ = true
+
+asked-before : (past : List Step) (client : ℕ) (x : Step) (part : Part) → (is_plain part ≡ true → asks_for part client x ≡ false)
+    → compared (asked_at (x ∷ past) client) part ≡ true → compared (asked_at past client) part ≡ true
+asked-before past client x (OneAxis code) none h =
+    let plain : Bool = is_plain (OneAxis code) in
+    let both : (has_asked (OneAxis code) (x ∷ past) client ≡ true) × (plain ≡ true) = and_parts (has_asked (OneAxis code) (x ∷ past) client) plain h in
+    ap (λ (b : Bool). b && plain) (had-before (OneAxis code) past client x (none both.1) both.0) ∙ both.1
+asked-before past client x part none h = had-before part past client x (none refl) h
 
 asked-idle : (d : Description) (past : List Step) (client : ℕ) (x : Step) (v : View) → is_use_of client x ≡ false → IsAsked d past client v → IsAsked d (x ∷ past) client v
 unfolding client_view_with
-asked-idle d past client x v idle a =
-    let had : (part : Part) → has_asked part (x ∷ past) client ≡ true → has_asked part past client ≡ true = λ part. had-before part past client x (idle-asks part client x idle) in
-    record {
-      opened = opens-step past x client a.opened;
-      agree =
-          subst (λ (w : View). AgreeBut (asked_at (x ∷ past) client) [] v w) (sym (idle-step d past client x (client_view d past client) idle))
-          (narrower (asked_at past client) (asked_at (x ∷ past) client) v (client_view d past client) a.agree (had AllKeys) (had AllSwitches) (had AllLeds)
-          (λ code. and-first (has_asked (OneAxis code) (x ∷ past) client) (nat_lt code code_count && not (is_multi_touch_code code)) (has_asked (OneAxis code) past client) (had (OneAxis code))) (had AllSlots));
-    }
+asked-idle d past client x v idle a = record {
+  opened = opens-step past x client a.opened;
+  agree =
+      subst (λ (w : View). AgreeBut (asked_at (x ∷ past) client) [] v w) (sym (idle-step d past client x (client_view d past client) idle))
+      (narrower (asked_at past client) (asked_at (x ∷ past) client) [] v (client_view d past client) a.agree
+      (λ part is none. asked-before past client x part (λ plain. idle-asks part client x idle) is));
+}
 
 pub asked-quiet : (d : Description) (past others : List Step) (client : ℕ) (v : View) → AreQuiet client others → IsAsked d past client v → IsAsked d (others ++ past) client v
 unfolding AreQuiet
@@ -133,55 +157,22 @@ asked-quiet d past (x ∷ others) client v quiet a = asked-idle d (others ++ pas
 
 -- ---- a step of the client's own
 
-not_keys : (client : ℕ) (x : Step) → (is_get_keys x || false) ≡ false → asks_for AllKeys client x ≡ false
-not_keys client (GetKeys named) h = absurd (true≢false h)
-not_keys client _ h = refl
-
-not_switches : (client : ℕ) (x : Step) → (is_get_switches x || false) ≡ false → asks_for AllSwitches client x ≡ false
-not_switches client (GetSwitches named) h = absurd (true≢false h)
-not_switches client _ h = refl
-
-not_leds : (client : ℕ) (x : Step) → (is_get_leds x || false) ≡ false → asks_for AllLeds client x ≡ false
-not_leds client (GetLeds named) h = absurd (true≢false h)
-not_leds client _ h = refl
-
-not_slots : (client : ℕ) (x : Step) → (is_sync_slots x || false) ≡ false → asks_for AllSlots client x ≡ false
-not_slots client (SyncSlots named) h = absurd (true≢false h)
-not_slots client _ h = refl
-
-never : (a : Bool) → (a && false) ≡ false
-never true = refl
-never false = refl
-
-not_axis : (code client : ℕ) (x : Step) → (nat_lt code code_count && not (is_multi_touch_code code)) ≡ true → (is_get_axis code x || false) ≡ false → asks_for (OneAxis code) client x ≡ false
-not_axis code client (GetAxis named asked) plain h = by (nat_eq asked code) refl
+not_asked : (part : Part) (client : ℕ) (x : Step) → is_plain part ≡ true → told_by (x ∷ []) part ≡ false → asks_for part client x ≡ false
+not_asked AllKeys client (GetKeys named) plain h = absurd (true≢false h)
+not_asked AllSwitches client (GetSwitches named) plain h = absurd (true≢false h)
+not_asked AllLeds client (GetLeds named) plain h = absurd (true≢false h)
+not_asked AllSlots client (SyncSlots named) plain h = absurd (true≢false h)
+not_asked (OneAxis code) client (GetAxis named asked) plain h = by (nat_eq asked code) refl
   where
     by : (b : Bool) → nat_eq asked code ≡ b → (nat_eq named client && b) ≡ false
-    by false is = never (nat_eq named client)
+    by false is = and-false (nat_eq named client)
     by true is =
         let same : asked ≡ code = eqb-true asked code is in
         let whole : is_get_axis code (GetAxis named asked) ≡ true =
         ap (λ (b : Bool). b && (nat_lt asked code_count && not (is_multi_touch_code asked))) is
         ∙ ap (λ (n : ℕ). nat_lt n code_count && not (is_multi_touch_code n)) same ∙ plain in
         absurd (true≢false (sym (ap (λ (b : Bool). b || false) whole) ∙ h))
-not_axis code client _ plain h = refl
-
-asked-but : (past : List Step) (client : ℕ) (x : Step) (v w : View) → AgreeBut (asked_at past client) [] v w → AgreeBut (asked_at (x ∷ past) client) (x ∷ []) v w
-asked-but past client x v w a = record {
-  keys = λ is h. a.keys (had-before AllKeys past client x (not_keys client x h) is) refl;
-  switches = λ is h. a.switches (had-before AllSwitches past client x (not_switches client x h) is) refl;
-  leds = λ is h. a.leds (had-before AllLeds past client x (not_leds client x h) is) refl;
-  axes = λ code is h.
-      let plain : Bool = nat_lt code code_count && not (is_multi_touch_code code) in
-      let both : (has_asked (OneAxis code) (x ∷ past) client ≡ true) × (plain ≡ true) = and_parts (has_asked (OneAxis code) (x ∷ past) client) plain is in
-      let had : has_asked (OneAxis code) past client ≡ true = had-before (OneAxis code) past client x (not_axis code client x both.1 h) both.0 in
-      a.axes code (ap (λ (b : Bool). b && plain) had ∙ both.1) refl;
-  slot = λ is h. a.slot (had-before AllSlots past client x (not_slots client x h) is) refl;
-  cells = λ is h. a.cells (had-before AllSlots past client x (not_slots client x h) is) refl;
-  left_long = a.left_long;
-  right_long = a.right_long;
-  cells_long = a.cells_long;
-}
+not_asked part client _ plain h = refl
 
 -- what a step makes of both views
 abbrev view_made : View → Step → Answer → View
@@ -200,7 +191,8 @@ asked-own d past client x v accepts used sized a =
       agree =
           subst (λ (u : View). AgreeBut (asked_at (x ∷ past) client) [] (view_made v x given) u) (sym (used-view d past client x w accepts used))
           (agree-answer (asked_at (x ∷ past) client) d past x [] given (view_after_events v es) (view_after_events w es) (inl refl) is (IsSizedFor-after_events d.slots v es sized).cells
-          (asked-but past client x (view_after_events v es) (view_after_events w es) events));
+          (narrower (asked_at past client) (asked_at (x ∷ past) client) (x ∷ []) (view_after_events v es) (view_after_events w es) events
+          (λ part is none. asked-before past client x part (λ plain. not_asked part client x plain none) is)));
     }
 
 -- ---- where all is asked for
@@ -216,25 +208,16 @@ where-had : (has_it : Bool) (part : Part) (past : List Step) (client : ℕ) → 
 where-had true part past client h is = h
 where-had false part past client h is = absurd (false≢true is)
 
-pub all-asked : (d : Description) (past : List Step) (client : ℕ) (taken : List Entry) (v w : View) → is_synchronised d past client taken ≡ true → AgreeBut (asked_at past client) [] v w → AgreeBut (what_is_had d) [] v w
-unfolding is_synchronised_with
-all-asked d past client taken v w h a =
-    let e5 = and-left _ _ h in
-    let e4 = and-left _ _ e5 in
-    let e3 = and-left _ _ e4 in
-    let e2 = and-left _ _ e3 in
-    let keys : has_asked_where (has_kind d EV_KEY) AllKeys past client ≡ true = and-left _ _ e2 in
-    let switches : has_asked_where (has_kind d EV_SW) AllSwitches past client ≡ true = and-right _ _ e2 in
-    let leds : has_asked_where (has_kind d EV_LED) AllLeds past client ≡ true = and-right _ _ e3 in
-    let axes : list_all (λ code. has_asked_where (has_axis d code) (OneAxis code) past client) (range_with_len 0 (ABS_MAX + 1)) ≡ true = and-right _ _ e4 in
-    let slots : has_asked_where (nat_lt 0 d.slots) AllSlots past client ≡ true = and-right _ _ e5 in
+agrees-asked : (d : Description) (past : List Step) (client : ℕ) (taken : List Entry) (v w : View) → is_synchronised d past client taken ≡ true → AgreeBut (asked_at past client) [] v w → AgreeBut (what_is_had d) [] v w
+agrees-asked d past client taken v w h a =
+    let all : HasAskedForAll (eaten d) d past client taken = all-asked (eaten d) d past client taken h in
     record {
-      keys = λ is k. a.keys (where-had (has_kind d EV_KEY) AllKeys past client keys is) refl;
-      switches = λ is k. a.switches (where-had (has_kind d EV_SW) AllSwitches past client switches is) refl;
-      leds = λ is k. a.leds (where-had (has_kind d EV_LED) AllLeds past client leds is) refl;
-      axes = λ code is k. axis code is axes;
-      slot = λ is k. a.slot (where-had (nat_lt 0 d.slots) AllSlots past client slots is) refl;
-      cells = λ is k. a.cells (where-had (nat_lt 0 d.slots) AllSlots past client slots is) refl;
+      keys = λ is k. a.keys (where-had (has_kind d EV_KEY) AllKeys past client all.keys is) refl;
+      switches = λ is k. a.switches (where-had (has_kind d EV_SW) AllSwitches past client all.switches is) refl;
+      leds = λ is k. a.leds (where-had (has_kind d EV_LED) AllLeds past client all.leds is) refl;
+      axes = λ code is k. axis code is all.axes;
+      slot = λ is k. a.slot (where-had (nat_lt 0 d.slots) AllSlots past client all.slots is) refl;
+      cells = λ is k. a.cells (where-had (nat_lt 0 d.slots) AllSlots past client all.slots is) refl;
       left_long = a.left_long;
       right_long = a.right_long;
       cells_long = a.cells_long;
@@ -288,7 +271,7 @@ read-shows d past client x v done rest t history used is bare sized a =
       is_taken = e.is_taken;
       agrees = λ h.
           let synchronised : is_synchronised d past client e.at.taken ≡ true = subst (λ (p : List Step). is_synchronised d p client e.at.taken ≡ true) o.is_before h in
-          let had : AgreeBut (what_is_had d) [] v (client_view d past client) = all-asked d past client e.at.taken v (client_view d past client) synchronised a.agree in
+          let had : AgreeBut (what_is_had d) [] v (client_view d past client) = agrees-asked d past client e.at.taken v (client_view d past client) synchronised a.agree in
           agrees-had d (view_after_events v es) (view_at d client e.at)
           (subst (λ (w : View). AgreeBut (what_is_had d) [] (view_after_events v es) w) (sym view) (agree-events (what_is_had d) v (client_view d past client) es had))
           (no-others-events d v (done ++ t ∷ []) all bare) (no-others-at d (x ∷ past) client i e.at history e.is_at)
@@ -341,10 +324,13 @@ client_after-taking client x reply events =
     ∙ ap (λ (c : ℕ). client_after_sight c (map taken_sight events)) (client_after-call client x reply)
     ∙ client_after-takens (tap_client_after x reply client) events
 
--- a step that is no Open keeps it
-pub client_after-kept : (x : Step) (reply : Reply) (client : ℕ) → is_open_step x ≡ false → tap_client_after x reply client ≡ client
-client_after-kept ToOpen reply client h = absurd (true≢false h)
-client_after-kept _ reply client h = refl
+-- a job's sight after a call
+pub client_after-told : (j : Job) (x : Step) (reply : Reply) (events : List Taken) → reads_as j.sight ≡ j.reading.client
+    → reads_as (j.sight ++ ((call_sight x reply ++ again_sight reply) ++ map taken_sight events)) ≡ tap_client_after x reply j.reading.client
+client_after-told j x reply events reads =
+    let more : List Sight = (call_sight x reply ++ again_sight reply) ++ map taken_sight events in
+    client_after-append NO_CLIENT j.sight more ∙ ap (λ (n : ℕ). client_after_sight n more) reads
+    ∙ client_after-taking j.reading.client x reply events
 
 client_after-refused : (x : Step) (reply : Reply) (client : ℕ) → is_accepted reply ≡ false → tap_client_after x reply client ≡ client
 client_after-refused ToOpen (Opened at opened ring) client h = absurd (true≢false h)
@@ -448,9 +434,6 @@ read-no_open : (x : Step) → is_read x ≡ true → is_open_step x ≡ false
 read-no_open ToOpen h = absurd (false≢true h)
 read-no_open _ h = refl
 
-read-sets_nothing : (v : View) (x : Step) (reply : Reply) (cells : List ℤ) → is_read x ≡ true → view_after_answer v x reply cells ≡ v
-read-sets_nothing v x reply cells h = read-view x v reply cells h
-
 module _ (d : Description) (h : List Step) (Q : ℕ → Type 0) (history : IsHistory d (reverse h)) (short : length h < NO_CLIENT) where
   few-opens : (at : ℕ) → opens (past_at h at) < NO_CLIENT
   few-opens at = omega (arith, short, opens-le (past_at h at), length-reverse (take at h), length-take at h)
@@ -498,20 +481,17 @@ module _ (d : Description) (h : List Step) (Q : ℕ → Type 0) (history : IsHis
       subst (λ (p : List Step). ShowsAt d p client (Some i) t (view_after_events v (taken_events taken))) (sym whole) (shows-later d (reverse (drop (next_place reply) h)) (x ∷ past) client (Some i) t (view_after_events v (taken_events taken)) shown) in
       let sight : (j.sight ++ told) ++ es ≡ j.sight ++ (told ++ es) = append_assoc j.sight told es in
       let same : reads_as ((j.sight ++ told) ++ es) ≡ client =
-      ap reads_as sight ∙ client_after-append NO_CLIENT j.sight (told ++ es) ∙ ap (λ (n : ℕ). client_after_sight n (told ++ es)) s.reads
-      ∙ client_after-taking client x reply taken ∙ client_after-kept x reply client (read-no_open x read) in
+      ap reads_as sight ∙ client_after-told j x reply taken s.reads ∙ stays-last x reply client (read-no_open x read) in
       let view : tap_fold d h (first_view d) ((j.sight ++ told) ++ es) ≡ view_after_events v (taken_events taken) =
       ap (λ (l : List Sight). tap_fold d h (first_view d) l) sight
       ∙ tap_fold-append d h (first_view d) j.sight (told ++ es) ∙ ap (λ (u : View). tap_fold d h u (told ++ es)) s.fold
-      ∙ tap_fold-append d h v told es ∙ ap (λ (u : View). tap_fold d h u es) (entries-fold d h v x given placed.exact ∙ read-sets_nothing v x reply given.cells read)
+      ∙ tap_fold-append d h v told es ∙ ap (λ (u : View). tap_fold d h u es) (entries-fold d h v x given placed.exact ∙ read-view x v reply given.cells read)
       ∙ fold-taken d h v taken in
       let count : (0 + length taken) - 1 ≡ length front = omega (arith, length-append front (t ∷ [])) in
       let own : index_in_history d h ((j.sight ++ told) ++ es) ≡ Some i =
       index-read d h client j.sight x reply taken same (read-as client x read named) is
       ∙ ap (λ (n : ℕ). Some (length (took d past client) + n)) count in
-      subst (λ (n : ℕ). ShowsAt d (reverse h) n (index_in_history d h ((j.sight ++ told) ++ es)) t (tap_fold d h (first_view d) ((j.sight ++ told) ++ es))) (sym same)
-      (subst (λ (o : Option ℕ). ShowsAt d (reverse h) client o t (tap_fold d h (first_view d) ((j.sight ++ told) ++ es))) (sym own)
-      (subst (λ (u : View). ShowsAt d (reverse h) client (Some i) t u) (sym view) later))
+      shows-as d (reverse h) client _ (Some i) _ t (view_after_events v (taken_events taken)) _ same own view later
 
   -- all that a tap's call gave
   tap-events : (least : ℕ) (j : Job) (call : Call) (calls : List Call) → AreToCome d h Q least (call ∷ calls) → TapStands d h Q least j → IsTapStep j.reading.client call.step
@@ -588,7 +568,7 @@ module _ (d : Description) (h : List Step) (Q : ℕ → Type 0) (history : IsHis
       own-one is named =
           let exact : (given ≡ answer d past x) × (refused d past x ≡ None) = accepted-exact d past x given placed.exact is in
           let a : Q client × IsAsked d past client v = named-asked least j call calls c s exact.1 named in
-          let same : tap_client_after x given.reply client ≡ client = client_after-kept x given.reply client (named-no_open x named) in
+          let same : tap_client_after x given.reply client ≡ client = stays-last x given.reply client (named-no_open x named) in
           subst (λ (n : ℕ). Stands n (x ∷ past) (view_after_call v x given)) (sym same)
           (inr (a.0, subst (λ (g : Answer). IsAsked d (x ∷ past) client (view_after_call v x g)) (sym exact.0) (used_or_idle (is_use x) refl a.1 exact.1 (ap (λ (g : Answer). is_accepted g.reply) (sym exact.0) ∙ is))))
         where
@@ -629,31 +609,22 @@ module _ (d : Description) (h : List Step) (Q : ℕ → Type 0) (history : IsHis
       let reply : Reply = given.reply in
       let past : List Step = past_at h (place_of reply) in
       let v : View = j.reading.view in
-      let told : List Sight = call_sight x reply ++ again_sight reply in
       let placed : HasPlace d h call = c.legal.1 in
       let supported : All (λ (t : Taken). is_event_of d t.event ≡ true) given.events = events-of d past x given placed.exact in
       let answered : View = view_after_answer v x reply given.cells in
       let sized : IsSizedFor d.slots (view_after_call v x given) =
       IsSizedFor-after_events d.slots answered (map event_of_taken given.events) (IsSizedFor-after_answer d.slots v x reply given.cells (has_cells d past x given v.cells placed.exact s.sized.cells) s.sized) in
       record {
-        seen =
-            at_each-append (TapSaw d h) [] j.sight (told ++ map taken_sight given.events) s.seen
-            (at_each-append (TapSaw d h) j.sight told (map taken_sight given.events)
-            (at_each-append (TapSaw d h) j.sight (call_sight x reply) (again_sight reply) (at_each-call (TapSaw d h) j.sight x reply) (at_each-again (TapSaw d h) (j.sight ++ call_sight x reply) reply))
-            (tap-events least j call calls c s step));
+        seen = at_each-told (TapSaw d h) j.sight x reply given.events s.seen (tap-events least j call calls c s step);
         fold = call-folds d h (first_view d) j (after_tap_call j x given) x call placed refl refl s.fold;
-        reads = client_after-append NO_CLIENT j.sight (told ++ map taken_sight given.events) ∙ ap (λ (n : ℕ). client_after_sight n (told ++ map taken_sight given.events)) s.reads ∙ client_after-taking j.reading.client x reply given.events;
+        reads = client_after-told j x reply given.events s.reads;
         bare = no-others-events d answered given.events supported (bare-given d past v x given placed.exact s.bare);
         sized = sized;
         asked = tap-asked least j call calls c s step sized;
       }
 
   -- what a tap does at a command
-  abbrev IsTapStepOf : ℕ → Option Step → Type 0
-  IsTapStepOf client None = Unit {0}
-  IsTapStepOf client (Some x) = IsTapStep client x
-
-  tap-step : (client : ℕ) (command : Command) → is_command_of Tap command ≡ true → IsTapStepOf client (step_of client command)
+  tap-step : (client : ℕ) (command : Command) → is_command_of Tap command ≡ true → OfStep (IsTapStep client) (step_of client command)
   tap-step client (ToEvent moment kind code value) h = absurd cc
   tap-step client (Tick moment) h = absurd cc
   tap-step client (Inhibit moment) h = absurd cc
@@ -668,22 +639,21 @@ module _ (d : Description) (h : List Step) (Q : ℕ → Type 0) (history : IsHis
   tap-step client Open h = inl refl
   tap-step client _ h = inr refl
 
-  tap-if : (least : ℕ) (j k : Job) (o : Option Step) (calls more : List Call) → IsTapStepOf j.reading.client o → AreToCome d h Q least (calls ++ more) → EndsWith (tap_call_if j o) calls (Some k) → TapStands d h Q least j → TapStands d h Q (place_behind least calls) k
-  unfolding LeadsTo
-  tap-if least j k None calls more step c ends s =
-      let f = finished (Some j) (Some k) calls ends in
-      let same : j ≡ k = (let e = f.1 in cc) in
-      subst (λ (cs : List Call). TapStands d h Q (place_behind least cs) k) (sym f.0) (subst (TapStands d h Q least) same s)
-  tap-if least j k (Some x) [] more step c ends s = absurd cc
-  tap-if least j k (Some x) (call ∷ calls) more step c ends s =
-      let f = finished (unless_lacking call.answer.reply (after_tap_call j x call.answer)) (Some k) calls ends.1 in
-      let same : after_tap_call j x call.answer ≡ k = memory_there (lacks_memory call.answer.reply) (after_tap_call j x call.answer) k f.1 in
-      let one : TapStands d h Q (next_place call.answer.reply) (after_tap_call j call.step call.answer) = tap-call least j call (calls ++ more) c s (subst (IsTapStep j.reading.client) (sym ends.0) step) in
-      subst (λ (cs : List Call). TapStands d h Q (place_behind (next_place call.answer.reply) cs) k) (sym f.0)
-      (subst (TapStands d h Q (next_place call.answer.reply)) (ap (λ (y : Step). after_tap_call j y call.answer) ends.0 ∙ same) one)
+  abbrev pub IsTapOn : Coming d h Q → Job → Type 0
+  IsTapOn s j = TapStands d h Q s.place j
 
-  pub tap-line : (least : ℕ) (j k : Job) (command : Command) (calls more : List Call) → is_command_of Tap command ≡ true → AreToCome d h Q least (calls ++ more) → EndsWith (tap_talk command j) calls (Some k) → TapStands d h Q least j → TapStands d h Q (place_behind least calls) k
-  tap-line least j k command calls more of_role c ends s = tap-if least j k (step_of j.reading.client command) calls more (tap-step j.reading.client command of_role) c ends s
+  pub tap-line : (command : Command) → is_command_of Tap command ≡ true → (s : Coming d h Q) (j : Job) → IsTapOn s j
+      → Meets Any (Comes d h Q) (OfJob IsTapOn) s (tap_talk command j)
+  tap-line command of_role s j i = by_step (step_of j.reading.client command) (tap-step j.reading.client command of_role)
+    where
+      by_step : (o : Option Step) → OfStep (IsTapStep j.reading.client) o → Meets Any (Comes d h Q) (OfJob IsTapOn) s (tap_call_if j o)
+      by_step None step = i
+      by_step (Some x) step = (
+        tt,
+        λ t a by. cond_both (lacks_memory a.reply) _ _ (OfJob IsTapOn t) (λ _. tt)
+            (λ _. subst (λ (n : ℕ). TapStands d h Q n (after_tap_call j x a)) (sym by.1)
+            (tap-call s.place j (record { step = x; answer = a }) t.left (subst (AreToCome d h Q s.place) by.0 s.to_come) i step)),
+      )
 
   pub tap-first : TapStands d h Q 0 (first_job Tap d)
   unfolding tap_fold client_after_sight
