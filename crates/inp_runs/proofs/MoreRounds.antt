@@ -4,10 +4,10 @@ use Rattle.inp_model.specs.declared.stamped.Stamped.{Stamped}
 use Rattle.inp_model.specs.Description.{Description}
 use Rattle.inp_model.specs.Run.{Call}
 use Rattle.inp_actors.specs.declared.command.Command.{Command}
-use Rattle.inp_actors.specs.declared.command.Command.TheVariants.{Open, Next, Skip, Follow, Force}
+use Rattle.inp_actors.specs.declared.command.Command.TheVariants.{Next, Skip, Follow}
 use Rattle.inp_actors.specs.declared.line.Line.{Line}
 use Rattle.inp_actors.specs.declared.role.Role.{Role}
-use Rattle.inp_actors.specs.declared.role.Role.TheVariants.{Source, Client, Tap, Joy, Owner}
+use Rattle.inp_actors.specs.declared.role.Role.TheVariants.{Client, Joy}
 use Rattle.inp_reader.specs.Talk.{Talk, finish, and_then, EndsWith}
 use Rattle.inp_script.specs.declared.stop.Stop.{Stop}
 use Rattle.inp_script.specs.declared.waiting.Waiting.{Waiting}
@@ -51,20 +51,16 @@ hand-longer d wait skips left n more old = by_flag (is_done left)
     by_flag false = rounds-longer d wait skips n more start
 
 client-longer : (d : Description) (wait : Option Waiting) (n more : ℕ) (command : Command) (old : Job) → Lasts (client_talk d wait n command old) (client_talk d wait (n + more) command old)
-client-longer d wait n more Open old = λ calls j h. h
 client-longer d wait n more (Next count) old = hand-longer d None false (Some count) n more old
 client-longer d wait n more (Skip count) old = hand-longer d None true (Some count) n more old
 client-longer d wait n more Follow old = hand-longer d wait false None n more old
-client-longer d wait n more Force old = λ calls j h. h
 client-longer d wait n more command old = λ calls j h. h
 
 command-longer : (role : Role) (d : Description) (streams : List (List Stamped)) (wait : Option Waiting) (n more : ℕ) (command : Command) (old : Job)
     → Lasts (command_talk role d streams wait n command old) (command_talk role d streams wait (n + more) command old)
-command-longer Source d streams wait n more command old = λ calls j h. h
 command-longer Client d streams wait n more command old = client-longer d wait n more command old
-command-longer Tap d streams wait n more command old = λ calls j h. h
 command-longer Joy d streams wait n more command old = λ calls j h. joystick-longer d n (n + more) command old j calls (omega arith) h
-command-longer Owner d streams wait n more command old = λ calls j h. h
+command-longer _ d streams wait n more command old = λ calls j h. h
 
 pub line-longer : (role : Role) (d : Description) (streams : List (List Stamped)) (wait : Option Waiting) (n more : ℕ) (command : Command) (old : Job)
     → Lasts (line_talk role d streams wait n command old) (line_talk role d streams wait (n + more) command old)

@@ -15,7 +15,7 @@ use Rattle.inp_recon.specs.View.{IsSizedFor, view_after_answer}
 use Rattle.inp_recon.proofs.Sizes.{IsSizedFor-after_events}
 use Rattle.inp_reader.specs.declared.mode.Mode.{Mode}
 use Rattle.inp_reader.specs.declared.next.Next.{Next}
-use Rattle.inp_reader.specs.declared.next.Next.TheVariants.{Success, Dropped, Sync, Again, Synced, NoDevice, Closed, Full}
+use Rattle.inp_reader.specs.declared.next.Next.TheVariants.{Success, Dropped, Sync, Again}
 use Rattle.inp_reader.specs.declared.started.Started.{Started}
 use Rattle.inp_reader.specs.declared.started.Started.TheVariants.{Opened, Refused}
 use Rattle.inp_reader.specs.Reader.{Reading, start_talk, next_talk}
@@ -107,11 +107,8 @@ kept_turn : (d : Description) (left : Option ℕ) (agains : ℕ) (next : Next) (
 kept_turn d left agains (Success taken) j entries sized h = kept_handed d (one_less left) (with_sight j (Took taken)) entries (sized, took_told j.sight entries taken h)
 kept_turn d left agains (Dropped taken) j entries sized h = kept_handed d (one_less left) (with_sight j (Took taken)) entries (sized, took_told j.sight entries taken h)
 kept_turn d left agains (Sync event) j entries sized h = kept_handed d (one_less left) (with_sight j (Made event)) entries (sized, made_told j.sight entries event h)
-kept_turn d left agains Synced j entries sized h = (sized, silent j.sight entries h)
 kept_turn d left agains (Again at ends) j entries sized h = (sized, filter-append is_call_entry j.sight (AgainSight at ends ∷ []) ∙ h)
-kept_turn d left agains NoDevice j entries sized h = (sized, silent j.sight entries h)
-kept_turn d left agains Closed j entries sized h = (sized, silent j.sight entries h)
-kept_turn d left agains (Full at) j entries sized h = (sized, silent j.sight entries h)
+kept_turn d left agains _ j entries sized h = (sized, silent j.sight entries h)
 
 kept-round : (d : Description) (s : List Sight) (skips : Bool) (g : Going) → KeptAt d s g.job → Meets Any (EntriesBy d) (OfTurn (KeptAt d) (OfGoing (KeptAt d))) s (next_round d None skips g)
 kept-round d s skips g h =

@@ -1,5 +1,5 @@
 -- What is so of owners between two lines.
-use Rattle.std.proofs.Common.{◌≡◌, ℕ, suc, Bool, true, false, if◌then◌else◌, List, [], ◌∷◌, ◌++◌, length, refl, sym, ap, subst, ◌∙◌, arith, append-nil, append_assoc, length-set, length-append, ◌⊎◌, inl, inr, Option, Some, None}
+use Rattle.std.proofs.Common.{◌≡◌, ℕ, suc, List, [], ◌∷◌, ◌++◌, length, refl, sym, ap, subst, ◌∙◌, arith, append-nil, append_assoc, length-set, length-append, ◌⊎◌, inl, inr, Option, Some, None}
 use Rattle.std.specs.Prelude.{slice_get, slice_set}
 use Rattle.std.specs.List.{cons_option}
 use Rattle.std.proofs.lemmas.List.Elements.{filter_map-append}
@@ -29,6 +29,7 @@ use Rattle.inp_runs.proofs.owners.OwnerLaws.{IsToldByLines, told-stopped}
 use Rattle.inp_runs.proofs.order.OwnerTold.{so-far-steps, so-far-called, called-within}
 use Rattle.inp_runs.proofs.order.LineDone.{IsFedUnless, IsFedWhereAsked, IsLinePlayed, feedback-of, line-done}
 use Rattle.inp_runs.proofs.order.Stages.{IsStage, AreCommandsOf, number_is, may-do, stage-more, append_one, its_number, its_actor, actor-behind, past-behind}
+use Rattle.std.proofs.lemmas.Bool.{cond_both}
 
 -- What stands of owners when these lines were done.
 pub record AreOwned (r : RecordView) (lines : List Line) (stage : Stage) : Type 0 where
@@ -45,14 +46,11 @@ HasOneOwner r = (i k : ℕ) (a b : ActorText) → slice_get r.actors i ≡ Some 
 
 exact-front : (d : Description) (past after : List Step) (calls : List Call) → AreExact d past after calls → (more : List Step) × (after ≡ more ++ past)
 exact-front d past after [] e = ([], e)
-exact-front d past after (call ∷ calls) e = by_past (past_after call.answer.reply call.step past) (one (is_accepted call.answer.reply)) (exact-front d (past_after call.answer.reply call.step past) after calls e.1)
-  where
-    one : (b : Bool) → (more : List Step) × ((if b then call.step ∷ past else past) ≡ more ++ past)
-    one true = (call.step ∷ [], refl)
-    one false = ([], refl)
-
-    by_past : (between : List Step) → (more : List Step) × (between ≡ more ++ past) → (more : List Step) × (after ≡ more ++ between) → (more : List Step) × (after ≡ more ++ past)
-    by_past between front h = (h.0 ++ front.0, h.1 ∙ ap (λ (p : List Step). h.0 ++ p) front.1 ∙ sym (append_assoc h.0 front.0 past))
+exact-front d past after (call ∷ calls) e =
+    let between : List Step = past_after call.answer.reply call.step past in
+    let one : (more : List Step) × (between ≡ more ++ past) = cond_both (is_accepted call.answer.reply) _ _ (λ (p : List Step). (more : List Step) × (p ≡ more ++ past)) (λ _. (call.step ∷ [], refl)) (λ _. ([], refl)) in
+    let rest : (more : List Step) × (after ≡ more ++ between) = exact-front d between after calls e.1 in
+    (rest.0 ++ one.0, rest.1 ∙ ap (λ (p : List Step). rest.0 ++ p) one.1 ∙ sym (append_assoc rest.0 one.0 past))
 
 -- the past of a device before a line
 record IsGrown (stage : Stage) (i : ℕ) (after : List Step) : Type 0 where
@@ -258,13 +256,12 @@ owners-more r rounds lines stage now line s o one u feedback i a text past calls
     by_actor (inr is) = other is.0 is.1
 
 counts-more : (r : RecordView) (rounds : ℕ) (lines : List Line) (stage now : Stage) (line : Line) → AreOwned r lines stage → IsLinePlayed r rounds stage now line → length now.calls ≡ length r.devices
-counts-more r rounds lines stage now line o u = by (by-call r rounds stage now line u)
-  where
-    by : IsUncalled r rounds stage now line u ⊎ IsCalled r rounds stage now line u → length now.calls ≡ length r.devices
-    by (inl n) = ap (λ (cs : List (List FeedbackCall)). length cs) n.calls ∙ o.counts
-    by (inr c) =
-        ap (λ (cs : List (List FeedbackCall)). length cs) c.now_calls
-        ∙ length-set stage.calls u.text.device (feedback_calls_after (fed u.actor.description (kept_of u.past c.calls) c.room) c.calls) ∙ o.counts
+counts-more r rounds lines stage now line o u = elim (by-call r rounds stage now line u) [
+  | inl n ↦ ap (λ (cs : List (List FeedbackCall)). length cs) n.calls ∙ o.counts
+  | inr c ↦
+      ap (λ (cs : List (List FeedbackCall)). length cs) c.now_calls
+      ∙ length-set stage.calls u.text.device (feedback_calls_after (fed u.actor.description (kept_of u.past c.calls) c.room) c.calls) ∙ o.counts
+]
 
 owned-more : (r : RecordView) (rounds : ℕ) (lines : List Line) (stage now : Stage) (line : Line) → IsStage r rounds lines stage → AreOwned r lines stage → HasOneOwner r → (u : IsLinePlayed r rounds stage now line) → (feedback : (room : ℕ) → feedback_room line.command ≡ Some room → u.text.role ≡ Owner)
     → AreOwned r (lines ++ line ∷ []) now

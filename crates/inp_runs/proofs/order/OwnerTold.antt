@@ -28,12 +28,6 @@ pub called-within : (d : Description) (past : List Step) (calls : List FeedbackC
 called-within d past calls room within =
     cond_both (is_full_of_feedback d (kept_of past calls)) _ _ (λ x. StandsWithin (length past) (feedback_calls_after x calls))
     (λ _. within) (λ _. omega (arith, ap length (steps_in-kept_of past calls)))
-  where
-    at : ℕ
-    at = length (steps_in (kept_of past calls))
-
-    count : ℕ
-    count = length (taken_by_feedback d (kept_of past calls) room)
 
 -- what is kept behind a call, by the calls
 called-kept : (d : Description) (past : List Step) (calls : List FeedbackCall) (room : ℕ) → kept_of past (feedback_calls_after (fed d (kept_of past calls) room) calls) ≡ kept_after_feedback d (kept_of past calls) room

@@ -31,6 +31,7 @@ use Rattle.inp_runs.proofs.memory.LineTalks.{IsKept}
 use Rattle.inp_runs.proofs.Lists.{eq_true, eq_false, slice_get-set, map-set_same, slice_get-range, sum_by-replaced}
 use Rattle.inp_runs.proofs.Entries.{entries, below}
 use Rattle.inp_runs.proofs.order.Places.{entries-gained}
+use Rattle.std.proofs.lemmas.List.Folds.{list_any-append}
 
 -- What an actor did at these lines, on a device of this description that accepted these steps.
 pub record IsSoFar (r : RecordView) (rounds : ℕ) (lines : List Line) (d : Description) (role : Role) (past : List Step) (a : ActorView) : Type 0 where
@@ -72,12 +73,7 @@ legal-longer d h k least (call ∷ calls) begins l = (l.0, HasPlace-longer d h k
 
 -- of an actor that did another line
 memory-append : (calls more : List Call) → list_any call_lacks_memory calls ≡ false → list_any call_lacks_memory more ≡ false → list_any call_lacks_memory (calls ++ more) ≡ false
-memory-append [] more h k = k
-memory-append (call ∷ calls) more h k = by_flag (call_lacks_memory call) (λ e. memory-append calls more e k) h
-  where
-    by_flag : (b : Bool) → (list_any call_lacks_memory calls ≡ false → list_any call_lacks_memory (calls ++ more) ≡ false) → (b || list_any call_lacks_memory calls) ≡ false → (b || list_any call_lacks_memory (calls ++ more)) ≡ false
-    by_flag true longer e = absurd cc
-    by_flag false longer e = longer e
+memory-append calls more h k = list_any-append call_lacks_memory calls more ∙ ap (λ (b : Bool). b || list_any call_lacks_memory more) h ∙ k
 
 so_far-more : (r : RecordView) (rounds : ℕ) (lines : List Line) (line : Line) (d : Description) (role : Role) (past after : List Step) (a : ActorView) (job : Job) (owning : Owning) (calls : List Call) → IsSoFar r rounds lines d role past a
     → line.actor ≡ a.actor → EndsWith (line_talk a.role a.description r.streams None rounds line.command a.job) calls (Some job) → AreExact a.description past after calls → IsHistory d past → IsKept a.description job (filter is_call_entry a.job.sight ++ sight_of_calls calls)

@@ -1,19 +1,17 @@
 -- The calls of a job have each use of each client that it opened.
-use Rattle.std.proofs.Common.{◌≡◌, ◌<◌, ℕ, true, List, length, sym, ap, arith, Option, Some, None}
+use Rattle.std.proofs.Common.{◌≡◌, ℕ, true, List, sym, ap, Option, Some, None}
 use Rattle.std.specs.Prelude.{slice_get}
 use Rattle.std.specs.List.{list_any}
 use Rattle.std.proofs.lemmas.Bool.{true≢false, and_parts, eqb-true}
 use Rattle.inp_model.specs.declared.stamped.Stamped.{Stamped}
 use Rattle.inp_model.specs.declared.step.Step.{Step}
 use Rattle.inp_model.specs.Description.{Description}
-use Rattle.inp_model.specs.Past.{opens, is_open}
+use Rattle.inp_model.specs.Past.{is_open}
 use Rattle.inp_model.specs.Reply.{refused, is_bad_client}
 use Rattle.inp_model.specs.Run.{Call, IsLegalRun}
 use Rattle.inp_model.specs.Step.{client_of, is_same}
 use Rattle.inp_actors.specs.declared.line.Line.{Line}
 use Rattle.inp_actors.specs.declared.role.Role.{Role}
-use Rattle.inp_model.proofs.Opens.{opens-le}
-use Rattle.inp_reader.specs.declared.reader.TheConstants.{NO_CLIENT}
 use Rattle.inp_reader.specs.ReaderPlace.{is_use, is_use_of}
 use Rattle.inp_reader.specs.Talk.{EndsWith}
 use Rattle.inp_reader.proofs.Calls.{IsPlaceOf}
@@ -48,7 +46,3 @@ own-uses role d history streams wait rounds lines jobs i job last calls owners i
 -- a step that names a client and is not refused has one that is open
 pub names-open : (d : Description) (past : List Step) (x : Step) (client : ℕ) → refused d past x ≡ None → client_of x ≡ Some client → is_open past client ≡ true
 names-open d past x client accepts names = named_open past x client names (head_fails (is_bad_client past (client_of x)) _ _ accepts)
-
--- no client of a short history has the last number
-pub opened-number : (past : List Step) (client : ℕ) → length past < NO_CLIENT → client < opens past → client < NO_CLIENT
-opened-number past client short h = omega (arith, short, h, opens-le past)

@@ -14,6 +14,7 @@ use Rattle.inp_script.specs.declared.stop.Stop.{Stop}
 use Rattle.inp_script.specs.declared.stop.Stop.TheVariants.{Full as FullList}
 use Rattle.inp_script.specs.Owner.{Owning, first_owning, stop_after_answer, after_feedback}
 use Rattle.inp_runs.specs.Owner.{HasFed, EndsFed}
+use Rattle.std.proofs.lemmas.Bool.{false_from_ne_true}
 
 -- What a call leaves, takes and answers, by whether as many are kept as the log limit says
 
@@ -98,13 +99,10 @@ free-goes_on d kept room free = ap (λ (a : Fed). stop_after_answer a) (fed-free
 
 -- a device that keeps one entry more was not full
 pub grew-free : (d : Description) (kept : List UEntry) (room : ℕ) (entry : UEntry) → entry ∷ kept ≡ kept_after_feedback d kept room → is_full_of_feedback d kept ≡ false
-grew-free d kept room entry grew = by (is_full_of_feedback d kept) refl
-  where
-    by : (b : Bool) → is_full_of_feedback d kept ≡ b → is_full_of_feedback d kept ≡ false
-    by false e = e
-    by true e =
-        let same : entry ∷ kept ≡ kept = grew ∙ kept-full d kept room e in
-        absurd (omega (arith, ap length same))
+grew-free d kept room entry grew =
+    false_from_ne_true (is_full_of_feedback d kept) (λ full.
+    let same : entry ∷ kept ≡ kept = grew ∙ kept-full d kept room full in
+    omega (arith, ap length same))
 
 -- an owner all of whose calls were made goes on
 fed-goes_on : (d : Description) (kept : List UEntry) (rooms : List ℕ) (o : Owning) → HasFed d kept rooms o → o.stop ≡ None

@@ -2,7 +2,7 @@
 use Rattle.std.proofs.Common.{◌≡◌, ◌⊎◌, ℕ, zero, suc, ◌+◌, ◌<◌, ◌≤◌, Bool, true, false, ◌&&◌, ◌||◌, if◌then◌else◌, nat_eq, nat_lt, List, [], ◌∷◌, ◌++◌, length, take, reverse, refl, sym, ap, subst, ◌∙◌, arith, inl, inr, Option, Some, None}
 use Rattle.std.specs.Prelude.{slice_get}
 use Rattle.std.specs.List.{list_any, sum_by}
-use Rattle.std.proofs.lemmas.Bool.{true≢false, cases_lt, cond-true, lt-ltb, eqb-true}
+use Rattle.std.proofs.lemmas.Bool.{true≢false, cases_lt, cond-true, lt-ltb, eqb-true, and_from}
 use Rattle.std.proofs.lemmas.List.{reverse-append, length-reverse, length-take, take_all}
 use Rattle.std.proofs.lemmas.List.Sums.{sum_by-cons, get_or-le-sum_by}
 use Rattle.std.proofs.lemmas.Option.{slice_get_within, same_Some, get_or_from_slice_get}
@@ -99,9 +99,7 @@ has-one f (z ∷ xs) h = elim (cases_lt 0 (f z)) [
 -- Places
 
 one-if : (a b : Bool) → a ≡ true → b ≡ true → ◌≡◌ {A = ℕ} (if a && b then 1 else 0) 1
-one-if true true h k = refl
-one-if true false h k = absurd (true≢false (sym k))
-one-if false b h k = absurd (true≢false (sym h))
+one-if a b h k = cond-true (a && b) 1 0 (and_from a b h k)
 
 place-counts : (place : ℕ) (calls : List Call) → IsPlaceOf place calls → 1 ≤ entries place (sight_of_calls calls)
 unfolding IsPlaceOf
@@ -255,7 +253,7 @@ after-or Open (Opened at opened ring) last client h = inr (eq_true opened client
 after-or Open _ last client h = inl h
 after-or _ reply last client h = inl h
 
-or-true : (b c : Bool) → c ≡ true → (b || c) ≡ true
+pub or-true : (b c : Bool) → c ≡ true → (b || c) ≡ true
 or-true true c h = refl
 or-true false c h = h
 
@@ -272,21 +270,14 @@ names-opened d history least last place client x (call ∷ calls) legal names (i
     let reply : Reply = call.answer.reply in
     let entered : slice_get history (place_of reply) ≡ Some call.step = (let p : HasPlace d history call = legal.1 in p.entered same.0) in
     let step : call.step ≡ x = same_Some call.step x (sym entered ∙ ap (λ (n : ℕ). slice_get history n) same.1 ∙ at) in
-    by (names.0 client (ap client_of step ∙ is))
-  where
-    by : (client ≡ last) ⊎ (client ≡ NO_CLIENT) → (last ≡ client) ⊎ (list_any (is_opened_as client) (call ∷ calls) ≡ true)
-    by (inl e) = inl (sym e)
-    by (inr e) = absurd (other e)
+    elim (names.0 client (ap client_of step ∙ is)) [ inl e ↦ inl (sym e) | inr e ↦ absurd (other e) ]
 names-opened d history least last place client x (call ∷ calls) legal names (inr h) at is other =
-    by (names-opened d history (next_place call.answer.reply) (tap_client_after call.step call.answer.reply last) place client x calls legal.2 names.1 h at is other)
-  where
-    or : (last ≡ client) ⊎ (is_opening_of client call.answer.reply ≡ true) → (last ≡ client) ⊎ (list_any (is_opened_as client) (call ∷ calls) ≡ true)
-    or (inl e) = inl e
-    or (inr e) = inr (or-first (is_opened_as client call) (list_any (is_opened_as client) calls) e)
-
-    by : (tap_client_after call.step call.answer.reply last ≡ client) ⊎ (list_any (is_opened_as client) calls ≡ true) → (last ≡ client) ⊎ (list_any (is_opened_as client) (call ∷ calls) ≡ true)
-    by (inl e) = or (after-or call.step call.answer.reply last client e)
-    by (inr e) = inr (or-true (is_opened_as client call) (list_any (is_opened_as client) calls) e)
+    let opens : Bool = is_opened_as client call in
+    let later : Bool = list_any (is_opened_as client) calls in
+    elim (names-opened d history (next_place call.answer.reply) (tap_client_after call.step call.answer.reply last) place client x calls legal.2 names.1 h at is other) [
+      | inl e ↦ elim (after-or call.step call.answer.reply last client e) [ inl same ↦ inl same | inr here ↦ inr (or-first opens later here) ]
+      | inr e ↦ inr (or-true opens later e)
+    ]
 
 -- one accepted call of one job has each place of the history
 one-there : (d : Description) (history : List Step) (jobs : List JobView) (place : ℕ) (x : Step) → HasOwners d history jobs → slice_get history place ≡ Some x → entries_at place jobs ≡ 1
@@ -305,12 +296,9 @@ opened-by-one d history jobs i k client one other a b owners is_one is_other h j
     let o : IsOpenedAt history client a.calls = opened-at d history 0 client a.calls a.legal h in
     let p : IsOpenedAt history client b.calls = opened-at d history 0 client b.calls b.legal j in
     let same : p.place ≡ o.place = opened-once history p.place o.place p.is_open o.is_open (sym p.number ∙ o.number) in
-    let there : IsPlaceOf o.place b.calls = at_place p.place o.place b.calls same p.of_calls in
+    let there : IsPlaceOf o.place b.calls = subst (λ (n : ℕ). IsPlaceOf n b.calls) same p.of_calls in
     let sum : entries_at o.place jobs ≡ 1 = one-there d history jobs o.place Open owners o.is_open in
     only-one (λ (job : JobView). entries o.place job.sight) jobs i k one other is_one is_other (omega (arith, sum)) (counts-at d history o.place one a o.of_calls) (counts-at d history o.place other b there)
-  where
-    at_place : (m n : ℕ) (calls : List Call) → m ≡ n → IsPlaceOf m calls → IsPlaceOf n calls
-    at_place m n calls same h = subst (λ (l : ℕ). IsPlaceOf l calls) same h
 
 -- the job that made the step at a place
 record IsMaker (d : Description) (history : List Step) (jobs : List JobView) (place : ℕ) : Type 0 where
@@ -336,11 +324,7 @@ maker-of d history jobs place x owners at =
 -- what made a step that names an opened client opened it
 maker-opens : (d : Description) (history : List Step) (client place : ℕ) (x : Step) (job : JobView) (a : AreCallsOf d history job) → IsPlaceOf place a.calls → slice_get history place ≡ Some x → client_of x ≡ Some client → (client ≡ NO_CLIENT → ⊥) → list_any (is_opened_as client) a.calls ≡ true
 maker-opens d history client place x job a made at names other =
-    by (names-opened d history 0 NO_CLIENT place client x a.calls a.legal a.names made at names other)
-  where
-    by : (NO_CLIENT ≡ client) ⊎ (list_any (is_opened_as client) a.calls ≡ true) → list_any (is_opened_as client) a.calls ≡ true
-    by (inl is) = absurd (other (sym is))
-    by (inr h) = h
+    elim (names-opened d history 0 NO_CLIENT place client x a.calls a.legal a.names made at names other) [ inl is ↦ absurd (other (sym is)) | inr h ↦ h ]
 
 place-moves : (place : ℕ) (one other : JobView) (calls more : List Call) → entries place (sight_of_calls calls) ≡ entries place one.sight → entries place (sight_of_calls more) ≡ entries place other.sight → one ≡ other → IsPlaceOf place calls → IsPlaceOf place more
 place-moves place one other calls more told also same h =

@@ -55,8 +55,7 @@ read_after-took client last taken = refl
 
 -- a step that is no read as this client is not the last one
 kept-if : (own good : Bool) (read : LastRead) (last : Option LastRead) → own ≡ false → (if own && good then Some read else last) ≡ last
-kept-if true good read last h = absurd (true≢false h)
-kept-if false good read last h = refl
+kept-if own good read last h = ap (λ (b : Bool). if b && good then Some read else last) h
 
 pub read_after-other : (client : ℕ) (last : Option LastRead) (x : Step) (reply : Reply) → is_read_as client x ≡ false → read_after_sight client last (call_sight x reply) ≡ last
 unfolding read_after_sight
@@ -70,9 +69,7 @@ read_after-told client last x reply h = kept-if (is_read_as client x) (is_accept
 
 -- an accepted read as this client is the last one
 read-if : (own good : Bool) (read : LastRead) (last : Option LastRead) → own ≡ true → good ≡ true → (if own && good then Some read else last) ≡ Some read
-read-if true true read last h k = refl
-read-if true false read last h k = absurd (false≢true k)
-read-if false good read last h k = absurd (false≢true h)
+read-if own good read last h k = ap (λ (b : Bool). if b && good then Some read else last) h ∙ ap (λ (b : Bool). if b then Some read else last) k
 
 pub read_after-read : (client : ℕ) (last : Option LastRead) (x : Step) (reply : Reply) → is_read_as client x ≡ true → is_accepted reply ≡ true
     → read_after_sight client last (call_sight x reply ++ again_sight reply) ≡ Some (record { place = place_of reply; events = 0 })

@@ -1,7 +1,7 @@
 -- Where a client's reader stands in the history of its device, and what an event shows that it hands out.
-use Rattle.std.proofs.Common.{◌≡◌, ◌≤◌, ◌<◌, ◌⊎◌, inl, inr, ℕ, suc, Bool, true, false, List, [], ◌∷◌, ◌++◌, length, map, take, reverse, refl, sym, ap, subst, ◌∙◌, arith, append-nil, Option, Some, None}
+use Rattle.std.proofs.Common.{◌≡◌, ◌<◌, ◌⊎◌, inl, inr, ℕ, suc, true, false, List, [], ◌∷◌, ◌++◌, length, map, take, reverse, refl, sym, ap, subst, ◌∙◌, arith, append-nil, Option, Some, None}
 use Rattle.std.specs.Prelude.{Result, Ok, Err, slice_get}
-use Rattle.std.proofs.lemmas.Bool.{true≢false, cond-true}
+use Rattle.std.proofs.lemmas.Bool.{true≢false, cond-true, false_from_ne_true}
 use Rattle.std.proofs.lemmas.List.{length-reverse, length-take}
 use Rattle.inp_model.specs.declared.taken.Taken.{Taken}
 use Rattle.inp_model.specs.declared.step.Step.{Step}
@@ -97,20 +97,13 @@ abbrev IsShut : Call → Type 0
 IsShut call = client_of call.step ≡ Some NO_CLIENT → is_accepted call.answer.reply ≡ false
 
 shut-call : (d : Description) (h : List Step) (call : Call) → length h < NO_CLIENT → HasPlace d h call → IsShut call
-shut-call d h call short placed names = by (is_accepted call.answer.reply) refl
-  where
-    past : List Step
-    past = past_at h (place_of call.answer.reply)
-
-    few : length past ≤ length h
-    few = omega (arith, length-reverse (take (place_of call.answer.reply) h), length-take (place_of call.answer.reply) h)
-
-    by : (b : Bool) → is_accepted call.answer.reply ≡ b → is_accepted call.answer.reply ≡ false
-    by true e =
-        let accepts : refused d past call.step ≡ None = accepted-unrefused d past call.step call.answer placed.exact e in
-        let below : NO_CLIENT < opens past = is_open-lt past NO_CLIENT (names-open d past call.step NO_CLIENT accepts names) in
-        absurd (omega (arith, short, below, few, opens-le past))
-    by false e = e
+shut-call d h call short placed names =
+    let at : ℕ = place_of call.answer.reply in
+    let past : List Step = past_at h at in
+    false_from_ne_true (is_accepted call.answer.reply) (λ e.
+    let accepts : refused d past call.step ≡ None = accepted-unrefused d past call.step call.answer placed.exact e in
+    let below : NO_CLIENT < opens past = is_open-lt past NO_CLIENT (names-open d past call.step NO_CLIENT accepts names) in
+    omega (arith, short, below, opens-le past, length-reverse (take at h), length-take at h))
 
 shut-calls : (d : Description) (h : List Step) (least : ℕ) (calls : List Call) → length h < NO_CLIENT → IsLegalFrom d h least calls → Each IsShut calls
 shut-calls d h least [] short legal = tt

@@ -1,11 +1,10 @@
 -- The view of a job is the fold of its whole sight.
-use Rattle.std.proofs.Common.{◌≡◌, ℕ, suc, true, nat_eq, List, [], ◌∷◌, refl, ap, subst, ◌∙◌, Option, Some, None, sym}
+use Rattle.std.proofs.Common.{◌≡◌, ℕ, suc, true, nat_eq, List, [], ◌∷◌, refl, ap, subst, ◌∙◌, Option, Some, sym}
 use Rattle.std.specs.Prelude.{slice_get}
 use Rattle.std.proofs.lemmas.Bool.{cond_both, eqb-true}
 use Rattle.inp_model.specs.declared.stamped.Stamped.{Stamped}
 use Rattle.inp_model.specs.declared.step.Step.{Step}
 use Rattle.inp_model.specs.Description.{Description}
-use Rattle.inp_model.specs.Evdev.{EvdevView}
 use Rattle.inp_model.specs.Run.{Call, IsLegalFrom, IsLegalRun, next_place}
 use Rattle.inp_actors.specs.declared.actor_text.ActorText.{ActorText}
 use Rattle.inp_actors.specs.declared.line.Line.{Line}
@@ -35,10 +34,6 @@ legal-placed d h least (call ∷ calls) l = (l.1, legal-placed d h (next_place c
 -- each line is one that the role has
 abbrev pub AreOfRole : Role → List Line → Type 0
 AreOfRole role lines = Each (λ (line : Line). is_command_of role line.command ≡ true) lines
-
--- an evdev of which nothing was seen
-abbrev nothing_seen : Description → EvdevView
-nothing_seen d = record { description = d; seen = []; own = []; agains = 0; turns = None; tie = None }
 
 lines-folded : (role : Role) (d : Description) (h : List Step) (streams : List (List Stamped)) (wait : Option Waiting) (rounds : ℕ) (lines : List Line) (j k : Job) (calls : List Call) → AreOfRole role lines → ArePlaced d h calls → EndsWith (lines_talk role d streams wait rounds lines j) calls (Some k) → IsFolded role d h j → IsFolded role d h k
 lines-folded role d h streams wait rounds lines j k calls of_role placed ends fold =

@@ -7,9 +7,7 @@ use Rattle.inp_model.specs.declared.stamped.Stamped.{Stamped}
 use Rattle.inp_model.specs.declared.step.Step.{Step}
 use Rattle.inp_model.specs.declared.step.Step.TheVariants.{Inject, Open as ToOpen, Read as ToRead, Discard as ToDiscard, GetKeys, GetSwitches, GetLeds, GetAxis, SyncSlots as ToSyncSlots, End}
 use Rattle.inp_model.specs.declared.reply.Reply.{Reply}
-use Rattle.inp_model.specs.declared.reply.Reply.TheVariants.{Opened, Again as NothingVisible, Refused as StepRefused}
-use Rattle.inp_model.specs.declared.reply.Refusal.{Refusal}
-use Rattle.inp_model.specs.declared.reply.Refusal.TheVariants.{NoDevice as Revoked, LogFull}
+use Rattle.inp_model.specs.declared.reply.Reply.TheVariants.{Opened}
 use Rattle.inp_model.specs.Description.{Description}
 use Rattle.inp_model.specs.Reply.{Answer}
 use Rattle.inp_model.specs.Run.{Call}
@@ -29,10 +27,10 @@ use Rattle.inp_reader.specs.declared.reader.TheConstants.{NO_CLIENT}
 use Rattle.inp_recon.specs.Synchronised.{is_dropped}
 use Rattle.inp_reader.specs.Reader.{Reading, queries, start_talk, stop_of, next_talk}
 use Rattle.inp_joy.specs.declared.joy_read.JoyRead.{JoyRead}
-use Rattle.inp_joy.specs.declared.joy_read.JoyRead.TheVariants.{Again as NothingToRead, NoDevice as Revoked}
+use Rattle.inp_joy.specs.declared.joy_read.JoyRead.TheVariants.{Again as NothingToRead}
 use Rattle.inp_joy.specs.Joy.{JoyAnswer, turns}
 use Rattle.inp_reader.proofs.Meets.{Meets, Any, Listed, meets-weaker, meets-ends, listed-run}
-use Rattle.inp_reader.proofs.NextWalk.{OfQueries, each-query, each-sync, AskRules, asked-meets, sync-meets, Queried, start-meets, Renewed, NextRules, next-meets}
+use Rattle.inp_reader.proofs.NextWalk.{OfQueries, each-query, each-sync, AskRules, asked-meets, sync-meets, Queried, start-meets, Renewed, NextRules, next-meets, stop-cases}
 use Rattle.inp_reader.specs.Talk.{Talk, finish, EndsWith}
 use Rattle.inp_script.specs.declared.sight.Sight.{Sight}
 use Rattle.inp_script.specs.declared.waiting.Waiting.{Waiting}
@@ -66,10 +64,8 @@ last_opened last (call ∷ calls) = last_opened (tap_client_after call.step call
 -- the job reads as the client that was opened last; a source reads as none, and so does an owner
 abbrev pub ReadsAs : Role → ℕ → Job → Type 0
 ReadsAs Source last j = Unit {0}
-ReadsAs Client last j = last ≡ j.reading.client
-ReadsAs Tap last j = last ≡ j.reading.client
-ReadsAs Joy last j = last ≡ j.reading.client
 ReadsAs Owner last j = Unit {0}
+ReadsAs _ last j = last ≡ j.reading.client
 
 -- Steps
 
@@ -164,15 +160,8 @@ Drops _ = Unit {0}
 abbrev OfAnswer : ℕ → List Call → Next × Reading → Type 0
 OfAnswer first s o = Named first s o.1.client × Drops o.0
 
-drops-refused : (at : ℕ) (why : Refusal) → Drops (stop_of (StepRefused at why))
-drops-refused at Revoked = tt
-drops-refused at LogFull = tt
-drops-refused at _ = tt
-
 drops-stop : (reply : Reply) → Drops (stop_of reply)
-drops-stop (NothingVisible at ends) = tt
-drops-stop (StepRefused at why) = drops-refused at why
-drops-stop _ = tt
+drops-stop reply = stop-cases Drops reply (λ at ends is. tt) tt tt (λ at. tt)
 
 abbrev IsReader : ℕ → List Call → Reading → Type 0
 IsReader first s r = Named first s r.client
@@ -351,10 +340,8 @@ names-last first wait role s j h =
 
 first-reads : (role : Role) (d : Description) → ReadsAs role NO_CLIENT (first_job role d)
 first-reads Source d = tt
-first-reads Client d = refl
-first-reads Tap d = refl
-first-reads Joy d = refl
 first-reads Owner d = tt
+first-reads _ d = refl
 
 -- before the first line a job has opened no client, and then the calls of its lines name so
 pub job-names : (role : Role) (d : Description) (streams : List (List Stamped)) (wait : Option Waiting) (n : ℕ) (lines : List Line) (k : Job) (calls : List Call) → EndsWith (lines_talk role d streams wait n lines (first_job role d)) calls (Some k)

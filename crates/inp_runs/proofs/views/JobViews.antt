@@ -50,7 +50,7 @@ use Rattle.inp_runs.specs.Losses.{AreLossesCaused}
 use Rattle.inp_runs.proofs.views.AtHand.{own-caused, shown-own}
 use Rattle.inp_runs.proofs.views.ClientReports.{IsClientJob, ClientSaw, client-first, client-rules}
 use Rattle.inp_runs.proofs.views.Folded.{AreOfRole, its_lines, view-folded}
-use Rattle.inp_runs.proofs.owners.Owners.{HasOwners, is_opened_as, is_opening_of, history-of-jobs}
+use Rattle.inp_runs.proofs.owners.Owners.{HasOwners, is_opened_as, is_opening_of, history-of-jobs, or-true}
 use Rattle.inp_runs.proofs.owners.OwnUses.{own-uses}
 use Rattle.inp_runs.proofs.views.Reports.{AtEntry, AtEach, at_each-append, at_each-at, at_each-noted, AreToCome, Coming, Comes, coming-run, at_each-eventless}
 use Rattle.inp_runs.proofs.views.TapViews.{TapStands, TapSaw, tap-line, tap-first}
@@ -133,11 +133,9 @@ module _ (d : Description) (h : List Step) where
 
 -- how a job of a role stands behind so many steps of the history
 abbrev JobStands : Role → Description → List Step → (ℕ → Type 0) → ℕ → Job → Type 0
-JobStands Source d h Q least j = AtEach TookNothing [] j.sight
 JobStands Client d h Q least j = IsClientJob d h Q least j
 JobStands Tap d h Q least j = TapStands d h Q least j
-JobStands Joy d h Q least j = AtEach TookNothing [] j.sight
-JobStands Owner d h Q least j = AtEach TookNothing [] j.sight
+JobStands _ d h Q least j = AtEach TookNothing [] j.sight
 
 module _ (d : Description) (h : List Step) (Q : ℕ → Type 0) (history : IsHistory d (reverse h)) (short : length h < NO_CLIENT) where
   abbrev On : Role → Coming d h Q → Job → Type 0
@@ -208,10 +206,6 @@ opened-among all (call ∷ calls) f = (
   λ at client ring is. f client (ap (λ (b : Bool). b || list_any (is_opened_as client) calls) (ap (is_opening_of client) is ∙ eq-eqb client client refl)),
   opened-among all calls (λ client k. f client (or-true (is_opened_as client call) (list_any (is_opened_as client) calls) k)),
 )
-  where
-    or-true : (a b : Bool) → b ≡ true → (a || b) ≡ true
-    or-true true b k = refl
-    or-true false b k = k
 
 -- What a job shows: which events it took, its view at each report, why it lost events, and how large its view is.
 pub record IsShown (d : Description) (h : List Step) (role : Role) (last : Job) : Type 0 where

@@ -42,7 +42,7 @@ use Rattle.inp_reader.proofs.ShowsDevice.{what_is_had, no-key-down, nothing-on}
 use Rattle.inp_reader.proofs.SpareAgrees.{no-keys, no-switches, no-leds, keys-stay}
 use Rattle.inp_reader.proofs.Supported.{events-of}
 use Rattle.inp_script.specs.declared.sight.Sight.{Sight}
-use Rattle.inp_script.specs.declared.sight.Sight.TheVariants.{Call as CallSight, Took, Made, Again as AgainSight, Record}
+use Rattle.inp_script.specs.declared.sight.Sight.TheVariants.{Took}
 use Rattle.inp_script.specs.Sight.{call_sight, again_sight, taken_sight}
 use Rattle.inp_script.specs.Job.{Job}
 use Rattle.inp_script.specs.Line.{after_call}
@@ -57,11 +57,8 @@ use Rattle.inp_runs.proofs.owners.Owners.{past-next}
 
 -- of an entry, with the sight before it
 abbrev pub AtEntry : (List Sight → Taken → Type 0) → List Sight → Sight → Type 0
-AtEntry P before (CallSight x reply) = Unit {0}
 AtEntry P before (Took taken) = P (before ++ Took taken ∷ []) taken
-AtEntry P before (Made event) = Unit {0}
-AtEntry P before (AgainSight at ends) = Unit {0}
-AtEntry P before (Record bytes) = Unit {0}
+AtEntry P before _ = Unit {0}
 
 abbrev pub AtEach : (List Sight → Taken → Type 0) → List Sight → List Sight → Type 0
 AtEach P before [] = Unit {0}

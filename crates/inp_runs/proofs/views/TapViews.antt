@@ -1,5 +1,5 @@
 -- At each report that a tap took, its view is its client's in the history.
-use Rattle.std.proofs.Common.{◌≡◌, ◌≤◌, ◌<◌, ◌⊎◌, inl, inr, ℕ, zero, suc, ◌+◌, ◌-◌, nat_eq, nat_lt, Bool, true, false, ◌&&◌, ◌||◌, not, if◌then◌else◌, ℤ, pos, List, [], ◌∷◌, ◌++◌, length, map, take, drop, reverse, refl, sym, ap, subst, ◌∙◌, arith, append-nil, append_assoc, length-append, Option, Some, None}
+use Rattle.std.proofs.Common.{◌≡◌, ◌≤◌, ◌<◌, ◌⊎◌, inl, inr, ℕ, zero, suc, ◌+◌, ◌-◌, nat_eq, nat_lt, Bool, true, false, ◌&&◌, ◌||◌, not, ℤ, pos, List, [], ◌∷◌, ◌++◌, length, map, take, drop, reverse, refl, sym, ap, subst, ◌∙◌, arith, append-nil, append_assoc, length-append, Option, Some, None}
 use Rattle.std.specs.Prelude.{slice_get, slice_index_or}
 use Rattle.std.specs.List.{All, list_all, list_any, range_with_len}
 use Rattle.std.proofs.Math.Bool.{and-false}
@@ -49,7 +49,7 @@ use Rattle.inp_reader.proofs.ShowsDevice.{what_is_had, agree-events, at-it}
 use Rattle.inp_reader.proofs.StandsAfterTalks.{open-opens, opens-step}
 use Rattle.inp_reader.proofs.Supported.{events-of}
 use Rattle.inp_script.specs.declared.sight.Sight.{Sight}
-use Rattle.inp_script.specs.declared.sight.Sight.TheVariants.{Call as CallSight, Took, Made, Again as AgainSight, Record}
+use Rattle.inp_script.specs.declared.sight.Sight.TheVariants.{Call as CallSight, Took}
 use Rattle.inp_script.specs.Fold.{tap_fold}
 use Rattle.inp_script.specs.Job.{Job, first_job}
 use Rattle.inp_script.specs.Line.{step_of, tap_client_after, event_of_taken, view_after_call, after_tap_call, tap_call_if, tap_talk}
@@ -120,12 +120,9 @@ idle-asks part client _ h = refl
 
 had-before : (part : Part) (past : List Step) (client : ℕ) (x : Step) → asks_for part client x ≡ false → has_asked part (x ∷ past) client ≡ true → has_asked part past client ≡ true
 unfolding has_asked
-had-before part past client x none h = by (is_start past client x) (asks_for part client x) none h
-  where
-    by : (starts asks : Bool) → asks ≡ false → (if starts then false else asks || has_asked part past client) ≡ true → has_asked part past client ≡ true
-    by true asks k e = absurd (false≢true e)
-    by false true k e = absurd (true≢false k)
-    by false false k e = e
+had-before part past client x none h =
+    (cond_both (is_start past client x) _ _ (λ (b : Bool). b ≡ true → has_asked part past client ≡ true) (λ _ e. absurd (false≢true e))
+    (λ _ e. sym (ap (λ (asks : Bool). asks || has_asked part past client) none) ∙ e)) h
 
 -- an axis with a value of its own, or another part
 abbrev is_plain : Part → Bool
@@ -299,10 +296,7 @@ pub client_after-append : (client : ℕ) (xs ys : List Sight) → client_after_s
 unfolding client_after_sight
 client_after-append client [] ys = refl
 client_after-append client (CallSight x reply ∷ xs) ys = client_after-append (tap_client_after x reply client) xs ys
-client_after-append client (Took taken ∷ xs) ys = client_after-append client xs ys
-client_after-append client (Made event ∷ xs) ys = client_after-append client xs ys
-client_after-append client (AgainSight at ends ∷ xs) ys = client_after-append client xs ys
-client_after-append client (Record bytes ∷ xs) ys = client_after-append client xs ys
+client_after-append client (entry ∷ xs) ys = client_after-append client xs ys
 
 client_after-takens : (client : ℕ) (events : List Taken) → client_after_sight client (map taken_sight events) ≡ client
 unfolding client_after_sight
@@ -342,10 +336,6 @@ client_after-refused _ reply client h = refl
 refusal_sets_nothing : (v : View) (x : Step) (at : ℕ) (why : Refusal) (cells : List ℤ) → view_after_answer v x (Refused at why) cells ≡ v
 unfolding view_after_answer
 refusal_sets_nothing v (GetKeys client) at why cells = refl
-refusal_sets_nothing v (GetSwitches client) at why cells = refl
-refusal_sets_nothing v (GetLeds client) at why cells = refl
-refusal_sets_nothing v (GetAxis client code) at why cells = refl
-refusal_sets_nothing v (SyncSlots client) at why cells = refl
 refusal_sets_nothing v _ at why cells = refl
 
 refused-view : (v : View) (x : Step) (reply : Reply) (cells : List ℤ) → is_accepted reply ≡ false → view_after_answer v x reply cells ≡ v
@@ -441,16 +431,15 @@ module _ (d : Description) (h : List Step) (Q : ℕ → Type 0) (history : IsHis
   -- the client that a tap's accepted step names was opened by it
   named-asked : (least : ℕ) (j : Job) (call : Call) (calls : List Call) → AreToCome d h Q least (call ∷ calls) → TapStands d h Q least j → refused d (past_at h (place_of call.answer.reply)) call.step ≡ None → client_of call.step ≡ Some j.reading.client
       → Q j.reading.client × IsAsked d (past_at h (place_of call.answer.reply)) j.reading.client j.reading.view
-  named-asked least j call calls c s accepts named = by s.asked
-    where
-      at : ℕ
-      at = place_of call.answer.reply
-
-      by : (j.reading.client ≡ NO_CLIENT) ⊎ (Q j.reading.client × IsAsked d (past_at h least) j.reading.client j.reading.view) → Q j.reading.client × IsAsked d (past_at h at) j.reading.client j.reading.view
-      by (inl none) = absurd (omega (arith, few-opens at, none, opened-there d (past_at h at) call.step j.reading.client accepts named))
-      by (inr (q, a)) =
-          let b : (others : List Step) × AreQuiet j.reading.client others × (past_at h at ≡ others ++ past_at h least) = quiet-before d h Q j.reading.client least call calls c q in
-          (q, subst (λ (p : List Step). IsAsked d p j.reading.client j.reading.view) (sym b.2) (asked-quiet d (past_at h least) b.0 j.reading.client j.reading.view b.1 a))
+  named-asked least j call calls c s accepts named =
+      let client : ℕ = j.reading.client in
+      let at : ℕ = place_of call.answer.reply in
+      elim s.asked [
+        | inl none ↦ absurd (omega (arith, few-opens at, none, opened-there d (past_at h at) call.step client accepts named))
+        | inr (q, a) ↦
+            (let b : (others : List Step) × AreQuiet client others × (past_at h at ≡ others ++ past_at h least) = quiet-before d h Q client least call calls c q in
+            (q, subst (λ (p : List Step). IsAsked d p client j.reading.view) (sym b.2) (asked-quiet d (past_at h least) b.0 client j.reading.view b.1 a)))
+      ]
 
   -- an event that a tap read
   tap-read : (least : ℕ) (j : Job) (call : Call) (calls : List Call) → AreToCome d h Q least (call ∷ calls) → TapStands d h Q least j → IsTapStep j.reading.client call.step → is_read call.step ≡ true → is_accepted call.answer.reply ≡ true
