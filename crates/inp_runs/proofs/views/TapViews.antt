@@ -420,197 +420,183 @@ read-is_use : (client : ℕ) (x : Step) → is_read x ≡ true → client_of x �
 read-is_use client (Read named count) h is = let same : named ≡ client = (let e : Some named ≡ Some client = is in cc) in eq-eqb named client same
 read-is_use client _ h is = absurd (false≢true h)
 
-read-no_open : (x : Step) → is_read x ≡ true → is_open_step x ≡ false
-read-no_open ToOpen h = absurd (false≢true h)
-read-no_open _ h = refl
+named-no_open : (client : ℕ) (x : Step) → client_of x ≡ Some client → is_open_step x ≡ false
+named-no_open client ToOpen e = absurd cc
+named-no_open client _ e = refl
 
 module _ (d : Description) (h : List Step) (Q : ℕ → Type 0) (history : IsHistory d (reverse h)) (short : length h < NO_CLIENT) where
   few-opens : (at : ℕ) → opens (past_at h at) < NO_CLIENT
   few-opens at = omega (arith, short, opens-le (past_at h at), length-reverse (take at h), length-take at h)
 
-  -- the client that a tap's accepted step names was opened by it
-  named-asked : (least : ℕ) (j : Job) (call : Call) (calls : List Call) → AreToCome d h Q least (call ∷ calls) → TapStands d h Q least j → refused d (past_at h (place_of call.answer.reply)) call.step ≡ None → client_of call.step ≡ Some j.reading.client
-      → Q j.reading.client × IsAsked d (past_at h (place_of call.answer.reply)) j.reading.client j.reading.view
-  named-asked least j call calls c s accepts named =
-      let client : ℕ = j.reading.client in
-      let at : ℕ = place_of call.answer.reply in
-      elim s.asked [
-        | inl none ↦ absurd (omega (arith, few-opens at, none, opened-there d (past_at h at) call.step client accepts named))
-        | inr (q, a) ↦
-            (let b : (others : List Step) × AreQuiet client others × (past_at h at ≡ others ++ past_at h least) = quiet-before d h Q client least call calls c q in
-            (q, subst (λ (p : List Step). IsAsked d p client j.reading.view) (sym b.2) (asked-quiet d (past_at h least) b.0 client j.reading.view b.1 a)))
-      ]
+  -- One call of a tap
+  module _ (least : ℕ) (j : Job) (call : Call) (calls : List Call) (c : AreToCome d h Q least (call ∷ calls)) (s : TapStands d h Q least j) where
+    abbrev x : Step
+    x = call.step
 
-  -- an event that a tap read
-  tap-read : (least : ℕ) (j : Job) (call : Call) (calls : List Call) → AreToCome d h Q least (call ∷ calls) → TapStands d h Q least j → IsTapStep j.reading.client call.step → is_read call.step ≡ true → is_accepted call.answer.reply ≡ true
-      → (front : List Taken) (t : Taken) (behind : List Taken) → call.answer.events ≡ front ++ t ∷ behind
-      → TapSaw d h ((j.sight ++ (call_sight call.step call.answer.reply ++ again_sight call.answer.reply)) ++ map taken_sight (front ++ t ∷ [])) t
-  tap-read least j call calls c s (inl opens_it) read is front t behind e = absurd (false≢true (ap is_read (sym opens_it) ∙ read))
-  tap-read least j call calls c s (inr named) read is front t behind e =
-      let x : Step = call.step in
-      let given : Answer = call.answer in
-      let reply : Reply = given.reply in
-      let at : ℕ = place_of reply in
-      let past : List Step = past_at h at in
-      let client : ℕ = j.reading.client in
-      let v : View = j.reading.view in
-      let told : List Sight = call_sight x reply ++ again_sight reply in
-      let taken : List Taken = front ++ t ∷ [] in
-      let es : List Sight = map taken_sight taken in
-      let placed : HasPlace d h call = c.legal.1 in
-      let exact : (given ≡ answer d past x) × (refused d past x ≡ None) = accepted-exact d past x given placed.exact is in
-      let a : Q client × IsAsked d past client v = named-asked least j call calls c s exact.1 named in
-      let next : past_at h (next_place reply) ≡ x ∷ past = past-entered d h call placed ∙ cond-true (is_accepted reply) (x ∷ past) past is in
-      let here : IsHistory d (x ∷ past) = subst (IsHistory d) next (history-at d h (next_place reply) history) in
-      let i : ℕ = length (took d past client) + length front in
-      let shown : ShowsAt d (x ∷ past) client (Some i) t (view_after_events v (taken_events taken)) =
-      read-shows d past client x v front behind t here (read-is_use client x read named) (ap (λ (g : Answer). g.events) (sym exact.0) ∙ e) s.bare s.sized a.1 in
-      let whole : reverse h ≡ reverse (drop (next_place reply) h) ++ (x ∷ past) = whole-past h (next_place reply) ∙ ap (λ (p : List Step). reverse (drop (next_place reply) h) ++ p) next in
-      let later : ShowsAt d (reverse h) client (Some i) t (view_after_events v (taken_events taken)) =
-      subst (λ (p : List Step). ShowsAt d p client (Some i) t (view_after_events v (taken_events taken))) (sym whole) (shows-later d (reverse (drop (next_place reply) h)) (x ∷ past) client (Some i) t (view_after_events v (taken_events taken)) shown) in
-      let sight : (j.sight ++ told) ++ es ≡ j.sight ++ (told ++ es) = append_assoc j.sight told es in
-      let same : reads_as ((j.sight ++ told) ++ es) ≡ client =
-      ap reads_as sight ∙ client_after-told j x reply taken s.reads ∙ stays-last x reply client (read-no_open x read) in
-      let view : tap_fold d h (first_view d) ((j.sight ++ told) ++ es) ≡ view_after_events v (taken_events taken) =
-      ap (λ (l : List Sight). tap_fold d h (first_view d) l) sight
-      ∙ tap_fold-append d h (first_view d) j.sight (told ++ es) ∙ ap (λ (u : View). tap_fold d h u (told ++ es)) s.fold
-      ∙ tap_fold-append d h v told es ∙ ap (λ (u : View). tap_fold d h u es) (entries-fold d h v x given placed.exact ∙ read-view x v reply given.cells read)
-      ∙ fold-taken d h v taken in
-      let count : (0 + length taken) - 1 ≡ length front = omega (arith, length-append front (t ∷ [])) in
-      let own : index_in_history d h ((j.sight ++ told) ++ es) ≡ Some i =
-      index-read d h client j.sight x reply taken same (read-as client x read named) is
-      ∙ ap (λ (n : ℕ). Some (length (took d past client) + n)) count in
-      shows-as d (reverse h) client _ (Some i) _ t (view_after_events v (taken_events taken)) _ same own view later
+    abbrev given : Answer
+    given = call.answer
 
-  -- all that a tap's call gave
-  tap-events : (least : ℕ) (j : Job) (call : Call) (calls : List Call) → AreToCome d h Q least (call ∷ calls) → TapStands d h Q least j → IsTapStep j.reading.client call.step
-      → AtEach (TapSaw d h) (j.sight ++ (call_sight call.step call.answer.reply ++ again_sight call.answer.reply)) (map taken_sight call.answer.events)
-  tap-events least j call calls c s step = by (is_accepted call.answer.reply) (is_read call.step) refl refl
-    where
-      before : List Sight
-      before = j.sight ++ (call_sight call.step call.answer.reply ++ again_sight call.answer.reply)
+    abbrev reply : Reply
+    reply = call.answer.reply
 
-      at : ℕ
-      at = place_of call.answer.reply
+    abbrev past : List Step
+    past = past_at h (place_of call.answer.reply)
 
-      nothing : call.answer.events ≡ [] → AtEach (TapSaw d h) before (map taken_sight call.answer.events)
-      nothing none = subst (λ (ts : List Taken). AtEach (TapSaw d h) before (map taken_sight ts)) (sym none) tt
+    abbrev client : ℕ
+    client = j.reading.client
 
-      by : (a r : Bool) → is_accepted call.answer.reply ≡ a → is_read call.step ≡ r → AtEach (TapSaw d h) before (map taken_sight call.answer.events)
-      by false r is read = nothing (refused-events d (past_at h at) call.step call.answer c.legal.1.exact is)
-      by true false is read =
-          nothing (ap (λ (g : Answer). g.events) (accepted-exact d (past_at h at) call.step call.answer c.legal.1.exact is).0 ∙ no_read-takes d (past_at h at) call.step read)
-      by true true is read =
-          subst (λ (b : List Sight). AtEach (TapSaw d h) b (map taken_sight call.answer.events)) (append-nil before)
-          (events-seen (TapSaw d h) before [] call.answer.events call.answer.events refl (λ front t behind e. tap-read least j call calls c s step read is front t behind e))
+    abbrev v : View
+    v = j.reading.view
 
-  -- what a tap's client is asked for after its call
-  tap-asked : (least : ℕ) (j : Job) (call : Call) (calls : List Call) → AreToCome d h Q least (call ∷ calls) → TapStands d h Q least j → IsTapStep j.reading.client call.step → IsSizedFor d.slots (view_after_call j.reading.view call.step call.answer)
-      → (let client : ℕ = tap_client_after call.step call.answer.reply j.reading.client in (client ≡ NO_CLIENT) ⊎ (Q client × IsAsked d (past_at h (next_place call.answer.reply)) client (view_after_call j.reading.view call.step call.answer)))
-  tap-asked least j call calls c s step sized = by (is_accepted call.answer.reply) refl
-    where
-      x : Step
-      x = call.step
+    abbrev made : View
+    made = view_after_call j.reading.view call.step call.answer
 
-      given : Answer
-      given = call.answer
+    abbrev told : List Sight
+    told = call_sight call.step call.answer.reply ++ again_sight call.answer.reply
 
-      at : ℕ
-      at = place_of call.answer.reply
+    placed : HasPlace d h call
+    placed = c.legal.1
 
-      past : List Step
-      past = past_at h (place_of call.answer.reply)
+    entered : past_at h (next_place reply) ≡ past_after reply x past
+    entered = past-entered d h call c.legal.1
 
-      client : ℕ
-      client = j.reading.client
+    exact : is_accepted reply ≡ true → (given ≡ answer d past x) × (refused d past x ≡ None)
+    exact is = accepted-exact d past x given placed.exact is
 
-      v : View
-      v = j.reading.view
+    -- how a client stands behind a past
+    abbrev Stands : ℕ → List Step → View → Type 0
+    Stands n p u = (n ≡ NO_CLIENT) ⊎ (Q n × IsAsked d p n u)
 
-      Stands : ℕ → List Step → View → Type 0
-      Stands n p u = (n ≡ NO_CLIENT) ⊎ (Q n × IsAsked d p n u)
+    -- the tap's own before the call
+    stood : Stands client past v
+    stood = elim s.asked [
+      | inl none ↦ inl none
+      | inr (q, a) ↦
+          (let b : (others : List Step) × AreQuiet client others × (past ≡ others ++ past_at h least) =
+          quiet-before d h Q client least call calls c q in
+          inr (q, subst (λ (p : List Step). IsAsked d p client v) (sym b.2) (asked-quiet d (past_at h least) b.0 client v b.1 a)))
+    ]
 
-      placed : HasPlace d h call
-      placed = c.legal.1
+    -- the client that an accepted step names was opened by the tap
+    named-asked : refused d past x ≡ None → client_of x ≡ Some client → Q client × IsAsked d past client v
+    named-asked accepts named = elim stood [
+      | inl none ↦ absurd (omega (arith, few-opens (place_of reply), none, opened-there d past x client accepts named))
+      | inr a ↦ a
+    ]
 
-      entered : past_at h (next_place call.answer.reply) ≡ past_after call.answer.reply call.step (past_at h (place_of call.answer.reply))
-      entered = past-entered d h call c.legal.1
+    -- an event that it read
+    tap-read : client_of x ≡ Some client → is_read x ≡ true → is_accepted reply ≡ true → (front : List Taken) (t : Taken) (behind : List Taken)
+        → given.events ≡ front ++ t ∷ behind → TapSaw d h ((j.sight ++ told) ++ map taken_sight (front ++ t ∷ [])) t
+    tap-read named read is front t behind e =
+        let taken : List Taken = front ++ t ∷ [] in
+        let es : List Sight = map taken_sight taken in
+        let now : View = view_after_events v (taken_events taken) in
+        let a : Q client × IsAsked d past client v = named-asked (exact is).1 named in
+        let next : past_at h (next_place reply) ≡ x ∷ past = entered ∙ cond-true (is_accepted reply) (x ∷ past) past is in
+        let here : IsHistory d (x ∷ past) = subst (IsHistory d) next (history-at d h (next_place reply) history) in
+        let i : ℕ = length (took d past client) + length front in
+        let shown : ShowsAt d (x ∷ past) client (Some i) t now =
+        read-shows d past client x v front behind t here (read-is_use client x read named)
+        (ap (λ (g : Answer). g.events) (sym (exact is).0) ∙ e) s.bare s.sized a.1 in
+        let later : List Step = reverse (drop (next_place reply) h) in
+        let whole : reverse h ≡ later ++ (x ∷ past) = whole-past h (next_place reply) ∙ ap (λ (p : List Step). later ++ p) next in
+        let sight : (j.sight ++ told) ++ es ≡ j.sight ++ (told ++ es) = append_assoc j.sight told es in
+        let same : reads_as ((j.sight ++ told) ++ es) ≡ client =
+        ap reads_as sight ∙ client_after-told j x reply taken s.reads ∙ stays-last x reply client (named-no_open client x named) in
+        let view : tap_fold d h (first_view d) ((j.sight ++ told) ++ es) ≡ now =
+        ap (λ (l : List Sight). tap_fold d h (first_view d) l) sight
+        ∙ tap_fold-append d h (first_view d) j.sight (told ++ es) ∙ ap (λ (u : View). tap_fold d h u (told ++ es)) s.fold
+        ∙ tap_fold-append d h v told es
+        ∙ ap (λ (u : View). tap_fold d h u es) (entries-fold d h v x given placed.exact ∙ read-view x v reply given.cells read)
+        ∙ fold-taken d h v taken in
+        let count : (0 + length taken) - 1 ≡ length front = omega (arith, length-append front (t ∷ [])) in
+        let own : index_in_history d h ((j.sight ++ told) ++ es) ≡ Some i =
+        index-read d h client j.sight x reply taken same (read-as client x read named) is
+        ∙ ap (λ (n : ℕ). Some (length (took d past client) + n)) count in
+        shows-as d (reverse h) client _ (Some i) _ t now _ same own view
+        (subst (λ (p : List Step). ShowsAt d p client (Some i) t now) (sym whole) (shows-later d later (x ∷ past) client (Some i) t now shown))
 
-      -- as before
-      kept : (client ≡ NO_CLIENT) ⊎ (Q client × IsAsked d (past_at h least) client v) → Stands client past v
-      kept (inl none) = inl none
-      kept (inr (q, a)) =
-          let b : (others : List Step) × AreQuiet client others × (past ≡ others ++ past_at h least) = quiet-before d h Q client least call calls c q in
-          inr (q, subst (λ (p : List Step). IsAsked d p client v) (sym b.2) (asked-quiet d (past_at h least) b.0 client v b.1 a))
+    -- all that the call gave
+    tap-events : IsTapStep client x → AtEach (TapSaw d h) (j.sight ++ told) (map taken_sight given.events)
+    tap-events step = by (is_accepted reply) (is_read x) refl refl step
+      where
+        nothing : given.events ≡ [] → AtEach (TapSaw d h) (j.sight ++ told) (map taken_sight given.events)
+        nothing none = subst (λ (ts : List Taken). AtEach (TapSaw d h) (j.sight ++ told) (map taken_sight ts)) (sym none) tt
 
-      opens-one : is_accepted given.reply ≡ true → x ≡ ToOpen → Stands (tap_client_after x given.reply client) (x ∷ past) (view_after_call v x given)
-      opens-one is opening =
-          let exact : (given ≡ answer d past x) × (refused d past x ≡ None) = accepted-exact d past x given placed.exact is in
-          let reply : given.reply ≡ Opened (length past) (opens past) (ring d) =
-          ap (λ (g : Answer). g.reply) exact.0 ∙ ap (λ (g : Answer). g.reply) (accepted-answer d past x exact.1) ∙ ap (λ (y : Step). (accepted d past y).reply) opening in
-          let q : Q (opens past) = c.opened.0 (length past) (opens past) (ring d) reply in
-          let new : tap_client_after x given.reply client ≡ opens past = ap (λ (y : Step). tap_client_after y given.reply client) opening ∙ ap (λ (r : Reply). tap_client_after ToOpen r client) reply in
-          subst (λ (n : ℕ). Stands n (x ∷ past) (view_after_call v x given)) (sym new)
-          (inr (q, subst (λ (y : Step). IsAsked d (y ∷ past) (opens past) (view_after_call v x given)) (sym opening) (opened-asked d past (view_after_call v x given) sized)))
+        by : (a r : Bool) → is_accepted reply ≡ a → is_read x ≡ r → IsTapStep client x → AtEach (TapSaw d h) (j.sight ++ told) (map taken_sight given.events)
+        by false r is read step = nothing (refused-events d past x given placed.exact is)
+        by true false is read step = nothing (ap (λ (g : Answer). g.events) (exact is).0 ∙ no_read-takes d past x read)
+        by true true is read (inl opens_it) = absurd (false≢true (ap is_read (sym opens_it) ∙ read))
+        by true true is read (inr named) =
+            subst (λ (b : List Sight). AtEach (TapSaw d h) b (map taken_sight given.events)) (append-nil (j.sight ++ told))
+            (events-seen (TapSaw d h) (j.sight ++ told) [] given.events given.events refl (tap-read named read is))
 
-      own-one : is_accepted given.reply ≡ true → client_of x ≡ Some client → Stands (tap_client_after x given.reply client) (x ∷ past) (view_after_call v x given)
-      own-one is named =
-          let exact : (given ≡ answer d past x) × (refused d past x ≡ None) = accepted-exact d past x given placed.exact is in
-          let a : Q client × IsAsked d past client v = named-asked least j call calls c s exact.1 named in
-          let same : tap_client_after x given.reply client ≡ client = stays-last x given.reply client (named-no_open x named) in
-          subst (λ (n : ℕ). Stands n (x ∷ past) (view_after_call v x given)) (sym same)
-          (inr (a.0, subst (λ (g : Answer). IsAsked d (x ∷ past) client (view_after_call v x g)) (sym exact.0) (used_or_idle (is_use x) refl a.1 exact.1 (ap (λ (g : Answer). is_accepted g.reply) (sym exact.0) ∙ is))))
-        where
-          named-no_open : (y : Step) → client_of y ≡ Some client → is_open_step y ≡ false
-          named-no_open ToOpen e = absurd cc
-          named-no_open _ e = refl
+    -- the client is open behind an Open, and nothing was asked for
+    opens-one : is_accepted reply ≡ true → IsSizedFor d.slots made → x ≡ ToOpen → Stands (tap_client_after x reply client) (x ∷ past) made
+    opens-one is sized opening =
+        let opened : reply ≡ Opened (length past) (opens past) (ring d) =
+        ap (λ (g : Answer). g.reply) ((exact is).0 ∙ accepted-answer d past x (exact is).1) ∙ ap (λ (y : Step). (accepted d past y).reply) opening in
+        let new : tap_client_after x reply client ≡ opens past =
+        ap (λ (y : Step). tap_client_after y reply client) opening ∙ ap (λ (r : Reply). tap_client_after ToOpen r client) opened in
+        subst (λ (n : ℕ). Stands n (x ∷ past) made) (sym new)
+        (inr (
+          c.opened.0 (length past) (opens past) (ring d) opened,
+          subst (λ (y : Step). IsAsked d (y ∷ past) (opens past) made) (sym opening) (opened-asked d past made sized),
+        ))
 
-          used_or_idle : (b : Bool) → is_use x ≡ b → IsAsked d past client v → refused d past x ≡ None → is_accepted (answer d past x).reply ≡ true → IsAsked d (x ∷ past) client (view_after_call v x (answer d past x))
-          used_or_idle true used a accepts good =
-              let is_own : is_same (client_of x) client ≡ true = ap (λ (o : Option ℕ). is_same o client) named ∙ eq-eqb client client refl in
-              let own_use : is_use_of client x ≡ true = ap (λ (b : Bool). b && is_same (client_of x) client) used ∙ is_own in
-              subst (IsAsked d (x ∷ past) client) (sym (made-same d past v x (refused d past x))) (asked-own d past client x v accepts own_use s.sized a)
-          used_or_idle false idle a accepts good =
-              let own_use : is_use_of client x ≡ false = ap (λ (b : Bool). b && is_same (client_of x) client) idle in
-              subst (IsAsked d (x ∷ past) client) (sym (idle-made d past v x (refused d past x) idle good)) (asked-idle d past client x v own_use a)
+    own-one : is_accepted reply ≡ true → client_of x ≡ Some client → Stands (tap_client_after x reply client) (x ∷ past) made
+    own-one is named =
+        let a : Q client × IsAsked d past client v = named-asked (exact is).1 named in
+        subst (λ (n : ℕ). Stands n (x ∷ past) made) (sym (stays-last x reply client (named-no_open client x named)))
+        (inr (
+          a.0,
+          subst (λ (g : Answer). IsAsked d (x ∷ past) client (view_after_call v x g)) (sym (exact is).0)
+              (used_or_idle (is_use x) refl a.1 (ap (λ (g : Answer). is_accepted g.reply) (sym (exact is).0) ∙ is)),
+        ))
+      where
+        used_or_idle : (b : Bool) → is_use x ≡ b → IsAsked d past client v → is_accepted (answer d past x).reply ≡ true
+            → IsAsked d (x ∷ past) client (view_after_call v x (answer d past x))
+        used_or_idle true used a good =
+            let is_own : is_same (client_of x) client ≡ true = ap (λ (o : Option ℕ). is_same o client) named ∙ eq-eqb client client refl in
+            let own_use : is_use_of client x ≡ true = ap (λ (b : Bool). b && is_same (client_of x) client) used ∙ is_own in
+            subst (IsAsked d (x ∷ past) client) (sym (made-same d past v x (refused d past x)))
+            (asked-own d past client x v (exact is).1 own_use s.sized a)
+        used_or_idle false idle a good =
+            let own_use : is_use_of client x ≡ false = ap (λ (b : Bool). b && is_same (client_of x) client) idle in
+            subst (IsAsked d (x ∷ past) client) (sym (idle-made d past v x (refused d past x) idle good)) (asked-idle d past client x v own_use a)
 
-      by_step : is_accepted given.reply ≡ true → IsTapStep client x → Stands (tap_client_after x given.reply client) (x ∷ past) (view_after_call v x given)
-      by_step is (inl opening) = opens-one is opening
-      by_step is (inr named) = own-one is named
+    -- what the tap's client was asked for after the call
+    tap-asked : IsTapStep client x → IsSizedFor d.slots made → Stands (tap_client_after x reply client) (past_at h (next_place reply)) made
+    tap-asked step sized = by (is_accepted reply) refl
+      where
+        by : (b : Bool) → is_accepted reply ≡ b → Stands (tap_client_after x reply client) (past_at h (next_place reply)) made
+        by true is =
+            subst (λ (p : List Step). Stands (tap_client_after x reply client) p made) (sym (entered ∙ cond-true (is_accepted reply) (x ∷ past) past is))
+            (elim step [ inl opening ↦ opens-one is sized opening | inr named ↦ own-one is named ])
+        by false is =
+            let answered : View = view_after_answer v x reply given.cells in
+            let view : made ≡ v =
+            ap (λ (ts : List Taken). view_after_events answered (map event_of_taken ts)) (refused-events d past x given placed.exact is)
+            ∙ no-events answered ∙ refused-view v x reply given.cells is in
+            subst (λ (p : List Step). Stands (tap_client_after x reply client) p made) (sym (entered ∙ cond-false (is_accepted reply) (x ∷ past) past is))
+            (subst (λ (n : ℕ). Stands n past made) (sym (client_after-refused x reply client is)) (subst (Stands client past) (sym view) stood))
 
-      by : (b : Bool) → is_accepted given.reply ≡ b → Stands (tap_client_after x given.reply client) (past_at h (next_place given.reply)) (view_after_call v x given)
-      by true is =
-          subst (λ (p : List Step). Stands (tap_client_after x given.reply client) p (view_after_call v x given)) (sym (entered ∙ cond-true (is_accepted given.reply) (x ∷ past) past is)) (by_step is step)
-      by false is =
-          let none : given.events ≡ [] = refused-events d past x given placed.exact is in
-          let view : view_after_call v x given ≡ v =
-          ap (λ (ts : List Taken). view_after_events (view_after_answer v x given.reply given.cells) (map event_of_taken ts)) none
-          ∙ no-events (view_after_answer v x given.reply given.cells) ∙ refused-view v x given.reply given.cells is in
-          subst (λ (p : List Step). Stands (tap_client_after x given.reply client) p (view_after_call v x given)) (sym (entered ∙ cond-false (is_accepted given.reply) (x ∷ past) past is))
-          (subst (λ (n : ℕ). Stands n past (view_after_call v x given)) (sym (client_after-refused x given.reply client is))
-          (subst (Stands client past) (sym view) (kept s.asked)))
-
-  -- a tap stands so after its call
-  pub tap-call : (least : ℕ) (j : Job) (call : Call) (calls : List Call) → AreToCome d h Q least (call ∷ calls) → TapStands d h Q least j → IsTapStep j.reading.client call.step → TapStands d h Q (next_place call.answer.reply) (after_tap_call j call.step call.answer)
-  tap-call least j call calls c s step =
-      let x : Step = call.step in
-      let given : Answer = call.answer in
-      let reply : Reply = given.reply in
-      let past : List Step = past_at h (place_of reply) in
-      let v : View = j.reading.view in
-      let placed : HasPlace d h call = c.legal.1 in
-      let supported : All (λ (t : Taken). is_event_of d t.event ≡ true) given.events = events-of d past x given placed.exact in
-      let answered : View = view_after_answer v x reply given.cells in
-      let sized : IsSizedFor d.slots (view_after_call v x given) =
-      IsSizedFor-after_events d.slots answered (map event_of_taken given.events) (IsSizedFor-after_answer d.slots v x reply given.cells (has_cells d past x given v.cells placed.exact s.sized.cells) s.sized) in
-      record {
-        seen = at_each-told (TapSaw d h) j.sight x reply given.events s.seen (tap-events least j call calls c s step);
-        fold = call-folds d h (first_view d) j (after_tap_call j x given) x call placed refl refl s.fold;
-        reads = client_after-told j x reply given.events s.reads;
-        bare = no-others-events d answered given.events supported (bare-given d past v x given placed.exact s.bare);
-        sized = sized;
-        asked = tap-asked least j call calls c s step sized;
-      }
+    -- a tap stands so after its call
+    pub tap-call : IsTapStep client x → TapStands d h Q (next_place reply) (after_tap_call j x given)
+    tap-call step =
+        let supported : All (λ (t : Taken). is_event_of d t.event ≡ true) given.events = events-of d past x given placed.exact in
+        let answered : View = view_after_answer v x reply given.cells in
+        let sized : IsSizedFor d.slots made =
+        IsSizedFor-after_events d.slots answered (map event_of_taken given.events)
+        (IsSizedFor-after_answer d.slots v x reply given.cells (has_cells d past x given v.cells placed.exact s.sized.cells) s.sized) in
+        record {
+          seen = at_each-told (TapSaw d h) j.sight x reply given.events s.seen (tap-events step);
+          fold = call-folds d h (first_view d) j (after_tap_call j x given) x call placed refl refl s.fold;
+          reads = client_after-told j x reply given.events s.reads;
+          bare = no-others-events d answered given.events supported (bare-given d past v x given placed.exact s.bare);
+          sized = sized;
+          asked = tap-asked step sized;
+        }
 
   -- what a tap does at a command
   tap-step : (client : ℕ) (command : Command) → is_command_of Tap command ≡ true → OfStep (IsTapStep client) (step_of client command)
