@@ -46,8 +46,6 @@ use Rattle.inp_runs.proofs.owners.OwnerTalks.{owner-silent}
 use Rattle.inp_runs.proofs.memory.Memory.{answered-memory, gives_up-lines, talk-answered}
 use Rattle.inp_runs.proofs.owners.Owners.{AreCallsOf, Counts, HasOwners, calls-of, counts-place, has-one, history-of-jobs, short-history}
 
--- One actor
-
 -- the calls of one that did its lines were answered
 followed-answered : (r : RecordView) (d : Description) (wait : Option Waiting) (history : List Step) (text : ActorText) (a : ActorView) → IsRecord r → slice_get r.actors a.actor ≡ Some text → (f : HasFollowed r d wait history text.role a) → AreAnswered d f.calls
 followed-answered r d wait history text a is_record is_text f =
@@ -233,8 +231,6 @@ is_run idle r i d history actors is_record described s =
           (subst (λ (j : JobView). AreReportsSeen d history its.text.role j.sight) e.same shown.seen);
       once = λ place. split-sums place actors (owners-silent idle r i d history actors place s) ∙ sym (sum-ends place actors) ∙ once-each idle r i d history actors is_record s place;
     }
-
--- Their numbers
 
 -- a test of an actor's role keeps the same of the record's actors as of these
 kept-numbers : (idle : Option ℕ) (r : RecordView) (i : ℕ) (d : Description) (history : List Step) (actors : List ActorView) (test : Role → Bool) (of_text : Option ActorText → Bool) → IsDeviceDone idle r i d history actors → ((text : ActorText) → of_text (Some text) ≡ test text.role)

@@ -25,8 +25,6 @@ use Rattle.inp_model.specs.declared.step.Step.TheVariants.{End}
 use Rattle.inp_script.specs.Line.{after_call}
 use Rattle.inp_model.specs.Reply.{Answer}
 
--- Where lines wait
-
 -- these calls made the sight of the job
 abbrev ToldBy : List Call → Job → Type 0
 ToldBy calls j = Tells calls [] j.sight
@@ -50,8 +48,6 @@ lines-told role d streams wait n lines j k calls none h =
     called s t i a by told =
         subst (λ (cs : List Call). ToldBy cs (after_call i End a)) (sym by)
         (tells-then s (record { step = End; answer = a } ∷ []) [] i.sight (after_call i End a).sight told (tells-call End (record { step = End; answer = a }) i.sight refl))
-
--- Whether they wait or not
 
 pub job-told : (role : Role) (d : Description) (streams : List (List Stamped)) (wait : Option Waiting) (n : ℕ) (lines : List Line) (k : Job) (calls : List Call) → AreAnswered d calls → EndsWith (lines_talk role d streams wait n lines (first_job role d)) calls (Some k) → AreTold wait calls k.sight
 job-told role d streams None n lines k calls answered h =

@@ -115,8 +115,6 @@ filter-same p q [] h = refl
 filter-same p q (x ∷ xs) h =
     ap (λ (b : Bool). cond b (x ∷ filter p xs) (filter p xs)) (h 0 x refl) ∙ ap (λ ys. cond (q x) (x ∷ ys) ys) (filter-same p q xs (λ k y e. h (suc k) y e))
 
--- Sums
-
 pub sum_by-kept : {X Y : Type 0} (f : Y → ℕ) (g : X → Y) (p : X → Bool) (xs : List X) → sum_by f (map g (filter p xs)) ≡ sum_by (λ x. if p x then f (g x) else 0) xs
 sum_by-kept f g p [] = refl
 sum_by-kept f g p (x ∷ xs) = by_flag (p x) (sum_by-kept f g p xs) ∙ sym (sum_by-cons (λ z. if p z then f (g z) else 0) x xs)

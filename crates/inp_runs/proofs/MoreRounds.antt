@@ -18,8 +18,6 @@ use Rattle.inp_script.proofs.JoyLonger.{ends-then, joystick-longer}
 use Rattle.inp_reader.proofs.Calls.{finished, split-and_then}
 use Rattle.inp_runs.specs.Job.{on_job, lines_talk}
 
--- One line
-
 -- what ends one talk in a job ends the other in it
 abbrev Lasts : Talk (Option Job) → Talk (Option Job) → Type 0
 Lasts talk longer = (calls : List Call) (j : Job) → EndsWith talk calls (Some j) → EndsWith longer calls (Some j)
@@ -70,8 +68,6 @@ line-longer role d streams wait n more command old = by_stop old.stop
     by_stop : (stop : Option Stop) → Lasts (unless_stopped stop old (command_talk role d streams wait n command old)) (unless_stopped stop old (command_talk role d streams wait (n + more) command old))
     by_stop None = command-longer role d streams wait n more command old
     by_stop (Some stop) = λ calls j h. h
-
--- Lines, one after another
 
 lines-longer : (role : Role) (d : Description) (streams : List (List Stamped)) (wait : Option Waiting) (n more : ℕ) (lines : List Line) (old : Job)
     → Lasts (lines_talk role d streams wait n lines old) (lines_talk role d streams wait (n + more) lines old)

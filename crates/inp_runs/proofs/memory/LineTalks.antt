@@ -30,7 +30,7 @@ use Rattle.inp_reader.specs.ReaderPlace.{is_needed}
 use Rattle.inp_reader.specs.Talk.{Talk, finish, and_then}
 use Rattle.inp_script.specs.declared.sight.Sight.{Sight}
 use Rattle.inp_script.specs.declared.sight.Sight.TheVariants.{Took, Made, Again as AgainSight, Record}
-use Rattle.inp_script.specs.Client.{job_after_start, Going, Turn, start_job, handed, one_less, is_done, turn_after, after_next, mode_of, with_sight, next_round}
+use Rattle.inp_script.specs.Client.{job_after_start, Going, Turn, handed, one_less, is_done, turn_after, after_next, mode_of, with_sight, next_round}
 use Rattle.inp_script.specs.DoneLine.{line_talk}
 use Rattle.inp_script.specs.Job.{Job, Stick, joying_of, with_joying}
 use Rattle.inp_script.specs.Joystick.{record_sight, after_joy_start, start_joystick, after_joy_answer}
@@ -57,8 +57,6 @@ KeptAt d entries j = IsKept d j entries
 abbrev pub IsKeptIfSome : Description → Option Job → List Sight → Type 0
 IsKeptIfSome d o entries = OfJob (KeptAt d) entries o
 
--- Single calls
-
 call_told : (x : Step) (a : Answer) (sight entries : List Sight) → filter is_call_entry sight ≡ entries → filter is_call_entry (sight ++ sight_of_call x a.reply a.events) ≡ entries ++ call_entries x a.reply
 call_told x a sight entries same =
     let calls : List Sight = call_sight x a.reply in
@@ -81,11 +79,6 @@ kept-tap_call d s t j x a h by =
     let sized : IsSizedFor d.slots (view_after_answer j.reading.view x a.reply a.cells) =
     subst (λ (b : Answer). IsSizedFor d.slots (view_after_answer j.reading.view x b.reply b.cells)) (sym by.0.1) (sized-answered d by.0.0 x j.reading.view h.0) in
     (IsSizedFor-after_events d.slots (view_after_answer j.reading.view x a.reply a.cells) (map event_of_taken a.events) sized, call_told x a j.sight s h.1 ∙ sym by.1)
-
--- Clients
-
-kept-start : (d : Description) (s : List Sight) (j : Job) → KeptAt d s j → Meets Any (EntriesBy d) (OfJob (KeptAt d)) s (start_job d j)
-kept-start d s j h = start_job-meets (EntriesBy d) (KeptAt d) d s j (answers-start d j.reading (s, j.sight) h.0 h.1)
 
 abbrev IsKeptTurn : Description → Turn → List Sight → Type 0
 IsKeptTurn d turn entries = OfTurn (KeptAt d) (OfGoing (KeptAt d)) entries turn
@@ -117,8 +110,6 @@ kept-round d s skips g h =
     (meets-weaker Any (NotedBy (EntriesBy d)) (λ (u : Both) (o : Next × Reading). IsNext d o (filter is_call_entry u.1) u.0) (λ (u : Both) (o : Next × Reading). IsKeptTurn d (after_next None g (o, u.1)) u.0)
     (s, g.job.sight) (next_talk d mode g.job.reading) (answers-next d mode g.job.reading (s, g.job.sight) h.0 h.1)
     (λ u o k. kept_turn d g.left g.agains o.0 (read_so g.job o.1 u.1) u.0 k.0 k.1))
-
--- Joysticks
 
 -- where a read answers Again there is one entry more
 abbrev again_of_read : JoyRead → List Sight
@@ -220,14 +211,12 @@ kept-joy_start d s j h =
     (record (job_after_start o.0 o.1 u.1) { stick = stick }))
     (s, j.sight) (start_talk d j.reading) (answers-start d j.reading (s, j.sight) h.0 h.1) (λ u o k stick. k))
 
--- Lines
-
 kept-rules : (role : Role) (d : Description) (command : Command) → LineRules (EntriesBy d) (KeptAt d) (OfGoing (KeptAt d)) d role command None
 kept-rules role d command = record {
   injects = λ e. kept-call d;
   calls = λ e one s t j x a is. kept-call d s t j x a;
   taps = λ e. kept-tap_call d;
-  starts = λ e. kept-start d;
+  starts = λ e s j h. start_job-meets (EntriesBy d) (KeptAt d) d s j (answers-start d j.reading (s, j.sight) h.0 h.1);
   begins = λ e s j left h. h;
   rounds = λ e s waits skips g none h. subst (λ (w : Option Waiting). Meets Any (EntriesBy d) (OfTurn (KeptAt d) (OfGoing (KeptAt d))) s (next_round d w skips g)) (sym (none refl)) (kept-round d s skips g h);
   forces = λ e s j h. h;
@@ -238,7 +227,6 @@ kept-rules role d command = record {
 pub leaves-line : (role : Role) (d : Description) (streams : List (List Stamped)) (n : ℕ) (command : Command) (j : Job) (entries : List Sight) → IsKept d j entries → Leaves d (IsKeptIfSome d) entries (line_talk role d streams None n command j)
 leaves-line role d streams n command j entries h = line-meets (EntriesBy d) (KeptAt d) (OfGoing (KeptAt d)) d role command None (kept-rules role d command) streams n entries j h
 
--- Lines, one after another
 pub leaves-lines : (role : Role) (d : Description) (streams : List (List Stamped)) (n : ℕ) (lines : List Line) (j : Job) (entries : List Sight) → IsKept d j entries → Leaves d (IsKeptIfSome d) entries (lines_talk role d streams None n lines j)
 leaves-lines role d streams n lines j entries h =
     lines-keep (EntriesBy d) (KeptAt d) (λ command. Unit {0}) role d streams None n

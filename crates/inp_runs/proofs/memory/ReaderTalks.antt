@@ -74,8 +74,6 @@ pub note-kept : (d : Description) (u v : List Sight × List Sight) (x : Step) (a
 note-kept d u v x a by =
     ap (filter is_call_entry) by.1 ∙ filter-append is_call_entry u.1 (call_sight x a.reply) ∙ ap (λ (es : List Sight). filter is_call_entry u.1 ++ es) (call_kept x a.reply)
 
--- One answer
-
 -- a view keeps its size
 pub sized-answered : (d : Description) (past : List Step) (x : Step) (view : View) → IsSizedFor d.slots view → IsSizedFor d.slots (view_after_answer view x (answer d past x).reply (answer d past x).cells)
 unfolding view_after_answer
@@ -132,8 +130,6 @@ sized-asks d Q whole stopped = record {
   whole = λ u view j. whole u view j.0 j.1;
 }
 
--- A start
-
 abbrev pub IsStarted : Description → Started × Reading → List Sight → List Sight → Type 0
 IsStarted d o kept entries = IsSizedFor d.slots o.1.view × (kept ≡ entries)
 
@@ -148,8 +144,6 @@ answers-start d r u sized same =
           (sized, opens v a by, no_read-queries d client);
       refused = λ v a by other. (sized, opens v a by);
     })
-
--- The next event
 
 -- where a reader answers Again there is one entry more
 abbrev pub again_of : Next → List Sight

@@ -1,9 +1,9 @@
 -- What is so of owners between two lines.
-use Rattle.std.proofs.Common.{◌≡◌, ℕ, suc, List, [], ◌∷◌, ◌++◌, length, refl, sym, ap, subst, ◌∙◌, arith, append-nil, append_assoc, length-set, length-append, ◌⊎◌, inl, inr, Option, Some, None}
+use Rattle.std.proofs.Common.{◌≡◌, ℕ, List, [], ◌∷◌, ◌++◌, length, refl, sym, ap, subst, ◌∙◌, arith, append-nil, append_assoc, length-set, length-append, ◌⊎◌, inl, inr, Option, Some, None}
 use Rattle.std.specs.Prelude.{slice_get, slice_set}
 use Rattle.std.specs.List.{cons_option}
 use Rattle.std.proofs.lemmas.List.Elements.{filter_map-append}
-use Rattle.std.proofs.lemmas.Option.{same_Some, option_and_then_some}
+use Rattle.std.proofs.lemmas.Option.{same_Some}
 use Rattle.inp_model.specs.declared.step.Step.{Step}
 use Rattle.inp_model.specs.Description.{Description}
 use Rattle.inp_model.specs.Reply.{is_accepted, past_after}
@@ -23,12 +23,12 @@ use Rattle.inp_runs.specs.Job.{lines_by}
 use Rattle.inp_runs.specs.Owner.{rooms_of}
 use Rattle.inp_runs.proofs.LinesWalk.{lines_by-more, lines_by-other}
 use Rattle.inp_runs.proofs.Lists.{eq_true, eq_false, slice_get-set, slice_get-set_same}
-use Rattle.inp_runs.specs.Play.{Stage, description_at, feedback_calls_after, after_line, after_lines}
+use Rattle.inp_runs.specs.Play.{Stage, description_at, feedback_calls_after, after_lines}
 use Rattle.inp_runs.proofs.order.Calls.{AreExact}
 use Rattle.inp_runs.proofs.owners.OwnerLaws.{IsToldByLines, told-stopped}
 use Rattle.inp_runs.proofs.order.OwnerTold.{so-far-steps, so-far-called, called-within}
-use Rattle.inp_runs.proofs.order.LineDone.{IsFedUnless, IsFedWhereAsked, IsLinePlayed, feedback-of, line-done}
-use Rattle.inp_runs.proofs.order.Stages.{IsStage, AreCommandsOf, number_is, may-do, stage-more, append_one, its_number, its_actor, actor-behind, past-behind}
+use Rattle.inp_runs.proofs.order.LineDone.{IsFedUnless, IsFedWhereAsked, IsLinePlayed, feedback-of}
+use Rattle.inp_runs.proofs.order.Stages.{IsStage, AreCommandsOf, number_is, its_number, its_actor, actor-behind, past-behind, stages-keep}
 use Rattle.std.proofs.lemmas.Bool.{cond_both}
 
 -- What stands of owners when these lines were done.
@@ -60,13 +60,12 @@ record IsGrown (stage : Stage) (i : ℕ) (after : List Step) : Type 0 where
   grown : after ≡ more ++ past
 
 past-grown : (r : RecordView) (rounds : ℕ) (stage now : Stage) (line : Line) (u : IsLinePlayed r rounds stage now line) (i : ℕ) (after : List Step) → slice_get now.pasts i ≡ Some after → IsGrown stage i after
-past-grown r rounds stage now line u i after is_after = by_past (past-behind r rounds stage now line u i after is_after)
-  where
-    by_past : ((i ≡ u.text.device) × (after ≡ u.after)) ⊎ ((i ≡ u.text.device → ⊥) × (slice_get stage.pasts i ≡ Some after)) → IsGrown stage i after
-    by_past (inl behind) =
-        let front : (more : List Step) × (u.after ≡ more ++ u.past) = exact-front u.actor.description u.past u.after u.calls u.exact in
-        record { past = u.past; is_past = ap (λ (k : ℕ). slice_get stage.pasts k) behind.0 ∙ u.is_past; more = front.0; grown = behind.1 ∙ front.1 }
-    by_past (inr behind) = record { past = after; is_past = behind.1; more = []; grown = refl }
+past-grown r rounds stage now line u i after is_after = elim (past-behind r rounds stage now line u i after is_after) [
+  | inl behind ↦
+      (let front : (more : List Step) × (u.after ≡ more ++ u.past) = exact-front u.actor.description u.past u.after u.calls u.exact in
+      record { past = u.past; is_past = ap (λ (k : ℕ). slice_get stage.pasts k) behind.0 ∙ u.is_past; more = front.0; grown = behind.1 ∙ front.1 })
+  | inr behind ↦ record { past = after; is_past = behind.1; more = []; grown = refl }
+]
 
 longer-within : (past after more : List Step) (calls : List FeedbackCall) → after ≡ more ++ past → StandsWithin (length past) calls → StandsWithin (length after) calls
 longer-within past after more [] grown h = tt
@@ -113,8 +112,6 @@ rooms-line number lines line o own is =
 
 rooms-other : (number : ℕ) (lines : List Line) (line : Line) → (line.actor ≡ number → ⊥) → rooms_of (lines_by number (lines ++ line ∷ [])) ≡ rooms_of (lines_by number lines)
 rooms-other number lines line other = ap rooms_of (lines_by-other number lines line (eq_false line.actor number other))
-
--- One line
 
 within-more : (r : RecordView) (rounds : ℕ) (lines : List Line) (stage now : Stage) (line : Line) → AreOwned r lines stage → (u : IsLinePlayed r rounds stage now line)
     → (i : ℕ) (past : List Step) (calls : List FeedbackCall) → slice_get now.pasts i ≡ Some past → slice_get now.calls i ≡ Some calls → StandsWithin (length past) calls
@@ -271,16 +268,9 @@ owned-more r rounds lines stage now line s o one u feedback = record {
   owners = owners-more r rounds lines stage now line s o one u feedback;
 }
 
--- All lines
-
 pub owned-stages : (r : RecordView) (rounds : ℕ) (lines more : List Line) (stage last : Stage) → HasOneOwner r → IsStage r rounds lines stage → AreOwned r lines stage → AreCommandsOf r more → after_lines r rounds stage more ≡ Some last → AreOwned r (lines ++ more) last
-unfolding after_lines
-owned-stages r rounds lines [] stage last one s o commands h =
-    let same : stage ≡ last = cc in
-    subst (λ (now : Stage). AreOwned r (lines ++ []) now) same (subst (λ (ls : List Line). AreOwned r ls stage) (sym (append-nil lines)) o)
-owned-stages r rounds lines (line ∷ more) stage last one s o commands h =
-    option_and_then_some _ (after_line r rounds stage line) last h (λ now is_now rest.
-    let u : IsLinePlayed r rounds stage now line = line-done r rounds stage now line (may-do r rounds lines more stage line s commands) is_now in
-    let feedback : (room : ℕ) → feedback_room line.command ≡ Some room → u.text.role ≡ Owner = λ room is. feedback-of u.text.role line.command room is (commands 0 line u.text refl u.is_text) in
-    subst (λ (ls : List Line). AreOwned r ls last) (append_one lines line more)
-    (owned-stages r rounds (lines ++ line ∷ []) more now last one (stage-more r rounds lines stage now line s u) (owned-more r rounds lines stage now line s o one u feedback) (λ i. commands (suc i)) rest))
+owned-stages r rounds lines more stage last one s o commands h =
+    (stages-keep r rounds (AreOwned r)
+    (λ ls ms line u now k p c done. owned-more r rounds ls u now line k p one done
+    (λ room is. feedback-of done.text.role line.command room is (c 0 line done.text refl done.is_text)))
+    lines more stage last s o commands h).1

@@ -32,8 +32,6 @@ line_talk-more role d streams wait n k command old past j h =
     exact-talk d past behind more calls (Some j) (line-longer role d streams wait n k command old calls j ends) (talk_with-exact d past talk)
     ∙ ap (λ (o : Option Job). (o, behind)) (sym h)
 
--- Lines of a record
-
 pub bind-more : {A B : Type 0} (f g : A → Option B) (o : Option A) (b : B) → ((a : A) → f a ≡ Some b → g a ≡ Some b) → option_and_then f o ≡ Some b → option_and_then g o ≡ Some b
 bind-more f g None b more h = h
 bind-more f g (Some a) b more h = more a h

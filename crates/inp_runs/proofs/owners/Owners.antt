@@ -17,7 +17,7 @@ use Rattle.inp_model.specs.Description.{Description, IsDescription}
 use Rattle.inp_model.specs.Past.{past_at, opens}
 use Rattle.inp_model.specs.Reply.{Answer, IsAnswer, answer_by, accepted, refused, is_accepted}
 use Rattle.inp_model.specs.Run.{Call, HasPlace, IsLegalFrom, IsLegalRun, place_of, next_place}
-use Rattle.inp_model.specs.Step.{client_of, is_open_step}
+use Rattle.inp_model.specs.Step.{client_of}
 use Rattle.inp_actors.specs.declared.line.Line.{Line}
 use Rattle.inp_actors.specs.declared.role.Role.{Role}
 use Rattle.inp_model.proofs.Opens.{opens-le}
@@ -34,6 +34,7 @@ use Rattle.inp_runs.specs.Job.{lines_talk, entries_at, AreTold}
 use Rattle.inp_runs.proofs.Entries.{entries, entries-cons_call, told-counts}
 use Rattle.inp_runs.proofs.views.JobClients.{NameLast, job-names}
 use Rattle.inp_runs.proofs.Lists.{eq_true}
+use Rattle.inp_reader.proofs.StandsAfterTalks.{opens-steps, open-opens}
 
 -- The calls of a job: a legal run of the history, with the places of those that its sight tells of, and each names no client
 -- but the one that the job opened last.
@@ -96,8 +97,6 @@ has-one f (z ∷ xs) h = elim (cases_lt 0 (f z)) [
       record { index = suc more.index; item = more.item; is = more.is; some = more.some })
 ]
 
--- Places
-
 one-if : (a b : Bool) → a ≡ true → b ≡ true → ◌≡◌ {A = ℕ} (if a && b then 1 else 0) 1
 one-if a b h k = cond-true (a && b) 1 0 (and_from a b h k)
 
@@ -121,8 +120,6 @@ counts-place place (call ∷ calls) h =
     by true true e f n more k = inl (e, eqb-true (place_of call.answer.reply) place f)
     by true false e f n more k = inr (more (omega (arith, k)))
     by false b e f n more k = inr (more (omega (arith, k)))
-
--- Openings
 
 -- the reply opened this client
 abbrev pub is_opening_of : ℕ → Reply → Bool
@@ -211,23 +208,15 @@ take-next (y ∷ history) (suc at) x h = ap (λ (xs : List Step). y ∷ xs) (tak
 pub past-next : (history : List Step) (at : ℕ) (x : Step) → slice_get history at ≡ Some x → past_at history (suc at) ≡ x ∷ past_at history at
 past-next history at x h = ap (λ (xs : List Step). reverse xs) (take-next history at x h) ∙ reverse-append (take at history) (x ∷ [])
 
-opens-more : (b : Bool) (n m : ℕ) → n ≤ m → n ≤ (if b then suc m else m)
-opens-more true n m h = omega (arith, h)
-opens-more false n m h = h
-
-opens-grow : (more past : List Step) → opens past ≤ opens (more ++ past)
-unfolding opens
-opens-grow [] past = omega arith
-opens-grow (x ∷ more) past = opens-more (is_open_step x) (opens past) (opens (more ++ past)) (opens-grow more past)
-
 -- each Open has a client of its own
 opens-rise : (history : List Step) (at upto : ℕ) → slice_get history at ≡ Some Open → suc at ≤ upto → opens (past_at history at) < opens (past_at history upto)
-unfolding opens
 opens-rise history at upto is h =
-    let next : opens (past_at history (suc at)) ≡ suc (opens (past_at history at)) = ap opens (past-next history at Open is) in
+    let before : List Step = past_at history at in
+    let next : opens before < opens (past_at history (suc at)) =
+    subst (λ (p : List Step). opens before < opens p) (sym (past-next history at Open is)) (open-opens before (opens before) refl) in
     let later = past-grows history (suc at) upto h in
-    let grown : opens (past_at history (suc at)) ≤ opens (later.0 ++ past_at history (suc at)) = opens-grow later.0 (past_at history (suc at)) in
-    omega (arith, next, grown, ap opens later.1)
+    subst (λ (p : List Step). opens before < opens p) (sym later.1)
+    (opens-steps (past_at history (suc at)) later.0 (opens before) next)
 
 -- a client is opened at one place
 pub opened-once : (history : List Step) (one other : ℕ) → slice_get history one ≡ Some Open → slice_get history other ≡ Some Open → opens (past_at history one) ≡ opens (past_at history other) → one ≡ other
@@ -257,10 +246,6 @@ pub or-true : (b c : Bool) → c ≡ true → (b || c) ≡ true
 or-true true c h = refl
 or-true false c h = h
 
-or-first : (b c : Bool) → b ≡ true → (b || c) ≡ true
-or-first true c h = refl
-or-first false c h = absurd (true≢false (sym h))
-
 -- the calls of a job that enter it are those of the client that it opened last
 names-opened : (d : Description) (history : List Step) (least last place client : ℕ) (x : Step) (calls : List Call) → IsLegalFrom d history least calls → NameLast last calls → IsPlaceOf place calls → slice_get history place ≡ Some x → client_of x ≡ Some client → (client ≡ NO_CLIENT → ⊥)
     → (last ≡ client) ⊎ (list_any (is_opened_as client) calls ≡ true)
@@ -272,11 +257,10 @@ names-opened d history least last place client x (call ∷ calls) legal names (i
     let step : call.step ≡ x = same_Some call.step x (sym entered ∙ ap (λ (n : ℕ). slice_get history n) same.1 ∙ at) in
     elim (names.0 client (ap client_of step ∙ is)) [ inl e ↦ inl (sym e) | inr e ↦ absurd (other e) ]
 names-opened d history least last place client x (call ∷ calls) legal names (inr h) at is other =
-    let opens : Bool = is_opened_as client call in
     let later : Bool = list_any (is_opened_as client) calls in
     elim (names-opened d history (next_place call.answer.reply) (tap_client_after call.step call.answer.reply last) place client x calls legal.2 names.1 h at is other) [
-      | inl e ↦ elim (after-or call.step call.answer.reply last client e) [ inl same ↦ inl same | inr here ↦ inr (or-first opens later here) ]
-      | inr e ↦ inr (or-true opens later e)
+      | inl e ↦ elim (after-or call.step call.answer.reply last client e) [ inl same ↦ inl same | inr here ↦ inr (ap (λ (b : Bool). b || later) here) ]
+      | inr e ↦ inr (or-true (is_opened_as client call) later e)
     ]
 
 -- one accepted call of one job has each place of the history

@@ -50,8 +50,6 @@ use Rattle.inp_runs.proofs.owners.OwnUses.{names-open}
 use Rattle.inp_runs.proofs.views.Reports.{HasNoOthers, no-others-at, agrees-had, sized-at, shows-later, whole-past, history-at, place_behind, AreToCome, to-come-next, call-met, calls-met}
 use Rattle.inp_model.proofs.Refused.{accepted-unrefused}
 
--- An event that was handed out
-
 agrees-back : (d : Description) (v w : View) → AgreesIn d v w → AgreesIn d w v
 agrees-back d v w a = record {
   keys = sym a.keys;
@@ -78,8 +76,6 @@ handed-shows d past r t history spare out =
           agrees-back d (view_at d r.client e.at) r.view
           (agrees-had d (view_at d r.client e.at) r.view (agree-then d past r t e.at out history e.is_at) (no-others-at d past r.client i e.at history e.is_at) bare (sized-at d r.client e.at) spare.sized);
     }
-
--- Calls of a history
 
 legal-answered : (d : Description) (h : List Step) (least : ℕ) (calls : List Call) → IsLegalFrom d h least calls → AreAnswered d calls
 unfolding AreAnswered
@@ -164,9 +160,6 @@ unopened-rules d mode = record {
     named : (r : Reading) → IsUnopened r → ◌≡◌ {A = Option ℕ} (Some r.client) (Some NO_CLIENT)
     named r u = ap (λ (n : ℕ). Some n) u.client
 
-unopened-next : (d : Description) (mode : Mode) (r : Reading) (calls : List Call) (o : Next × Reading) → IsUnopened r → EndsWith (next_talk d mode r) calls o → Each IsShut calls → StaysUnopened o
-unopened-next d mode r calls o u ends shut = next-ends Any ShutBy Unopened Stays d mode (unopened-rules d mode) tt tt r calls o u (shut-run calls shut) ends
-
 -- Where a reader stands
 
 module _ (d : Description) (h : List Step) (Q : ℕ → Type 0) where
@@ -215,38 +208,41 @@ module _ (d : Description) (h : List Step) (Q : ℕ → Type 0) where
             hands = hands-later (place_behind least calls) next s history spare.view l.hands_out;
           }
       by (inr u) =
-          let o : StaysUnopened (next, s) = unopened-next d mode r calls (next, s) u ends (shut-calls d h least calls short legal) in
+          let o : StaysUnopened (next, s) =
+          next-ends Any ShutBy Unopened Stays d mode (unopened-rules d mode) tt tt r calls (next, s) u
+          (shut-run calls (shut-calls d h least calls short legal)) ends in
           record { reading = record { spare = spare; stands = inr o.unopened }; hands = hands-none (place_behind least calls) next s o.none }
 
   -- a call that is no use of its client leaves it
   pub quiet-reads : (least : ℕ) (r : Reading) (call : Call) (more : List Call) → AreToCome d h Q least (call ∷ more) → is_use_of r.client call.step ≡ false → IsReadingAt least r → IsReadingAt (next_place call.answer.reply) r
-  quiet-reads least r call more c unused reads = record { spare = reads.spare; stands = by reads.stands }
-    where
-      at : ℕ
-      at = next_place call.answer.reply
-
-      by : (Q r.client × IsOpenInStep d (past_at h least) r) ⊎ IsUnopened r → (Q r.client × IsOpenInStep d (past_at h at) r) ⊎ IsUnopened r
-      by (inl s) =
-          let met : IsMet d r.client (past_at h least) (past_at h at) call = call-met d h Q r.client least call more c s.0 in
+  quiet-reads least r call more c unused reads = record {
+    spare = reads.spare;
+    stands = elim reads.stands [
+      | inl s ↦
+          (let before : List Step = past_at h least in
+          let after : List Step = past_at h (next_place call.answer.reply) in
+          let met : IsMet d r.client before after call = call-met d h Q r.client least call more c s.0 in
+          let quiet = met-unused d r.client before after call s.1.opened met unused in
           inl (
             s.0,
             record {
-              opened = met-opens d r.client (past_at h least) (past_at h at) call s.1.opened met;
-              in_step = λ needed. in-step-kept d (past_at h least) (past_at h at) r (s.1.in_step needed) (met-unused d r.client (past_at h least) (past_at h at) call s.1.opened met unused);
+              opened = met-opens d r.client before after call s.1.opened met;
+              in_step = λ needed. in-step-kept d before after r (s.1.in_step needed) quiet;
             },
-          )
-      by (inr u) = inr u
+          ))
+      | inr u ↦ inr u
+    ];
+  }
 
   -- nor does it change what is at hand
   pub quiet-hand : (least : ℕ) (r : Reading) (call : Call) (more : List Call) (last : Option LastRead) → AreToCome d h Q least (call ∷ more) → is_use_of r.client call.step ≡ false → IsReadingAt least r → AreAtHand d h least r.client last r.queue → AreAtHand d h (next_place call.answer.reply) r.client last r.queue
-  quiet-hand least r call more last c unused reads hand = by reads.stands
-    where
-      at : ℕ
-      at = next_place call.answer.reply
-
-      by : (Q r.client × IsOpenInStep d (past_at h least) r) ⊎ IsUnopened r → AreAtHand d h at r.client last r.queue
-      by (inl s) = hand-kept d h least at r.client last r.queue (met-took d r.client (past_at h least) (past_at h at) call (call-met d h Q r.client least call more c s.0) unused) hand
-      by (inr u) = inl u.queue
+  quiet-hand least r call more last c unused reads hand = elim reads.stands [
+    | inl s ↦
+        (let at : ℕ = next_place call.answer.reply in
+        let met : IsMet d r.client (past_at h least) (past_at h at) call = call-met d h Q r.client least call more c s.0 in
+        hand-kept d h least at r.client last r.queue (met-took d r.client (past_at h least) (past_at h at) call met unused) hand)
+    | inr u ↦ inl u.queue
+  ]
 
   -- what an accepted Open leaves: a client that did nothing yet
   opened-stands : (least at client ring : ℕ) (r : Reading) (call : Call) (calls more : List Call) (asked : Result View Reply) → AreToCome d h Q least (call ∷ calls ++ more) → call.answer.reply ≡ Opened at client ring → HasSpare d r → EndsWith (ask_each (queries d client) r.view) calls asked

@@ -1,5 +1,5 @@
 -- The view of a client's job at each report that it took.
-use Rattle.std.proofs.Common.{◌≡◌, ◌<◌, ◌⊎◌, inl, inr, ℕ, Bool, true, false, ◌&&◌, nat_eq, List, [], ◌∷◌, ◌++◌, length, map, reverse, refl, sym, ap, subst, ◌∙◌, arith, append-nil, append_assoc, Option, Some, None}
+use Rattle.std.proofs.Common.{◌≡◌, ◌<◌, inl, inr, ℕ, Bool, true, false, ◌&&◌, nat_eq, List, [], ◌∷◌, ◌++◌, length, map, reverse, refl, sym, ap, subst, ◌∙◌, arith, append-nil, append_assoc, Option, Some, None}
 use Rattle.std.specs.Prelude.{slice_get}
 use Rattle.std.proofs.lemmas.Bool.{true≢false, cond_both, eqb-true}
 use Rattle.inp_model.specs.declared.event.Event.{Event}
@@ -31,10 +31,9 @@ use Rattle.inp_reader.specs.declared.next.Next.TheVariants.{Success, Dropped, Sy
 use Rattle.inp_reader.specs.declared.reader.TheConstants.{NO_CLIENT}
 use Rattle.inp_reader.specs.declared.started.Started.{Started}
 use Rattle.inp_recon.specs.Synchronised.{is_dropped}
-use Rattle.inp_reader.specs.Reader.{Reading, start_talk, next_talk, with_sync_needed}
+use Rattle.inp_reader.specs.Reader.{Reading, start_talk, next_talk}
 use Rattle.inp_reader.specs.TrueView.{index_handed_out}
 use Rattle.inp_reader.specs.ReaderPlace.{is_use, is_use_of}
-use Rattle.inp_reader.proofs.StandsAfterTalks.{IsOpenInStep}
 use Rattle.inp_reader.specs.Talk.{Talk, finish, EndsWith}
 use Rattle.inp_reader.proofs.StandsByCalls.{client-next}
 use Rattle.inp_reader.proofs.TalksKeepSpare.{new-spare}
@@ -54,7 +53,7 @@ use Rattle.inp_script.proofs.LineFolds.{folds-on, IsSilent, no_events, silent-fo
 use Rattle.inp_script.proofs.Told.{noted_sight}
 use Rattle.inp_runs.specs.JobViews.{LastRead, IsOwnEvent, client_after_sight, reads_as, is_read_as, read_after_sight, index_in_history, folded_view, sight_view, IsSeenAt}
 use Rattle.inp_runs.proofs.views.AtHand.{AreAtHand, IsRest, hand-first, hand-took, hand-index, hand-taken, taken-later, index-took, next-hand, read_after-append, read_after-took, read_after-told, unused-unread, with_handed, next-sources}
-use Rattle.inp_runs.proofs.views.ClientReadings.{IsUnopened, IsReadingAt, NextReads, HandsAt, next-reads, start-reads, quiet-reads, quiet-hand, start-hand, legal-first}
+use Rattle.inp_runs.proofs.views.ClientReadings.{IsReadingAt, NextReads, HandsAt, next-reads, start-reads, quiet-reads, quiet-hand, start-hand, legal-first}
 use Rattle.inp_runs.proofs.views.Folded.{legal-placed}
 use Rattle.inp_runs.proofs.views.JobClients.{Drops, last_opened, next-names, start-names, stays-last}
 use Rattle.inp_runs.proofs.views.Reports.{AtEach, at_each-append, at_each-noted, place_behind, AreToCome, Coming, Comes, HaveCome, have-come, shows-as, at_each-eventless}
@@ -369,19 +368,18 @@ module _ (d : Description) (h : List Step) (Q : ℕ → Type 0) (history : IsHis
 
   forced-job : (least : ℕ) (j : Job) → IsAt least j → IsAt least (forced j)
   forced-job least j s = record {
-    reading = record { spare = record { view = s.reading.spare.view; queue = s.reading.spare.queue }; stands = by s.reading.stands };
+    reading = record {
+      spare = record { view = s.reading.spare.view; queue = s.reading.spare.queue };
+      stands = elim s.reading.stands [
+        | inl t ↦ inl (t.0, record { opened = t.1.opened; in_step = λ needed. absurd (true≢false needed) })
+        | inr u ↦ inr (record { client = u.client; queue = u.queue })
+      ];
+    };
     folded = s.folded;
     reads = s.reads;
     hand = s.hand;
     seen = s.seen;
   }
-    where
-      r : Reading
-      r = with_sync_needed j.reading
-
-      by : (Q j.reading.client × IsOpenInStep d (past_at h least) j.reading) ⊎ IsUnopened j.reading → (Q r.client × IsOpenInStep d (past_at h least) r) ⊎ IsUnopened r
-      by (inl t) = inl (t.0, record { opened = t.1.opened; in_step = λ needed. absurd (true≢false needed) })
-      by (inr u) = inr (record { client = u.client; queue = u.queue })
 
   idle_step : (client : ℕ) (command : Command) → is_command_of Client command ≡ true → is_one_call command ≡ true
       → OfStep IsIdle (step_of client command)

@@ -67,8 +67,6 @@ ReadsAs Source last j = Unit {0}
 ReadsAs Owner last j = Unit {0}
 ReadsAs _ last j = last ≡ j.reading.client
 
--- Steps
-
 names-none : (last : ℕ) (x : Step) → client_of x ≡ None → NamesOr last x
 names-none last x none = λ client e. absurd (let k : None ≡ Some client = sym none ∙ e in cc)
 
@@ -83,8 +81,6 @@ IsNamed last x = NamesOr last x × (is_open_step x ≡ false)
 pub stays-last : (x : Step) (reply : Reply) (last : ℕ) → is_open_step x ≡ false → tap_client_after x reply last ≡ last
 stays-last ToOpen reply last h = absurd (true≢false h)
 stays-last _ reply last h = refl
-
--- Calls
 
 -- these calls name so, where this client was opened last before them, and behind them this one is
 abbrev Named : ℕ → List Call → ℕ → Type 0
@@ -109,8 +105,6 @@ named-more first (call ∷ calls) t client x a h of by =
 named-by : (first : ℕ) (s t : List Call) (client : ℕ) (x : Step) (a : Answer) → Named first s client → IsNamed client x → Listed s x a t → Named first t client
 named-by first s t client x a h of by =
     subst (Named first t) (stays-last x a.reply client of.1) (named-more first s t client x a h of.0 by)
-
--- Readers
 
 of_queries : (d : Description) (client : ℕ) → OfQueries d client (IsNamed client)
 of_queries d client = record {
@@ -199,8 +193,6 @@ pub next-names : (d : Description) (mode : Mode) (r s : Reading) (next : Next) (
 next-names d mode r s next calls h =
     let k : OfAnswer r.client calls (next, s) = meets-ends Any Listed (OfAnswer r.client) [] calls (next_talk d mode r) calls (next, s) (names-next r.client d mode r [] (named-none r.client)) (listed-run [] calls) h in (k.0.1, k.1)
 
--- Commands
-
 -- a command's step names the client, or none
 names-command : (client : ℕ) (command : Command) → OfStep (NamesOr client) (step_of client command)
 names-command client (ToEvent moment kind code value) = λ named e. absurd (let k : None ≡ Some named = e in cc)
@@ -229,8 +221,6 @@ one_call client command x is other =
     both None h shut = tt
     both (Some y) h shut = (h, shut)
 
--- Jobs
-
 -- the calls so far name so, and the job reads as the client opened last
 abbrev Reads : Role → ℕ → List Call → Job → Type 0
 Reads role first s j = NameLast first s × ReadsAs role (last_opened first s) j
@@ -238,8 +228,6 @@ Reads role first s j = NameLast first s × ReadsAs role (last_opened first s) j
 -- it is so of the job that a talk leaves, if there is one
 abbrev Keeps : Role → ℕ → List Call → Talk (Option Job) → Type 0
 Keeps role first s talk = Meets Any Listed (OfJob (Reads role first)) s talk
-
--- Sources
 
 -- a step that names no client
 no-client : (first : ℕ) (s t : List Call) (j k : Job) (x : Step) (a : Answer) → Reads Source first s j → NamesOr NO_CLIENT x → Listed s x a t → Reads Source first t k
@@ -249,16 +237,12 @@ no-client first s t j k x a h of by = ((named-more first s t (last_opened first 
     none client (inl is) = inr is
     none client (inr is) = inr is
 
--- Taps
-
 names-tap : (first : ℕ) (j : Job) (o : Option Step) (s : List Call) → OfStep (NamesOr j.reading.client) o → Reads Tap first s j → Keeps Tap first s (tap_call_if j o)
 names-tap first j None s of h = h
 names-tap first j (Some x) s of h = (
   tt,
   λ t a by. cond_both (lacks_memory a.reply) _ _ (OfJob (Reads Tap first) t) (λ _. tt) (λ _. named-more first s t j.reading.client x a h of by),
 )
-
--- Clients
 
 client-rules : (first : ℕ) (d : Description) (command : Command) (wait : Option Waiting) → LineRules Listed (Reads Client first) (OfGoing (Reads Client first)) d Client command wait
 client-rules first d command wait = record {
@@ -280,8 +264,6 @@ client-rules first d command wait = record {
     of_next : (s : List Call) (next : Next) (j : Job) → Reads Client first s j → AfterNext (Reads Client first) s next j
     of_next s (Again at ends) j h = (h, h)
     of_next s _ j h = h
-
--- Joysticks
 
 turn-rules : (first : ℕ) (d : Description) → TurnRules Any Listed (IsReader first) (OfAnswer first) (λ s read r. IsReader first s r) d
 turn-rules first d = record {
@@ -318,8 +300,6 @@ joy-rules first d command = record {
     of_turns : (j : Job) (s : List Call) (sight : List Sight) (o : Option JoyAnswer) → Answers s o → AfterTurns (Reads Joy first) j s o sight
     of_turns j s sight None h = tt
     of_turns j s sight (Some answer) h = of_read s answer.read (after_joy_answer j answer sight) h
-
--- Lines
 
 names-line : (role : Role) (first : ℕ) (d : Description) (streams : List (List Stamped)) (wait : Option Waiting) (n : ℕ) (command : Command) (j : Job) (s : List Call) → Reads role first s j → Keeps role first s (line_talk role d streams wait n command j)
 unfolding line_talk

@@ -1,9 +1,9 @@
 -- What holds at each event that a sight took, and what a client took and saw where its history grows.
-use Rattle.std.proofs.Common.{◌≡◌, ◌≤◌, ◌<◌, inl, inr, ℕ, zero, suc, ◌+◌, ◌-◌, nat_eq, nat_lt, Bool, true, false, not, if◌then◌else◌, ℤ, List, [], ◌∷◌, ◌++◌, length, map, take, drop, reverse, replicate, get_or, refl, sym, ap, subst, ◌∙◌, arith, append-nil, append_assoc, take-append-drop, Option, Some, None}
+use Rattle.std.proofs.Common.{◌≡◌, ◌≤◌, ◌<◌, inl, inr, ℕ, zero, suc, ◌+◌, ◌-◌, nat_eq, nat_lt, Bool, true, false, not, if◌then◌else◌, ℤ, List, [], ◌∷◌, ◌++◌, length, map, take, drop, reverse, replicate, refl, sym, ap, subst, ◌∙◌, arith, append-nil, append_assoc, take-append-drop, Option, Some, None}
 use Rattle.std.specs.Prelude.{slice_get}
 use Rattle.std.specs.List.{All}
 use Rattle.std.proofs.lemmas.Bool.{true≢false, cond-false, cases_lt, lt-ltb, false_from_ne_true, cond_both}
-use Rattle.std.proofs.lemmas.List.{ext_get_or, length-replicate, length-take, nil_from_length, reverse-append}
+use Rattle.std.proofs.lemmas.List.{ext_get_or, length-replicate, length-take, nil_from_length, reverse-append, get_or-replicate}
 use Rattle.std.proofs.lemmas.List.Elements.{All-nil, All-head, All-tail, All-take}
 use Rattle.std.proofs.lemmas.List.FromFn.{length-map-range_with_len}
 use Rattle.inp_model.specs.declared.event.Event.{Event}
@@ -52,6 +52,7 @@ use Rattle.inp_runs.specs.JobViews.{AgreesIn, ShowsAt}
 use Rattle.inp_script.proofs.Runs.{next_place-within}
 use Rattle.inp_model.proofs.Injection.{past-shorter}
 use Rattle.inp_runs.proofs.owners.Owners.{past-next}
+use Rattle.std.proofs.Math.Seq.{take-nil}
 
 -- ---- what a sight took
 
@@ -164,17 +165,12 @@ no-others-events d v (t ∷ taken) all s =
     no-others-events d (view_after_event v t.event) taken (All-tail (λ (t : Taken). is_event_of d t.event ≡ true) t taken all)
     (no-others-event d v t.event (All-head (λ (t : Taken). is_event_of d t.event ≡ true) t taken all) s)
 
-all-off : (n code : ℕ) → get_or (replicate n false) code false ≡ false
-all-off zero code = refl
-all-off (suc n) zero = refl
-all-off (suc n) (suc code) = all-off n code
-
 told-off : (count : ℕ) (test : ℕ → Bool) → count ≤ 768 → ((code : ℕ) → test code ≡ false) → bits_in count (bitmap_of test) ≡ replicate count false
 unfolding bits_in
 told-off count test few off =
     let long : length (bits_in count (bitmap_of test)) ≡ count = length-map-range_with_len _ 0 count in
     ext_get_or false (bits_in count (bitmap_of test)) (replicate count false) (long ∙ sym (length-replicate count false))
-    (λ code within. told_flag count test code (omega (arith, within, long)) (omega (arith, within, long, few)) ∙ off code ∙ sym (all-off count code))
+    (λ code within. told_flag count test code (omega (arith, within, long)) (omega (arith, within, long, few)) ∙ off code ∙ sym (get_or-replicate count code false false (omega (arith, within, long))))
 
 not-told : (count : ℕ) (reply : Reply) (flags : List Bool) → is_accepted reply ≡ false → flags_after_reply count reply flags ≡ flags
 not-told count (Bits at words) flags h = absurd (true≢false h)
@@ -221,11 +217,6 @@ no-others-client d (x ∷ past) client h = by (is_use_of client x) refl (no-othe
         (no-others-answer d past (view_after_events v (taken_events given.events)) x given.cells (no-others-events d v given.events (events-of d past x given (inl refl)) s))
     by false idle s = subst (HasNoOthers d) (sym (idle-step d past client x v idle)) s
 
-take-none : (n : ℕ) (es : List Entry) → es ≡ [] → take n es ≡ []
-take-none zero es h = refl
-take-none (suc n) [] h = refl
-take-none (suc n) (e ∷ es) h = absurd cc
-
 -- the view at an event
 pub no-others-at : (d : Description) (past : List Step) (client i : ℕ) (at : ReadEntry) → IsHistory d past → slice_get (read_entries d past client) i ≡ Some at → HasNoOthers d (view_at d client at)
 unfolding read_entries_with
@@ -249,7 +240,7 @@ no-others-at d (x ∷ past) client i at h is = elim (cases_lt i (length (took d 
     by false idle = subst (λ (es : List Entry). HasNoOthers d (view_after_events v (map event_of es))) (sym none) (nothing (no-others-client d past client h.0))
       where
         none : take n (taken_by d past client x) ≡ []
-        none = take-none n (taken_by d past client x) (idle-taken d past client x idle)
+        none = ap (λ (es : List Entry). take n es) (idle-taken d past client x idle) ∙ take-nil n
 
         nothing : HasNoOthers d v → HasNoOthers d (view_after_events v [])
         nothing s = no-others-events d v [] (All-nil (λ (t : Taken). is_event_of d t.event ≡ true)) s

@@ -17,10 +17,9 @@ use Rattle.inp_model.specs.declared.reply.Refusal.{Refusal}
 use Rattle.inp_model.specs.Description.{Description, has_kind, ring, supports, is_multi_touch_code}
 use Rattle.inp_model.specs.Past.{past_at, opens}
 use Rattle.inp_model.specs.Queue.{Entry, taken_by, took, took_with}
-use Rattle.inp_model.specs.Reply.{Answer, IsAnswer, answer, answer_by, accepted, refused, is_accepted, is_bad_client, past_after, taken_of}
+use Rattle.inp_model.specs.Reply.{Answer, IsAnswer, answer, answer_by, accepted, refused, is_accepted, past_after, taken_of}
 use Rattle.inp_model.specs.Run.{Call, HasPlace, place_of, next_place}
 use Rattle.inp_model.specs.Step.{client_of, is_open_step, is_same}
-use Rattle.inp_model.proofs.Allowed.{named_open, head_fails}
 use Rattle.inp_model.proofs.Opens.{is_open-lt, opens-le}
 use Rattle.inp_actors.specs.declared.command.Command.{Command}
 use Rattle.inp_actors.specs.declared.command.Command.TheVariants.{Event as ToEvent, Tick, Inhibit, Uninhibit, Stream, Stream16, Open, Next, Skip, Follow, Force, Feedback}
@@ -61,6 +60,7 @@ use Rattle.inp_runs.proofs.LinesWalk.{OfStep}
 use Rattle.inp_runs.proofs.views.Reports.{AtEach, at_each-told, Coming, Comes, shows-as, shows-later, history-at, whole-past, HasNoOthers, no-others-first, no-others-events, no-others-answer, no-others-at, agrees-had, sized-at, AreToCome, quiet-before, past-entered}
 use Rattle.inp_reader.proofs.UnsetSlotAxes.{has_cells}
 use Rattle.inp_runs.proofs.views.JobClients.{stays-last}
+use Rattle.inp_runs.proofs.owners.OwnUses.{names-open}
 
 -- ---- what was asked for since the client's start
 
@@ -331,8 +331,6 @@ client_after-refused ToOpen (Opened at opened ring) client h = absurd (true≢fa
 client_after-refused ToOpen _ client h = refl
 client_after-refused _ reply client h = refl
 
--- An answer
-
 refusal_sets_nothing : (v : View) (x : Step) (at : ℕ) (why : Refusal) (cells : List ℤ) → view_after_answer v x (Refused at why) cells ≡ v
 unfolding view_after_answer
 refusal_sets_nothing v (GetKeys client) at why cells = refl
@@ -411,11 +409,6 @@ opened-asked d past v sized =
 abbrev pub IsTapStep : ℕ → Step → Type 0
 IsTapStep client x = (x ≡ ToOpen) ⊎ (client_of x ≡ Some client)
 
--- a client that a step names is open, where the step is not refused
-pub opened-there : (d : Description) (past : List Step) (x : Step) (client : ℕ) → refused d past x ≡ None → client_of x ≡ Some client → client < opens past
-opened-there d past x client accepts named =
-    is_open-lt past client (named_open past x client named (head_fails (is_bad_client past (client_of x)) _ _ accepts))
-
 read-is_use : (client : ℕ) (x : Step) → is_read x ≡ true → client_of x ≡ Some client → is_use_of client x ≡ true
 read-is_use client (Read named count) h is = let same : named ≡ client = (let e : Some named ≡ Some client = is in cc) in eq-eqb named client same
 read-is_use client _ h is = absurd (false≢true h)
@@ -480,7 +473,7 @@ module _ (d : Description) (h : List Step) (Q : ℕ → Type 0) (history : IsHis
     -- the client that an accepted step names was opened by the tap
     named-asked : refused d past x ≡ None → client_of x ≡ Some client → Q client × IsAsked d past client v
     named-asked accepts named = elim stood [
-      | inl none ↦ absurd (omega (arith, few-opens (place_of reply), none, opened-there d past x client accepts named))
+      | inl none ↦ absurd (omega (arith, few-opens (place_of reply), none, is_open-lt past client (names-open d past x client accepts named)))
       | inr a ↦ a
     ]
 
