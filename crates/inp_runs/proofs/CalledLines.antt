@@ -28,7 +28,7 @@ use Rattle.inp_script.specs.Line.{after_call, call_talk, stream_talk}
 use Rattle.inp_script.specs.Sight.{stop_after}
 use Rattle.inp_runs.specs.EventLines.{inject_line}
 use Rattle.inp_runs.specs.Job.{lines_talk, on_job, last_talk}
-use Rattle.inp_runs.proofs.MoreRounds.{lines-next}
+use Rattle.inp_runs.proofs.order.Rounds.{lines-next}
 
 -- How an injected event is answered: it is entered and its source goes on, or the history is full and its source stops.
 abbrev IsInjectAnswer : Answer → Type 0

@@ -8,7 +8,6 @@ pub mod JobTold
 pub mod JobEnds
 pub mod Done
 pub mod Played
-pub mod MoreRounds
 pub mod EventLines
 pub mod CalledLines
 pub mod DoingAll

@@ -25,8 +25,7 @@ use Rattle.inp_runs.proofs.LinesWalk.{lines_by-more, lines_by-other}
 use Rattle.inp_runs.proofs.Lists.{eq_true, eq_false, slice_get-set, slice_get-set_same}
 use Rattle.inp_runs.specs.Play.{Stage, description_at, feedback_calls_after, after_lines}
 use Rattle.inp_runs.proofs.order.Calls.{AreExact}
-use Rattle.inp_runs.proofs.owners.OwnerLaws.{IsToldByLines, told-stopped}
-use Rattle.inp_runs.proofs.order.OwnerTold.{so-far-steps, so-far-called, called-within}
+use Rattle.inp_runs.proofs.owners.OwnerLaws.{IsToldByLines, told-stopped, so-far-steps, so-far-called, called-within}
 use Rattle.inp_runs.proofs.order.LineDone.{IsFedUnless, IsFedWhereAsked, IsLinePlayed, feedback-of}
 use Rattle.inp_runs.proofs.order.Stages.{IsStage, AreCommandsOf, number_is, its_number, its_actor, actor-behind, past-behind, stages-keep}
 use Rattle.std.proofs.lemmas.Bool.{cond_both}

@@ -24,13 +24,12 @@ use Rattle.inp_model.proofs.Leaves.{HasPlace-longer}
 use Rattle.inp_script.proofs.Told.{sight_of_calls-append}
 use Rattle.inp_runs.specs.Job.{lines_by, lines_talk, call_lacks_memory}
 use Rattle.inp_runs.specs.Play.{Stage, description_at, after_line, after_lines}
-use Rattle.inp_runs.proofs.order.Calls.{AreExact, exact-grows, exact-legal, exact-memory, exact-within, exact-history}
+use Rattle.inp_runs.proofs.order.Calls.{AreExact, exact-grows, exact-legal, exact-memory, exact-within, exact-history, entries-gained}
 use Rattle.inp_runs.proofs.order.LineDone.{IsLinePlayed, MayDo, line-done}
 use Rattle.inp_runs.proofs.LinesWalk.{lines_talk-more, lines_by-more, lines_by-other}
 use Rattle.inp_runs.proofs.memory.LineTalks.{IsKept}
 use Rattle.inp_runs.proofs.Lists.{eq_true, eq_false, slice_get-set, map-set_same, slice_get-range, sum_by-replaced}
 use Rattle.inp_runs.proofs.Entries.{entries, below}
-use Rattle.inp_runs.proofs.order.Places.{entries-gained}
 use Rattle.std.proofs.lemmas.List.Folds.{list_any-append}
 
 -- What an actor did at these lines, on a device of this description that accepted these steps.

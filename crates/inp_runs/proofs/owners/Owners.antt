@@ -2,7 +2,7 @@
 use Rattle.std.proofs.Common.{◌≡◌, ◌⊎◌, ℕ, zero, suc, ◌+◌, ◌<◌, ◌≤◌, Bool, true, false, ◌&&◌, ◌||◌, if◌then◌else◌, nat_eq, nat_lt, List, [], ◌∷◌, ◌++◌, length, take, reverse, refl, sym, ap, subst, ◌∙◌, arith, inl, inr, Option, Some, None}
 use Rattle.std.specs.Prelude.{slice_get}
 use Rattle.std.specs.List.{list_any, sum_by}
-use Rattle.std.proofs.lemmas.Bool.{true≢false, cases_lt, cond-true, lt-ltb, eqb-true, and_from}
+use Rattle.std.proofs.lemmas.Bool.{true≢false, cases_lt, cond-true, lt-ltb, eqb-true, and_from, and_parts}
 use Rattle.std.proofs.lemmas.List.{reverse-append, length-reverse, length-take, take_all}
 use Rattle.std.proofs.lemmas.List.Sums.{sum_by-cons, get_or-le-sum_by}
 use Rattle.std.proofs.lemmas.Option.{slice_get_within, same_Some, get_or_from_slice_get}
@@ -14,10 +14,10 @@ use Rattle.inp_model.specs.declared.reply.Reply.{Reply}
 use Rattle.inp_model.specs.declared.reply.Reply.TheVariants.{Opened, Refused}
 use Rattle.inp_model.specs.declared.reply.Refusal.TheVariants.{NoMemory}
 use Rattle.inp_model.specs.Description.{Description, IsDescription}
-use Rattle.inp_model.specs.Past.{past_at, opens}
-use Rattle.inp_model.specs.Reply.{Answer, IsAnswer, answer_by, accepted, refused, is_accepted}
+use Rattle.inp_model.specs.Past.{past_at, opens, is_open}
+use Rattle.inp_model.specs.Reply.{Answer, IsAnswer, answer_by, accepted, refused, is_accepted, is_bad_client}
 use Rattle.inp_model.specs.Run.{Call, HasPlace, IsLegalFrom, IsLegalRun, place_of, next_place}
-use Rattle.inp_model.specs.Step.{client_of}
+use Rattle.inp_model.specs.Step.{client_of, is_same}
 use Rattle.inp_actors.specs.declared.line.Line.{Line}
 use Rattle.inp_actors.specs.declared.role.Role.{Role}
 use Rattle.inp_model.proofs.Opens.{opens-le}
@@ -35,6 +35,8 @@ use Rattle.inp_runs.proofs.Entries.{entries, entries-cons_call, told-counts}
 use Rattle.inp_runs.proofs.views.JobClients.{NameLast, job-names}
 use Rattle.inp_runs.proofs.Lists.{eq_true}
 use Rattle.inp_reader.proofs.StandsAfterTalks.{opens-steps, open-opens}
+use Rattle.inp_reader.specs.ReaderPlace.{is_use, is_use_of}
+use Rattle.inp_model.proofs.Allowed.{named_open, head_fails}
 
 -- The calls of a job: a legal run of the history, with the places of those that its sight tells of, and each names no client
 -- but the one that the job opened last.
@@ -361,3 +363,27 @@ history-at d history jobs (suc n) owners = by (slice_get history n) refl (histor
 pub history-of-jobs : (d : Description) (history : List Step) (jobs : List JobView) → HasOwners d history jobs → IsHistory d (reverse history)
 history-of-jobs d history jobs owners =
     subst (λ (xs : List Step). IsHistory d (reverse xs)) (take_all (length history) history (omega arith)) (history-at d history jobs (length history) owners)
+
+-- each use of a client that these calls opened is one of them
+abbrev pub OwnsItsUses : List Step → List Call → Type 0
+OwnsItsUses history calls =
+    (client place : ℕ) (x : Step) → list_any (is_opened_as client) calls ≡ true → slice_get history place ≡ Some x → is_use_of client x ≡ true → IsPlaceOf place calls
+
+same-client : (o : Option ℕ) (client : ℕ) → is_same o client ≡ true → o ≡ Some client
+same-client None client h = absurd (true≢false (sym h))
+same-client (Some named) client h = ap (λ (n : ℕ). Some n) (eqb-true named client h)
+
+-- a use of a client names it
+pub use-names : (client : ℕ) (x : Step) → is_use_of client x ≡ true → client_of x ≡ Some client
+use-names client x h =
+    let both : (is_use x ≡ true) × (is_same (client_of x) client ≡ true) = and_parts (is_use x) (is_same (client_of x) client) h in
+    same-client (client_of x) client both.1
+
+pub own-uses : (role : Role) (d : Description) (history : List Step) (streams : List (List Stamped)) (wait : Option Waiting) (rounds : ℕ) (lines : List Line) (jobs : List JobView) (i : ℕ) (job : JobView) (last : Job) (calls : List Call) → HasOwners d history jobs → slice_get jobs i ≡ Some job
+    → IsLegalRun d history calls → AreTold wait calls job.sight → EndsWith (lines_talk role d streams wait rounds lines (first_job role d)) calls (Some last) → OwnsItsUses history calls
+own-uses role d history streams wait rounds lines jobs i job last calls owners is_job legal told follows = λ client place x opened at used.
+    own-steps d history jobs i job (record { calls = calls; legal = legal; told = told-counts wait calls job.sight told; names = (job-names role d streams wait rounds lines last calls follows).0 }) client place x owners is_job opened at (use-names client x used)
+
+-- a step that names a client and is not refused has one that is open
+pub names-open : (d : Description) (past : List Step) (x : Step) (client : ℕ) → refused d past x ≡ None → client_of x ≡ Some client → is_open past client ≡ true
+names-open d past x client accepts names = named_open past x client names (head_fails (is_bad_client past (client_of x)) _ _ accepts)

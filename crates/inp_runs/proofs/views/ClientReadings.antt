@@ -45,8 +45,7 @@ use Rattle.inp_script.specs.Sight.{call_sight}
 use Rattle.inp_script.proofs.Told.{noted_sight}
 use Rattle.inp_runs.specs.JobViews.{LastRead, AgreesIn, ShowsAt, is_read_as, read_after_sight}
 use Rattle.inp_runs.proofs.views.AtHand.{AreAtHand, hand-kept, met-took, read_after-other}
-use Rattle.inp_runs.proofs.owners.Owners.{opened-exact, past-next}
-use Rattle.inp_runs.proofs.owners.OwnUses.{names-open}
+use Rattle.inp_runs.proofs.owners.Owners.{opened-exact, past-next, names-open}
 use Rattle.inp_runs.proofs.views.Reports.{HasNoOthers, no-others-at, agrees-had, sized-at, shows-later, whole-past, history-at, place_behind, AreToCome, to-come-next, call-met, calls-met}
 use Rattle.inp_model.proofs.Refused.{accepted-unrefused}
 

@@ -50,8 +50,7 @@ use Rattle.inp_runs.specs.Losses.{AreLossesCaused}
 use Rattle.inp_runs.proofs.views.AtHand.{own-caused, shown-own}
 use Rattle.inp_runs.proofs.views.ClientReports.{IsClientJob, ClientSaw, client-first, client-rules}
 use Rattle.inp_runs.proofs.views.Folded.{AreOfRole, its_lines, view-folded}
-use Rattle.inp_runs.proofs.owners.Owners.{HasOwners, is_opened_as, is_opening_of, history-of-jobs, or-true}
-use Rattle.inp_runs.proofs.owners.OwnUses.{own-uses}
+use Rattle.inp_runs.proofs.owners.Owners.{HasOwners, is_opened_as, is_opening_of, history-of-jobs, or-true, own-uses}
 use Rattle.inp_runs.proofs.views.Reports.{AtEntry, AtEach, at_each-append, at_each-at, at_each-noted, AreToCome, Coming, Comes, coming-run, at_each-eventless}
 use Rattle.inp_runs.proofs.views.TapViews.{TapStands, TapSaw, tap-line, tap-first}
 use Rattle.inp_runs.proofs.LinesWalk.{OfStep, unless-keeps, source-keeps, last-keeps, lines-keep}

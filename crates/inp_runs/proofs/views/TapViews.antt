@@ -60,7 +60,7 @@ use Rattle.inp_runs.proofs.LinesWalk.{OfStep}
 use Rattle.inp_runs.proofs.views.Reports.{AtEach, at_each-told, Coming, Comes, shows-as, shows-later, history-at, whole-past, HasNoOthers, no-others-first, no-others-events, no-others-answer, no-others-at, agrees-had, sized-at, AreToCome, quiet-before, past-entered}
 use Rattle.inp_reader.proofs.UnsetSlotAxes.{has_cells}
 use Rattle.inp_runs.proofs.views.JobClients.{stays-last}
-use Rattle.inp_runs.proofs.owners.OwnUses.{names-open}
+use Rattle.inp_runs.proofs.owners.Owners.{names-open}
 
 -- ---- what was asked for since the client's start
 
