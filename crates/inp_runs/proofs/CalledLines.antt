@@ -4,8 +4,6 @@ use Rattle.std.specs.Prelude.{◌⊎◌, length}
 use Rattle.std.proofs.lemmas.Option.{same_Some}
 use Rattle.inp_model.specs.declared.stamped.Stamped.{Stamped}
 use Rattle.inp_model.specs.declared.step.Step.{Step}
-use Rattle.inp_model.specs.declared.reply.Reply.TheVariants.{Refused}
-use Rattle.inp_model.specs.declared.reply.Refusal.TheVariants.{LogFull}
 use Rattle.inp_model.specs.Description.{Description}
 use Rattle.inp_model.specs.Evdev.{EvdevView}
 use Rattle.inp_model.specs.Injection.{inject_of}
@@ -29,6 +27,8 @@ use Rattle.inp_script.specs.Sight.{stop_after}
 use Rattle.inp_runs.specs.EventLines.{inject_line}
 use Rattle.inp_runs.specs.Job.{lines_talk, on_job, last_talk}
 use Rattle.inp_runs.proofs.order.Rounds.{lines-next}
+use Rattle.std.proofs.lemmas.Bool.{cond_both}
+use Rattle.inp_model.specs.declared.reply.Reply.{Reply}
 
 -- How an injected event is answered: it is entered and its source goes on, or the history is full and its source stops.
 abbrev IsInjectAnswer : Answer → Type 0
@@ -38,11 +38,10 @@ IsInjectAnswer given =
 
 inject-answer : (d : Description) (past : List Step) (x : Stamped) (given : Answer) → IsAnswer d past (inject_of x) given → IsInjectAnswer given
 inject-answer d past x given (inr lacks) = let never = lacks.0 in absurd cc
-inject-answer d past x given (inl same) = subst IsInjectAnswer (sym same) (by (is_full d past))
-  where
-    by : (full : Bool) → IsInjectAnswer (answer_by (if full then Some (Refused (length past) LogFull) else None) (done_answer past))
-    by true = inr (refl, Full (length past), refl)
-    by false = inl (refl, refl)
+inject-answer d past x given (inl same) =
+    subst IsInjectAnswer (sym same)
+    (cond_both (is_full d past) _ _ (λ (o : Option Reply). IsInjectAnswer (answer_by o (done_answer past)))
+    (λ _. inr (refl, Full (length past), refl)) (λ _. inl (refl, refl)))
 
 module _ (d : Description) (streams : List (List Stamped)) (wait : Option Waiting) where
   module _ (number rounds : ℕ) (rest : List Line) where

@@ -5,7 +5,7 @@ use Rattle.std.specs.List.{enumerate_from, range_with_len, sum_by}
 use Rattle.std.proofs.lemmas.Bool.Decides.{nat_tests}
 use Rattle.std.proofs.lemmas.List.Sums.{sum_by-cons, sum_by-set}
 use Rattle.std.proofs.lemmas.Option.{get_or_from_slice_get, slice_get_within, same_Some}
-use Rattle.std.proofs.lemmas.Bool.{eqb-true, eqb-false}
+use Rattle.std.proofs.lemmas.Bool.{eqb-true, cases_eq, false_from_ne_true}
 
 pub eq_same : (m n : ℕ) → nat_eq m n ≡ true → m ≡ n
 eq_same m n h = eqb-true m n h
@@ -14,8 +14,7 @@ pub eq_true : (m n : ℕ) → m ≡ n → nat_eq m n ≡ true
 eq_true m n e = grind (arith, nat_tests, e)
 
 pub eq_false : (m n : ℕ) → (m ≡ n → ⊥) → nat_eq m n ≡ false
-eq_false m n other =
-    (elim (nat_eq m n) as (λ b. nat_eq m n ≡ b → nat_eq m n ≡ false) [ true ↦ λ e. absurd (other (eqb-true m n e)) | false ↦ λ e. e ]) refl
+eq_false m n other = false_from_ne_true (nat_eq m n) (λ e. other (eqb-true m n e))
 
 -- One element
 
@@ -33,13 +32,10 @@ slice_get-set_other (z ∷ xs) (suc i) (suc k) y other = slice_get-set_other xs 
 
 -- an element behind it: the new one at its place, and else the old one
 pub slice_get-set : {X : Type 0} (xs : List X) (i k : ℕ) (x y z : X) → slice_get xs i ≡ Some x → slice_get (slice_set xs i y) k ≡ Some z → ((k ≡ i) × (z ≡ y)) ⊎ ((k ≡ i → ⊥) × (slice_get xs k ≡ Some z))
-slice_get-set xs i k x y z h e = by_flag (nat_eq k i) refl
-  where
-    by_flag : (b : Bool) → nat_eq k i ≡ b → ((k ≡ i) × (z ≡ y)) ⊎ ((k ≡ i → ⊥) × (slice_get xs k ≡ Some z))
-    by_flag true t =
-        let same : k ≡ i = eqb-true k i t in
-        inl (same, same_Some z y (sym e ∙ ap (λ (j : ℕ). slice_get (slice_set xs i y) j) same ∙ slice_get-set_same xs i x y h))
-    by_flag false f = inr (eqb-false k i f, sym (slice_get-set_other xs i k y (eqb-false k i f)) ∙ e)
+slice_get-set xs i k x y z h e = elim (cases_eq k i) [
+  | inl same ↦ inl (same, same_Some z y (sym e ∙ ap (λ (j : ℕ). slice_get (slice_set xs i y) j) same ∙ slice_get-set_same xs i x y h))
+  | inr other ↦ inr (other, sym (slice_get-set_other xs i k y other) ∙ e)
+]
 
 pub map-set_same : {X Y : Type 0} (f : X → Y) (xs : List X) (i : ℕ) (x y : X) → slice_get xs i ≡ Some x → f y ≡ f x → map f (slice_set xs i y) ≡ map f xs
 map-set_same f [] i x y h e = refl

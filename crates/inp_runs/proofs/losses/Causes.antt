@@ -60,12 +60,10 @@ pending-no_loss : (d : Description) (r : List RawItem) → Each IsNoLoss (pendin
 unfolding pending
 pending-no_loss d [] = tt
 pending-no_loss d (Described code axis ∷ r) = pending-no_loss d r
-pending-no_loss d (Occurred e ∷ r) = by (is_report e) (nat_le d.hint (length (pending d r ++ passed d r e))) (batch-no_loss d r (Occurred e) (pending-no_loss d r))
-  where
-    by : (a b : Bool) → Each IsNoLoss (pending d r ++ passed d r e) → Each IsNoLoss (if a then [] else if b then [] else pending d r ++ passed d r e)
-    by true b h = tt
-    by false true h = tt
-    by false false h = h
+pending-no_loss d (Occurred e ∷ r) =
+    cond_both (is_report e) _ _ (Each IsNoLoss) (λ _. tt) (λ _.
+    cond_both (nat_le d.hint (length (pending d r ++ passed d r e))) _ _ (Each IsNoLoss) (λ _. tt)
+    (λ _. batch-no_loss d r (Occurred e) (pending-no_loss d r)))
 
 cut-no_loss : (d : Description) (r : List RawItem) (x : RawItem) → (h : OneCut d r x) → Each IsNoLoss (h.body ++ h.report ∷ [])
 cut-no_loss d r x h = by h.same
@@ -98,11 +96,9 @@ pub entries-come : (d : Description) (client : ℕ) (past : List Step) (s : Step
 entries-come d client past s [] h = tt
 entries-come d client past s (c ∷ cs) h =
     Each-append (ComesAt (length past)) (entries_of d client (frame_of past s c)) (entries d client (map (frame_of past s) cs))
-    (by (is_offered past client)) (entries-come d client past s cs h.1)
-  where
-    by : (b : Bool) → Each (ComesAt (length past)) (if b then map (entry d client (frame_of past s c)) (filter (admits past client) (left (eaten d) (frame_of past s c))) else [])
-    by true = admitted-come d client past s c (admits past client) (left (eaten d) (frame_of past s c)) (Each-left_from IsNoLoss (eaten d (frame_of past s c)) 0 c.events h.0)
-    by false = tt
+    (cond_both (is_offered past client) _ _ (Each (ComesAt (length past)))
+    (λ _. admitted-come d client past s c (admits past client) (left (eaten d) (frame_of past s c)) (Each-left_from IsNoLoss (eaten d (frame_of past s c)) 0 c.events h.0))
+    (λ _. tt)) (entries-come d client past s cs h.1)
 
 -- ---- a ring's places
 

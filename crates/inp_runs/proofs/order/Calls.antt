@@ -1,5 +1,5 @@
 -- The calls that a talk makes of the one-thread device: what they leave of its past, and at which places they are entered.
-use Rattle.std.proofs.Common.{◌≡◌, ℕ, ◌<◌, ◌≤◌, Bool, true, false, if◌then◌else◌, List, [], ◌∷◌, ◌++◌, length, reverse, refl, sym, ap, subst, ◌∙◌, arith, inl, None, ◌+◌, ◌&&◌, nat_eq, zero-add}
+use Rattle.std.proofs.Common.{◌≡◌, ℕ, ◌≤◌, Bool, true, false, if◌then◌else◌, List, [], ◌∷◌, ◌++◌, length, reverse, refl, sym, ap, subst, ◌∙◌, arith, inl, None, ◌+◌, ◌&&◌, nat_eq, zero-add}
 use Rattle.std.specs.List.{list_any}
 use Rattle.inp_model.specs.declared.step.Step.{Step}
 use Rattle.inp_model.specs.declared.reply.Reply.{Reply}
@@ -24,6 +24,7 @@ use Rattle.std.proofs.lemmas.Bool.Decides.{nat_tests}
 use Rattle.inp_script.specs.declared.sight.Sight.{Sight}
 use Rattle.inp_script.specs.Legal.{sight_of_calls, is_call_entry}
 use Rattle.inp_runs.proofs.Entries.{call_entries, entries, below, entries-append, entries-calls, entries-call}
+use Rattle.std.proofs.lemmas.Bool.{cond_both}
 
 -- the calls that a talk makes are its own
 pub talk_with-ends : {A : Type 0} (d : Description) (past : List Step) (talk : Talk A) → EndsWith talk (calls_with d past talk) (talk_with d past talk).0
@@ -64,13 +65,10 @@ answer-place d past x = given_place d past x (answer d past x) (inl refl)
 
 history-one : (d : Description) (past : List Step) (x : Step) → IsHistory d past → IsHistory d (past_after (answer d past x).reply x past)
 history-one d past x h =
-    by (is_accepted (answer d past x).reply)
-    (answer_has (λ given. is_accepted given.reply ≡ true → refused d past x ≡ None) d past x
-    (λ refusal is e. absurd (let k : false ≡ true = sym is.accepted ∙ e in cc)) (λ none e. none))
-  where
-    by : (b : Bool) → (b ≡ true → refused d past x ≡ None) → IsHistory d (if b then x ∷ past else past)
-    by true unrefused = (h, unrefused refl)
-    by false unrefused = h
+    cond_both (is_accepted (answer d past x).reply) _ _ (IsHistory d)
+    (λ is. (h, answer_has (λ given. is_accepted given.reply ≡ true → refused d past x ≡ None) d past x
+    (λ refusal r e. absurd (let k : false ≡ true = sym r.accepted ∙ e in cc)) (λ none e. none) is))
+    (λ _. h)
 
 pub exact-history : (d : Description) (past after : List Step) (calls : List Call) → AreExact d past after calls → IsHistory d past → IsHistory d after
 exact-history d past after [] e h = subst (IsHistory d) (sym e) h
@@ -119,11 +117,9 @@ exact-memory d past after calls e = answered-memory d calls (exact-answered d pa
 -- The history stays within its limit
 
 within-one : (d : Description) (past : List Step) (x : Step) → length past ≤ d.log_limit → length (past_after (answer d past x).reply x past) ≤ d.log_limit
-within-one d past x h = by_flag (is_accepted (answer d past x).reply) (λ e. place-below d past x (answer d past x) (inl refl) e)
-  where
-    by_flag : (b : Bool) → (b ≡ true → place_of (answer d past x).reply < d.log_limit) → length (if b then x ∷ past else past) ≤ d.log_limit
-    by_flag true below = omega (arith, below refl, answer-place d past x)
-    by_flag false below = h
+within-one d past x h =
+    cond_both (is_accepted (answer d past x).reply) _ _ (λ (p : List Step). length p ≤ d.log_limit)
+    (λ e. omega (arith, place-below d past x (answer d past x) (inl refl) e, answer-place d past x)) (λ _. h)
 
 pub exact-within : (d : Description) (past after : List Step) (calls : List Call) → AreExact d past after calls → length past ≤ d.log_limit → length after ≤ d.log_limit
 exact-within d past after [] e h = omega (arith, ap length e)

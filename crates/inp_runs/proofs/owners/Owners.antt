@@ -2,7 +2,7 @@
 use Rattle.std.proofs.Common.{◌≡◌, ◌⊎◌, ℕ, zero, suc, ◌+◌, ◌<◌, ◌≤◌, Bool, true, false, ◌&&◌, ◌||◌, if◌then◌else◌, nat_eq, nat_lt, List, [], ◌∷◌, ◌++◌, length, take, reverse, refl, sym, ap, subst, ◌∙◌, arith, inl, inr, Option, Some, None}
 use Rattle.std.specs.Prelude.{slice_get}
 use Rattle.std.specs.List.{list_any, sum_by}
-use Rattle.std.proofs.lemmas.Bool.{true≢false, cases_lt, cond-true, lt-ltb, eqb-true, and_from, and_parts}
+use Rattle.std.proofs.lemmas.Bool.{true≢false, cases_lt, cond-true, lt-ltb, eqb-true, and_from, and_parts, cases_Bool}
 use Rattle.std.proofs.lemmas.List.{reverse-append, length-reverse, length-take, take_all}
 use Rattle.std.proofs.lemmas.List.Sums.{sum_by-cons, get_or-le-sum_by}
 use Rattle.std.proofs.lemmas.Option.{slice_get_within, same_Some, get_or_from_slice_get}
@@ -175,15 +175,13 @@ opened-here d history client call calls _ is placed same = absurd (true≢false 
 pub opened-at : (d : Description) (history : List Step) (least client : ℕ) (calls : List Call) → IsLegalFrom d history least calls → list_any (is_opened_as client) calls ≡ true → IsOpenedAt history client calls
 unfolding IsPlaceOf
 opened-at d history least client [] legal h = absurd (true≢false (sym h))
-opened-at d history least client (call ∷ calls) legal h =
-    by (is_opened_as client call) refl (λ more. later (opened-at d history (next_place call.answer.reply) client calls legal.2 more)) h
-  where
-    later : IsOpenedAt history client calls → IsOpenedAt history client (call ∷ calls)
-    later o = record { place = o.place; of_calls = inr o.of_calls; is_open = o.is_open; number = o.number }
-
-    by : (b : Bool) → is_opened_as client call ≡ b → (list_any (is_opened_as client) calls ≡ true → IsOpenedAt history client (call ∷ calls)) → (b || list_any (is_opened_as client) calls) ≡ true → IsOpenedAt history client (call ∷ calls)
-    by true e more k = opened-here d history client call calls call.answer.reply refl legal.1 e
-    by false e more k = more k
+opened-at d history least client (call ∷ calls) legal h = elim (cases_Bool (is_opened_as client call)) [
+  | inl e ↦ opened-here d history client call calls call.answer.reply refl legal.1 e
+  | inr e ↦
+      (let more = sym (ap (λ (b : Bool). b || list_any (is_opened_as client) calls) e) ∙ h in
+      let o : IsOpenedAt history client calls = opened-at d history (next_place call.answer.reply) client calls legal.2 more in
+      record { place = o.place; of_calls = inr o.of_calls; is_open = o.is_open; number = o.number })
+]
 
 -- Pasts of a history
 
