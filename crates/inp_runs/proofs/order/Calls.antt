@@ -66,8 +66,11 @@ answer-place d past x = given_place d past x (answer d past x) (inl refl)
 history-one : (d : Description) (past : List Step) (x : Step) → IsHistory d past → IsHistory d (past_after (answer d past x).reply x past)
 history-one d past x h =
     cond_both (is_accepted (answer d past x).reply) _ _ (IsHistory d)
-    (λ is. (h, answer_has (λ given. is_accepted given.reply ≡ true → refused d past x ≡ None) d past x
-    (λ refusal r e. absurd (let k : false ≡ true = sym r.accepted ∙ e in cc)) (λ none e. none) is))
+    (λ is. (
+      h,
+      answer_has (λ given. is_accepted given.reply ≡ true → refused d past x ≡ None) d past x
+          (λ refusal r e. absurd (let k : false ≡ true = sym r.accepted ∙ e in cc)) (λ none e. none) is,
+    ))
     (λ _. h)
 
 pub exact-history : (d : Description) (past after : List Step) (calls : List Call) → AreExact d past after calls → IsHistory d past → IsHistory d after

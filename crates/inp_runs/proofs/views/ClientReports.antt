@@ -42,7 +42,7 @@ use Rattle.inp_script.specs.declared.sight.Sight.TheVariants.{Took, Made, Again 
 use Rattle.inp_script.specs.declared.stop.Stop.{Stop}
 use Rattle.inp_script.specs.declared.waiting.Waiting.{Waiting}
 use Rattle.inp_script.proofs.LineWalk.{OfTurn, OfGoing, AfterNext, turn-of, LineRules, OfJob, is_one_call, noted-ends-meet, read_so}
-use Rattle.inp_script.specs.Client.{Going, Turn, start_job, start_ends, job_after_start, after_next, mode_of, with_sight, with_stop, next_round, rounds, forced}
+use Rattle.inp_script.specs.Client.{Going, Turn, start_job, start_ends, job_after_start, after_next, mode_of, with_sight, with_stop, next_round, forced}
 use Rattle.inp_script.specs.Fold.{settled, after_first_call, client_fold}
 use Rattle.inp_script.specs.Job.{Job, first_job, first_reading}
 use Rattle.inp_script.specs.Line.{after_call, tap_client_after, step_of}
