@@ -98,6 +98,12 @@ module _ {S : Type 0} (R : S → Step → Answer → S → Type 0) (I : S → Jo
       by t None more k = tt
       by t (Some mid) more k = more mid k
 
+-- lines leave a job where the line before them did
+pub on_job-ends : {R : Type 0} (next : Job → Talk (Option Job)) (o : Option Job) (calls : List Call) (k : Job) → EndsWith (on_job next o) calls (Some k)
+    → ((mid : Job) → o ≡ Some mid → EndsWith (next mid) calls (Some k) → R) → R
+on_job-ends next None calls k ends more = let f = finished None (Some k) calls ends in absurd cc
+on_job-ends next (Some mid) calls k ends more = more mid refl ends
+
 -- the calls of one line more, where nobody waits
 pub lines_talk-more : (role : Role) (d : Description) (streams : List (List Stamped)) (rounds : ℕ) (lines : List Line) (line : Line) (first mid last : Job) (calls more : List Call)
     → EndsWith (lines_talk role d streams None rounds lines first) calls (Some mid) → EndsWith (line_talk role d streams None rounds line.command mid) more (Some last)
@@ -114,15 +120,13 @@ lines_talk-more role d streams rounds (other ∷ lines) line first mid last call
     let talk : Talk (Option Job) = line_talk role d streams None rounds other.command first in
     let p = split-and_then talk (on_job (lines_talk role d streams None rounds lines)) calls (Some mid) h in
     let long : Option Job → Talk (Option Job) = on_job (lines_talk role d streams None rounds (lines ++ line ∷ [])) in
-    let rest : EndsWith (long p.between) (p.later ++ more) (Some last) = by_job p.between p.later (λ (j : Job) e. lines_talk-more role d streams rounds lines line j mid last p.later more e k) p.later_ends in
+    let rest : EndsWith (long p.between) (p.later ++ more) (Some last) =
+    on_job-ends (lines_talk role d streams None rounds lines) p.between p.later mid p.later_ends (λ j is e.
+    subst (λ (o : Option Job). EndsWith (long o) (p.later ++ more) (Some last)) (sym is)
+    (lines_talk-more role d streams rounds lines line j mid last p.later more e k)) in
     subst (λ (cs : List Call). EndsWith (and_then talk long) (cs ++ more) (Some last)) (sym p.calls_are)
     (subst (λ (cs : List Call). EndsWith (and_then talk long) cs (Some last)) (sym (append_assoc p.first p.later more))
     (LeadsTo-append (and_then talk long) (long p.between) (finish (Some last)) p.first (p.later ++ more) (LeadsTo-and_then talk (finish p.between) long p.first p.first_ends) rest))
-  where
-    by_job : (o : Option Job) (second : List Call) → ((j : Job) → EndsWith (lines_talk role d streams None rounds lines j) second (Some mid) → EndsWith (lines_talk role d streams None rounds (lines ++ line ∷ []) j) (second ++ more) (Some last))
-        → EndsWith (on_job (lines_talk role d streams None rounds lines) o) second (Some mid) → EndsWith (on_job (lines_talk role d streams None rounds (lines ++ line ∷ [])) o) (second ++ more) (Some last)
-    by_job None second longer e = let f = finished None (Some mid) second e in absurd cc
-    by_job (Some j) second longer e = longer j e
 
 -- a line more of this actor, or of another one
 pub lines_by-more : (actor : ℕ) (lines : List Line) (line : Line) → nat_eq line.actor actor ≡ true → lines_by actor (lines ++ line ∷ []) ≡ lines_by actor lines ++ line ∷ []

@@ -4,7 +4,6 @@ use Rattle.std.specs.Prelude.{filter}
 use Rattle.std.proofs.lemmas.List.Elements.{filter-append}
 use Rattle.std.proofs.lemmas.Bool.{cond_both}
 use Rattle.inp_model.specs.declared.stamped.Stamped.{Stamped}
-use Rattle.inp_model.specs.declared.taken.Taken.{Taken}
 use Rattle.inp_model.specs.declared.step.Step.{Step}
 use Rattle.inp_model.specs.Description.{Description}
 use Rattle.inp_model.specs.Reply.{Answer, answer}
@@ -86,20 +85,13 @@ IsKeptTurn d turn entries = OfTurn (KeptAt d) (OfGoing (KeptAt d)) entries turn
 kept_handed : (d : Description) (left : Option ℕ) (j : Job) (entries : List Sight) → IsKept d j entries → IsKeptTurn d (handed left j) entries
 kept_handed d left j entries h = cond_both (is_done left) _ _ (λ x. IsKeptTurn d x entries) (λ _. h) (λ _. h)
 
--- events are no calls
-took_told : (sight entries : List Sight) (taken : Taken) → filter is_call_entry sight ++ [] ≡ entries → filter is_call_entry (sight ++ Took taken ∷ []) ≡ entries
-took_told sight entries taken h = filter-append is_call_entry sight (Took taken ∷ []) ∙ h
-
-made_told : (sight entries : List Sight) (event : _) → filter is_call_entry sight ++ [] ≡ entries → filter is_call_entry (sight ++ Made event ∷ []) ≡ entries
-made_told sight entries event h = filter-append is_call_entry sight (Made event ∷ []) ∙ h
-
 silent : (sight entries : List Sight) → filter is_call_entry sight ++ [] ≡ entries → filter is_call_entry sight ≡ entries
 silent sight entries h = sym (append-nil (filter is_call_entry sight)) ∙ h
 
 kept_turn : (d : Description) (left : Option ℕ) (agains : ℕ) (next : Next) (j : Job) (entries : List Sight) → IsSizedFor d.slots j.reading.view → filter is_call_entry j.sight ++ again_of next ≡ entries → IsKeptTurn d (turn_after None left agains next j) entries
-kept_turn d left agains (Success taken) j entries sized h = kept_handed d (one_less left) (with_sight j (Took taken)) entries (sized, took_told j.sight entries taken h)
-kept_turn d left agains (Dropped taken) j entries sized h = kept_handed d (one_less left) (with_sight j (Took taken)) entries (sized, took_told j.sight entries taken h)
-kept_turn d left agains (Sync event) j entries sized h = kept_handed d (one_less left) (with_sight j (Made event)) entries (sized, made_told j.sight entries event h)
+kept_turn d left agains (Success taken) j entries sized h = kept_handed d (one_less left) (with_sight j (Took taken)) entries (sized, filter-append is_call_entry j.sight (Took taken ∷ []) ∙ h)
+kept_turn d left agains (Dropped taken) j entries sized h = kept_handed d (one_less left) (with_sight j (Took taken)) entries (sized, filter-append is_call_entry j.sight (Took taken ∷ []) ∙ h)
+kept_turn d left agains (Sync event) j entries sized h = kept_handed d (one_less left) (with_sight j (Made event)) entries (sized, filter-append is_call_entry j.sight (Made event ∷ []) ∙ h)
 kept_turn d left agains (Again at ends) j entries sized h = (sized, filter-append is_call_entry j.sight (AgainSight at ends ∷ []) ∙ h)
 kept_turn d left agains _ j entries sized h = (sized, silent j.sight entries h)
 

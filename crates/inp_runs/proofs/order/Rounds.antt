@@ -25,6 +25,7 @@ use Rattle.inp_script.specs.declared.run.Played.{Played}
 use Rattle.inp_script.specs.Ended.{played_of}
 use Rattle.inp_runs.specs.Play.{Stage, first_stage, after_talk, by_command, after_line, after_line_of, after_lines, runs_of, play}
 use Rattle.inp_runs.proofs.order.Calls.{exact-talk, talk_with-ends, talk_with-exact}
+use Rattle.inp_runs.proofs.LinesWalk.{on_job-ends}
 
 -- what ends one talk in a job ends the other in it
 abbrev Lasts : Talk (Option Job) → Talk (Option Job) → Type 0
@@ -87,14 +88,10 @@ lines-longer role d streams wait n more (line ∷ lines) old calls j h =
     let talk : Talk (Option Job) = line_talk role d streams wait n line.command old in
     let p = split-and_then talk next calls (Some j) h in
     subst (λ (cs : List Call). EndsWith (and_then (line_talk role d streams wait (n + more) line.command old) long) cs (Some j)) (sym p.calls_are)
-    (by p.between p.later (λ (mid : Job) is e.
+    (on_job-ends (lines_talk role d streams wait n lines) p.between p.later j p.later_ends (λ mid is e.
     ends-then (line_talk role d streams wait (n + more) line.command old) long (Some mid) (Some j) p.first p.later
     (line-longer role d streams wait n more line.command old p.first mid (subst (λ (o : Option Job). EndsWith talk p.first o) is p.first_ends))
-    (lines-longer role d streams wait n more lines mid p.later j e)) p.later_ends)
-  where
-    by : {R : Type 0} (o : Option Job) (second : List Call) → ((mid : Job) → o ≡ Some mid → EndsWith (lines_talk role d streams wait n lines mid) second (Some j) → R) → EndsWith (on_job (lines_talk role d streams wait n lines) o) second (Some j) → R
-    by None second longer e = let f = finished None (Some j) second e in absurd cc
-    by (Some mid) second longer e = longer mid refl e
+    (lines-longer role d streams wait n more lines mid p.later j e)))
 
 -- a line in so many rounds, and the lines behind it in so many
 pub lines-next : (role : Role) (d : Description) (streams : List (List Stamped)) (wait : Option Waiting) (n m : ℕ) (line : Line) (lines : List Line) (old mid new : Job) (calls more : List Call)

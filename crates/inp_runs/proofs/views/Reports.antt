@@ -2,7 +2,7 @@
 use Rattle.std.proofs.Common.{◌≡◌, ◌≤◌, ◌<◌, inl, inr, ℕ, zero, suc, ◌+◌, ◌-◌, nat_eq, nat_lt, Bool, true, false, not, if◌then◌else◌, ℤ, List, [], ◌∷◌, ◌++◌, length, map, take, drop, reverse, replicate, refl, sym, ap, subst, ◌∙◌, arith, append-nil, append_assoc, take-append-drop, Option, Some, None}
 use Rattle.std.specs.Prelude.{slice_get}
 use Rattle.std.specs.List.{All}
-use Rattle.std.proofs.lemmas.Bool.{true≢false, cond-false, cases_lt, lt-ltb, false_from_ne_true, cond_both}
+use Rattle.std.proofs.lemmas.Bool.{true≢false, cond-false, cases_lt, lt-ltb, false_from_ne_true, cond_both, cases_Bool}
 use Rattle.std.proofs.lemmas.List.{ext_get_or, length-replicate, length-take, nil_from_length, reverse-append, get_or-replicate}
 use Rattle.std.proofs.lemmas.List.Elements.{All-nil, All-head, All-tail, All-take}
 use Rattle.std.proofs.lemmas.List.FromFn.{length-map-range_with_len}
@@ -23,7 +23,7 @@ use Rattle.inp_model.specs.Reply.{Answer, IsAnswer, answer, answer_by, accepted,
 use Rattle.inp_model.specs.Run.{Call, IsLegalFrom, HasPlace, place_of, next_place}
 use Rattle.inp_recon.specs.declared.view.View.{View}
 use Rattle.inp_recon.specs.View.{IsSizedFor, key_count, code_count, with_flag, bits_in, flags_after_reply, keys_after_answer, switches_after_answer, leds_after_answer, first_view, view_after_event, view_after_events, view_after_answer}
-use Rattle.inp_recon.specs.ClientView.{ReadEntry, view_after_step, client_view, client_view_with, read_entries, read_entries_with, view_at}
+use Rattle.inp_recon.specs.ClientView.{ReadEntry, client_view, client_view_with, read_entries, read_entries_with, view_at}
 use Rattle.inp_recon.proofs.ReadEntries.{entry-before, entry-kept}
 use Rattle.inp_model.specs.Left.{eaten}
 use Rattle.inp_model.specs.History.{IsHistory}
@@ -205,17 +205,17 @@ no-others-answer d past v x cells s = record {
 no-others-client : (d : Description) (past : List Step) (client : ℕ) → IsHistory d past → HasNoOthers d (client_view d past client)
 unfolding client_view_with
 no-others-client d [] client h = no-others-first d
-no-others-client d (x ∷ past) client h = by (is_use_of client x) refl (no-others-client d past client h.0)
-  where
-    v : View
-    v = client_view d past client
-
-    by : (b : Bool) → is_use_of client x ≡ b → HasNoOthers d v → HasNoOthers d (view_after_step d past client x v)
-    by true used s =
-        let given : Answer = answer d past x in
-        subst (HasNoOthers d) (sym (used-view d past client x v h.1 used))
-        (no-others-answer d past (view_after_events v (taken_events given.events)) x given.cells (no-others-events d v given.events (events-of d past x given (inl refl)) s))
-    by false idle s = subst (HasNoOthers d) (sym (idle-step d past client x v idle)) s
+no-others-client d (x ∷ past) client h =
+    let v : View = client_view d past client in
+    let s : HasNoOthers d v = no-others-client d past client h.0 in
+    let given : Answer = answer d past x in
+    elim (cases_Bool (is_use_of client x)) [
+      | inl used ↦
+          subst (HasNoOthers d) (sym (used-view d past client x v h.1 used))
+          (no-others-answer d past (view_after_events v (taken_events given.events)) x given.cells
+          (no-others-events d v given.events (events-of d past x given (inl refl)) s))
+      | inr idle ↦ subst (HasNoOthers d) (sym (idle-step d past client x v idle)) s
+    ]
 
 -- the view at an event
 pub no-others-at : (d : Description) (past : List Step) (client i : ℕ) (at : ReadEntry) → IsHistory d past → slice_get (read_entries d past client) i ≡ Some at → HasNoOthers d (view_at d client at)
@@ -237,13 +237,10 @@ no-others-at d (x ∷ past) client i at h is = elim (cases_lt i (length (took d 
         let given : Answer = answer d past x in
         subst (λ (es : List Event). HasNoOthers d (view_after_events v es)) (sym (taken-events d past client n x h.1 used))
         (no-others-events d v (take n given.events) (All-take (λ (t : Taken). is_event_of d t.event ≡ true) n given.events (events-of d past x given (inl refl))) (no-others-client d past client h.0))
-    by false idle = subst (λ (es : List Entry). HasNoOthers d (view_after_events v (map event_of es))) (sym none) (nothing (no-others-client d past client h.0))
-      where
-        none : take n (taken_by d past client x) ≡ []
-        none = ap (λ (es : List Entry). take n es) (idle-taken d past client x idle) ∙ take-nil n
-
-        nothing : HasNoOthers d v → HasNoOthers d (view_after_events v [])
-        nothing s = no-others-events d v [] (All-nil (λ (t : Taken). is_event_of d t.event ≡ true)) s
+    by false idle =
+        subst (λ (es : List Entry). HasNoOthers d (view_after_events v (map event_of es)))
+        (sym (ap (λ (es : List Entry). take n es) (idle-taken d past client x idle) ∙ take-nil n))
+        (no-others-events d v [] (All-nil (λ (t : Taken). is_event_of d t.event ≡ true)) (no-others-client d past client h.0))
 
 -- ---- views that agree in what the device has
 
