@@ -4,8 +4,6 @@ use Rattle.std.specs.Prelude.{◌⊎◌, length}
 use Rattle.std.proofs.lemmas.Option.{same_Some}
 use Rattle.inp_model.specs.declared.stamped.Stamped.{Stamped}
 use Rattle.inp_model.specs.declared.step.Step.{Step}
-use Rattle.inp_model.specs.declared.reply.Reply.TheVariants.{Refused}
-use Rattle.inp_model.specs.declared.reply.Refusal.TheVariants.{LogFull}
 use Rattle.inp_model.specs.Description.{Description}
 use Rattle.inp_model.specs.Evdev.{EvdevView}
 use Rattle.inp_model.specs.Injection.{inject_of}
@@ -28,7 +26,9 @@ use Rattle.inp_script.specs.Line.{after_call, call_talk, stream_talk}
 use Rattle.inp_script.specs.Sight.{stop_after}
 use Rattle.inp_runs.specs.EventLines.{inject_line}
 use Rattle.inp_runs.specs.Job.{lines_talk, on_job, last_talk}
-use Rattle.inp_runs.proofs.MoreRounds.{lines-next}
+use Rattle.inp_runs.proofs.order.Rounds.{lines-next}
+use Rattle.std.proofs.lemmas.Bool.{cond_both}
+use Rattle.inp_model.specs.declared.reply.Reply.{Reply}
 
 -- How an injected event is answered: it is entered and its source goes on, or the history is full and its source stops.
 abbrev IsInjectAnswer : Answer → Type 0
@@ -38,11 +38,10 @@ IsInjectAnswer given =
 
 inject-answer : (d : Description) (past : List Step) (x : Stamped) (given : Answer) → IsAnswer d past (inject_of x) given → IsInjectAnswer given
 inject-answer d past x given (inr lacks) = let never = lacks.0 in absurd cc
-inject-answer d past x given (inl same) = subst IsInjectAnswer (sym same) (by (is_full d past))
-  where
-    by : (full : Bool) → IsInjectAnswer (answer_by (if full then Some (Refused (length past) LogFull) else None) (done_answer past))
-    by true = inr (refl, Full (length past), refl)
-    by false = inl (refl, refl)
+inject-answer d past x given (inl same) =
+    subst IsInjectAnswer (sym same)
+    (cond_both (is_full d past) _ _ (λ (o : Option Reply). IsInjectAnswer (answer_by o (done_answer past)))
+    (λ _. inr (refl, Full (length past), refl)) (λ _. inl (refl, refl)))
 
 module _ (d : Description) (streams : List (List Stamped)) (wait : Option Waiting) where
   module _ (number rounds : ℕ) (rest : List Line) where
@@ -63,13 +62,19 @@ module _ (d : Description) (streams : List (List Stamped)) (wait : Option Waitin
     lines-stopped [] j stop is = refl
     lines-stopped (x ∷ events) j stop is = first-line (Some stop) x events j is ∙ lines-stopped events j stop is
 
+    -- nor is there a call where nothing more is asked
+    none-more : (events : List Stamped) (j mid new : Job) (calls more : List Call) → lines_of events j ≡ lines_of [] j
+        → EndsWith (finish (Some j)) calls (Some mid) → EndsWith (lines_of [] mid) more (Some new) → EndsWith (lines_of events j) (calls ++ more) (Some new)
+    none-more events j mid new calls more nothing ends last =
+        let f = finished (Some j) (Some mid) calls ends in
+        subst (λ (t : Talk (Option Job)). EndsWith t (calls ++ more) (Some new)) (sym nothing)
+        (subst (λ (cs : List Call). EndsWith (lines_of [] j) (cs ++ more) (Some new)) (sym f.0)
+        (subst (λ (job : Job). EndsWith (lines_of [] job) more (Some new)) (sym (same_Some j mid f.1)) last))
+
     lines-going : (events : List Stamped) (before after : EvdevView) (j mid new : Job) (calls more : List Call) → j.stop ≡ None → EndsWith (stream_talk events j) calls (Some mid) → AreCalls before after calls
         → EndsWith (lines_of [] mid) more (Some new) → EndsWith (lines_of events j) (calls ++ more) (Some new)
     unfolding LeadsTo AreCalls stream_talk
-    lines-going [] before after j mid new calls more goes leads are last =
-        let f = finished (Some j) (Some mid) calls leads in
-        subst (λ (cs : List Call). EndsWith (lines_of [] j) (cs ++ more) (Some new)) (sym f.0)
-        (subst (λ (job : Job). EndsWith (lines_of [] job) more (Some new)) (sym (same_Some j mid f.1)) last)
+    lines-going [] before after j mid new calls more goes leads are last = none-more [] j mid new calls more refl leads last
     lines-going (x ∷ events) before after j mid new [] more goes leads are last = absurd cc
     lines-going (x ∷ events) before after j mid new (call ∷ calls) more goes (step, leads) (between, is_call, are) last =
         subst (λ (t : Talk (Option Job)). EndsWith t (call ∷ (calls ++ more)) (Some new)) (sym (first-line None x events j goes))
@@ -89,10 +94,8 @@ module _ (d : Description) (streams : List (List Stamped)) (wait : Option Waitin
         by (inl (accepted, goes_on)) later =
             later goes_on (subst (λ (b : Bool). EndsWith (if b then stream_talk events next else finish (Some next)) calls (Some mid)) accepted leads)
         by (inr (refused, stop, stops)) later =
-            let f = finished (Some next) (Some mid) calls (subst (λ (b : Bool). EndsWith (if b then stream_talk events next else finish (Some next)) calls (Some mid)) refused leads) in
-            subst (λ (t : Talk (Option Job)). EndsWith t (calls ++ more) (Some new)) (sym (lines-stopped events next stop stops))
-            (subst (λ (cs : List Call). EndsWith (lines_of [] next) (cs ++ more) (Some new)) (sym f.0)
-            (subst (λ (job : Job). EndsWith (lines_of [] job) more (Some new)) (sym (same_Some next mid f.1)) last))
+            none-more events next mid new calls more (lines-stopped events next stop stops)
+            (subst (λ (b : Bool). EndsWith (if b then stream_talk events next else finish (Some next)) calls (Some mid)) refused leads) last
 
     -- The calls by which a source injects events are those of the lines that each inject one of them.
     pub injects-called : (events : List Stamped) (before after : EvdevView) (j mid new : Job) (calls more : List Call) → EndsWith (inject_talk events j) calls (Some mid) → AreCalls before after calls
@@ -101,11 +104,7 @@ module _ (d : Description) (streams : List (List Stamped)) (wait : Option Waitin
       where
         by : (o : Option Stop) → j.stop ≡ o → EndsWith (unless_stopped o j (stream_talk events j)) calls (Some mid) → EndsWith (lines_of events j) (calls ++ more) (Some new)
         by None is e = lines-going events before after j mid new calls more is e are last
-        by (Some stop) is e =
-            let f = finished (Some j) (Some mid) calls e in
-            subst (λ (t : Talk (Option Job)). EndsWith t (calls ++ more) (Some new)) (sym (lines-stopped events j stop is))
-            (subst (λ (cs : List Call). EndsWith (lines_of [] j) (cs ++ more) (Some new)) (sym f.0)
-            (subst (λ (job : Job). EndsWith (lines_of [] job) more (Some new)) (sym (same_Some j mid f.1)) last))
+        by (Some stop) is e = none-more events j mid new calls more (lines-stopped events j stop is) e last
 
 -- Some lines, and those behind them
 

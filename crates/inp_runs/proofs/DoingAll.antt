@@ -28,10 +28,7 @@ use Rattle.inp_runs.proofs.JobEnds.{owner-role}
 use Rattle.inp_runs.proofs.Lists.{eq_same, option_map-some, slice_get-filter}
 
 pub no-owner : (role : Role) → is_owner role ≡ false → role ≡ Owner → ⊥
-no-owner role caller owner = opposite (sym caller ∙ ap is_owner owner)
-  where
-    opposite : false ≡ true → ⊥
-    opposite e = cc
+no-owner role caller owner = let e : false ≡ true = sym caller ∙ ap is_owner owner in cc
 
 module _ {S : Type 0} (told : S → EvdevView) (feeds : Feeding S) where
   -- What was done with a device
@@ -243,7 +240,4 @@ last-reader (Some waiting) Source j (inl h) = absurd cc
 last-reader (Some waiting) Source j (inr (inl h)) = absurd cc
 last-reader (Some waiting) Source j (inr (inr (inl h))) = absurd cc
 last-reader (Some waiting) Source j (inr (inr (inr h))) = absurd cc
-last-reader (Some waiting) Client j h = refl
-last-reader (Some waiting) Tap j h = refl
-last-reader (Some waiting) Joy j h = refl
-last-reader (Some waiting) Owner j h = refl
+last-reader (Some waiting) _ j h = refl

@@ -37,17 +37,14 @@ use Rattle.inp_runs.specs.JobViews.{AreReportsSeen}
 use Rattle.inp_runs.specs.Owner.{rooms_of, HasOwned, IsOwner}
 use Rattle.inp_runs.proofs.Entries.{entries, told-counts}
 use Rattle.inp_runs.proofs.views.Folded.{its_lines, view-folded}
-use Rattle.inp_runs.proofs.JobEnds.{IsEndOf, OwnersCountNothing, is_stick, is_feeding, is_other, joy-role, owner-role, jobs-kept, joys-kept, owners-kept, job-end_of, joy-end_of, owner-end_of, cells-of, split-sums, sum-ends, end-numbers}
-use Rattle.inp_runs.proofs.memory.JobSizes.{job-sized}
+use Rattle.inp_runs.proofs.JobEnds.{IsEndOf, OwnersCountNothing, is_stick, is_feeding, is_other, joy-role, owner-role, jobs-kept, joys-kept, owners-kept, job-end_of, joy-end_of, owner-end_of, split-sums, sum-ends, end-numbers}
 use Rattle.inp_runs.proofs.JobTold.{job-told}
 use Rattle.inp_runs.proofs.views.JobViews.{IsShown, job-shown}
-use Rattle.inp_runs.proofs.memory.LeftByTalks.{AreAnswered}
+use Rattle.inp_runs.proofs.memory.ReaderTalks.{AreAnswered}
 use Rattle.inp_runs.proofs.Lists.{IsAt, IsImage, filter-same, map-filter, option_map-some, slice_get-filter}
 use Rattle.inp_runs.proofs.owners.OwnerTalks.{owner-silent}
 use Rattle.inp_runs.proofs.memory.Memory.{answered-memory, gives_up-lines, talk-answered}
 use Rattle.inp_runs.proofs.owners.Owners.{AreCallsOf, Counts, HasOwners, calls-of, counts-place, has-one, history-of-jobs, short-history}
-
--- One actor
 
 -- the calls of one that did its lines were answered
 followed-answered : (r : RecordView) (d : Description) (wait : Option Waiting) (history : List Step) (text : ActorText) (a : ActorView) → IsRecord r → slice_get r.actors a.actor ≡ Some text → (f : HasFollowed r d wait history text.role a) → AreAnswered d f.calls
@@ -72,7 +69,7 @@ place-within d history least place (call ∷ calls) legal (inl same) =
     (omega (arith, same.1, here), omega (arith, same.1, below))
 place-within d history least place (call ∷ calls) legal (inr h) = place-within d history (next_place call.answer.reply) place calls legal.2 h
 
-is_job : (r : RecordView) (d : Description) (wait : Option Waiting) (history : List Step) (a : ActorView) (text : ActorText) → IsRecord r → slice_get r.actors a.actor ≡ Some text → HasFollowed r d wait history text.role a → IsShown d history text.role a.job.sight → IsJob r d wait history text.role (job_end a)
+is_job : (r : RecordView) (d : Description) (wait : Option Waiting) (history : List Step) (a : ActorView) (text : ActorText) → IsRecord r → slice_get r.actors a.actor ≡ Some text → HasFollowed r d wait history text.role a → IsShown d history text.role a.job → IsJob r d wait history text.role (job_end a)
 is_job r d wait history a text is_record is_text f shown = record {
   calls = f.calls;
   legal = f.legal;
@@ -182,11 +179,11 @@ owners-of idle r i d history actors is_record described s = record {
 }
 
 -- what the sight of an actor shows
-shown-of : (r : RecordView) (i : ℕ) (d : Description) (wait : Option Waiting) (history : List Step) (actors : List ActorView) (k : ℕ) (a : ActorView) → IsRecord r → HasOwners d history (map job_end actors) → slice_get actors k ≡ Some a → (its : IsActorOf r i d wait history a) → IsShown d history its.text.role a.job.sight
+shown-of : (r : RecordView) (i : ℕ) (d : Description) (wait : Option Waiting) (history : List Step) (actors : List ActorView) (k : ℕ) (a : ActorView) → IsRecord r → HasOwners d history (map job_end actors) → slice_get actors k ≡ Some a → (its : IsActorOf r i d wait history a) → IsShown d history its.text.role a.job
 shown-of r i d wait history actors k a is_record owners is its =
     let f : HasFollowed r d wait history its.text.role a = its.followed in
     job-shown r d history (map job_end actors) k (job_end a) its.text wait f.rounds a.job f.calls is_record owners (slice_get-map job_end actors k ∙ ap (λ (o : Option ActorView). option_map job_end o) is) its.is_text f.legal
-    (followed-told r d wait history its.text a is_record its.is_text f) f.follows refl
+    (followed-told r d wait history its.text a is_record its.is_text f) f.follows
 
 -- a job's role is that of the actor that it names
 same_text : (r : RecordView) (i : ℕ) (d : Description) (wait : Option Waiting) (history : List Step) (job : JobView) (text : ActorText) (a : ActorView) (its : IsActorOf r i d wait history a) → job_end a ≡ job → slice_get r.actors job.actor ≡ Some text → its.text ≡ text
@@ -229,13 +226,11 @@ is_run idle r i d history actors is_record described s =
       seen = λ k job text h is_text.
           let e : IsEndOf job_end is_other actors job = job-end_of actors k job h in
           let its : IsActorOf r i d wait history e.actor = actor_of idle r i d history actors e.index e.actor s e.is in
-          let shown : IsShown d history its.text.role e.actor.job.sight = shown-of r i d wait history actors e.index e.actor is_record owners e.is its in
+          let shown : IsShown d history its.text.role e.actor.job = shown-of r i d wait history actors e.index e.actor is_record owners e.is its in
           subst (λ (x : ActorText). AreReportsSeen d history x.role job.sight) (same_text r i d wait history job text e.actor its e.same is_text)
           (subst (λ (j : JobView). AreReportsSeen d history its.text.role j.sight) e.same shown.seen);
       once = λ place. split-sums place actors (owners-silent idle r i d history actors place s) ∙ sym (sum-ends place actors) ∙ once-each idle r i d history actors is_record s place;
     }
-
--- Their numbers
 
 -- a test of an actor's role keeps the same of the record's actors as of these
 kept-numbers : (idle : Option ℕ) (r : RecordView) (i : ℕ) (d : Description) (history : List Step) (actors : List ActorView) (test : Role → Bool) (of_text : Option ActorText → Bool) → IsDeviceDone idle r i d history actors → ((text : ActorText) → of_text (Some text) ≡ test text.role)
@@ -267,18 +262,18 @@ owner-numbers idle r i d history actors s =
     ∙ end-numbers owner_end (λ (owner : OwnerView). owner.actor) (λ a. refl) (filter is_feeding actors)
     ∙ kept-numbers idle r i d history actors is_owner is_owning s (λ text. refl)
 
-is_run_of : (idle : Option ℕ) (r : RecordView) (i : ℕ) (device : DeviceText) (history : List Step) (actors : List ActorView) → IsRecord r → IsDeviceDone idle r i device.caps history actors → IsRunOf r.actors i device (record { history = history; jobs = jobs_among (map ended_of actors) })
-is_run_of idle r i device history actors is_record s = record {
+is_run_of : (idle : Option ℕ) (r : RecordView) (i : ℕ) (device : DeviceText) (history : List Step) (actors : List ActorView) → IsRecord r → IsDescription device.caps → IsDeviceDone idle r i device.caps history actors → IsRunOf r.actors i device (record { history = history; jobs = jobs_among (map ended_of actors) })
+is_run_of idle r i device history actors is_record described s = record {
   jobs = job-numbers idle r i device.caps history actors s;
   views = λ k job h.
       let d : Description = device.caps in
       let wait : Option Waiting = wait_of idle r i in
       let e : IsEndOf job_end is_other actors job = job-end_of actors k job h in
       let its : IsActorOf r i d wait history e.actor = actor_of idle r i d history actors e.index e.actor s e.is in
-      let f : HasFollowed r d wait history its.text.role e.actor = its.followed in
-      let folded : IsFolded its.text.role d history e.actor.job = view-folded r d history wait f.rounds e.actor.actor its.text e.actor.job f.calls is_record its.is_text f.legal f.follows in
-      let other : not (is_joy its.text.role || is_owner its.text.role) ≡ true = ap (λ (role : Role). not (is_joy role || is_owner role)) (sym f.is_role) ∙ e.passes in
-      subst (λ (j : JobView). IsSizedFor d.slots j.view) e.same (job-sized its.text.role d history e.actor.job other folded (cells-of d e.actor e.passes f.cells));
+      let owners : HasOwners d history (map job_end actors) = owners-of idle r i d history actors is_record described s in
+      let shown : IsShown d history its.text.role e.actor.job = shown-of r i d wait history actors e.index e.actor is_record owners e.is its in
+      let other : not (is_joy its.text.role || is_owner its.text.role) ≡ true = ap (λ (role : Role). not (is_joy role || is_owner role)) (sym its.followed.is_role) ∙ e.passes in
+      subst (λ (j : JobView). IsSizedFor d.slots j.view) e.same (shown.sized other);
 }
 
 -- what came of an owner
@@ -294,7 +289,7 @@ is_owner_of idle r i d history actors k owner s h =
 pub device-promised : (idle : Option ℕ) (r : RecordView) (i : ℕ) (device : DeviceText) (history : List Step) (actors : List ActorView) → IsRecord r → IsDescription device.caps → IsDeviceDone idle r i device.caps history actors
     → IsRunAsPromised idle r i device (record { history = history; ends = map ended_of actors })
 device-promised idle r i device history actors is_record described s = record {
-  run_of = is_run_of idle r i device history actors is_record s;
+  run_of = is_run_of idle r i device history actors is_record described s;
   joys_of = joy-numbers idle r i device.caps history actors s;
   owners_are = owner-numbers idle r i device.caps history actors s;
   is_run = is_run idle r i device.caps history actors is_record described s;

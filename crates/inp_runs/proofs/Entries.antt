@@ -10,7 +10,7 @@ use Rattle.inp_model.specs.Evdev.{is_again}
 use Rattle.inp_model.specs.Reply.{is_accepted}
 use Rattle.inp_model.specs.Run.{Call, place_of}
 use Rattle.inp_script.specs.declared.sight.Sight.{Sight}
-use Rattle.inp_script.specs.declared.sight.Sight.TheVariants.{Call as Called, Took, Made, Again, Record}
+use Rattle.inp_script.specs.declared.sight.Sight.TheVariants.{Call as Called, Again}
 use Rattle.inp_script.specs.declared.waiting.Waiting.{Waiting}
 use Rattle.inp_script.specs.Legal.{sight_of_calls, is_call_entry, LeavesOut}
 use Rattle.inp_script.specs.Sight.{call_sight, again_sight}
@@ -41,13 +41,11 @@ entries-calls place (Called x reply ∷ sight) =
     entries-cons place (Called x reply) (filter is_call_entry sight)
     ∙ ap (λ (n : ℕ). (if is_entry_at place (Called x reply) then 1 else 0) + n) (entries-calls place sight)
     ∙ sym (entries-cons place (Called x reply) sight)
-entries-calls place (Took taken ∷ sight) = entries-calls place sight ∙ sym (zero-add (entries place sight)) ∙ sym (entries-cons place (Took taken) sight)
-entries-calls place (Made event ∷ sight) = entries-calls place sight ∙ sym (zero-add (entries place sight)) ∙ sym (entries-cons place (Made event) sight)
 entries-calls place (Again at ends ∷ sight) =
     entries-cons place (Again at ends) (filter is_call_entry sight)
     ∙ ap (λ (n : ℕ). 0 + n) (entries-calls place sight)
     ∙ sym (entries-cons place (Again at ends) sight)
-entries-calls place (Record bytes ∷ sight) = entries-calls place sight ∙ sym (zero-add (entries place sight)) ∙ sym (entries-cons place (Record bytes) sight)
+entries-calls place (entry ∷ sight) = entries-calls place sight ∙ sym (zero-add (entries place sight)) ∙ sym (entries-cons place entry sight)
 
 -- one call
 pub entries-call : (place : ℕ) (x : Step) (reply : Reply) → entries place (call_entries x reply) ≡ (if is_accepted reply && nat_eq (place_of reply) place then 1 else 0)

@@ -19,8 +19,6 @@ use Rattle.inp_runs.specs.Job.{lines_by}
 use Rattle.inp_runs.proofs.DoingAll.{own-line}
 use Rattle.inp_runs.proofs.Lists.{option_map-some}
 
--- A line of a record
-
 is-source : (role : Role) → is_source role ≡ true → role ≡ Source
 is-source Source h = refl
 is-source _ h = absurd cc

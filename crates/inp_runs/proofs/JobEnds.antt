@@ -1,14 +1,13 @@
 -- What came of a device's actors, apart: its jobs, its joysticks' jobs, and its owners.
-use Rattle.std.proofs.Common.{◌≡◌, ℕ, suc, ◌+◌, ◌*◌, Bool, true, not, ◌||◌, if◌then◌else◌, cond, List, [], ◌∷◌, length, map, refl, sym, ap, ◌∙◌, arith, Some}
+use Rattle.std.proofs.Common.{◌≡◌, ℕ, suc, ◌+◌, Bool, true, not, ◌||◌, if◌then◌else◌, cond, List, [], ◌∷◌, map, refl, sym, ap, ◌∙◌, arith, Some}
 use Rattle.std.specs.Prelude.{filter, slice_get}
 use Rattle.std.specs.List.{sum_by}
 use Rattle.std.proofs.lemmas.List.Sums.{sum_by-cons}
 use Rattle.std.proofs.lemmas.Option.{slice_get-map}
-use Rattle.inp_model.specs.Description.{Description}
 use Rattle.inp_actors.specs.declared.role.Role.{Role}
 use Rattle.inp_actors.specs.declared.role.Role.TheVariants.{Joy, Owner}
 use Rattle.inp_actors.specs.Command.{is_joy, is_owner}
-use Rattle.inp_script.specs.Ended.{HasDeviceSlots, ended_as, ended_of, jobs_among, joys_among, owners_among}
+use Rattle.inp_script.specs.Ended.{ended_as, ended_of, jobs_among, joys_among, owners_among}
 use Rattle.inp_script.specs.Job.{ActorView, JobView, JoyJobView, OwnerView, job_end, joy_end, owner_end}
 use Rattle.inp_runs.specs.Done.{calls_at}
 use Rattle.inp_runs.specs.Job.{entries_at, joy_entries_at}
@@ -84,15 +83,6 @@ joy-end_of actors k joy h = end-of joy_end is_stick actors k joy (ap (λ (joys :
 
 pub owner-end_of : (actors : List ActorView) (k : ℕ) (owner : OwnerView) → slice_get (owners_among (map ended_of actors)) k ≡ Some owner → IsEndOf owner_end is_feeding actors owner
 owner-end_of actors k owner h = end-of owner_end is_feeding actors k owner (ap (λ (owners : List OwnerView). slice_get owners k) (sym (owners-kept actors)) ∙ h)
-
--- a view comes of an actor that is neither a joystick nor an owner, and has the device's slots
-pub cells-of : (d : Description) (a : ActorView) → is_other a ≡ true → HasDeviceSlots d (ended_of a) → length a.job.reading.view.cells ≡ 14 * d.slots
-cells-of d a other cells = by a.role other cells
-  where
-    by : (role : Role) → not (is_joy role || is_owner role) ≡ true → HasDeviceSlots d (ended_as role a) → length a.job.reading.view.cells ≡ 14 * d.slots
-    by Joy h c = absurd cc
-    by Owner h c = absurd cc
-    by _ h c = c
 
 -- of these actors no owner counts
 abbrev pub OwnersCountNothing : (ActorView → ℕ) → List ActorView → Type 0

@@ -6,7 +6,6 @@ use Rattle.inp_model.specs.Description.{Description}
 use Rattle.inp_model.specs.Run.{Call}
 use Rattle.inp_actors.specs.declared.line.Line.{Line}
 use Rattle.inp_actors.specs.declared.role.Role.{Role}
-use Rattle.inp_actors.specs.declared.role.Role.TheVariants.{Source, Client, Tap, Joy, Owner}
 use Rattle.inp_recon.proofs.Sizes.{IsSizedFor-first_view}
 use Rattle.inp_reader.specs.Talk.{Talk, EndsWith}
 use Rattle.inp_script.specs.declared.sight.Sight.{Sight}
@@ -14,41 +13,41 @@ use Rattle.inp_script.specs.declared.waiting.Waiting.{Waiting}
 use Rattle.inp_script.specs.DoneLine.{line_talk}
 use Rattle.inp_script.specs.Job.{Job, first_job}
 use Rattle.inp_script.specs.Legal.{is_call_entry}
-use Rattle.inp_reader.proofs.Calls.{finished, split-and_then}
-use Rattle.inp_script.proofs.LineTold.{line-told, end-told}
-use Rattle.inp_script.proofs.Told.{Tells, tells-then, same-told}
-use Rattle.inp_runs.specs.Job.{on_job, last_talk, lines_talk, AreTold}
-use Rattle.inp_runs.proofs.memory.LeftByTalks.{AreAnswered, leaves-ends}
+use Rattle.inp_script.proofs.LineTold.{line-told}
+use Rattle.inp_script.proofs.Told.{Tells, tells-then, tells-call, tells-none}
+use Rattle.inp_runs.specs.Job.{lines_talk, AreTold}
+use Rattle.inp_runs.proofs.memory.ReaderTalks.{AreAnswered, leaves-ends}
 use Rattle.inp_runs.proofs.memory.LineTalks.{IsKept, IsKeptIfSome, leaves-lines}
+use Rattle.inp_reader.proofs.Meets.{Any, Listed, Meets, listed-run, run-listed, meets-ends}
+use Rattle.inp_script.proofs.LineWalk.{OfJob, job-ends-meet}
+use Rattle.inp_runs.proofs.LinesWalk.{any-lines, last-keeps, lines-keep}
+use Rattle.inp_model.specs.declared.step.Step.TheVariants.{End}
+use Rattle.inp_script.specs.Line.{after_call}
+use Rattle.inp_model.specs.Reply.{Answer}
 
--- Where lines wait
+-- these calls made the sight of the job
+abbrev ToldBy : List Call → Job → Type 0
+ToldBy calls j = Tells calls [] j.sight
 
-last-told : (wait : Option Waiting) (role : Role) (j k : Job) (calls : List Call) → EndsWith (last_talk wait role j) calls (Some k) → Tells calls j.sight k.sight
-last-told None role j k calls h = same-told j k calls h
-last-told (Some waiting) Source j k calls h = end-told j.stop j k calls h
-last-told (Some waiting) Client j k calls h = same-told j k calls h
-last-told (Some waiting) Tap j k calls h = same-told j k calls h
-last-told (Some waiting) Joy j k calls h = same-told j k calls h
-last-told (Some waiting) Owner j k calls h = same-told j k calls h
+-- what a talk adds to it
+tells-more : (s : List Call) (j : Job) (talk : Talk (Option Job)) → ToldBy s j → ((calls : List Call) (k : Job) → EndsWith talk calls (Some k) → Tells calls j.sight k.sight)
+    → Meets Any Listed (OfJob ToldBy) s talk
+tells-more s j talk told more =
+    job-ends-meet Listed ToldBy s talk (λ t calls k run ends.
+    subst (λ (cs : List Call). ToldBy cs k) (sym (run-listed s t calls run)) (tells-then s calls [] j.sight k.sight told (more calls k ends)))
 
-lines-told : (role : Role) (d : Description) (streams : List (List Stamped)) (wait : Option Waiting) (n : ℕ) (lines : List Line) (j k : Job) (calls : List Call) → EndsWith (lines_talk role d streams wait n lines j) calls (Some k) → Tells calls j.sight k.sight
-unfolding lines_talk
-lines-told role d streams wait n [] j k calls h = last-told wait role j k calls h
-lines-told role d streams wait n (line ∷ lines) j k calls h =
-    let talk : Talk (Option Job) = line_talk role d streams wait n line.command j in
-    let p = split-and_then talk (on_job (lines_talk role d streams wait n lines)) calls (Some k) h in
-    subst (λ (cs : List Call). Tells cs j.sight k.sight) (sym p.calls_are)
-    (by p.between p.later
-    (λ (mid : Job) is e. tells-then p.first p.later j.sight mid.sight k.sight
-    (line-told role d streams wait n line.command j mid p.first (subst (λ (o : Option Job). EndsWith talk p.first o) is p.first_ends))
-    (lines-told role d streams wait n lines mid k p.later e))
-    p.later_ends)
+lines-told : (role : Role) (d : Description) (streams : List (List Stamped)) (wait : Option Waiting) (n : ℕ) (lines : List Line) (j k : Job) (calls : List Call) → j.sight ≡ [] → EndsWith (lines_talk role d streams wait n lines j) calls (Some k) → ToldBy calls k
+lines-told role d streams wait n lines j k calls none h =
+    meets-ends Any Listed (OfJob ToldBy) [] calls (lines_talk role d streams wait n lines j) calls (Some k)
+    (lines-keep Listed ToldBy (λ command. Unit {0}) role d streams wait n
+    (λ command any s i told. tells-more s i (line_talk role d streams wait n command i) told (λ cs l. line-told role d streams wait n command i l cs))
+    (λ s i told. last-keeps Listed ToldBy wait role s i (λ e t a by. called s t i a by told) told)
+    lines (any-lines lines) [] j (subst (Tells [] []) (sym none) (tells-none []))) (listed-run [] calls) h
   where
-    by : {R : Type 0} (o : Option Job) (second : List Call) → ((mid : Job) → o ≡ Some mid → EndsWith (lines_talk role d streams wait n lines mid) second (Some k) → R) → EndsWith (on_job (lines_talk role d streams wait n lines) o) second (Some k) → R
-    by None second more e = let f = finished None (Some k) second e in absurd cc
-    by (Some mid) second more e = more mid refl e
-
--- Whether they wait or not
+    called : (s t : List Call) (i : Job) (a : Answer) → Listed s End a t → ToldBy s i → ToldBy t (after_call i End a)
+    called s t i a by told =
+        subst (λ (cs : List Call). ToldBy cs (after_call i End a)) (sym by)
+        (tells-then s (record { step = End; answer = a } ∷ []) [] i.sight (after_call i End a).sight told (tells-call End (record { step = End; answer = a }) i.sight refl))
 
 pub job-told : (role : Role) (d : Description) (streams : List (List Stamped)) (wait : Option Waiting) (n : ℕ) (lines : List Line) (k : Job) (calls : List Call) → AreAnswered d calls → EndsWith (lines_talk role d streams wait n lines (first_job role d)) calls (Some k) → AreTold wait calls k.sight
 job-told role d streams None n lines k calls answered h =
@@ -57,5 +56,5 @@ job-told role d streams None n lines k calls answered h =
     (leaves-lines role d streams n lines (first_job role d) [] (IsSizedFor-first_view d, refl)) in
     sym kept.1
 job-told role d streams (Some waiting) n lines k calls answered h =
-    let t : Tells calls [] k.sight = lines-told role d streams (Some waiting) n lines (first_job role d) k calls h in
+    let t : Tells calls [] k.sight = lines-told role d streams (Some waiting) n lines (first_job role d) k calls refl h in
     record { kept = t.kept; part = t.part; entries = t.entries ∙ ap (λ (es : List Sight). filter is_call_entry es) (sym t.sight) }

@@ -1,5 +1,5 @@
 pub mod Lists
-pub mod LineRuns
+pub mod LinesWalk
 pub mod Entries
 pub mod views
 pub mod memory
@@ -8,7 +8,6 @@ pub mod JobTold
 pub mod JobEnds
 pub mod Done
 pub mod Played
-pub mod MoreRounds
 pub mod EventLines
 pub mod CalledLines
 pub mod DoingAll

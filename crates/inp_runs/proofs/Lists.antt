@@ -1,11 +1,11 @@
 -- Lists by their elements: one that is replaced, those that a test keeps, and sums over them.
-use Rattle.std.proofs.Common.{◌≡◌, ℕ, zero, suc, ◌+◌, Bool, true, false, if◌then◌else◌, cond, nat_eq, List, [], ◌∷◌, map, refl, sym, ap, ◌∙◌, arith, zero-add, ◌⊎◌, inl, inr, Option, Some, None}
+use Rattle.std.proofs.Common.{◌≡◌, ℕ, zero, suc, ◌+◌, Bool, true, false, if◌then◌else◌, cond, nat_eq, List, [], ◌∷◌, map, refl, sym, ap, ◌∙◌, arith, zero-add, ◌⊎◌, inl, inr, Option, Some, None, ◌<◌, length}
 use Rattle.std.specs.Prelude.{filter, slice_get, slice_set, option_map}
 use Rattle.std.specs.List.{enumerate_from, range_with_len, sum_by}
 use Rattle.std.proofs.lemmas.Bool.Decides.{nat_tests}
 use Rattle.std.proofs.lemmas.List.Sums.{sum_by-cons, sum_by-set}
 use Rattle.std.proofs.lemmas.Option.{get_or_from_slice_get, slice_get_within, same_Some}
-use Rattle.std.proofs.lemmas.Bool.{eqb-true, eqb-false}
+use Rattle.std.proofs.lemmas.Bool.{eqb-true, cases_eq, false_from_ne_true}
 
 pub eq_same : (m n : ℕ) → nat_eq m n ≡ true → m ≡ n
 eq_same m n h = eqb-true m n h
@@ -14,8 +14,7 @@ pub eq_true : (m n : ℕ) → m ≡ n → nat_eq m n ≡ true
 eq_true m n e = grind (arith, nat_tests, e)
 
 pub eq_false : (m n : ℕ) → (m ≡ n → ⊥) → nat_eq m n ≡ false
-eq_false m n other =
-    (elim (nat_eq m n) as (λ b. nat_eq m n ≡ b → nat_eq m n ≡ false) [ true ↦ λ e. absurd (other (eqb-true m n e)) | false ↦ λ e. e ]) refl
+eq_false m n other = false_from_ne_true (nat_eq m n) (λ e. other (eqb-true m n e))
 
 -- One element
 
@@ -33,13 +32,10 @@ slice_get-set_other (z ∷ xs) (suc i) (suc k) y other = slice_get-set_other xs 
 
 -- an element behind it: the new one at its place, and else the old one
 pub slice_get-set : {X : Type 0} (xs : List X) (i k : ℕ) (x y z : X) → slice_get xs i ≡ Some x → slice_get (slice_set xs i y) k ≡ Some z → ((k ≡ i) × (z ≡ y)) ⊎ ((k ≡ i → ⊥) × (slice_get xs k ≡ Some z))
-slice_get-set xs i k x y z h e = by_flag (nat_eq k i) refl
-  where
-    by_flag : (b : Bool) → nat_eq k i ≡ b → ((k ≡ i) × (z ≡ y)) ⊎ ((k ≡ i → ⊥) × (slice_get xs k ≡ Some z))
-    by_flag true t =
-        let same : k ≡ i = eqb-true k i t in
-        inl (same, same_Some z y (sym e ∙ ap (λ (j : ℕ). slice_get (slice_set xs i y) j) same ∙ slice_get-set_same xs i x y h))
-    by_flag false f = inr (eqb-false k i f, sym (slice_get-set_other xs i k y (eqb-false k i f)) ∙ e)
+slice_get-set xs i k x y z h e = elim (cases_eq k i) [
+  | inl same ↦ inl (same, same_Some z y (sym e ∙ ap (λ (j : ℕ). slice_get (slice_set xs i y) j) same ∙ slice_get-set_same xs i x y h))
+  | inr other ↦ inr (other, sym (slice_get-set_other xs i k y other) ∙ e)
+]
 
 pub map-set_same : {X Y : Type 0} (f : X → Y) (xs : List X) (i : ℕ) (x y : X) → slice_get xs i ≡ Some x → f y ≡ f x → map f (slice_set xs i y) ≡ map f xs
 map-set_same f [] i x y h e = refl
@@ -55,6 +51,11 @@ pub slice_get-numbered : {X : Type 0} (first : ℕ) (xs : List X) (i : ℕ) → 
 slice_get-numbered first [] i = refl
 slice_get-numbered first (x ∷ xs) zero = let same : first ≡ first + 0 = omega arith in ap (λ (n : ℕ). Some (n, x)) same
 slice_get-numbered {X = X} first (y ∷ xs) (suc i) = let same : (first + 1) + i ≡ first + suc i = omega arith in slice_get-numbered (first + 1) xs i ∙ ap (λ (n : ℕ). option_map (λ (x : X). (n, x)) (slice_get xs i)) same
+
+pub there-is : {X : Type 0} (xs : List X) (i : ℕ) → i < length xs → (x : X) × (slice_get xs i ≡ Some x)
+there-is [] i h = absurd (omega (arith, h))
+there-is (x ∷ xs) zero h = (x, refl)
+there-is (x ∷ xs) (suc i) h = there-is xs i (omega (arith, h))
 
 -- an element of a map
 pub record IsImage {X Y : Type 0} (f : X → Y) (o : Option X) (y : Y) : Type 0 where
@@ -109,8 +110,6 @@ pub filter-same : {X : Type 0} (p q : X → Bool) (xs : List X) → ((k : ℕ) (
 filter-same p q [] h = refl
 filter-same p q (x ∷ xs) h =
     ap (λ (b : Bool). cond b (x ∷ filter p xs) (filter p xs)) (h 0 x refl) ∙ ap (λ ys. cond (q x) (x ∷ ys) ys) (filter-same p q xs (λ k y e. h (suc k) y e))
-
--- Sums
 
 pub sum_by-kept : {X Y : Type 0} (f : Y → ℕ) (g : X → Y) (p : X → Bool) (xs : List X) → sum_by f (map g (filter p xs)) ≡ sum_by (λ x. if p x then f (g x) else 0) xs
 sum_by-kept f g p [] = refl

@@ -4,7 +4,7 @@ use Rattle.std.specs.Prelude.{filter, flat_map, slice_get, option_map}
 use Rattle.std.specs.List.{range_with_len}
 use Rattle.std.proofs.lemmas.List.{length-map, map-append}
 use Rattle.std.proofs.lemmas.List.Elements.{filter-append}
-use Rattle.std.proofs.lemmas.Option.{same_Some, slice_get-map}
+use Rattle.std.proofs.lemmas.Option.{same_Some, slice_get-map, slice_get_within}
 use Rattle.inp_actors.specs.declared.actor_text.ActorText.{ActorText}
 use Rattle.inp_actors.specs.declared.device_text.DeviceText.{DeviceText}
 use Rattle.inp_actors.specs.Record.{RecordView}
@@ -12,11 +12,11 @@ use Rattle.inp_script.specs.declared.run.DeviceEnds.{DeviceEnds}
 use Rattle.inp_script.specs.declared.run.Run.{Run}
 use Rattle.inp_script.specs.Ended.{ended_run, joys_among, owners_among, played_of}
 use Rattle.inp_script.specs.Job.{JoyJobView, OwnerView}
-use Rattle.inp_script.specs.Runs.{is_on_device, is_joystick, is_owning, actors_of, joysticks_of, joy_actors, owners_of, owner_actors, IsRunOf}
+use Rattle.inp_script.specs.Runs.{is_on_device, is_joystick, is_owning, actors_of, joysticks_of, joy_actors, owners_of, IsRunOf}
 use Rattle.inp_runs.specs.Done.{IsRunAsPromised}
 use Rattle.inp_runs.specs.Job.{lines_by, IsRun, ArePromised, joys_on, wait_of}
 use Rattle.inp_runs.specs.Owner.{rooms_of, IsOwner}
-use Rattle.inp_runs.proofs.Lists.{IsAt, IsImage, eq_false, filter-all, filter-none, option_map-some, slice_get-filter}
+use Rattle.inp_runs.proofs.Lists.{IsAt, IsImage, eq_false, filter-all, filter-none, option_map-some, slice_get-filter, there-is}
 use Rattle.std.proofs.lemmas.Bool.{eqb-true}
 
 -- Parts of what came of each device, whose numbers are these of a device's number
@@ -83,33 +83,26 @@ numbered-behind actors first device done h = parts-behind (joysticks_of actors) 
 numbered-first : (actors : List ActorText) (first : ℕ) (device : DeviceEnds) (done : List DeviceEnds) → AreNumbered actors first (device ∷ done) → joy_actors (its_joys device) ≡ joysticks_of actors first
 numbered-first actors first device done h = parts-first (joysticks_of actors) (λ (joys : List JoyJobView). joy_actors joys) its_joys first device done h
 
-joys-in_order : (actors : List ActorText) (first : ℕ) (done : List DeviceEnds) → AreNumbered actors first done → joy_actors (all_joys done) ≡ flat_map (joysticks_of actors) (range_with_len first (length done))
-joys-in_order actors first done h = parts-in_order (joysticks_of actors) (λ (joy : JoyJobView). joy.actor) its_joys first done h
-
 -- The joysticks of one device among all
 
 abbrev is_joy_on : List ActorText → ℕ → JoyJobView → Bool
 is_joy_on actors number joy = is_on_device number (slice_get actors joy.actor)
 
--- one of a device's joysticks is on it
-on-device : (actors : List ActorText) (number : ℕ) (joys : List JoyJobView) (k : ℕ) (joy : JoyJobView) → joy_actors joys ≡ joysticks_of actors number → slice_get joys k ≡ Some joy → is_joy_on actors number joy ≡ true
-on-device actors number joys k joy same is =
-    let on : ℕ → Bool = λ (n : ℕ). is_on_device number (slice_get actors n) in
-    let there : slice_get (joysticks_of actors number) k ≡ Some joy.actor =
-    ap (λ (ns : List ℕ). slice_get ns k) (sym same) ∙ slice_get-map (λ (j : JoyJobView). j.actor) joys k ∙ ap (λ (o : Option JoyJobView). option_map (λ (j : JoyJobView). j.actor) o) is in
-    let stick : IsAt (λ n. is_joystick (slice_get actors n)) (actors_of actors number) joy.actor = slice_get-filter (λ n. is_joystick (slice_get actors n)) (actors_of actors number) k joy.actor there in
-    let at : IsAt on (range_with_len 0 (length actors)) joy.actor = slice_get-filter on (range_with_len 0 (length actors)) stick.index joy.actor stick.is in
+-- one whose number is among those of a device's actors that a test keeps is on it
+is-on : {X : Type 0} (number : X → ℕ) (test : Option ActorText → Bool) (actors : List ActorText) (device : ℕ) (xs : List X) (k : ℕ) (x : X)
+    → map number xs ≡ filter (λ n. test (slice_get actors n)) (actors_of actors device) → slice_get xs k ≡ Some x
+    → is_on_device device (slice_get actors (number x)) ≡ true
+is-on {X} number test actors device xs k x same is =
+    let on : ℕ → Bool = λ (n : ℕ). is_on_device device (slice_get actors n) in
+    let its : ℕ → Bool = λ (n : ℕ). test (slice_get actors n) in
+    let there : slice_get (filter its (actors_of actors device)) k ≡ Some (number x) =
+    ap (λ (ns : List ℕ). slice_get ns k) (sym same) ∙ slice_get-map number xs k ∙ ap (λ (o : Option X). option_map number o) is in
+    let kept : IsAt its (actors_of actors device) (number x) = slice_get-filter its (actors_of actors device) k (number x) there in
+    let at : IsAt on (range_with_len 0 (length actors)) (number x) = slice_get-filter on (range_with_len 0 (length actors)) kept.index (number x) kept.is in
     at.passes
 
--- one of a device's owners is on it
-owner-on_device : (actors : List ActorText) (number : ℕ) (owners : List OwnerView) (k : ℕ) (owner : OwnerView) → owner_actors owners ≡ owners_of actors number → slice_get owners k ≡ Some owner → is_on_device number (slice_get actors owner.actor) ≡ true
-owner-on_device actors number owners k owner same is =
-    let on : ℕ → Bool = λ (n : ℕ). is_on_device number (slice_get actors n) in
-    let there : slice_get (owners_of actors number) k ≡ Some owner.actor =
-    ap (λ (ns : List ℕ). slice_get ns k) (sym same) ∙ slice_get-map (λ (o : OwnerView). o.actor) owners k ∙ ap (λ (o : Option OwnerView). option_map (λ (x : OwnerView). x.actor) o) is in
-    let owns : IsAt (λ n. is_owning (slice_get actors n)) (actors_of actors number) owner.actor = slice_get-filter (λ n. is_owning (slice_get actors n)) (actors_of actors number) k owner.actor there in
-    let at : IsAt on (range_with_len 0 (length actors)) owner.actor = slice_get-filter on (range_with_len 0 (length actors)) owns.index owner.actor owns.is in
-    at.passes
+on-device : (actors : List ActorText) (number : ℕ) (joys : List JoyJobView) (k : ℕ) (joy : JoyJobView) → joy_actors joys ≡ joysticks_of actors number → slice_get joys k ≡ Some joy → is_joy_on actors number joy ≡ true
+on-device actors number joys k joy same is = is-on (λ (j : JoyJobView). j.actor) is_joystick actors number joys k joy same is
 
 -- and on no other one
 on-one : (o : Option ActorText) (one other : ℕ) → (one ≡ other → ⊥) → is_on_device one o ≡ true → is_on_device other o ≡ false
@@ -156,15 +149,11 @@ AllRunsPromised idle r done =
 
 -- each device has its text
 text-at : {X Y : Type 0} (xs : List X) (ys : List Y) (i : ℕ) (x : X) → length xs ≡ length ys → slice_get xs i ≡ Some x → (y : Y) × (slice_get ys i ≡ Some y)
-text-at [] ys i x long h = absurd cc
-text-at (z ∷ xs) [] i x long h = absurd cc
-text-at (z ∷ xs) (y ∷ ys) zero x long h = (y, refl)
-text-at (z ∷ xs) (y ∷ ys) (suc i) x long h = text-at xs ys i x (omega (arith, long)) h
+text-at xs ys i x long h = there-is ys i (omega (arith, long, slice_get_within xs i x h))
 
 -- an actor's device is the one that it is on
-its-device : (number : ℕ) (o : Option ActorText) (text : ActorText) → o ≡ Some text → is_on_device number o ≡ true → text.device ≡ number
-its-device number None text h on = absurd cc
-its-device number (Some other) text h on = let same : other ≡ text = cc in ap (λ (x : ActorText). x.device) (sym same) ∙ eqb-true other.device number on
+pub on_this : (device : ℕ) (o : Option ActorText) (text : ActorText) → is_on_device device o ≡ true → o ≡ Some text → text.device ≡ device
+on_this device o text h is = eqb-true text.device device (sym (ap (λ (x : Option ActorText). is_on_device device x) is) ∙ h)
 
 -- what came of an owner of the record
 is_owner_of : (idle : Option ℕ) (r : RecordView) (done : List DeviceEnds) (k : ℕ) (owner : OwnerView) (text : ActorText) (device : DeviceText) (run : Run) → length done ≡ length r.devices → AllRunsPromised idle r done → slice_get (flat_map its_owners done) k ≡ Some owner
@@ -173,7 +162,7 @@ is_owner_of idle r done k owner text device run long each is is_text is_device i
     let p : IsPartOf its_owners done owner = part-of its_owners done k owner is in
     let named = text-at done r.devices p.index p.of long p.is in
     let promised : IsRunAsPromised idle r p.index named.0 p.of = each p.index named.0 p.of named.1 p.is in
-    let here : text.device ≡ p.index = its-device p.index (slice_get r.actors owner.actor) text is_text (owner-on_device r.actors p.index (its_owners p.of) p.place owner promised.owners_are p.there) in
+    let here : text.device ≡ p.index = on_this p.index (slice_get r.actors owner.actor) text (is-on (λ (o : OwnerView). o.actor) is_owning r.actors p.index (its_owners p.of) p.place owner promised.owners_are p.there) is_text in
     let same_device : named.0 ≡ device = same_Some named.0 device (sym named.1 ∙ ap (λ (n : ℕ). slice_get r.devices n) (sym here) ∙ is_device) in
     let same_run : its_run p.of ≡ run = same_Some (its_run p.of) run (sym (slice_get-map its_run done p.index ∙ ap (λ (o : Option DeviceEnds). option_map its_run o) p.is) ∙ ap (λ (n : ℕ). slice_get (map its_run done) n) (sym here) ∙ is_run) in
     subst (λ (x : DeviceText). IsOwner x.caps run.history (rooms_of (lines_by owner.actor r.lines)) owner) same_device
@@ -188,7 +177,7 @@ all-promised idle r done long each = record {
         let p : IsRunAsPromised idle r i text image.from = each i text image.from is_text image.is in
         subst (IsRunOf r.actors i text) image.same p.run_of;
   };
-  joys_of = joys-in_order r.actors 0 done numbered ∙ ap (λ (n : ℕ). flat_map (joysticks_of r.actors) (range_with_len 0 n)) long;
+  joys_of = parts-in_order (joysticks_of r.actors) (λ (joy : JoyJobView). joy.actor) its_joys 0 done numbered ∙ ap (λ (n : ℕ). flat_map (joysticks_of r.actors) (range_with_len 0 n)) long;
   owners_of = parts-in_order (owners_of r.actors) (λ (owner : OwnerView). owner.actor) its_owners 0 done owned ∙ ap (λ (n : ℕ). flat_map (owners_of r.actors) (range_with_len 0 n)) long;
   each = λ i text run is_text is_run.
       let image : IsImage its_run (slice_get done i) run = image-of i run is_run in

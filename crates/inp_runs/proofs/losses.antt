@@ -1,3 +1,2 @@
 -- Each loss has its cause.
-pub mod LossFreeFrames
 pub mod Causes

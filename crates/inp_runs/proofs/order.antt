@@ -1,7 +1,5 @@
 -- What comes of lines in file order is promised.
-pub mod OwnerTold
 pub mod Calls
-pub mod Places
 pub mod LineDone
 pub mod Stages
 pub mod OwnedStages

@@ -2,4 +2,3 @@
 pub mod Owners
 pub mod OwnerTalks
 pub mod OwnerLaws
-pub mod OwnUses

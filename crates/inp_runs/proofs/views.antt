@@ -6,6 +6,4 @@ pub mod ClientReports
 pub mod JobViews
 pub mod Reports
 pub mod AtHand
-pub mod QueueSources
-pub mod LastReads
 pub mod Folded

@@ -1,23 +1,104 @@
--- Each loss in a queue has its cause.
-use Rattle.std.proofs.lemmas.Bool.{true≢false, cond_both, eqb-true}
-use Rattle.std.proofs.Common.{◌≡◌, ◌≤◌, ◌<◌, ◌⊎◌, ℕ, zero, suc, ◌*◌, Bool, true, false, ◌&&◌, ◌||◌, if◌then◌else◌, nat_eq, nat_lt, nat_le, min, List, [], ◌∷◌, ◌++◌, length, drop, refl, sym, ap, subst, ◌∙◌, inl, inr, Option, Some, None, arith, append_assoc, length-append}
+-- Each loss in a queue has its cause, since none comes in a frame.
+use Rattle.std.proofs.Common.{◌≡◌, ◌⊎◌, ℕ, ℤ, Bool, true, false, if◌then◌else◌, List, [], ◌∷◌, ◌++◌, length, map, filter, nat_le, refl, sym, subst, inl, inr, Option, Some, None, option_to_list, option_map, ◌≤◌, ◌<◌, zero, suc, ◌*◌, ◌&&◌, ◌||◌, nat_eq, nat_lt, min, ap, ◌∙◌, arith, append_assoc, length-append, length-drop}
+use Rattle.std.proofs.lemmas.Bool.{cond_both, true≢false, eqb-true}
+use Rattle.inp_model.specs.declared.event.Event.{Event}
+use Rattle.inp_model.specs.declared.step.Step.{Step}
+use Rattle.inp_model.specs.RawItem.{RawItem, Occurred, Described, Cut}
+use Rattle.inp_model.specs.Description.{Description, doubled, ring}
+use Rattle.inp_model.specs.Event.{is_report, slot_event}
+use Rattle.inp_model.specs.State.{staged}
+use Rattle.inp_model.specs.Passed.{passes_as, announces, announcement, passed, passed_for}
+use Rattle.inp_model.specs.Past.{admits, is_call_of, is_opening, clock_of}
+use Rattle.inp_model.specs.Cut.{pending, cut_for, cuts}
+use Rattle.inp_model.specs.Frame.{frame_of, frames_of_step}
+use Rattle.inp_model.specs.Left.{eaten, left}
+use Rattle.inp_model.specs.Queue.{Entry, event_of, entry, entries_of, entries, is_offered, entry_dropped_at, is_empty, ends_in_report, put, put_all, visible, flush_for, is_same_clock, clock_entry, clock_changed, left_by_call, queue, queue_with, taken_by, took, took_with}
+use Rattle.inp_recon.specs.Synchronised.{is_dropped}
+use Rattle.inp_recon.proofs.Each.{Each, Each-append, Each-weaker, Each-take, Each-drop}
+use Rattle.inp_recon.proofs.EventKinds.{of_reports, of_losses}
+use Rattle.inp_recon.proofs.FrameEntries.{Each-left_from}
+use Rattle.inp_recon.proofs.Cuts.{NoCut, OneCut, cut_cases}
 use Rattle.std.specs.List.{slice_get}
 use Rattle.std.proofs.lemmas.Bool.Decides.{nat_tests}
 use Rattle.inp_model.specs.declared.clock.Clock.{Clock}
-use Rattle.inp_model.specs.declared.step.Step.{Step}
 use Rattle.inp_model.specs.declared.step.Step.TheVariants.{Open, Read, Discard, Clock as ToClock}
-use Rattle.inp_model.specs.Description.{Description, doubled, ring}
-use Rattle.inp_model.specs.Event.{is_report}
 use Rattle.inp_model.specs.Step.{Query, client_of, is_same, query_of, is_part_of}
-use Rattle.inp_model.specs.Past.{is_call_of, is_opening, clock_of}
 use Rattle.inp_model.specs.Raw.{raw, raw_of_step}
-use Rattle.inp_model.specs.Frame.{frames_of_step}
-use Rattle.inp_model.specs.Queue.{Entry, event_of, entry_dropped_at, is_empty, ends_in_report, put, put_all, entries, visible, flush_for, is_same_clock, clock_entry, clock_changed, left_by_call, queue, queue_with, taken_by, took, took_with}
-use Rattle.inp_recon.proofs.Each.{Each, Each-append, Each-weaker, Each-take, Each-drop}
 use Rattle.inp_model.proofs.Removal.{flush-length}
 use Rattle.inp_recon.proofs.QueuedValues.{put_all-append, flush-each}
 use Rattle.inp_runs.specs.LossCauses.{queue_before_frames, MeetsFullRing, ChangesClock, IsCausedAt, IsCaused, AreQueuedCaused, AreTakenCaused}
-use Rattle.inp_runs.proofs.losses.LossFreeFrames.{ComesAt, cuts-no_loss, entries-come}
+
+abbrev pub IsNoLoss : Event → Type 0
+IsNoLoss e = is_dropped e ≡ false
+
+report-no_loss : (e : Event) → is_report e ≡ true → IsNoLoss e
+report-no_loss = of_reports IsNoLoss (λ value. refl)
+
+slot-no_loss : (b : Bool) (slot : ℤ) → Each IsNoLoss (if b then slot_event slot ∷ [] else [])
+slot-no_loss true slot = (refl, tt)
+slot-no_loss false slot = tt
+
+value-no_loss : (o : Option ℤ) (e : Event) → IsNoLoss e → Each IsNoLoss (option_to_list (option_map (λ v. record e { value = v }) o))
+value-no_loss None e h = tt
+value-no_loss (Some v) e h = (h, tt)
+
+passed-no_loss : (d : Description) (r : List RawItem) (e : Event) → Each IsNoLoss (passed d r e)
+passed-no_loss d r e = by (is_dropped e) refl
+  where
+    by : (b : Bool) → is_dropped e ≡ b → Each IsNoLoss (passed d r e)
+    by true h = of_losses (λ x. Each IsNoLoss (passed d r x)) (λ value. tt) e h
+    by false h = Each-append IsNoLoss (announcement d r e) _ (slot-no_loss (announces d r e) (staged d r)) (value-no_loss (passes_as d r e) e h)
+
+item-no_loss : (d : Description) (r : List RawItem) (x : RawItem) → Each IsNoLoss (passed_for d r x)
+item-no_loss d r (Occurred e) = passed-no_loss d r e
+item-no_loss d r (Described code axis) = tt
+
+batch-no_loss : (d : Description) (r : List RawItem) (x : RawItem) → Each IsNoLoss (pending d r) → Each IsNoLoss (pending d r ++ passed_for d r x)
+batch-no_loss d r x h = Each-append IsNoLoss (pending d r) (passed_for d r x) h (item-no_loss d r x)
+
+pending-no_loss : (d : Description) (r : List RawItem) → Each IsNoLoss (pending d r)
+unfolding pending
+pending-no_loss d [] = tt
+pending-no_loss d (Described code axis ∷ r) = pending-no_loss d r
+pending-no_loss d (Occurred e ∷ r) =
+    cond_both (is_report e) _ _ (Each IsNoLoss) (λ _. tt) (λ _.
+    cond_both (nat_le d.hint (length (pending d r ++ passed d r e))) _ _ (Each IsNoLoss) (λ _. tt)
+    (λ _. batch-no_loss d r (Occurred e) (pending-no_loss d r)))
+
+cut-no_loss : (d : Description) (r : List RawItem) (x : RawItem) → (h : OneCut d r x) → Each IsNoLoss (h.body ++ h.report ∷ [])
+cut-no_loss d r x h = by h.same
+  where
+    by : (h.body ++ h.report ∷ [] ≡ pending d r ++ passed_for d r x) ⊎ (h.body ≡ pending d r ++ passed_for d r x) → Each IsNoLoss (h.body ++ h.report ∷ [])
+    by (inl whole) = subst (Each IsNoLoss) (sym whole) (batch-no_loss d r x (pending-no_loss d r))
+    by (inr body) = Each-append IsNoLoss h.body (h.report ∷ []) (subst (Each IsNoLoss) (sym body) (batch-no_loss d r x (pending-no_loss d r))) (report-no_loss h.report h.ends, tt)
+
+pub cuts-no_loss : (d : Description) (xs r : List RawItem) → Each (λ (c : Cut). Each IsNoLoss c.events) (cuts d r xs)
+unfolding cuts
+cuts-no_loss d [] r = tt
+cuts-no_loss d (x ∷ xs) r = by (cut_cases d r x) (cuts-no_loss d xs (x ∷ r))
+  where
+    by : NoCut d r x ⊎ OneCut d r x → Each (λ (c : Cut). Each IsNoLoss c.events) (cuts d (x ∷ r) xs) → Each (λ (c : Cut). Each IsNoLoss c.events) (cut_for d r x ++ cuts d (x ∷ r) xs)
+    by (inl h) ih = subst (λ (cs : List Cut). Each (λ (c : Cut). Each IsNoLoss c.events) (cs ++ cuts d (x ∷ r) xs)) (sym h.none) ih
+    by (inr h) ih = subst (λ (cs : List Cut). Each (λ (c : Cut). Each IsNoLoss c.events) (cs ++ cuts d (x ∷ r) xs)) (sym h.one) (cut-no_loss d r x h, ih)
+
+-- an entry that comes with a step after this past: no loss, and placed there
+pub record ComesAt (place : ℕ) (x : Entry) : Type 0 where
+  pub no_loss : is_dropped (event_of x) ≡ false
+  pub at : x.taken.place ≡ place
+
+admitted-come : (d : Description) (client : ℕ) (past : List Step) (s : Step) (c : Cut) (p : Event → Bool) (es : List Event) → Each IsNoLoss es → Each (ComesAt (length past)) (map (entry d client (frame_of past s c)) (filter p es))
+admitted-come d client past s c p [] h = tt
+admitted-come d client past s c p (e ∷ es) h =
+    (cond_both (p e) _ _ (λ x. Each (ComesAt (length past)) (map (entry d client (frame_of past s c)) (filter p es)) → Each (ComesAt (length past)) (map (entry d client (frame_of past s c)) x))
+    (λ _ rest. (record { no_loss = h.0; at = refl }, rest)) (λ _ rest. rest)) (admitted-come d client past s c p es h.1)
+
+pub entries-come : (d : Description) (client : ℕ) (past : List Step) (s : Step) (cs : List Cut) → Each (λ (c : Cut). Each IsNoLoss c.events) cs → Each (ComesAt (length past)) (entries d client (map (frame_of past s) cs))
+entries-come d client past s [] h = tt
+entries-come d client past s (c ∷ cs) h =
+    Each-append (ComesAt (length past)) (entries_of (eaten d) d client (frame_of past s c)) (entries d client (map (frame_of past s) cs))
+    (cond_both (is_offered past client) _ _ (Each (ComesAt (length past)))
+    (λ _. admitted-come d client past s c (admits past client) (left (eaten d) (frame_of past s c)) (Each-left_from IsNoLoss (eaten d (frame_of past s c)) 0 c.events h.0))
+    (λ _. tt)) (entries-come d client past s cs h.1)
 
 -- ---- a ring's places
 
@@ -61,11 +142,6 @@ put_all-room : (places : ℕ) (q xs : List Entry) → 64 ≤ places → length q
 put_all-room places q [] most room = room
 put_all-room places q (x ∷ xs) most room = put_all-room places (put event_of entry_dropped_at places q x) xs most (put-room places q x most room)
 
-drop-length : (n : ℕ) (q : List Entry) → length (drop n q) ≤ length q
-drop-length zero q = omega arith
-drop-length (suc n) [] = omega arith
-drop-length (suc n) (x ∷ q) = omega (arith, drop-length n q)
-
 flush_for-length : (o : Option Query) (q : List Entry) → length (flush_for event_of o q) ≤ length q
 flush_for-length None q = omega arith
 flush_for-length (Some query) q = flush-length event_of (is_part_of query) q
@@ -77,8 +153,8 @@ clock-room false e (x ∷ q) places most room = omega (arith, most)
 
 call-room : (d : Description) (past : List Step) (x : Step) (q : List Entry) → length q < ring d → length (left_by_call d past x q) < ring d
 call-room d past Open q room = omega (arith, room)
-call-room d past (Read client count) q room = omega (arith, room, drop-length (min count (visible event_of q)) q)
-call-room d past (Discard client) q room = omega (arith, room, drop-length (visible event_of q) q)
+call-room d past (Read client count) q room = omega (arith, room, length-drop (min count (visible event_of q)) q)
+call-room d past (Discard client) q room = omega (arith, room, length-drop (visible event_of q) q)
 call-room d past (ToClock client clock now) q room = clock-room (is_same_clock (clock_of past client) clock) (clock_entry d past clock now) q (ring d) (ring-places d) room
 call-room d past x q room = omega (arith, room, flush_for-length (query_of x) q)
 

@@ -4,7 +4,6 @@ use Rattle.std.specs.Prelude.{filter}
 use Rattle.std.proofs.lemmas.List.Elements.{filter-append}
 use Rattle.std.proofs.lemmas.Bool.{cond_both}
 use Rattle.inp_model.specs.declared.stamped.Stamped.{Stamped}
-use Rattle.inp_model.specs.declared.taken.Taken.{Taken}
 use Rattle.inp_model.specs.declared.step.Step.{Step}
 use Rattle.inp_model.specs.Description.{Description}
 use Rattle.inp_model.specs.Reply.{Answer, answer}
@@ -15,7 +14,7 @@ use Rattle.inp_recon.specs.View.{IsSizedFor, view_after_answer}
 use Rattle.inp_recon.proofs.Sizes.{IsSizedFor-after_events}
 use Rattle.inp_reader.specs.declared.mode.Mode.{Mode}
 use Rattle.inp_reader.specs.declared.next.Next.{Next}
-use Rattle.inp_reader.specs.declared.next.Next.TheVariants.{Success, Dropped, Sync, Again, Synced, NoDevice, Closed, Full}
+use Rattle.inp_reader.specs.declared.next.Next.TheVariants.{Success, Dropped, Sync, Again}
 use Rattle.inp_reader.specs.declared.started.Started.{Started}
 use Rattle.inp_reader.specs.declared.started.Started.TheVariants.{Opened, Refused}
 use Rattle.inp_reader.specs.Reader.{Reading, start_talk, next_talk}
@@ -24,13 +23,13 @@ use Rattle.inp_joy.specs.declared.joy_read.JoyRead.TheVariants.{Again as Nothing
 use Rattle.inp_joy.specs.declared.joy_record.JoyRecord.{JoyRecord}
 use Rattle.inp_joy.specs.JoyRecord.{bytes_of_record}
 use Rattle.inp_joy.specs.Joy as joy
-use Rattle.inp_joy.specs.Joy.{Joying, JoyAnswer, JoyTurn, gives, goes_on as reads_on, startup, with_reading, joy_started, joy_start, joy_record_of, record_or_on, joying_after_event, joying_after_sync, sync_turn, after_normal, event_turn, record_or_turn, turn_talk, with_count, is_long, after_turn, turns}
+use Rattle.inp_joy.specs.Joy.{Joying, JoyAnswer, with_reading, joy_started, joy_start, turns}
 use Rattle.inp_joy.proofs.TurnsWalk.{OfAnswer, TurnRules, turns-meets}
 use Rattle.inp_reader.specs.ReaderPlace.{is_needed}
 use Rattle.inp_reader.specs.Talk.{Talk, finish, and_then}
 use Rattle.inp_script.specs.declared.sight.Sight.{Sight}
 use Rattle.inp_script.specs.declared.sight.Sight.TheVariants.{Took, Made, Again as AgainSight, Record}
-use Rattle.inp_script.specs.Client.{job_after_start, Going, Turn, start_job, handed, one_less, is_done, turn_after, after_next, mode_of, with_sight, next_round}
+use Rattle.inp_script.specs.Client.{job_after_start, Going, Turn, handed, one_less, is_done, turn_after, after_next, mode_of, with_sight, next_round}
 use Rattle.inp_script.specs.DoneLine.{line_talk}
 use Rattle.inp_script.specs.Job.{Job, Stick, joying_of, with_joying}
 use Rattle.inp_script.specs.Joystick.{record_sight, after_joy_start, start_joystick, after_joy_answer}
@@ -38,14 +37,14 @@ use Rattle.inp_script.specs.Legal.{is_call_entry}
 use Rattle.inp_script.specs.Line.{after_call, event_of_taken, after_tap_call}
 use Rattle.inp_script.specs.Sight.{call_sight, again_sight, taken_sight, sight_of_call, noted, start_lacks_memory, stop_after_start}
 use Rattle.inp_script.proofs.Told.{no_calls_taken, call_kept, again_kept}
-use Rattle.inp_runs.specs.Job.{on_job, lines_talk}
+use Rattle.inp_runs.specs.Job.{lines_talk}
 use Rattle.inp_runs.proofs.Entries.{call_entries}
 use Rattle.inp_script.specs.declared.waiting.Waiting.{Waiting}
 use Rattle.inp_reader.proofs.Meets.{Meets, Any, meets-then, meets-weaker}
 use Rattle.inp_script.proofs.LineWalk.{NotedBy, meets-noted, OfJob, OfTurn, OfGoing, read_so, start_job-meets, round-meets, LineRules, line-meets}
 use Rattle.inp_script.proofs.JoyWalk.{AfterRead, AfterTurns, joystick-meets}
-use Rattle.inp_runs.proofs.memory.LeftByTalks.{EntriesBy, Leaves}
-use Rattle.inp_runs.proofs.memory.ReaderTalks.{Both, IsSizedReader, LeavesNext, IsStarted, IsNext, again_of, sized-answered, answers-start, answers-next}
+use Rattle.inp_runs.proofs.memory.ReaderTalks.{EntriesBy, Leaves, Both, IsSizedReader, LeavesNext, IsStarted, IsNext, again_of, sized-answered, answers-start, answers-next}
+use Rattle.inp_runs.proofs.LinesWalk.{any-lines, lines-keep}
 
 -- the job's view has the device's slots, and its sight tells of these calls
 abbrev pub IsKept : Description → Job → List Sight → Type 0
@@ -56,8 +55,6 @@ KeptAt d entries j = IsKept d j entries
 
 abbrev pub IsKeptIfSome : Description → Option Job → List Sight → Type 0
 IsKeptIfSome d o entries = OfJob (KeptAt d) entries o
-
--- Single calls
 
 call_told : (x : Step) (a : Answer) (sight entries : List Sight) → filter is_call_entry sight ≡ entries → filter is_call_entry (sight ++ sight_of_call x a.reply a.events) ≡ entries ++ call_entries x a.reply
 call_told x a sight entries same =
@@ -82,36 +79,21 @@ kept-tap_call d s t j x a h by =
     subst (λ (b : Answer). IsSizedFor d.slots (view_after_answer j.reading.view x b.reply b.cells)) (sym by.0.1) (sized-answered d by.0.0 x j.reading.view h.0) in
     (IsSizedFor-after_events d.slots (view_after_answer j.reading.view x a.reply a.cells) (map event_of_taken a.events) sized, call_told x a j.sight s h.1 ∙ sym by.1)
 
--- Clients
-
-kept-start : (d : Description) (s : List Sight) (j : Job) → KeptAt d s j → Meets Any (EntriesBy d) (OfJob (KeptAt d)) s (start_job d j)
-kept-start d s j h = start_job-meets (EntriesBy d) (KeptAt d) d s j (answers-start d j.reading (s, j.sight) h.0 h.1)
-
 abbrev IsKeptTurn : Description → Turn → List Sight → Type 0
 IsKeptTurn d turn entries = OfTurn (KeptAt d) (OfGoing (KeptAt d)) entries turn
 
 kept_handed : (d : Description) (left : Option ℕ) (j : Job) (entries : List Sight) → IsKept d j entries → IsKeptTurn d (handed left j) entries
 kept_handed d left j entries h = cond_both (is_done left) _ _ (λ x. IsKeptTurn d x entries) (λ _. h) (λ _. h)
 
--- events are no calls
-took_told : (sight entries : List Sight) (taken : Taken) → filter is_call_entry sight ++ [] ≡ entries → filter is_call_entry (sight ++ Took taken ∷ []) ≡ entries
-took_told sight entries taken h = filter-append is_call_entry sight (Took taken ∷ []) ∙ h
-
-made_told : (sight entries : List Sight) (event : _) → filter is_call_entry sight ++ [] ≡ entries → filter is_call_entry (sight ++ Made event ∷ []) ≡ entries
-made_told sight entries event h = filter-append is_call_entry sight (Made event ∷ []) ∙ h
-
 silent : (sight entries : List Sight) → filter is_call_entry sight ++ [] ≡ entries → filter is_call_entry sight ≡ entries
 silent sight entries h = sym (append-nil (filter is_call_entry sight)) ∙ h
 
 kept_turn : (d : Description) (left : Option ℕ) (agains : ℕ) (next : Next) (j : Job) (entries : List Sight) → IsSizedFor d.slots j.reading.view → filter is_call_entry j.sight ++ again_of next ≡ entries → IsKeptTurn d (turn_after None left agains next j) entries
-kept_turn d left agains (Success taken) j entries sized h = kept_handed d (one_less left) (with_sight j (Took taken)) entries (sized, took_told j.sight entries taken h)
-kept_turn d left agains (Dropped taken) j entries sized h = kept_handed d (one_less left) (with_sight j (Took taken)) entries (sized, took_told j.sight entries taken h)
-kept_turn d left agains (Sync event) j entries sized h = kept_handed d (one_less left) (with_sight j (Made event)) entries (sized, made_told j.sight entries event h)
-kept_turn d left agains Synced j entries sized h = (sized, silent j.sight entries h)
+kept_turn d left agains (Success taken) j entries sized h = kept_handed d (one_less left) (with_sight j (Took taken)) entries (sized, filter-append is_call_entry j.sight (Took taken ∷ []) ∙ h)
+kept_turn d left agains (Dropped taken) j entries sized h = kept_handed d (one_less left) (with_sight j (Took taken)) entries (sized, filter-append is_call_entry j.sight (Took taken ∷ []) ∙ h)
+kept_turn d left agains (Sync event) j entries sized h = kept_handed d (one_less left) (with_sight j (Made event)) entries (sized, filter-append is_call_entry j.sight (Made event ∷ []) ∙ h)
 kept_turn d left agains (Again at ends) j entries sized h = (sized, filter-append is_call_entry j.sight (AgainSight at ends ∷ []) ∙ h)
-kept_turn d left agains NoDevice j entries sized h = (sized, silent j.sight entries h)
-kept_turn d left agains Closed j entries sized h = (sized, silent j.sight entries h)
-kept_turn d left agains (Full at) j entries sized h = (sized, silent j.sight entries h)
+kept_turn d left agains _ j entries sized h = (sized, silent j.sight entries h)
 
 kept-round : (d : Description) (s : List Sight) (skips : Bool) (g : Going) → KeptAt d s g.job → Meets Any (EntriesBy d) (OfTurn (KeptAt d) (OfGoing (KeptAt d))) s (next_round d None skips g)
 kept-round d s skips g h =
@@ -120,8 +102,6 @@ kept-round d s skips g h =
     (meets-weaker Any (NotedBy (EntriesBy d)) (λ (u : Both) (o : Next × Reading). IsNext d o (filter is_call_entry u.1) u.0) (λ (u : Both) (o : Next × Reading). IsKeptTurn d (after_next None g (o, u.1)) u.0)
     (s, g.job.sight) (next_talk d mode g.job.reading) (answers-next d mode g.job.reading (s, g.job.sight) h.0 h.1)
     (λ u o k. kept_turn d g.left g.agains o.0 (read_so g.job o.1 u.1) u.0 k.0 k.1))
-
--- Joysticks
 
 -- where a read answers Again there is one entry more
 abbrev again_of_read : JoyRead → List Sight
@@ -223,14 +203,12 @@ kept-joy_start d s j h =
     (record (job_after_start o.0 o.1 u.1) { stick = stick }))
     (s, j.sight) (start_talk d j.reading) (answers-start d j.reading (s, j.sight) h.0 h.1) (λ u o k stick. k))
 
--- Lines
-
 kept-rules : (role : Role) (d : Description) (command : Command) → LineRules (EntriesBy d) (KeptAt d) (OfGoing (KeptAt d)) d role command None
 kept-rules role d command = record {
   injects = λ e. kept-call d;
   calls = λ e one s t j x a is. kept-call d s t j x a;
   taps = λ e. kept-tap_call d;
-  starts = λ e. kept-start d;
+  starts = λ e s j h. start_job-meets (EntriesBy d) (KeptAt d) d s j (answers-start d j.reading (s, j.sight) h.0 h.1);
   begins = λ e s j left h. h;
   rounds = λ e s waits skips g none h. subst (λ (w : Option Waiting). Meets Any (EntriesBy d) (OfTurn (KeptAt d) (OfGoing (KeptAt d))) s (next_round d w skips g)) (sym (none refl)) (kept-round d s skips g h);
   forces = λ e s j h. h;
@@ -241,14 +219,7 @@ kept-rules role d command = record {
 pub leaves-line : (role : Role) (d : Description) (streams : List (List Stamped)) (n : ℕ) (command : Command) (j : Job) (entries : List Sight) → IsKept d j entries → Leaves d (IsKeptIfSome d) entries (line_talk role d streams None n command j)
 leaves-line role d streams n command j entries h = line-meets (EntriesBy d) (KeptAt d) (OfGoing (KeptAt d)) d role command None (kept-rules role d command) streams n entries j h
 
--- Lines, one after another
 pub leaves-lines : (role : Role) (d : Description) (streams : List (List Stamped)) (n : ℕ) (lines : List Line) (j : Job) (entries : List Sight) → IsKept d j entries → Leaves d (IsKeptIfSome d) entries (lines_talk role d streams None n lines j)
-unfolding lines_talk
-leaves-lines role d streams n [] j entries h = h
-leaves-lines role d streams n (line ∷ lines) j entries h =
-    meets-then Any (EntriesBy d) (OfJob (KeptAt d)) (OfJob (KeptAt d)) entries (line_talk role d streams None n line.command j) (on_job (lines_talk role d streams None n lines)) (leaves-line role d streams n line.command j entries h)
-    (λ es o k. by o es (λ (mid : Job) m. leaves-lines role d streams n lines mid es m) k)
-  where
-    by : (o : Option Job) (es : List Sight) → ((mid : Job) → IsKept d mid es → Leaves d (IsKeptIfSome d) es (lines_talk role d streams None n lines mid)) → IsKeptIfSome d o es → Leaves d (IsKeptIfSome d) es (on_job (lines_talk role d streams None n lines) o)
-    by None es more k = tt
-    by (Some mid) es more k = more mid k
+leaves-lines role d streams n lines j entries h =
+    lines-keep (EntriesBy d) (KeptAt d) (λ command. Unit {0}) role d streams None n
+    (λ command any s k. leaves-line role d streams n command k s) (λ s k i. i) lines (any-lines lines) entries j h

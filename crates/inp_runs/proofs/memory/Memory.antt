@@ -44,7 +44,8 @@ use Rattle.inp_script.specs.Sight.{noted, call_sight}
 use Rattle.inp_script.proofs.Replies.{answer_has}
 use Rattle.inp_runs.specs.Job.{on_job, last_talk, lines_talk, call_lacks_memory}
 use Rattle.inp_runs.proofs.views.Folded.{AreOfRole}
-use Rattle.inp_runs.proofs.memory.LeftByTalks.{AreAnswered}
+use Rattle.inp_runs.proofs.memory.ReaderTalks.{AreAnswered}
+use Rattle.inp_runs.proofs.LinesWalk.{is_open_if}
 
 -- where an Open is refused for want of memory nothing more is asked, and there is no job
 abbrev pub GivesUp : Talk (Option Job) → Type 0
@@ -76,8 +77,6 @@ no_open-queries d client = record { keys = λ h. refl; leds = λ h. refl; switch
 no_open-next : (d : Description) (mode : Mode) (r : Reading) → NoOpen (next_talk d mode r)
 no_open-next d mode r = next-asks opens_none d mode r (record { read = refl; discard = refl; queries = no_open-queries d r.client })
 
--- The lines of a client
-
 no_open-round : (d : Description) (wait : Option Waiting) (skips : Bool) (g : Going) → NoOpen (next_round d wait skips g)
 unfolding next_round
 no_open-round d wait skips g =
@@ -98,8 +97,6 @@ no_open-rounds d wait skips (suc n) g = asks-then opens_none (next_round d wait 
 no_open-hand : (d : Description) (wait : Option Waiting) (skips : Bool) (left : Option ℕ) (n : ℕ) (j : Job) → NoOpen (hand_talk d wait skips left n j)
 no_open-hand d wait skips left n j =
     cond_both (is_done left) _ _ NoOpen (λ _. tt) (λ _. no_open-rounds d wait skips n (record { job = j; left = left; agains = 0 }))
-
--- Starts
 
 no_open-opened : (d : Description) (r : Reading) (at client ring : ℕ)
     → NoOpen (after_open d r (Opened at client ring))
@@ -126,12 +123,6 @@ gives_up-start d j = ((λ e n. refl), λ answer. by_reply answer.reply (j.sight 
         sight start_ends (no_open-opened d j.reading at client ring)
     by_reply _ sight = tt
 
--- Single calls
-
-abbrev is_open_if : Option Step → Bool
-is_open_if None = false
-is_open_if (Some x) = is_open_step x
-
 gives_up-call : (o : Option Step) (j : Job) → is_open_if o ≡ false → GivesUp (call_if j o)
 gives_up-call None j h = tt
 gives_up-call (Some x) j h = ((λ e n. absurd (other_step x h e)), λ answer. tt)
@@ -150,8 +141,6 @@ gives_up-stream (stamped ∷ stream) j =
           (λ _. gives_up-stream stream (after_call j x answer)) (λ _. tt),
     )
 
--- Lines
-
 gives_up-source : (streams : List (List Stamped)) (command : Command) (j : Job) → is_command_of Source command ≡ true → GivesUp (source_talk streams command j)
 gives_up-source streams (Stream file index) j h = gives_up-stream (stream_numbered streams index) j
 gives_up-source streams (Stream16 file index) j h = gives_up-stream (stream_numbered streams index) j
@@ -165,8 +154,6 @@ gives_up-client d wait n (Skip count) j = no_open-gives_up (hand_talk d None tru
 gives_up-client d wait n Follow j = no_open-gives_up (hand_talk d wait false None n j) (no_open-hand d wait false None n j)
 gives_up-client d wait n Force j = tt
 gives_up-client d wait n command j = gives_up-call (step_of j.reading.client command) j refl
-
--- The lines of a joystick
 
 no_open-read_on : (d : Description) (most n : ℕ) (j : Job) → NoOpen (read_on d most n j)
 unfolding read_on
@@ -230,8 +217,6 @@ gives_up-line role d streams wait n command j h = by_stop j.stop
     by_stop None = gives_up-command role d streams wait n command j h
     by_stop (Some stop) = tt
 
--- Lines, one after another
-
 gives_up-then : (talk : Talk (Option Job)) (next : Option Job → Talk (Option Job)) → GivesUp talk → next None ≡ finish None → ((o : Option Job) → GivesUp (next o)) → GivesUp (and_then talk next)
 gives_up-then (finish o) next h none more = more o
 gives_up-then (ask x rest) next h none more = (
@@ -246,10 +231,7 @@ gives_up-end (Some stop) j = tt
 gives_up-last : (wait : Option Waiting) (role : Role) (j : Job) → GivesUp (last_talk wait role j)
 gives_up-last None role j = tt
 gives_up-last (Some waiting) Source j = gives_up-end j.stop j
-gives_up-last (Some waiting) Client j = tt
-gives_up-last (Some waiting) Tap j = tt
-gives_up-last (Some waiting) Joy j = tt
-gives_up-last (Some waiting) Owner j = tt
+gives_up-last (Some waiting) _ j = tt
 
 pub gives_up-lines : (role : Role) (d : Description) (streams : List (List Stamped)) (wait : Option Waiting) (n : ℕ) (lines : List Line) (j : Job) → AreOfRole role lines → GivesUp (lines_talk role d streams wait n lines j)
 unfolding lines_talk

@@ -1,14 +1,25 @@
--- What the talks of a reader leave: a view of the device's size, and each answer told but Again, which ends them.
-use Rattle.std.proofs.Common.{◌≡◌, true, false, List, [], ◌∷◌, ◌++◌, refl, sym, ap, subst, ◌∙◌, append_assoc, append-nil, inl}
-use Rattle.std.specs.Prelude.{Result, Ok, Err, filter}
+-- What a talk leaves, whatever the one-thread device answers: of its result, and of the entries of its calls. A reader's
+-- talks leave a view of the device's size, and each answer told but Again, which ends them.
+use Rattle.std.proofs.Common.{◌≡◌, List, [], ◌∷◌, ◌++◌, ap, subst, ◌∙◌, append_assoc, append-nil, refl, true, false, sym, inl}
+use Rattle.std.specs.Prelude.{filter, Result, Ok, Err}
+use Rattle.std.proofs.lemmas.List.Elements.{filter-append}
 use Rattle.inp_model.specs.declared.step.Step.{Step}
+use Rattle.inp_model.specs.Description.{Description}
+use Rattle.inp_model.specs.Reply.{Answer, answer, is_accepted}
+use Rattle.inp_model.specs.Run.{Call}
+use Rattle.inp_reader.specs.Talk.{Talk, EndsWith}
+use Rattle.inp_script.specs.declared.sight.Sight.{Sight}
+use Rattle.inp_script.specs.Legal.{sight_of_calls, is_call_entry}
+use Rattle.inp_script.specs.Sight.{call_sight, again_sight}
+use Rattle.inp_script.proofs.Told.{call_kept}
+use Rattle.inp_runs.proofs.Entries.{call_entries}
+use Rattle.inp_reader.proofs.Meets.{Meets, Any, Runs, meets-ends}
+use Rattle.inp_script.proofs.LineWalk.{NotedBy}
 use Rattle.inp_model.specs.declared.step.Step.TheVariants.{Open, Read}
 use Rattle.inp_model.specs.declared.reply.Reply.{Reply}
 use Rattle.inp_model.specs.declared.reply.Reply.TheVariants.{Again as NothingVisible, Refused as StepRefused}
 use Rattle.inp_model.specs.declared.reply.Refusal.TheVariants.{NoDevice as Revoked, LogFull}
-use Rattle.inp_model.specs.Description.{Description}
 use Rattle.inp_model.specs.Evdev.{is_again}
-use Rattle.inp_model.specs.Reply.{Answer, answer, is_accepted}
 use Rattle.inp_recon.specs.declared.view.View.{View}
 use Rattle.inp_recon.specs.View.{IsSizedFor, view_after_answer, view_after_event}
 use Rattle.inp_recon.proofs.Sizes.{IsSizedFor-after_event, length-keys_after_answer, length-switches_after_answer, length-leds_after_answer, length-axes_after_answer}
@@ -18,21 +29,50 @@ use Rattle.inp_reader.specs.declared.started.Started.{Started}
 use Rattle.inp_reader.specs.declared.next.Next.{Next}
 use Rattle.inp_reader.specs.declared.next.Next.TheVariants.{Success, Dropped, Sync, Synced, Closed, Again}
 use Rattle.inp_reader.specs.Reader.{Reading, queries, start_talk, stop_of, as_plain, after_failed_sync, next_talk}
-use Rattle.inp_script.specs.declared.sight.Sight.{Sight}
 use Rattle.inp_script.specs.declared.sight.Sight.TheVariants.{Again as AgainSight}
-use Rattle.inp_script.specs.Sight.{call_sight, again_sight}
 use Rattle.inp_recon.proofs.Each.{Each}
 use Rattle.inp_reader.proofs.AgainCounts.{IsNoRead, not_again, no_read-queries, no_read-sync}
-use Rattle.inp_reader.proofs.Meets.{Any}
 use Rattle.inp_reader.proofs.NextWalk.{AskRules, asked-meets, sync-meets, Queried, start-meets, Renewed, NextRules, next-meets}
 use Rattle.inp_reader.proofs.AgreedViews.{sized-answer}
 use Rattle.inp_script.proofs.Told as told
-use Rattle.inp_runs.proofs.Entries.{call_entries}
-use Rattle.inp_script.specs.Legal.{is_call_entry}
-use Rattle.inp_script.proofs.LineWalk.{NotedBy}
-use Rattle.inp_runs.proofs.memory.LeftByTalks.{EntriesBy, Answers, note-kept}
 
--- One answer
+-- the one-thread device answers, after some past, and these are the entries of all calls
+abbrev pub EntriesBy : Description → List Sight → Step → Answer → List Sight → Type 0
+EntriesBy d es x a fs = ((past : List Step) × (a ≡ answer d past x)) × (fs ≡ es ++ call_entries x a.reply)
+
+-- This is so of the result of a talk and of the entries of all calls, where there were these before.
+abbrev pub Leaves : {A : Type 0} → Description → (A → List Sight → Type 0) → List Sight → Talk A → Type 0
+Leaves {A} d P entries talk = Meets Any (EntriesBy d) (λ (es : List Sight) (a : A). P a es) entries talk
+
+-- Calls that the one-thread device answered, each after some past.
+abbrev pub AreAnswered : Description → List Call → Type 0
+AreAnswered d [] = Unit {0}
+AreAnswered d (call ∷ calls) = (past : List Step) × (call.answer ≡ answer d past call.step) × AreAnswered d calls
+
+entries-run : (d : Description) (entries : List Sight) (calls : List Call) → AreAnswered d calls → Runs (EntriesBy d) entries calls (entries ++ sight_of_calls calls)
+unfolding Runs
+entries-run d entries [] answered = append-nil entries
+entries-run d entries (call ∷ calls) answered =
+    let more : List Sight = entries ++ call_entries call.step call.answer.reply in (
+      more,
+      ((answered.0, answered.1), refl),
+      subst (λ (es : List Sight). Runs (EntriesBy d) more calls es) (append_assoc entries (call_entries call.step call.answer.reply) (sight_of_calls calls)) (entries-run d more calls answered.2),
+    )
+
+pub leaves-ends : {A : Type 0} (d : Description) (P : A → List Sight → Type 0) (entries : List Sight) (talk : Talk A) (calls : List Call) (result : A) → AreAnswered d calls → EndsWith talk calls result → Leaves d P entries talk → P result (entries ++ sight_of_calls calls)
+leaves-ends {A} d P entries talk calls result answered ends h =
+    meets-ends Any (EntriesBy d) (λ (es : List Sight) (a : A). P a es) entries (entries ++ sight_of_calls calls) talk calls result h (entries-run d entries calls answered) ends
+
+-- Talks of a reader, which are noted
+
+-- The same, with the entries that a note of the calls has: it has none of an answer Again.
+abbrev pub Answers : {A : Type 0} → Description → (A → List Sight → List Sight → Type 0) → List Sight × List Sight → Talk A → Type 0
+Answers {A} d P u talk = Meets Any (NotedBy (EntriesBy d)) (λ (v : List Sight × List Sight) (a : A). P a (filter is_call_entry v.1) v.0) u talk
+
+-- what is noted of one call more
+pub note-kept : (d : Description) (u v : List Sight × List Sight) (x : Step) (a : Answer) → NotedBy (EntriesBy d) u x a v → filter is_call_entry v.1 ≡ filter is_call_entry u.1 ++ call_sight x a.reply
+note-kept d u v x a by =
+    ap (filter is_call_entry) by.1 ∙ filter-append is_call_entry u.1 (call_sight x a.reply) ∙ ap (λ (es : List Sight). filter is_call_entry u.1 ++ es) (call_kept x a.reply)
 
 -- a view keeps its size
 pub sized-answered : (d : Description) (past : List Step) (x : Step) (view : View) → IsSizedFor d.slots view → IsSizedFor d.slots (view_after_answer view x (answer d past x).reply (answer d past x).cells)
@@ -90,8 +130,6 @@ sized-asks d Q whole stopped = record {
   whole = λ u view j. whole u view j.0 j.1;
 }
 
--- A start
-
 abbrev pub IsStarted : Description → Started × Reading → List Sight → List Sight → Type 0
 IsStarted d o kept entries = IsSizedFor d.slots o.1.view × (kept ≡ entries)
 
@@ -106,8 +144,6 @@ answers-start d r u sized same =
           (sized, opens v a by, no_read-queries d client);
       refused = λ v a by other. (sized, opens v a by);
     })
-
--- The next event
 
 -- where a reader answers Again there is one entry more
 abbrev pub again_of : Next → List Sight

@@ -33,8 +33,6 @@ unfolding AreCalls
 calls-gap a b [] are = omega (arith, ap (λ (t : EvdevView). length t.seen) are, ap (λ (t : EvdevView). length t.own) are)
 calls-gap a b (call ∷ calls) are = omega (arith, call-gap a are.0 call are.1, calls-gap are.0 b calls are.2)
 
--- One call
-
 slice_get-seam : (xs ys : List Step) → slice_get (xs ++ ys) (length xs) ≡ slice_get ys 0
 slice_get-seam [] ys = refl
 slice_get-seam (x ∷ xs) ys = slice_get-seam xs ys
@@ -94,8 +92,6 @@ next_call d a m call same full few h = by_flag (is_accepted call.answer.reply) h
           now = ap reverse whole ∙ no_more a.seen more none ∙ ap (λ (b : Bool). if b then call.step ∷ reverse a.seen else reverse a.seen) (sym e);
           alone = omega (arith, long, place, full, ap length own);
         }
-
--- All calls of a talk
 
 calls-alone : (d : Description) (a b : EvdevView) (talk : Talk (Option Job)) (calls : List Call) (j : Job) → a.description ≡ d → length a.own ≡ length a.seen → length b.own ≡ length b.seen → GivesUp talk → EndsWith talk calls (Some j) → AreCalls a b calls
     → talk_with d (reverse a.seen) talk ≡ (Some j, reverse b.seen)

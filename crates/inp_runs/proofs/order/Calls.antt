@@ -1,5 +1,5 @@
--- The calls that a talk makes of the one-thread device, and what they leave of its past.
-use Rattle.std.proofs.Common.{◌≡◌, ℕ, ◌<◌, ◌≤◌, Bool, true, false, if◌then◌else◌, List, [], ◌∷◌, ◌++◌, length, reverse, refl, sym, ap, subst, ◌∙◌, arith, inl, None}
+-- The calls that a talk makes of the one-thread device: what they leave of its past, and at which places they are entered.
+use Rattle.std.proofs.Common.{◌≡◌, ℕ, ◌≤◌, Bool, true, false, if◌then◌else◌, List, [], ◌∷◌, ◌++◌, length, reverse, refl, sym, ap, subst, ◌∙◌, arith, inl, None, ◌+◌, ◌&&◌, nat_eq, zero-add}
 use Rattle.std.specs.List.{list_any}
 use Rattle.inp_model.specs.declared.step.Step.{Step}
 use Rattle.inp_model.specs.declared.reply.Reply.{Reply}
@@ -17,8 +17,14 @@ use Rattle.inp_script.proofs.Replies.{answer_has}
 use Rattle.inp_script.proofs.Runs.{runs-on}
 use Rattle.inp_model.proofs.Leaves.{seen-kept}
 use Rattle.inp_runs.specs.Job.{call_lacks_memory}
-use Rattle.inp_runs.proofs.memory.LeftByTalks.{AreAnswered}
+use Rattle.inp_runs.proofs.memory.ReaderTalks.{AreAnswered}
 use Rattle.inp_runs.proofs.memory.Memory.{answered-memory}
+use Rattle.std.specs.Prelude.{filter}
+use Rattle.std.proofs.lemmas.Bool.Decides.{nat_tests}
+use Rattle.inp_script.specs.declared.sight.Sight.{Sight}
+use Rattle.inp_script.specs.Legal.{sight_of_calls, is_call_entry}
+use Rattle.inp_runs.proofs.Entries.{call_entries, entries, below, entries-append, entries-calls, entries-call}
+use Rattle.std.proofs.lemmas.Bool.{cond_both}
 
 -- the calls that a talk makes are its own
 pub talk_with-ends : {A : Type 0} (d : Description) (past : List Step) (talk : Talk A) → EndsWith talk (calls_with d past talk) (talk_with d past talk).0
@@ -59,13 +65,13 @@ answer-place d past x = given_place d past x (answer d past x) (inl refl)
 
 history-one : (d : Description) (past : List Step) (x : Step) → IsHistory d past → IsHistory d (past_after (answer d past x).reply x past)
 history-one d past x h =
-    by (is_accepted (answer d past x).reply)
-    (answer_has (λ given. is_accepted given.reply ≡ true → refused d past x ≡ None) d past x
-    (λ refusal is e. absurd (let k : false ≡ true = sym is.accepted ∙ e in cc)) (λ none e. none))
-  where
-    by : (b : Bool) → (b ≡ true → refused d past x ≡ None) → IsHistory d (if b then x ∷ past else past)
-    by true unrefused = (h, unrefused refl)
-    by false unrefused = h
+    cond_both (is_accepted (answer d past x).reply) _ _ (IsHistory d)
+    (λ is. (
+      h,
+      answer_has (λ given. is_accepted given.reply ≡ true → refused d past x ≡ None) d past x
+          (λ refusal r e. absurd (let k : false ≡ true = sym r.accepted ∙ e in cc)) (λ none e. none) is,
+    ))
+    (λ _. h)
 
 pub exact-history : (d : Description) (past after : List Step) (calls : List Call) → AreExact d past after calls → IsHistory d past → IsHistory d after
 exact-history d past after [] e h = subst (IsHistory d) (sym e) h
@@ -114,14 +120,48 @@ exact-memory d past after calls e = answered-memory d calls (exact-answered d pa
 -- The history stays within its limit
 
 within-one : (d : Description) (past : List Step) (x : Step) → length past ≤ d.log_limit → length (past_after (answer d past x).reply x past) ≤ d.log_limit
-within-one d past x h = by_flag (is_accepted (answer d past x).reply) (λ e. place-below d past x (answer d past x) (inl refl) e)
-  where
-    by_flag : (b : Bool) → (b ≡ true → place_of (answer d past x).reply < d.log_limit) → length (if b then x ∷ past else past) ≤ d.log_limit
-    by_flag true below = omega (arith, below refl, answer-place d past x)
-    by_flag false below = h
+within-one d past x h =
+    cond_both (is_accepted (answer d past x).reply) _ _ (λ (p : List Step). length p ≤ d.log_limit)
+    (λ e. omega (arith, place-below d past x (answer d past x) (inl refl) e, answer-place d past x)) (λ _. h)
 
 pub exact-within : (d : Description) (past after : List Step) (calls : List Call) → AreExact d past after calls → length past ≤ d.log_limit → length after ≤ d.log_limit
 exact-within d past after [] e h = omega (arith, ap length e)
 exact-within d past after (call ∷ calls) e h =
     exact-within d (past_after call.answer.reply call.step past) after calls e.1
     (subst (λ (a : Answer). length (past_after a.reply call.step past) ≤ d.log_limit) (sym e.0) (within-one d past call.step h))
+
+entered : (accepted : Bool) (x : Step) (past : List Step) (place one : ℕ) → one ≡ (if accepted && nat_eq (length past) place then 1 else 0) → one + below place (length past) ≡ below place (length (if accepted then x ∷ past else past))
+entered true x past place one h = grind (arith, nat_tests, h)
+entered false x past place one h = ap (λ (n : ℕ). n + below place (length past)) h ∙ zero-add (below place (length past))
+
+entries-answered : (d : Description) (past : List Step) (place : ℕ) (x : Step) (a : Answer) → a ≡ answer d past x → entries place (call_entries x a.reply) + below place (length past) ≡ below place (length (past_after a.reply x past))
+entries-answered d past place x a exact =
+    let here : place_of a.reply ≡ length past = ap (λ (b : Answer). place_of b.reply) exact ∙ answer-place d past x in
+    entered (is_accepted a.reply) x past place (entries place (call_entries x a.reply))
+    (entries-call place x a.reply ∙ ap (λ (n : ℕ). if is_accepted a.reply && nat_eq n place then 1 else 0) here)
+
+joined : (one more from mid to : ℕ) → one + from ≡ mid → more + mid ≡ to → (one + more) + from ≡ to
+joined one more from mid to h k = omega arith
+
+-- what the calls entered
+pub entries-exact : (d : Description) (past after : List Step) (place : ℕ) (calls : List Call) → AreExact d past after calls → entries place (sight_of_calls calls) + below place (length past) ≡ below place (length after)
+entries-exact d past after place [] e = zero-add (below place (length past)) ∙ ap (λ (p : List Step). below place (length p)) (sym e)
+entries-exact d past after place (call ∷ calls) e =
+    let reply : Reply = call.answer.reply in
+    let between : List Step = past_after reply call.step past in
+    ap (λ (n : ℕ). n + below place (length past)) (entries-append place (call_entries call.step reply) (sight_of_calls calls))
+    ∙ joined (entries place (call_entries call.step reply)) (entries place (sight_of_calls calls)) (below place (length past)) (below place (length between)) (below place (length after))
+    (entries-answered d past place call.step call.answer e.0)
+    (entries-exact d between after place calls e.1)
+
+regrouped : (new old gained from to : ℕ) → new ≡ old + gained → gained + from ≡ to → new + from ≡ old + to
+regrouped new old gained from to h k = omega arith
+
+-- of a sight that gained what these calls tell
+pub entries-gained : (d : Description) (past after : List Step) (place : ℕ) (calls : List Call) (old new : List Sight) → AreExact d past after calls → filter is_call_entry new ≡ filter is_call_entry old ++ sight_of_calls calls
+    → entries place new + below place (length past) ≡ entries place old + below place (length after)
+entries-gained d past after place calls old new e told =
+    let grown : entries place new ≡ entries place old + entries place (sight_of_calls calls) =
+    sym (entries-calls place new) ∙ ap (entries place) told ∙ entries-append place (filter is_call_entry old) (sight_of_calls calls)
+    ∙ ap (λ (n : ℕ). n + entries place (sight_of_calls calls)) (entries-calls place old) in
+    regrouped (entries place new) (entries place old) (entries place (sight_of_calls calls)) (below place (length past)) (below place (length after)) grown (entries-exact d past after place calls e)

@@ -21,16 +21,17 @@ use Rattle.inp_feedback.specs.Kept.{kept_of}
 use Rattle.inp_reader.specs.Talk.{Talk, finish, LeadsTo, EndsWith, talk_with, calls_with}
 use Rattle.inp_script.specs.declared.sight.Sight.{Sight}
 use Rattle.inp_script.specs.declared.stop.Stop.{Stop}
-use Rattle.inp_script.specs.DoneLine.{line_talk, unless_stopped}
+use Rattle.inp_script.specs.DoneLine.{line_talk}
 use Rattle.inp_script.specs.Job.{Job, ActorView}
 use Rattle.inp_script.specs.Legal.{sight_of_calls}
 use Rattle.inp_script.specs.Owner.{Owning, after_feedback}
 use Rattle.inp_runs.specs.Play.{Stage, feedback_calls_after, after_talk, unless_owner_stopped, by_command, after_line_of, after_line}
 use Rattle.inp_runs.proofs.order.Calls.{AreExact, talk_with-ends, talk_with-exact, exact-answered}
-use Rattle.inp_runs.proofs.memory.LeftByTalks.{leaves-ends}
+use Rattle.inp_runs.proofs.memory.ReaderTalks.{leaves-ends}
 use Rattle.inp_runs.proofs.memory.LineTalks.{IsKept, IsKeptIfSome, leaves-line}
 use Rattle.inp_runs.proofs.Lists.{IsImage, option_map-some}
 use Rattle.inp_runs.proofs.JobEnds.{owner-role}
+use Rattle.inp_runs.proofs.owners.OwnerTalks.{stopped-nothing}
 
 -- An owner that did not stop made its feedback call on a device that kept these steps and calls; one that stopped did
 -- nothing.
@@ -114,11 +115,7 @@ feedback-of role _ room is h = absurd cc
 -- an owner does nothing of a job
 owner-talk : (role : Role) (d : Description) (streams : List (List Stamped)) (n : ℕ) (command : Command) (j : Job) → role ≡ Owner → line_talk role d streams None n command j ≡ finish (Some j)
 unfolding line_talk
-owner-talk role d streams n command j is = ap (λ (x : Role). line_talk x d streams None n command j) is ∙ by_stop j.stop
-  where
-    by_stop : (stop : Option Stop) → unless_stopped stop j (finish (Some j)) ≡ finish (Some j)
-    by_stop None = refl
-    by_stop (Some stop) = refl
+owner-talk role d streams n command j is = ap (λ (x : Role). line_talk x d streams None n command j) is ∙ stopped-nothing j.stop j
 
 pub set_same : {X : Type 0} (xs : List X) (i : ℕ) (x : X) → slice_get xs i ≡ Some x → slice_set xs i x ≡ xs
 set_same [] i x h = refl

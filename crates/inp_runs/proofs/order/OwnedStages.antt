@@ -1,9 +1,9 @@
 -- What is so of owners between two lines.
-use Rattle.std.proofs.Common.{◌≡◌, ℕ, suc, Bool, true, false, if◌then◌else◌, List, [], ◌∷◌, ◌++◌, length, refl, sym, ap, subst, ◌∙◌, arith, append-nil, append_assoc, length-set, length-append, ◌⊎◌, inl, inr, Option, Some, None}
+use Rattle.std.proofs.Common.{◌≡◌, ℕ, List, [], ◌∷◌, ◌++◌, length, refl, sym, ap, subst, ◌∙◌, arith, append-nil, append_assoc, length-set, length-append, ◌⊎◌, inl, inr, Option, Some, None}
 use Rattle.std.specs.Prelude.{slice_get, slice_set}
 use Rattle.std.specs.List.{cons_option}
 use Rattle.std.proofs.lemmas.List.Elements.{filter_map-append}
-use Rattle.std.proofs.lemmas.Option.{same_Some, option_and_then_some}
+use Rattle.std.proofs.lemmas.Option.{same_Some}
 use Rattle.inp_model.specs.declared.step.Step.{Step}
 use Rattle.inp_model.specs.Description.{Description}
 use Rattle.inp_model.specs.Reply.{is_accepted, past_after}
@@ -21,14 +21,14 @@ use Rattle.inp_script.specs.Job.{ActorView}
 use Rattle.inp_script.specs.Owner.{Owning, after_feedback}
 use Rattle.inp_runs.specs.Job.{lines_by}
 use Rattle.inp_runs.specs.Owner.{rooms_of}
-use Rattle.inp_runs.proofs.LineRuns.{lines_by-more, lines_by-other}
+use Rattle.inp_runs.proofs.LinesWalk.{lines_by-more, lines_by-other}
 use Rattle.inp_runs.proofs.Lists.{eq_true, eq_false, slice_get-set, slice_get-set_same}
-use Rattle.inp_runs.specs.Play.{Stage, description_at, feedback_calls_after, after_line, after_lines}
+use Rattle.inp_runs.specs.Play.{Stage, description_at, feedback_calls_after, after_lines}
 use Rattle.inp_runs.proofs.order.Calls.{AreExact}
-use Rattle.inp_runs.proofs.owners.OwnerLaws.{IsToldByLines, told-stopped}
-use Rattle.inp_runs.proofs.order.OwnerTold.{so-far-steps, so-far-called, called-within}
-use Rattle.inp_runs.proofs.order.LineDone.{IsFedUnless, IsFedWhereAsked, IsLinePlayed, feedback-of, line-done}
-use Rattle.inp_runs.proofs.order.Stages.{IsStage, AreCommandsOf, number_is, may-do, stage-more, append_one, its_number, its_actor, actor-behind, past-behind}
+use Rattle.inp_runs.proofs.owners.OwnerLaws.{IsToldByLines, told-stopped, so-far-steps, so-far-called, called-within}
+use Rattle.inp_runs.proofs.order.LineDone.{IsFedUnless, IsFedWhereAsked, IsLinePlayed, feedback-of}
+use Rattle.inp_runs.proofs.order.Stages.{IsStage, AreCommandsOf, number_is, its_number, its_actor, actor-behind, past-behind, stages-keep}
+use Rattle.std.proofs.lemmas.Bool.{cond_both}
 
 -- What stands of owners when these lines were done.
 pub record AreOwned (r : RecordView) (lines : List Line) (stage : Stage) : Type 0 where
@@ -45,14 +45,11 @@ HasOneOwner r = (i k : ℕ) (a b : ActorText) → slice_get r.actors i ≡ Some 
 
 exact-front : (d : Description) (past after : List Step) (calls : List Call) → AreExact d past after calls → (more : List Step) × (after ≡ more ++ past)
 exact-front d past after [] e = ([], e)
-exact-front d past after (call ∷ calls) e = by_past (past_after call.answer.reply call.step past) (one (is_accepted call.answer.reply)) (exact-front d (past_after call.answer.reply call.step past) after calls e.1)
-  where
-    one : (b : Bool) → (more : List Step) × ((if b then call.step ∷ past else past) ≡ more ++ past)
-    one true = (call.step ∷ [], refl)
-    one false = ([], refl)
-
-    by_past : (between : List Step) → (more : List Step) × (between ≡ more ++ past) → (more : List Step) × (after ≡ more ++ between) → (more : List Step) × (after ≡ more ++ past)
-    by_past between front h = (h.0 ++ front.0, h.1 ∙ ap (λ (p : List Step). h.0 ++ p) front.1 ∙ sym (append_assoc h.0 front.0 past))
+exact-front d past after (call ∷ calls) e =
+    let between : List Step = past_after call.answer.reply call.step past in
+    let one : (more : List Step) × (between ≡ more ++ past) = cond_both (is_accepted call.answer.reply) _ _ (λ (p : List Step). (more : List Step) × (p ≡ more ++ past)) (λ _. (call.step ∷ [], refl)) (λ _. ([], refl)) in
+    let rest : (more : List Step) × (after ≡ more ++ between) = exact-front d between after calls e.1 in
+    (rest.0 ++ one.0, rest.1 ∙ ap (λ (p : List Step). rest.0 ++ p) one.1 ∙ sym (append_assoc rest.0 one.0 past))
 
 -- the past of a device before a line
 record IsGrown (stage : Stage) (i : ℕ) (after : List Step) : Type 0 where
@@ -62,13 +59,12 @@ record IsGrown (stage : Stage) (i : ℕ) (after : List Step) : Type 0 where
   grown : after ≡ more ++ past
 
 past-grown : (r : RecordView) (rounds : ℕ) (stage now : Stage) (line : Line) (u : IsLinePlayed r rounds stage now line) (i : ℕ) (after : List Step) → slice_get now.pasts i ≡ Some after → IsGrown stage i after
-past-grown r rounds stage now line u i after is_after = by_past (past-behind r rounds stage now line u i after is_after)
-  where
-    by_past : ((i ≡ u.text.device) × (after ≡ u.after)) ⊎ ((i ≡ u.text.device → ⊥) × (slice_get stage.pasts i ≡ Some after)) → IsGrown stage i after
-    by_past (inl behind) =
-        let front : (more : List Step) × (u.after ≡ more ++ u.past) = exact-front u.actor.description u.past u.after u.calls u.exact in
-        record { past = u.past; is_past = ap (λ (k : ℕ). slice_get stage.pasts k) behind.0 ∙ u.is_past; more = front.0; grown = behind.1 ∙ front.1 }
-    by_past (inr behind) = record { past = after; is_past = behind.1; more = []; grown = refl }
+past-grown r rounds stage now line u i after is_after = elim (past-behind r rounds stage now line u i after is_after) [
+  | inl behind ↦
+      (let front : (more : List Step) × (u.after ≡ more ++ u.past) = exact-front u.actor.description u.past u.after u.calls u.exact in
+      record { past = u.past; is_past = ap (λ (k : ℕ). slice_get stage.pasts k) behind.0 ∙ u.is_past; more = front.0; grown = behind.1 ∙ front.1 })
+  | inr behind ↦ record { past = after; is_past = behind.1; more = []; grown = refl }
+]
 
 longer-within : (past after more : List Step) (calls : List FeedbackCall) → after ≡ more ++ past → StandsWithin (length past) calls → StandsWithin (length after) calls
 longer-within past after more [] grown h = tt
@@ -115,8 +111,6 @@ rooms-line number lines line o own is =
 
 rooms-other : (number : ℕ) (lines : List Line) (line : Line) → (line.actor ≡ number → ⊥) → rooms_of (lines_by number (lines ++ line ∷ [])) ≡ rooms_of (lines_by number lines)
 rooms-other number lines line other = ap rooms_of (lines_by-other number lines line (eq_false line.actor number other))
-
--- One line
 
 within-more : (r : RecordView) (rounds : ℕ) (lines : List Line) (stage now : Stage) (line : Line) → AreOwned r lines stage → (u : IsLinePlayed r rounds stage now line)
     → (i : ℕ) (past : List Step) (calls : List FeedbackCall) → slice_get now.pasts i ≡ Some past → slice_get now.calls i ≡ Some calls → StandsWithin (length past) calls
@@ -258,13 +252,12 @@ owners-more r rounds lines stage now line s o one u feedback i a text past calls
     by_actor (inr is) = other is.0 is.1
 
 counts-more : (r : RecordView) (rounds : ℕ) (lines : List Line) (stage now : Stage) (line : Line) → AreOwned r lines stage → IsLinePlayed r rounds stage now line → length now.calls ≡ length r.devices
-counts-more r rounds lines stage now line o u = by (by-call r rounds stage now line u)
-  where
-    by : IsUncalled r rounds stage now line u ⊎ IsCalled r rounds stage now line u → length now.calls ≡ length r.devices
-    by (inl n) = ap (λ (cs : List (List FeedbackCall)). length cs) n.calls ∙ o.counts
-    by (inr c) =
-        ap (λ (cs : List (List FeedbackCall)). length cs) c.now_calls
-        ∙ length-set stage.calls u.text.device (feedback_calls_after (fed u.actor.description (kept_of u.past c.calls) c.room) c.calls) ∙ o.counts
+counts-more r rounds lines stage now line o u = elim (by-call r rounds stage now line u) [
+  | inl n ↦ ap (λ (cs : List (List FeedbackCall)). length cs) n.calls ∙ o.counts
+  | inr c ↦
+      ap (λ (cs : List (List FeedbackCall)). length cs) c.now_calls
+      ∙ length-set stage.calls u.text.device (feedback_calls_after (fed u.actor.description (kept_of u.past c.calls) c.room) c.calls) ∙ o.counts
+]
 
 owned-more : (r : RecordView) (rounds : ℕ) (lines : List Line) (stage now : Stage) (line : Line) → IsStage r rounds lines stage → AreOwned r lines stage → HasOneOwner r → (u : IsLinePlayed r rounds stage now line) → (feedback : (room : ℕ) → feedback_room line.command ≡ Some room → u.text.role ≡ Owner)
     → AreOwned r (lines ++ line ∷ []) now
@@ -274,16 +267,9 @@ owned-more r rounds lines stage now line s o one u feedback = record {
   owners = owners-more r rounds lines stage now line s o one u feedback;
 }
 
--- All lines
-
 pub owned-stages : (r : RecordView) (rounds : ℕ) (lines more : List Line) (stage last : Stage) → HasOneOwner r → IsStage r rounds lines stage → AreOwned r lines stage → AreCommandsOf r more → after_lines r rounds stage more ≡ Some last → AreOwned r (lines ++ more) last
-unfolding after_lines
-owned-stages r rounds lines [] stage last one s o commands h =
-    let same : stage ≡ last = cc in
-    subst (λ (now : Stage). AreOwned r (lines ++ []) now) same (subst (λ (ls : List Line). AreOwned r ls stage) (sym (append-nil lines)) o)
-owned-stages r rounds lines (line ∷ more) stage last one s o commands h =
-    option_and_then_some _ (after_line r rounds stage line) last h (λ now is_now rest.
-    let u : IsLinePlayed r rounds stage now line = line-done r rounds stage now line (may-do r rounds lines more stage line s commands) is_now in
-    let feedback : (room : ℕ) → feedback_room line.command ≡ Some room → u.text.role ≡ Owner = λ room is. feedback-of u.text.role line.command room is (commands 0 line u.text refl u.is_text) in
-    subst (λ (ls : List Line). AreOwned r ls last) (append_one lines line more)
-    (owned-stages r rounds (lines ++ line ∷ []) more now last one (stage-more r rounds lines stage now line s u) (owned-more r rounds lines stage now line s o one u feedback) (λ i. commands (suc i)) rest))
+owned-stages r rounds lines more stage last one s o commands h =
+    (stages-keep r rounds (AreOwned r)
+    (λ ls ms line u now k p c done. owned-more r rounds ls u now line k p one done
+    (λ room is. feedback-of done.text.role line.command room is (c 0 line done.text refl done.is_text)))
+    lines more stage last s o commands h).1

@@ -1,18 +1,18 @@
 -- What comes of a record keeps what is promised.
-use Rattle.std.proofs.Common.{◌≡◌, ℕ, zero, suc, ◌+◌, ◌*◌, ◌<◌, Bool, true, List, [], ◌∷◌, length, map, reverse, refl, sym, ap, subst, ◌∙◌, arith, Option, Some, None}
+use Rattle.std.proofs.Common.{◌≡◌, ℕ, zero, suc, ◌+◌, ◌*◌, ◌<◌, Bool, List, [], ◌∷◌, length, map, reverse, refl, sym, ap, subst, ◌∙◌, arith, Option, Some, None}
 use Rattle.std.specs.Prelude.{filter, slice_get, option_map, Result, Ok, Err, IfOk}
 use Rattle.std.specs.List.{enumerate_from, range_with_len, sum_by}
 use Rattle.std.proofs.lemmas.Bool.Decides.{nat_tests}
 use Rattle.std.proofs.lemmas.List.{length-map, length-reverse, map-id}
 use Rattle.std.proofs.lemmas.List.FromFn.{length-enumerate_from}
 use Rattle.std.proofs.lemmas.Option.{get_or_from_slice_get, same_Some, slice_get_within, slice_get-map}
-use Rattle.std.proofs.lemmas.Bool.{cond_both, eqb-true}
+use Rattle.std.proofs.lemmas.Bool.{cond_both}
 use Rattle.inp_model.specs.declared.step.Step.{Step}
 use Rattle.inp_model.specs.Description.{Description, syn_alone}
 use Rattle.inp_actors.specs.declared.actor_text.ActorText.{ActorText}
 use Rattle.inp_actors.specs.declared.device_text.DeviceText.{DeviceText}
 use Rattle.inp_actors.specs.declared.role.Role.{Role}
-use Rattle.inp_actors.specs.declared.role.Role.TheVariants.{Source, Client, Tap, Joy, Owner}
+use Rattle.inp_actors.specs.declared.role.Role.TheVariants.{Joy, Owner}
 use Rattle.inp_actors.specs.Record.{RecordView, IsRecord}
 use Rattle.inp_model.specs.History.{IsHistory}
 use Rattle.inp_feedback.specs.declared.u_entry.UEntry.{UEntry}
@@ -35,10 +35,11 @@ use Rattle.inp_runs.specs.Play.{Stage, description_at, first_actor, first_stage,
 use Rattle.inp_runs.proofs.Done.{device-promised}
 use Rattle.inp_runs.proofs.Lists.{option_map-some, slice_get-filter, slice_get-numbered, map-filter, sum_by-kept, sum_by-none}
 use Rattle.inp_runs.proofs.Entries.{entries, below}
-use Rattle.inp_runs.proofs.Played.{all-promised}
+use Rattle.inp_runs.proofs.Played.{all-promised, on_this}
 use Rattle.inp_runs.proofs.owners.OwnerLaws.{IsToldByLines, told-nothing}
 use Rattle.inp_runs.proofs.order.OwnedStages.{AreOwned, owned-stages}
 use Rattle.inp_runs.proofs.order.Stages.{IsSoFar, IsStage, weight, number_is, stages}
+pub use Rattle.inp_runs.proofs.Lists.{there-is}
 
 -- Before the first line
 
@@ -46,7 +47,7 @@ first_numbers : (r : RecordView) (first : ℕ) (texts : List ActorText) → map 
 first_numbers r first [] = refl
 first_numbers r first (text ∷ texts) = ap (λ (ns : List ℕ). first ∷ ns) (first_numbers r (first + 1) texts)
 
-first_past : (devices : List DeviceText) (i : ℕ) (past : List Step) → slice_get (map (λ (text : DeviceText). []) devices) i ≡ Some past → past ≡ []
+first_past : {X : Type 0} (devices : List DeviceText) (i : ℕ) (past : List X) → slice_get (map (λ (text : DeviceText). []) devices) i ≡ Some past → past ≡ []
 first_past [] i past h = absurd cc
 first_past (device ∷ devices) zero past h = cc
 first_past (device ∷ devices) (suc i) past h = first_past devices i past h
@@ -95,20 +96,15 @@ first-stage r rounds = record {
 
 -- no device keeps a feedback call, and no owner was told anything
 
-first_calls : (devices : List DeviceText) (i : ℕ) (calls : List FeedbackCall) → slice_get (map (λ (text : DeviceText). []) devices) i ≡ Some calls → calls ≡ []
-first_calls [] i calls h = absurd cc
-first_calls (device ∷ devices) zero calls h = cc
-first_calls (device ∷ devices) (suc i) calls h = first_calls devices i calls h
-
 first_fed : (r : RecordView) (i : ℕ) (text : ActorText) → IsToldByLines (description_at r text.device) (kept_of [] []) [] (first_actor r (i, text)).owning
 first_fed r i text = subst (λ (kept : List UEntry). IsToldByLines (description_at r text.device) kept [] first_owning) (sym kept_of-nothing) (told-nothing (description_at r text.device))
 
 first-owned : (r : RecordView) → AreOwned r [] (first_stage r)
 first-owned r = record {
   counts = length-map r.devices (λ (text : DeviceText). []);
-  within = λ i past calls is_past is_calls. subst (λ (cs : List FeedbackCall). StandsWithin (length past) cs) (sym (first_calls r.devices i calls is_calls)) tt;
+  within = λ i past calls is_past is_calls. subst (λ (cs : List FeedbackCall). StandsWithin (length past) cs) (sym (first_past r.devices i calls is_calls)) tt;
   owners = λ i a text past calls is_a is_text owner is_past is_calls.
-      subst (λ (cs : List FeedbackCall). IsToldByLines (description_at r text.device) (kept_of past cs) [] a.owning) (sym (first_calls r.devices text.device calls is_calls))
+      subst (λ (cs : List FeedbackCall). IsToldByLines (description_at r text.device) (kept_of past cs) [] a.owning) (sym (first_past r.devices text.device calls is_calls))
       (subst (λ (p : List Step). IsToldByLines (description_at r text.device) (kept_of p []) [] a.owning) (sym (first_past r.devices text.device past is_past))
       (subst (λ (b : ActorView). IsToldByLines (description_at r text.device) (kept_of [] []) [] b.owning) (first_is r i a text is_a is_text) (first_fed r i text)));
 }
@@ -146,24 +142,14 @@ so_far_on r rounds stage i device past a text s is_device is_past is_actor is_te
     let caps : description_at r text.device ≡ device.caps = ap (λ (n : ℕ). description_at r n) on ∙ description_is r i device is_device in
     subst (λ (d : Description). IsSoFar r rounds r.lines d text.role past a) caps (s.actors a.actor a text past is_actor is_text there)
 
-on_this : (device : ℕ) (o : Option ActorText) (text : ActorText) → is_on_device device o ≡ true → o ≡ Some text → text.device ≡ device
-on_this device o text h is = eqb-true text.device device (sym (ap (λ (x : Option ActorText). is_on_device device x) is) ∙ h)
-
 below_one : (place n : ℕ) → place < n → below place n ≡ 1
 below_one place n h = grind (arith, nat_tests, h)
 
 -- of an actor whose view has the device's slots
 ended_cells : (d : Description) (role : Role) (a : ActorView) → length a.job.reading.view.cells ≡ 14 * d.slots → HasDeviceSlots d (ended_as role a)
 ended_cells d Joy a cells = tt
-ended_cells d Source a cells = cells
-ended_cells d Client a cells = cells
-ended_cells d Tap a cells = cells
 ended_cells d Owner a cells = tt
-
-pub there-is : {X : Type 0} (xs : List X) (i : ℕ) → i < length xs → (x : X) × (slice_get xs i ≡ Some x)
-there-is [] i h = absurd (omega (arith, h))
-there-is (x ∷ xs) zero h = (x, refl)
-there-is (x ∷ xs) (suc i) h = there-is xs i (omega (arith, h))
+ended_cells d _ a cells = cells
 
 -- what an owner was told, by the device that it owns
 owned_on : (r : RecordView) (stage : Stage) (i : ℕ) (device : DeviceText) (past : List Step) (a : ActorView) (text : ActorText) → AreOwned r r.lines stage → slice_get r.devices i ≡ Some device → slice_get stage.pasts i ≡ Some past

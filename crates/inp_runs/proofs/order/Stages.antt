@@ -24,13 +24,13 @@ use Rattle.inp_model.proofs.Leaves.{HasPlace-longer}
 use Rattle.inp_script.proofs.Told.{sight_of_calls-append}
 use Rattle.inp_runs.specs.Job.{lines_by, lines_talk, call_lacks_memory}
 use Rattle.inp_runs.specs.Play.{Stage, description_at, after_line, after_lines}
-use Rattle.inp_runs.proofs.order.Calls.{AreExact, exact-grows, exact-legal, exact-memory, exact-within, exact-history}
+use Rattle.inp_runs.proofs.order.Calls.{AreExact, exact-grows, exact-legal, exact-memory, exact-within, exact-history, entries-gained}
 use Rattle.inp_runs.proofs.order.LineDone.{IsLinePlayed, MayDo, line-done}
-use Rattle.inp_runs.proofs.LineRuns.{lines_talk-more, lines_by-more, lines_by-other}
+use Rattle.inp_runs.proofs.LinesWalk.{lines_talk-more, lines_by-more, lines_by-other}
 use Rattle.inp_runs.proofs.memory.LineTalks.{IsKept}
 use Rattle.inp_runs.proofs.Lists.{eq_true, eq_false, slice_get-set, map-set_same, slice_get-range, sum_by-replaced}
 use Rattle.inp_runs.proofs.Entries.{entries, below}
-use Rattle.inp_runs.proofs.order.Places.{entries-gained}
+use Rattle.std.proofs.lemmas.List.Folds.{list_any-append}
 
 -- What an actor did at these lines, on a device of this description that accepted these steps.
 pub record IsSoFar (r : RecordView) (rounds : ℕ) (lines : List Line) (d : Description) (role : Role) (past : List Step) (a : ActorView) : Type 0 where
@@ -71,14 +71,6 @@ legal-longer d h k least [] begins l = tt
 legal-longer d h k least (call ∷ calls) begins l = (l.0, HasPlace-longer d h k call begins l.1, legal-longer d h k (next_place call.answer.reply) calls begins l.2)
 
 -- of an actor that did another line
-memory-append : (calls more : List Call) → list_any call_lacks_memory calls ≡ false → list_any call_lacks_memory more ≡ false → list_any call_lacks_memory (calls ++ more) ≡ false
-memory-append [] more h k = k
-memory-append (call ∷ calls) more h k = by_flag (call_lacks_memory call) (λ e. memory-append calls more e k) h
-  where
-    by_flag : (b : Bool) → (list_any call_lacks_memory calls ≡ false → list_any call_lacks_memory (calls ++ more) ≡ false) → (b || list_any call_lacks_memory calls) ≡ false → (b || list_any call_lacks_memory (calls ++ more)) ≡ false
-    by_flag true longer e = absurd cc
-    by_flag false longer e = longer e
-
 so_far-more : (r : RecordView) (rounds : ℕ) (lines : List Line) (line : Line) (d : Description) (role : Role) (past after : List Step) (a : ActorView) (job : Job) (owning : Owning) (calls : List Call) → IsSoFar r rounds lines d role past a
     → line.actor ≡ a.actor → EndsWith (line_talk a.role a.description r.streams None rounds line.command a.job) calls (Some job) → AreExact a.description past after calls → IsHistory d past → IsKept a.description job (filter is_call_entry a.job.sight ++ sight_of_calls calls)
     → IsSoFar r rounds (lines ++ line ∷ []) d role after (record a { job = job; owning = owning })
@@ -93,7 +85,9 @@ so_far-more r rounds lines line d role past after a job owning calls s own ends 
       description = s.description;
       calls = s.calls ++ calls;
       legal = exact-legal d past after s.calls calls exact_here history s.legal;
-      memory = memory-append s.calls calls s.memory (exact-memory d past after calls exact_here);
+      memory =
+          list_any-append call_lacks_memory s.calls calls ∙ ap (λ (b : Bool). b || list_any call_lacks_memory calls) s.memory
+          ∙ exact-memory d past after calls exact_here;
       told = sight_of_calls-append s.calls calls ∙ ap (λ es. es ++ sight_of_calls calls) s.told ∙ sym kept_here.1;
       follows = subst (λ (ls : List Line). EndsWith (lines_talk role d r.streams None rounds ls (first_job role d)) (s.calls ++ calls) (Some job)) (sym (lines_by-more a.actor lines line (eq_true line.actor a.actor own)))
           (lines_talk-more role d r.streams rounds (lines_by a.actor lines) line (first_job role d) a.job job s.calls calls s.follows ends_here);
@@ -113,8 +107,6 @@ so_far-other r rounds lines line d role past after a s other grows = record {
   follows = subst (λ (ls : List Line). EndsWith (lines_talk role d r.streams None rounds ls (first_job role d)) s.calls (Some a.job)) (sym (lines_by-other a.actor lines line (eq_false line.actor a.actor other))) s.follows;
   sized = s.sized;
 }
-
--- One line
 
 -- the line's actor stands at its number
 pub its_number : (r : RecordView) (rounds : ℕ) (lines : List Line) (stage now : Stage) (line : Line) → IsStage r rounds lines stage → (u : IsLinePlayed r rounds stage now line) → u.actor.actor ≡ line.actor
@@ -260,8 +252,6 @@ stage-more r rounds lines stage now line s u =
       once = once-more r rounds lines stage now line s u;
     }
 
--- All lines
-
 -- each line's command is one that its actor's role has
 abbrev pub AreCommandsOf : RecordView → List Line → Type 0
 AreCommandsOf r lines = (i : ℕ) (line : Line) (actor : ActorText) → slice_get lines i ≡ Some line → slice_get r.actors line.actor ≡ Some actor → is_command_of actor.role line.command ≡ true
@@ -273,16 +263,24 @@ may-do r rounds lines more stage line s commands room text a past is_room is_tex
       subst (λ (role : Role). is_command_of role line.command ≡ true) (sym far.role_is) (commands 0 line text refl is_text),
     )
 
-pub append_one : (lines : List Line) (line : Line) (more : List Line) → (lines ++ line ∷ []) ++ more ≡ lines ++ line ∷ more
-append_one lines line more = append_assoc lines (line ∷ []) more
-
-pub stages : (r : RecordView) (rounds : ℕ) (lines more : List Line) (stage last : Stage) → IsStage r rounds lines stage → AreCommandsOf r more → after_lines r rounds stage more ≡ Some last → IsStage r rounds (lines ++ more) last
+-- what is so of the lines so far and of their stage, where each line more keeps it
+pub stages-keep : (r : RecordView) (rounds : ℕ) (P : List Line → Stage → Type 0)
+    → ((lines more : List Line) (line : Line) (stage now : Stage) → IsStage r rounds lines stage → P lines stage → AreCommandsOf r (line ∷ more)
+    → IsLinePlayed r rounds stage now line → P (lines ++ line ∷ []) now)
+    → (lines more : List Line) (stage last : Stage) → IsStage r rounds lines stage → P lines stage → AreCommandsOf r more
+    → after_lines r rounds stage more ≡ Some last → IsStage r rounds (lines ++ more) last × P (lines ++ more) last
 unfolding after_lines
-stages r rounds lines [] stage last s commands h =
+stages-keep r rounds P keeps lines [] stage last s p commands h =
     let same : stage ≡ last = cc in
-    subst (λ (now : Stage). IsStage r rounds (lines ++ []) now) same (subst (λ (ls : List Line). IsStage r rounds ls stage) (sym (append-nil lines)) s)
-stages r rounds lines (line ∷ more) stage last s commands h =
+    let now : (ls : List Line) → Type 0 = λ ls. IsStage r rounds ls last × P ls last in
+    subst now (sym (append-nil lines)) (subst (λ (u : Stage). IsStage r rounds lines u × P lines u) same (s, p))
+stages-keep r rounds P keeps lines (line ∷ more) stage last s p commands h =
     option_and_then_some _ (after_line r rounds stage line) last h (λ now is_now rest.
     let done : IsLinePlayed r rounds stage now line = line-done r rounds stage now line (may-do r rounds lines more stage line s commands) is_now in
-    subst (λ (ls : List Line). IsStage r rounds ls last) (append_one lines line more)
-    (stages r rounds (lines ++ line ∷ []) more now last (stage-more r rounds lines stage now line s done) (λ i. commands (suc i)) rest))
+    subst (λ (ls : List Line). IsStage r rounds ls last × P ls last) (append_assoc lines (line ∷ []) more)
+    (stages-keep r rounds P keeps (lines ++ line ∷ []) more now last (stage-more r rounds lines stage now line s done)
+    (keeps lines more line stage now s p commands done) (λ i. commands (suc i)) rest))
+
+pub stages : (r : RecordView) (rounds : ℕ) (lines more : List Line) (stage last : Stage) → IsStage r rounds lines stage → AreCommandsOf r more → after_lines r rounds stage more ≡ Some last → IsStage r rounds (lines ++ more) last
+stages r rounds lines more stage last s commands h =
+    (stages-keep r rounds (λ ls u. Unit {0}) (λ ls ms line u now k p c done. tt) lines more stage last s tt commands h).0

@@ -9,11 +9,16 @@ use Rattle.inp_feedback.specs.declared.u_entry.UEntry.{UEntry}
 use Rattle.inp_feedback.specs.declared.u_entry.UEntry.TheVariants.{Made, Feedback}
 use Rattle.inp_feedback.specs.UEntry.{steps_in}
 use Rattle.inp_feedback.specs.Feedback.{feedback_queue, is_full_of_feedback, taken_by_feedback, fed, kept_after_feedback}
-use Rattle.inp_feedback.proofs.Lists.{reverse-cons}
+use Rattle.inp_feedback.proofs.Lists.{reverse-cons, steps_in-kept_of, kept_of-fed}
 use Rattle.inp_script.specs.declared.stop.Stop.{Stop}
 use Rattle.inp_script.specs.declared.stop.Stop.TheVariants.{Full as FullList}
 use Rattle.inp_script.specs.Owner.{Owning, first_owning, stop_after_answer, after_feedback}
 use Rattle.inp_runs.specs.Owner.{HasFed, EndsFed}
+use Rattle.std.proofs.lemmas.Bool.{false_from_ne_true, cond_both}
+use Rattle.inp_feedback.specs.declared.feedback_call.FeedbackCall.{FeedbackCall}
+use Rattle.inp_feedback.specs.Kept.{kept_of, StandsWithin}
+use Rattle.inp_feedback.proofs.Woven.{kept-longer}
+use Rattle.inp_runs.specs.Play.{feedback_calls_after}
 
 -- What a call leaves, takes and answers, by whether as many are kept as the log limit says
 
@@ -98,13 +103,10 @@ free-goes_on d kept room free = ap (λ (a : Fed). stop_after_answer a) (fed-free
 
 -- a device that keeps one entry more was not full
 pub grew-free : (d : Description) (kept : List UEntry) (room : ℕ) (entry : UEntry) → entry ∷ kept ≡ kept_after_feedback d kept room → is_full_of_feedback d kept ≡ false
-grew-free d kept room entry grew = by (is_full_of_feedback d kept) refl
-  where
-    by : (b : Bool) → is_full_of_feedback d kept ≡ b → is_full_of_feedback d kept ≡ false
-    by false e = e
-    by true e =
-        let same : entry ∷ kept ≡ kept = grew ∙ kept-full d kept room e in
-        absurd (omega (arith, ap length same))
+grew-free d kept room entry grew =
+    false_from_ne_true (is_full_of_feedback d kept) (λ full.
+    let same : entry ∷ kept ≡ kept = grew ∙ kept-full d kept room full in
+    omega (arith, ap length same))
 
 -- an owner all of whose calls were made goes on
 fed-goes_on : (d : Description) (kept : List UEntry) (rooms : List ℕ) (o : Owning) → HasFed d kept rooms o → o.stop ≡ None
@@ -189,3 +191,40 @@ told-stopped-so H d kept rooms room o stop goes_on stops t = record { done = t.d
 
 pub told-stopped : (d : Description) (kept : List UEntry) (rooms : List ℕ) (room : ℕ) (o : Owning) (stop : Stop) → o.stop ≡ Some stop → IsToldByLines d kept rooms o → IsToldByLines d kept (rooms ++ room ∷ []) o
 told-stopped d kept rooms room o stop stops t = told-stopped-so (HasFed d kept) d kept rooms room o stop (fed-goes_on d kept) stops t
+
+-- steps that came to be kept besides
+pub so-far-steps : (d : Description) (past after more : List Step) (calls : List FeedbackCall) (rooms : List ℕ) (last : Owning) → StandsWithin (length past) calls → after ≡ more ++ past → IsToldByLines d (kept_of past calls) rooms last
+    → IsToldByLines d (kept_of after calls) rooms last
+so-far-steps d past after more calls rooms last within grown s =
+    let whole : kept_of after calls ≡ map Made more ++ kept_of past calls = ap (λ (p : List Step). kept_of p calls) grown ∙ kept-longer more past calls within in
+    subst (λ (es : List UEntry). IsToldByLines d es rooms last) (sym whole) (told-steps d (kept_of past calls) rooms last more s)
+
+-- a call stands behind the steps that were kept when it was made
+pub called-within : (d : Description) (past : List Step) (calls : List FeedbackCall) (room : ℕ) → StandsWithin (length past) calls → StandsWithin (length past) (feedback_calls_after (fed d (kept_of past calls) room) calls)
+called-within d past calls room within =
+    cond_both (is_full_of_feedback d (kept_of past calls)) _ _ (λ x. StandsWithin (length past) (feedback_calls_after x calls))
+    (λ _. within) (λ _. omega (arith, ap length (steps_in-kept_of past calls)))
+
+-- what is kept behind a call, by the calls
+called-kept : (d : Description) (past : List Step) (calls : List FeedbackCall) (room : ℕ) → kept_of past (feedback_calls_after (fed d (kept_of past calls) room) calls) ≡ kept_after_feedback d (kept_of past calls) room
+called-kept d past calls room = by_flag (is_full_of_feedback d kept)
+  where
+    kept : List UEntry
+    kept = kept_of past calls
+
+    at : ℕ
+    at = length (steps_in kept)
+
+    count : ℕ
+    count = length (taken_by_feedback d kept room)
+
+    by_flag : (b : Bool) → kept_of past (feedback_calls_after (if b then Full at else Took at count) calls) ≡ (if b then kept else Feedback count ∷ kept)
+    by_flag true = refl
+    by_flag false = kept_of-fed past calls (record { at = at; count = count }) (ap length (steps_in-kept_of past calls))
+
+-- the owner made its call
+pub so-far-called : (d : Description) (past : List Step) (calls : List FeedbackCall) (rooms : List ℕ) (last : Owning) (room : ℕ) → last.stop ≡ None → IsToldByLines d (kept_of past calls) rooms last
+    → IsToldByLines d (kept_of past (feedback_calls_after (fed d (kept_of past calls) room) calls)) (rooms ++ room ∷ []) (after_feedback (fed d (kept_of past calls) room) (taken_by_feedback d (kept_of past calls) room) last)
+so-far-called d past calls rooms last room going s =
+    subst (λ (es : List UEntry). IsToldByLines d es (rooms ++ room ∷ []) (after_feedback (fed d (kept_of past calls) room) (taken_by_feedback d (kept_of past calls) room) last)) (sym (called-kept d past calls room))
+    (told-call d (kept_of past calls) rooms room last going s)

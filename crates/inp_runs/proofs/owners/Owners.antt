@@ -2,10 +2,10 @@
 use Rattle.std.proofs.Common.{◌≡◌, ◌⊎◌, ℕ, zero, suc, ◌+◌, ◌<◌, ◌≤◌, Bool, true, false, ◌&&◌, ◌||◌, if◌then◌else◌, nat_eq, nat_lt, List, [], ◌∷◌, ◌++◌, length, take, reverse, refl, sym, ap, subst, ◌∙◌, arith, inl, inr, Option, Some, None}
 use Rattle.std.specs.Prelude.{slice_get}
 use Rattle.std.specs.List.{list_any, sum_by}
-use Rattle.std.proofs.lemmas.Bool.{true≢false, cases_lt, cond-true, lt-ltb, eqb-true}
+use Rattle.std.proofs.lemmas.Bool.{true≢false, cases_lt, cond-true, lt-ltb, eqb-true, and_from, and_parts, cases_Bool}
 use Rattle.std.proofs.lemmas.List.{reverse-append, length-reverse, length-take, take_all}
-use Rattle.std.proofs.lemmas.List.Sums.{sum_by-cons}
-use Rattle.std.proofs.lemmas.Option.{slice_get_within, same_Some}
+use Rattle.std.proofs.lemmas.List.Sums.{sum_by-cons, get_or-le-sum_by}
+use Rattle.std.proofs.lemmas.Option.{slice_get_within, same_Some, get_or_from_slice_get}
 use Rattle.inp_model.specs.declared.limits.TheConstants.{LOG_MAX}
 use Rattle.inp_model.specs.declared.stamped.Stamped.{Stamped}
 use Rattle.inp_model.specs.declared.step.Step.{Step}
@@ -14,10 +14,10 @@ use Rattle.inp_model.specs.declared.reply.Reply.{Reply}
 use Rattle.inp_model.specs.declared.reply.Reply.TheVariants.{Opened, Refused}
 use Rattle.inp_model.specs.declared.reply.Refusal.TheVariants.{NoMemory}
 use Rattle.inp_model.specs.Description.{Description, IsDescription}
-use Rattle.inp_model.specs.Past.{past_at, opens}
-use Rattle.inp_model.specs.Reply.{Answer, IsAnswer, answer_by, accepted, refused, is_accepted}
+use Rattle.inp_model.specs.Past.{past_at, opens, is_open}
+use Rattle.inp_model.specs.Reply.{Answer, IsAnswer, answer_by, accepted, refused, is_accepted, is_bad_client}
 use Rattle.inp_model.specs.Run.{Call, HasPlace, IsLegalFrom, IsLegalRun, place_of, next_place}
-use Rattle.inp_model.specs.Step.{client_of, is_open_step}
+use Rattle.inp_model.specs.Step.{client_of, is_same}
 use Rattle.inp_actors.specs.declared.line.Line.{Line}
 use Rattle.inp_actors.specs.declared.role.Role.{Role}
 use Rattle.inp_model.proofs.Opens.{opens-le}
@@ -34,6 +34,9 @@ use Rattle.inp_runs.specs.Job.{lines_talk, entries_at, AreTold}
 use Rattle.inp_runs.proofs.Entries.{entries, entries-cons_call, told-counts}
 use Rattle.inp_runs.proofs.views.JobClients.{NameLast, job-names}
 use Rattle.inp_runs.proofs.Lists.{eq_true}
+use Rattle.inp_reader.proofs.StandsAfterTalks.{opens-steps, open-opens}
+use Rattle.inp_reader.specs.ReaderPlace.{is_use, is_use_of}
+use Rattle.inp_model.proofs.Allowed.{named_open, head_fails}
 
 -- The calls of a job: a legal run of the history, with the places of those that its sight tells of, and each names no client
 -- but the one that the job opened last.
@@ -63,13 +66,7 @@ short-history d history is h =
 -- Sums of one
 
 term-within : {X : Type 0} (f : X → ℕ) (xs : List X) (i : ℕ) (x : X) → slice_get xs i ≡ Some x → f x ≤ sum_by f xs
-term-within f [] i x h = absurd cc
-term-within f (z ∷ xs) zero x h =
-    let same : z ≡ x = cc in
-    omega (arith, ap f same, sum_by-cons f z xs)
-term-within f (z ∷ xs) (suc i) x h =
-    let more : f x ≤ sum_by f xs = term-within f xs i x h in
-    omega (arith, more, sum_by-cons f z xs)
+term-within f xs i x h = omega (arith, get_or-le-sum_by f xs i x (slice_get_within xs i x h), ap f (get_or_from_slice_get xs i x x h))
 
 -- where a sum is one at most, one item alone counts
 only-one : {X : Type 0} (f : X → ℕ) (xs : List X) (i k : ℕ) (x y : X) → slice_get xs i ≡ Some x → slice_get xs k ≡ Some y → sum_by f xs ≤ 1 → 1 ≤ f x → 1 ≤ f y → x ≡ y
@@ -102,12 +99,8 @@ has-one f (z ∷ xs) h = elim (cases_lt 0 (f z)) [
       record { index = suc more.index; item = more.item; is = more.is; some = more.some })
 ]
 
--- Places
-
 one-if : (a b : Bool) → a ≡ true → b ≡ true → ◌≡◌ {A = ℕ} (if a && b then 1 else 0) 1
-one-if true true h k = refl
-one-if true false h k = absurd (true≢false (sym k))
-one-if false b h k = absurd (true≢false (sym h))
+one-if a b h k = cond-true (a && b) 1 0 (and_from a b h k)
 
 place-counts : (place : ℕ) (calls : List Call) → IsPlaceOf place calls → 1 ≤ entries place (sight_of_calls calls)
 unfolding IsPlaceOf
@@ -129,8 +122,6 @@ counts-place place (call ∷ calls) h =
     by true true e f n more k = inl (e, eqb-true (place_of call.answer.reply) place f)
     by true false e f n more k = inr (more (omega (arith, k)))
     by false b e f n more k = inr (more (omega (arith, k)))
-
--- Openings
 
 -- the reply opened this client
 abbrev pub is_opening_of : ℕ → Reply → Bool
@@ -184,15 +175,13 @@ opened-here d history client call calls _ is placed same = absurd (true≢false 
 pub opened-at : (d : Description) (history : List Step) (least client : ℕ) (calls : List Call) → IsLegalFrom d history least calls → list_any (is_opened_as client) calls ≡ true → IsOpenedAt history client calls
 unfolding IsPlaceOf
 opened-at d history least client [] legal h = absurd (true≢false (sym h))
-opened-at d history least client (call ∷ calls) legal h =
-    by (is_opened_as client call) refl (λ more. later (opened-at d history (next_place call.answer.reply) client calls legal.2 more)) h
-  where
-    later : IsOpenedAt history client calls → IsOpenedAt history client (call ∷ calls)
-    later o = record { place = o.place; of_calls = inr o.of_calls; is_open = o.is_open; number = o.number }
-
-    by : (b : Bool) → is_opened_as client call ≡ b → (list_any (is_opened_as client) calls ≡ true → IsOpenedAt history client (call ∷ calls)) → (b || list_any (is_opened_as client) calls) ≡ true → IsOpenedAt history client (call ∷ calls)
-    by true e more k = opened-here d history client call calls call.answer.reply refl legal.1 e
-    by false e more k = more k
+opened-at d history least client (call ∷ calls) legal h = elim (cases_Bool (is_opened_as client call)) [
+  | inl e ↦ opened-here d history client call calls call.answer.reply refl legal.1 e
+  | inr e ↦
+      (let more = sym (ap (λ (b : Bool). b || list_any (is_opened_as client) calls) e) ∙ h in
+      let o : IsOpenedAt history client calls = opened-at d history (next_place call.answer.reply) client calls legal.2 more in
+      record { place = o.place; of_calls = inr o.of_calls; is_open = o.is_open; number = o.number })
+]
 
 -- Pasts of a history
 
@@ -219,23 +208,15 @@ take-next (y ∷ history) (suc at) x h = ap (λ (xs : List Step). y ∷ xs) (tak
 pub past-next : (history : List Step) (at : ℕ) (x : Step) → slice_get history at ≡ Some x → past_at history (suc at) ≡ x ∷ past_at history at
 past-next history at x h = ap (λ (xs : List Step). reverse xs) (take-next history at x h) ∙ reverse-append (take at history) (x ∷ [])
 
-opens-more : (b : Bool) (n m : ℕ) → n ≤ m → n ≤ (if b then suc m else m)
-opens-more true n m h = omega (arith, h)
-opens-more false n m h = h
-
-opens-grow : (more past : List Step) → opens past ≤ opens (more ++ past)
-unfolding opens
-opens-grow [] past = omega arith
-opens-grow (x ∷ more) past = opens-more (is_open_step x) (opens past) (opens (more ++ past)) (opens-grow more past)
-
 -- each Open has a client of its own
 opens-rise : (history : List Step) (at upto : ℕ) → slice_get history at ≡ Some Open → suc at ≤ upto → opens (past_at history at) < opens (past_at history upto)
-unfolding opens
 opens-rise history at upto is h =
-    let next : opens (past_at history (suc at)) ≡ suc (opens (past_at history at)) = ap opens (past-next history at Open is) in
+    let before : List Step = past_at history at in
+    let next : opens before < opens (past_at history (suc at)) =
+    subst (λ (p : List Step). opens before < opens p) (sym (past-next history at Open is)) (open-opens before (opens before) refl) in
     let later = past-grows history (suc at) upto h in
-    let grown : opens (past_at history (suc at)) ≤ opens (later.0 ++ past_at history (suc at)) = opens-grow later.0 (past_at history (suc at)) in
-    omega (arith, next, grown, ap opens later.1)
+    subst (λ (p : List Step). opens before < opens p) (sym later.1)
+    (opens-steps (past_at history (suc at)) later.0 (opens before) next)
 
 -- a client is opened at one place
 pub opened-once : (history : List Step) (one other : ℕ) → slice_get history one ≡ Some Open → slice_get history other ≡ Some Open → opens (past_at history one) ≡ opens (past_at history other) → one ≡ other
@@ -261,13 +242,9 @@ after-or Open (Opened at opened ring) last client h = inr (eq_true opened client
 after-or Open _ last client h = inl h
 after-or _ reply last client h = inl h
 
-or-true : (b c : Bool) → c ≡ true → (b || c) ≡ true
+pub or-true : (b c : Bool) → c ≡ true → (b || c) ≡ true
 or-true true c h = refl
 or-true false c h = h
-
-or-first : (b c : Bool) → b ≡ true → (b || c) ≡ true
-or-first true c h = refl
-or-first false c h = absurd (true≢false (sym h))
 
 -- the calls of a job that enter it are those of the client that it opened last
 names-opened : (d : Description) (history : List Step) (least last place client : ℕ) (x : Step) (calls : List Call) → IsLegalFrom d history least calls → NameLast last calls → IsPlaceOf place calls → slice_get history place ≡ Some x → client_of x ≡ Some client → (client ≡ NO_CLIENT → ⊥)
@@ -278,21 +255,13 @@ names-opened d history least last place client x (call ∷ calls) legal names (i
     let reply : Reply = call.answer.reply in
     let entered : slice_get history (place_of reply) ≡ Some call.step = (let p : HasPlace d history call = legal.1 in p.entered same.0) in
     let step : call.step ≡ x = same_Some call.step x (sym entered ∙ ap (λ (n : ℕ). slice_get history n) same.1 ∙ at) in
-    by (names.0 client (ap client_of step ∙ is))
-  where
-    by : (client ≡ last) ⊎ (client ≡ NO_CLIENT) → (last ≡ client) ⊎ (list_any (is_opened_as client) (call ∷ calls) ≡ true)
-    by (inl e) = inl (sym e)
-    by (inr e) = absurd (other e)
+    elim (names.0 client (ap client_of step ∙ is)) [ inl e ↦ inl (sym e) | inr e ↦ absurd (other e) ]
 names-opened d history least last place client x (call ∷ calls) legal names (inr h) at is other =
-    by (names-opened d history (next_place call.answer.reply) (tap_client_after call.step call.answer.reply last) place client x calls legal.2 names.1 h at is other)
-  where
-    or : (last ≡ client) ⊎ (is_opening_of client call.answer.reply ≡ true) → (last ≡ client) ⊎ (list_any (is_opened_as client) (call ∷ calls) ≡ true)
-    or (inl e) = inl e
-    or (inr e) = inr (or-first (is_opened_as client call) (list_any (is_opened_as client) calls) e)
-
-    by : (tap_client_after call.step call.answer.reply last ≡ client) ⊎ (list_any (is_opened_as client) calls ≡ true) → (last ≡ client) ⊎ (list_any (is_opened_as client) (call ∷ calls) ≡ true)
-    by (inl e) = or (after-or call.step call.answer.reply last client e)
-    by (inr e) = inr (or-true (is_opened_as client call) (list_any (is_opened_as client) calls) e)
+    let later : Bool = list_any (is_opened_as client) calls in
+    elim (names-opened d history (next_place call.answer.reply) (tap_client_after call.step call.answer.reply last) place client x calls legal.2 names.1 h at is other) [
+      | inl e ↦ elim (after-or call.step call.answer.reply last client e) [ inl same ↦ inl same | inr here ↦ inr (ap (λ (b : Bool). b || later) here) ]
+      | inr e ↦ inr (or-true (is_opened_as client call) later e)
+    ]
 
 -- one accepted call of one job has each place of the history
 one-there : (d : Description) (history : List Step) (jobs : List JobView) (place : ℕ) (x : Step) → HasOwners d history jobs → slice_get history place ≡ Some x → entries_at place jobs ≡ 1
@@ -311,12 +280,9 @@ opened-by-one d history jobs i k client one other a b owners is_one is_other h j
     let o : IsOpenedAt history client a.calls = opened-at d history 0 client a.calls a.legal h in
     let p : IsOpenedAt history client b.calls = opened-at d history 0 client b.calls b.legal j in
     let same : p.place ≡ o.place = opened-once history p.place o.place p.is_open o.is_open (sym p.number ∙ o.number) in
-    let there : IsPlaceOf o.place b.calls = at_place p.place o.place b.calls same p.of_calls in
+    let there : IsPlaceOf o.place b.calls = subst (λ (n : ℕ). IsPlaceOf n b.calls) same p.of_calls in
     let sum : entries_at o.place jobs ≡ 1 = one-there d history jobs o.place Open owners o.is_open in
     only-one (λ (job : JobView). entries o.place job.sight) jobs i k one other is_one is_other (omega (arith, sum)) (counts-at d history o.place one a o.of_calls) (counts-at d history o.place other b there)
-  where
-    at_place : (m n : ℕ) (calls : List Call) → m ≡ n → IsPlaceOf m calls → IsPlaceOf n calls
-    at_place m n calls same h = subst (λ (l : ℕ). IsPlaceOf l calls) same h
 
 -- the job that made the step at a place
 record IsMaker (d : Description) (history : List Step) (jobs : List JobView) (place : ℕ) : Type 0 where
@@ -342,11 +308,7 @@ maker-of d history jobs place x owners at =
 -- what made a step that names an opened client opened it
 maker-opens : (d : Description) (history : List Step) (client place : ℕ) (x : Step) (job : JobView) (a : AreCallsOf d history job) → IsPlaceOf place a.calls → slice_get history place ≡ Some x → client_of x ≡ Some client → (client ≡ NO_CLIENT → ⊥) → list_any (is_opened_as client) a.calls ≡ true
 maker-opens d history client place x job a made at names other =
-    by (names-opened d history 0 NO_CLIENT place client x a.calls a.legal a.names made at names other)
-  where
-    by : (NO_CLIENT ≡ client) ⊎ (list_any (is_opened_as client) a.calls ≡ true) → list_any (is_opened_as client) a.calls ≡ true
-    by (inl is) = absurd (other (sym is))
-    by (inr h) = h
+    elim (names-opened d history 0 NO_CLIENT place client x a.calls a.legal a.names made at names other) [ inl is ↦ absurd (other (sym is)) | inr h ↦ h ]
 
 place-moves : (place : ℕ) (one other : JobView) (calls more : List Call) → entries place (sight_of_calls calls) ≡ entries place one.sight → entries place (sight_of_calls more) ≡ entries place other.sight → one ≡ other → IsPlaceOf place calls → IsPlaceOf place more
 place-moves place one other calls more told also same h =
@@ -399,3 +361,27 @@ history-at d history jobs (suc n) owners = by (slice_get history n) refl (histor
 pub history-of-jobs : (d : Description) (history : List Step) (jobs : List JobView) → HasOwners d history jobs → IsHistory d (reverse history)
 history-of-jobs d history jobs owners =
     subst (λ (xs : List Step). IsHistory d (reverse xs)) (take_all (length history) history (omega arith)) (history-at d history jobs (length history) owners)
+
+-- each use of a client that these calls opened is one of them
+abbrev pub OwnsItsUses : List Step → List Call → Type 0
+OwnsItsUses history calls =
+    (client place : ℕ) (x : Step) → list_any (is_opened_as client) calls ≡ true → slice_get history place ≡ Some x → is_use_of client x ≡ true → IsPlaceOf place calls
+
+same-client : (o : Option ℕ) (client : ℕ) → is_same o client ≡ true → o ≡ Some client
+same-client None client h = absurd (true≢false (sym h))
+same-client (Some named) client h = ap (λ (n : ℕ). Some n) (eqb-true named client h)
+
+-- a use of a client names it
+pub use-names : (client : ℕ) (x : Step) → is_use_of client x ≡ true → client_of x ≡ Some client
+use-names client x h =
+    let both : (is_use x ≡ true) × (is_same (client_of x) client ≡ true) = and_parts (is_use x) (is_same (client_of x) client) h in
+    same-client (client_of x) client both.1
+
+pub own-uses : (role : Role) (d : Description) (history : List Step) (streams : List (List Stamped)) (wait : Option Waiting) (rounds : ℕ) (lines : List Line) (jobs : List JobView) (i : ℕ) (job : JobView) (last : Job) (calls : List Call) → HasOwners d history jobs → slice_get jobs i ≡ Some job
+    → IsLegalRun d history calls → AreTold wait calls job.sight → EndsWith (lines_talk role d streams wait rounds lines (first_job role d)) calls (Some last) → OwnsItsUses history calls
+own-uses role d history streams wait rounds lines jobs i job last calls owners is_job legal told follows = λ client place x opened at used.
+    own-steps d history jobs i job (record { calls = calls; legal = legal; told = told-counts wait calls job.sight told; names = (job-names role d streams wait rounds lines last calls follows).0 }) client place x owners is_job opened at (use-names client x used)
+
+-- a step that names a client and is not refused has one that is open
+pub names-open : (d : Description) (past : List Step) (x : Step) (client : ℕ) → refused d past x ≡ None → client_of x ≡ Some client → is_open past client ≡ true
+names-open d past x client accepts names = named_open past x client names (head_fails (is_bad_client past (client_of x)) _ _ accepts)

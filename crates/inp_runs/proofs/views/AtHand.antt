@@ -1,37 +1,161 @@
 -- The events that a reader has at hand are the last ones that its client took, and the index of the next is its own.
-use Rattle.std.proofs.Common.{◌≡◌, ◌⊎◌, inl, inr, ℕ, suc, ◌+◌, ◌-◌, Bool, true, false, if◌then◌else◌, List, [], ◌∷◌, ◌++◌, length, map, drop, reverse, refl, sym, ap, subst, ◌∙◌, arith, append-nil, append_assoc, length-append, Option, Some, None}
-use Rattle.std.specs.Prelude.{slice_get, option_map}
-use Rattle.std.proofs.lemmas.Bool.{false≢true, eq-eqb}
-use Rattle.std.proofs.lemmas.List.{length-map, map-append}
+use Rattle.std.proofs.Common.{◌≡◌, ℕ, suc, ◌+◌, Bool, true, false, ◌&&◌, if◌then◌else◌, List, [], ◌∷◌, ◌++◌, length, map, refl, ap, ◌∙◌, arith, Option, Some, ◌⊎◌, inl, inr, subst, ◌-◌, drop, reverse, sym, append-nil, append_assoc, length-append, None}
+use Rattle.std.specs.Prelude.{option_map, Result, Ok, Err, slice_get}
+use Rattle.std.proofs.lemmas.Bool.{true≢false, false≢true, eq-eqb}
 use Rattle.inp_model.specs.declared.taken.Taken.{Taken}
 use Rattle.inp_model.specs.declared.step.Step.{Step}
 use Rattle.inp_model.specs.declared.step.Step.TheVariants.{Read}
 use Rattle.inp_model.specs.declared.reply.Reply.{Reply}
+use Rattle.inp_model.specs.declared.reply.Reply.TheVariants.{Again as NothingVisible}
+use Rattle.inp_model.specs.Reply.{is_accepted, Answer, IsAnswer, answer, refused, taken_of}
+use Rattle.inp_model.specs.Run.{place_of, Call, HasPlace, next_place}
+use Rattle.inp_model.specs.Step.{client_of}
+use Rattle.inp_reader.specs.ReaderPlace.{is_use, is_read, is_use_of}
+use Rattle.inp_script.specs.declared.sight.Sight.{Sight}
+use Rattle.inp_script.specs.declared.sight.Sight.TheVariants.{Took}
+use Rattle.inp_script.specs.Sight.{call_sight, again_sight, taken_sight}
+use Rattle.inp_runs.specs.JobViews.{LastRead, is_read_as, read_after_entry, read_after_sight, IsOwnEvent, reads_as, index_behind, index_in_history, ShowsAt}
 use Rattle.inp_model.specs.Description.{Description}
+use Rattle.inp_recon.specs.declared.view.View.{View}
+use Rattle.inp_reader.specs.declared.mode.Mode.{Mode}
+use Rattle.inp_reader.specs.declared.next.Next.{Next}
+use Rattle.inp_reader.specs.declared.next.Next.TheVariants.{Success, Dropped}
+use Rattle.inp_reader.specs.Reader.{Reading, stop_of, sync_talk, next_talk}
+use Rattle.inp_reader.specs.Talk.{EndsWith}
+use Rattle.inp_reader.proofs.Meets.{Any, Listed, listed-run, meets-always}
+use Rattle.inp_reader.proofs.NextWalk.{Renewed, NextRules, next-ends, stop-cases}
+use Rattle.std.proofs.lemmas.List.{length-map, map-append}
 use Rattle.inp_model.specs.Past.{past_at}
 use Rattle.inp_model.specs.Queue.{Entry, taken_by, took, took_with}
-use Rattle.inp_model.specs.Reply.{Answer, IsAnswer, answer, refused, is_accepted, taken_of}
-use Rattle.inp_model.specs.Run.{Call, HasPlace, place_of, next_place}
-use Rattle.inp_recon.specs.declared.view.View.{View}
 use Rattle.inp_recon.specs.Synchronised.{is_dropped}
 use Rattle.inp_recon.proofs.ReadEntries.{entry-took}
 use Rattle.inp_model.specs.Left.{eaten}
 use Rattle.inp_runs.specs.LossCauses.{IsCausedAt}
 use Rattle.inp_runs.proofs.losses.Causes.{all_taken-caused}
-use Rattle.inp_reader.specs.ReaderPlace.{is_use_of}
 use Rattle.inp_model.proofs.Refused.{unrefused_by}
 use Rattle.inp_reader.proofs.ClientViews.{idle-taken, used-taken}
 use Rattle.inp_reader.proofs.PastsAtCalls.{AreQuiet, IsMet}
-use Rattle.inp_script.specs.declared.sight.Sight.{Sight}
-use Rattle.inp_script.specs.declared.sight.Sight.TheVariants.{Took}
-use Rattle.inp_script.specs.Sight.{call_sight, again_sight, taken_sight}
 use Rattle.inp_script.proofs.Told.{noted_sight}
-use Rattle.inp_runs.specs.JobViews.{LastRead, IsOwnEvent, reads_as, is_read_as, read_after_sight, index_behind, index_in_history, ShowsAt}
 use Rattle.inp_runs.specs.Losses.{HasLossCause}
-use Rattle.inp_runs.proofs.views.LastReads.{one_event_more, read_after-append, read_after-took, read_after-read, read_after-call, read_after-takens}
-use Rattle.inp_runs.proofs.views.QueueSources.{ComeFrom}
 use Rattle.inp_runs.proofs.views.Reports.{whole-past, AreToCome, to-come-behind, past-entered, place_behind, place_behind-append}
 use Rattle.inp_joy.proofs.Lists.{slice_get-left}
+
+-- one event more behind a read
+abbrev pub one_event_more : LastRead → LastRead
+one_event_more read = record read { events = suc read.events }
+
+pub read_after-append : (client : ℕ) (last : Option LastRead) (xs ys : List Sight) → read_after_sight client last (xs ++ ys) ≡ read_after_sight client (read_after_sight client last xs) ys
+unfolding read_after_sight
+read_after-append client last [] ys = refl
+read_after-append client last (entry ∷ xs) ys = read_after-append client (read_after_entry client last entry) xs ys
+
+pub read_after-took : (client : ℕ) (last : Option LastRead) (taken : Taken) → read_after_sight client last (Took taken ∷ []) ≡ option_map one_event_more last
+unfolding read_after_sight
+read_after-took client last taken = refl
+
+-- a step that is no read as this client is not the last one
+kept-if : (own good : Bool) (read : LastRead) (last : Option LastRead) → own ≡ false → (if own && good then Some read else last) ≡ last
+kept-if own good read last h = ap (λ (b : Bool). if b && good then Some read else last) h
+
+pub read_after-other : (client : ℕ) (last : Option LastRead) (x : Step) (reply : Reply) → is_read_as client x ≡ false → read_after_sight client last (call_sight x reply) ≡ last
+unfolding read_after_sight
+read_after-other client last x (NothingVisible at n) h = refl
+read_after-other client last x reply h = kept-if (is_read_as client x) (is_accepted reply) (record { place = place_of reply; events = 0 }) last h
+
+pub read_after-told : (client : ℕ) (last : Option LastRead) (x : Step) (reply : Reply) → is_read_as client x ≡ false → read_after_sight client last (call_sight x reply ++ again_sight reply) ≡ last
+unfolding read_after_sight
+read_after-told client last x (NothingVisible at n) h = refl
+read_after-told client last x reply h = kept-if (is_read_as client x) (is_accepted reply) (record { place = place_of reply; events = 0 }) last h
+
+-- an accepted read as this client is the last one
+read-if : (own good : Bool) (read : LastRead) (last : Option LastRead) → own ≡ true → good ≡ true → (if own && good then Some read else last) ≡ Some read
+read-if own good read last h k = ap (λ (b : Bool). if b && good then Some read else last) h ∙ ap (λ (b : Bool). if b then Some read else last) k
+
+pub read_after-read : (client : ℕ) (last : Option LastRead) (x : Step) (reply : Reply) → is_read_as client x ≡ true → is_accepted reply ≡ true
+    → read_after_sight client last (call_sight x reply ++ again_sight reply) ≡ Some (record { place = place_of reply; events = 0 })
+unfolding read_after_sight
+read_after-read client last x (NothingVisible at n) h k = absurd (false≢true k)
+read_after-read client last x reply h k = read-if (is_read_as client x) (is_accepted reply) (record { place = place_of reply; events = 0 }) last h k
+
+pub read_after-call : (client : ℕ) (last : Option LastRead) (x : Step) (reply : Reply) → is_read_as client x ≡ true → is_accepted reply ≡ true
+    → read_after_sight client last (call_sight x reply) ≡ Some (record { place = place_of reply; events = 0 })
+unfolding read_after_sight
+read_after-call client last x (NothingVisible at n) h k = absurd (false≢true k)
+read_after-call client last x reply h k = read-if (is_read_as client x) (is_accepted reply) (record { place = place_of reply; events = 0 }) last h k
+
+-- the events of a read stand behind it
+pub read_after-takens : (client place events : ℕ) (taken : List Taken) → read_after_sight client (Some (record { place = place; events = events })) (map taken_sight taken) ≡ Some (record { place = place; events = events + length taken })
+unfolding read_after_sight
+read_after-takens client place events [] =
+    let same : events ≡ events + 0 = omega arith in
+    ap (λ (n : ℕ). Some (record { place = place; events = n })) same
+read_after-takens client place events (t ∷ taken) =
+    let same : suc events + length taken ≡ events + suc (length taken) = omega arith in
+    read_after-takens client place (suc events) taken ∙ ap (λ (n : ℕ). Some (record { place = place; events = n })) same
+
+-- a read of a client is one as this client
+pub read-as : (client : ℕ) (x : Step) → is_read x ≡ true → client_of x ≡ Some client → is_read_as client x ≡ true
+read-as client (Read named count) h is = let same : named ≡ client = (let e : Some named ≡ Some client = is in cc) in eq-eqb named client same
+read-as client _ h is = absurd (false≢true h)
+
+-- a step that reads nothing is no read
+pub unused-unread : (client : ℕ) (x : Step) → is_use x ≡ false → is_read_as client x ≡ false
+unused-unread client (Read named count) h = absurd (true≢false h)
+unused-unread client _ h = refl
+
+-- the queue before the event of this answer was handed out
+abbrev pub with_handed : Next → List Taken → List Taken
+with_handed (Success taken) queue = taken ∷ queue
+with_handed (Dropped taken) queue = taken ∷ queue
+with_handed _ queue = queue
+
+-- The last of these calls is an accepted read, and gave these events.
+pub record EndsWithRead (client : ℕ) (calls : List Call) (events : List Taken) : Type 0 where
+  pub first : List Call
+  pub read : Call
+  pub whole : calls ≡ first ++ read ∷ []
+  pub step : read.step ≡ Read client 64
+  pub accepted : is_accepted read.answer.reply ≡ true
+  pub given : read.answer.events ≡ events
+
+-- there is none, or no call was made and they are those of before, or the last call read them
+abbrev pub ComeFrom : ℕ → List Taken → List Call → List Taken → Type 0
+ComeFrom client old calls events = (events ≡ []) ⊎ (((calls ≡ []) × (events ≡ old)) ⊎ EndsWithRead client calls events)
+
+-- what a reader has at hand, behind these calls
+abbrev IsSourced : ℕ → List Taken → List Call → Reading → Type 0
+IsSourced client old calls r = (r.client ≡ client) × ComeFrom client old calls r.queue
+
+-- and with the event that it handed out
+abbrev HandsSourced : ℕ → List Taken → List Call → Next × Reading → Type 0
+HandsSourced client old calls o = ComeFrom client old calls (with_handed o.0 o.1.queue)
+
+-- a stop is no event
+stopped : (reply : Reply) (queue : List Taken) → with_handed (stop_of reply) queue ≡ queue
+stopped reply queue = stop-cases (λ next. with_handed next queue ≡ queue) reply (λ at ends is. refl) refl refl (λ at. refl)
+
+sourced-rules : (client : ℕ) (old : List Taken) (d : Description) (mode : Mode) → NextRules Any Listed (IsSourced client old) (HandsSourced client old) d mode
+sourced-rules client old d mode = record {
+  asks_read = λ s r h. tt;
+  reads = λ s t r a h plain empty by is. (h.0, inr (inr (record { first = s; read = record { step = Read r.client 64; answer = a }; whole = by; step = ap (λ (n : ℕ). Read n 64) h.0; accepted = is; given = refl })));
+  stops = λ s t r a h plain empty by is. inl (stopped a.reply r.queue ∙ empty);
+  hands = λ s r taken rest h plain q is. subst (λ (ts : List Taken). ComeFrom client old s ts) q h.1;
+  loses = λ s r taken rest h plain q is. subst (λ (ts : List Taken). ComeFrom client old s ts) q h.1;
+  empty = λ s r h plain q. h.1;
+  idles = λ s r h plain is. h.1;
+  syncs = λ s r h needed. meets-always Listed (Renewed (IsSourced client old) (HandsSourced client old) r) s (sync_talk d r) (renewed r h.0);
+  makes = λ s r event left h handing sync is. h.1;
+  made_all = λ s r h handing sync is. h.1;
+  goes_on = λ s r h handing is. h;
+}
+  where
+    renewed : (r : Reading) → r.client ≡ client → (t : List Call) (asked : Result View Reply) → Renewed (IsSourced client old) (HandsSourced client old) r t asked
+    renewed r same t (Ok view) = (same, inl refl)
+    renewed r same t (Err reply) = inl (stopped reply [])
+
+pub next-sources : (d : Description) (mode : Mode) (r s : Reading) (next : Next) (calls : List Call) → EndsWith (next_talk d mode r) calls (next, s) → ComeFrom r.client r.queue calls (with_handed next s.queue)
+next-sources d mode r s next calls ends =
+    next-ends Any Listed (IsSourced r.client r.queue) (HandsSourced r.client r.queue) d mode (sourced-rules r.client r.queue d mode) [] calls r calls (next, s) (refl, inr (inl (refl, refl))) (listed-run [] calls) ends
 
 -- ---- an event that a job took
 

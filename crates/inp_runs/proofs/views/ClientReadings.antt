@@ -1,7 +1,7 @@
 -- Where a client's reader stands in the history of its device, and what an event shows that it hands out.
-use Rattle.std.proofs.Common.{◌≡◌, ◌≤◌, ◌<◌, ◌⊎◌, inl, inr, ℕ, suc, Bool, true, false, List, [], ◌∷◌, ◌++◌, length, map, take, reverse, refl, sym, ap, subst, ◌∙◌, arith, append-nil, Option, Some, None}
+use Rattle.std.proofs.Common.{◌≡◌, ◌<◌, ◌⊎◌, inl, inr, ℕ, suc, true, false, List, [], ◌∷◌, ◌++◌, length, map, take, reverse, refl, sym, ap, subst, ◌∙◌, arith, append-nil, Option, Some, None}
 use Rattle.std.specs.Prelude.{Result, Ok, Err, slice_get}
-use Rattle.std.proofs.lemmas.Bool.{true≢false, cond-true}
+use Rattle.std.proofs.lemmas.Bool.{true≢false, cond-true, false_from_ne_true}
 use Rattle.std.proofs.lemmas.List.{length-reverse, length-take}
 use Rattle.inp_model.specs.declared.taken.Taken.{Taken}
 use Rattle.inp_model.specs.declared.step.Step.{Step}
@@ -44,14 +44,10 @@ use Rattle.inp_script.specs.declared.sight.Sight.{Sight}
 use Rattle.inp_script.specs.Sight.{call_sight}
 use Rattle.inp_script.proofs.Told.{noted_sight}
 use Rattle.inp_runs.specs.JobViews.{LastRead, AgreesIn, ShowsAt, is_read_as, read_after_sight}
-use Rattle.inp_runs.proofs.views.AtHand.{AreAtHand, hand-kept, met-took}
-use Rattle.inp_runs.proofs.views.LastReads.{read_after-other}
-use Rattle.inp_runs.proofs.owners.Owners.{opened-exact, past-next}
-use Rattle.inp_runs.proofs.owners.OwnUses.{names-open}
+use Rattle.inp_runs.proofs.views.AtHand.{AreAtHand, hand-kept, met-took, read_after-other}
+use Rattle.inp_runs.proofs.owners.Owners.{opened-exact, past-next, names-open}
 use Rattle.inp_runs.proofs.views.Reports.{HasNoOthers, no-others-at, agrees-had, sized-at, shows-later, whole-past, history-at, place_behind, AreToCome, to-come-next, call-met, calls-met}
 use Rattle.inp_model.proofs.Refused.{accepted-unrefused}
-
--- An event that was handed out
 
 agrees-back : (d : Description) (v w : View) → AgreesIn d v w → AgreesIn d w v
 agrees-back d v w a = record {
@@ -80,8 +76,6 @@ handed-shows d past r t history spare out =
           (agrees-had d (view_at d r.client e.at) r.view (agree-then d past r t e.at out history e.is_at) (no-others-at d past r.client i e.at history e.is_at) bare (sized-at d r.client e.at) spare.sized);
     }
 
--- Calls of a history
-
 legal-answered : (d : Description) (h : List Step) (least : ℕ) (calls : List Call) → IsLegalFrom d h least calls → AreAnswered d calls
 unfolding AreAnswered
 legal-answered d h least [] legal = tt
@@ -98,20 +92,13 @@ abbrev IsShut : Call → Type 0
 IsShut call = client_of call.step ≡ Some NO_CLIENT → is_accepted call.answer.reply ≡ false
 
 shut-call : (d : Description) (h : List Step) (call : Call) → length h < NO_CLIENT → HasPlace d h call → IsShut call
-shut-call d h call short placed names = by (is_accepted call.answer.reply) refl
-  where
-    past : List Step
-    past = past_at h (place_of call.answer.reply)
-
-    few : length past ≤ length h
-    few = omega (arith, length-reverse (take (place_of call.answer.reply) h), length-take (place_of call.answer.reply) h)
-
-    by : (b : Bool) → is_accepted call.answer.reply ≡ b → is_accepted call.answer.reply ≡ false
-    by true e =
-        let accepts : refused d past call.step ≡ None = accepted-unrefused d past call.step call.answer placed.exact e in
-        let below : NO_CLIENT < opens past = is_open-lt past NO_CLIENT (names-open d past call.step NO_CLIENT accepts names) in
-        absurd (omega (arith, short, below, few, opens-le past))
-    by false e = e
+shut-call d h call short placed names =
+    let at : ℕ = place_of call.answer.reply in
+    let past : List Step = past_at h at in
+    false_from_ne_true (is_accepted call.answer.reply) (λ e.
+    let accepts : refused d past call.step ≡ None = accepted-unrefused d past call.step call.answer placed.exact e in
+    let below : NO_CLIENT < opens past = is_open-lt past NO_CLIENT (names-open d past call.step NO_CLIENT accepts names) in
+    omega (arith, short, below, opens-le past, length-reverse (take at h), length-take at h))
 
 shut-calls : (d : Description) (h : List Step) (least : ℕ) (calls : List Call) → length h < NO_CLIENT → IsLegalFrom d h least calls → Each IsShut calls
 shut-calls d h least [] short legal = tt
@@ -172,9 +159,6 @@ unopened-rules d mode = record {
     named : (r : Reading) → IsUnopened r → ◌≡◌ {A = Option ℕ} (Some r.client) (Some NO_CLIENT)
     named r u = ap (λ (n : ℕ). Some n) u.client
 
-unopened-next : (d : Description) (mode : Mode) (r : Reading) (calls : List Call) (o : Next × Reading) → IsUnopened r → EndsWith (next_talk d mode r) calls o → Each IsShut calls → StaysUnopened o
-unopened-next d mode r calls o u ends shut = next-ends Any ShutBy Unopened Stays d mode (unopened-rules d mode) tt tt r calls o u (shut-run calls shut) ends
-
 -- Where a reader stands
 
 module _ (d : Description) (h : List Step) (Q : ℕ → Type 0) where
@@ -223,38 +207,41 @@ module _ (d : Description) (h : List Step) (Q : ℕ → Type 0) where
             hands = hands-later (place_behind least calls) next s history spare.view l.hands_out;
           }
       by (inr u) =
-          let o : StaysUnopened (next, s) = unopened-next d mode r calls (next, s) u ends (shut-calls d h least calls short legal) in
+          let o : StaysUnopened (next, s) =
+          next-ends Any ShutBy Unopened Stays d mode (unopened-rules d mode) tt tt r calls (next, s) u
+          (shut-run calls (shut-calls d h least calls short legal)) ends in
           record { reading = record { spare = spare; stands = inr o.unopened }; hands = hands-none (place_behind least calls) next s o.none }
 
   -- a call that is no use of its client leaves it
   pub quiet-reads : (least : ℕ) (r : Reading) (call : Call) (more : List Call) → AreToCome d h Q least (call ∷ more) → is_use_of r.client call.step ≡ false → IsReadingAt least r → IsReadingAt (next_place call.answer.reply) r
-  quiet-reads least r call more c unused reads = record { spare = reads.spare; stands = by reads.stands }
-    where
-      at : ℕ
-      at = next_place call.answer.reply
-
-      by : (Q r.client × IsOpenInStep d (past_at h least) r) ⊎ IsUnopened r → (Q r.client × IsOpenInStep d (past_at h at) r) ⊎ IsUnopened r
-      by (inl s) =
-          let met : IsMet d r.client (past_at h least) (past_at h at) call = call-met d h Q r.client least call more c s.0 in
+  quiet-reads least r call more c unused reads = record {
+    spare = reads.spare;
+    stands = elim reads.stands [
+      | inl s ↦
+          (let before : List Step = past_at h least in
+          let after : List Step = past_at h (next_place call.answer.reply) in
+          let met : IsMet d r.client before after call = call-met d h Q r.client least call more c s.0 in
+          let quiet = met-unused d r.client before after call s.1.opened met unused in
           inl (
             s.0,
             record {
-              opened = met-opens d r.client (past_at h least) (past_at h at) call s.1.opened met;
-              in_step = λ needed. in-step-kept d (past_at h least) (past_at h at) r (s.1.in_step needed) (met-unused d r.client (past_at h least) (past_at h at) call s.1.opened met unused);
+              opened = met-opens d r.client before after call s.1.opened met;
+              in_step = λ needed. in-step-kept d before after r (s.1.in_step needed) quiet;
             },
-          )
-      by (inr u) = inr u
+          ))
+      | inr u ↦ inr u
+    ];
+  }
 
   -- nor does it change what is at hand
   pub quiet-hand : (least : ℕ) (r : Reading) (call : Call) (more : List Call) (last : Option LastRead) → AreToCome d h Q least (call ∷ more) → is_use_of r.client call.step ≡ false → IsReadingAt least r → AreAtHand d h least r.client last r.queue → AreAtHand d h (next_place call.answer.reply) r.client last r.queue
-  quiet-hand least r call more last c unused reads hand = by reads.stands
-    where
-      at : ℕ
-      at = next_place call.answer.reply
-
-      by : (Q r.client × IsOpenInStep d (past_at h least) r) ⊎ IsUnopened r → AreAtHand d h at r.client last r.queue
-      by (inl s) = hand-kept d h least at r.client last r.queue (met-took d r.client (past_at h least) (past_at h at) call (call-met d h Q r.client least call more c s.0) unused) hand
-      by (inr u) = inl u.queue
+  quiet-hand least r call more last c unused reads hand = elim reads.stands [
+    | inl s ↦
+        (let at : ℕ = next_place call.answer.reply in
+        let met : IsMet d r.client (past_at h least) (past_at h at) call = call-met d h Q r.client least call more c s.0 in
+        hand-kept d h least at r.client last r.queue (met-took d r.client (past_at h least) (past_at h at) call met unused) hand)
+    | inr u ↦ inl u.queue
+  ]
 
   -- what an accepted Open leaves: a client that did nothing yet
   opened-stands : (least at client ring : ℕ) (r : Reading) (call : Call) (calls more : List Call) (asked : Result View Reply) → AreToCome d h Q least (call ∷ calls ++ more) → call.answer.reply ≡ Opened at client ring → HasSpare d r → EndsWith (ask_each (queries d client) r.view) calls asked

@@ -7,11 +7,9 @@ use Rattle.inp_model.specs.declared.stamped.Stamped.{Stamped}
 use Rattle.inp_model.specs.declared.step.Step.{Step}
 use Rattle.inp_model.specs.declared.step.Step.TheVariants.{Inject, Open as ToOpen, Read as ToRead, Discard as ToDiscard, GetKeys, GetSwitches, GetLeds, GetAxis, SyncSlots as ToSyncSlots, End}
 use Rattle.inp_model.specs.declared.reply.Reply.{Reply}
-use Rattle.inp_model.specs.declared.reply.Reply.TheVariants.{Opened, Again as NothingVisible, Refused as StepRefused}
-use Rattle.inp_model.specs.declared.reply.Refusal.{Refusal}
-use Rattle.inp_model.specs.declared.reply.Refusal.TheVariants.{NoDevice as Revoked, LogFull}
+use Rattle.inp_model.specs.declared.reply.Reply.TheVariants.{Opened}
 use Rattle.inp_model.specs.Description.{Description}
-use Rattle.inp_model.specs.Reply.{Answer, is_accepted}
+use Rattle.inp_model.specs.Reply.{Answer}
 use Rattle.inp_model.specs.Run.{Call}
 use Rattle.inp_model.specs.Step.{client_of, is_open_step}
 use Rattle.inp_actors.specs.declared.command.Command.{Command}
@@ -29,25 +27,25 @@ use Rattle.inp_reader.specs.declared.reader.TheConstants.{NO_CLIENT}
 use Rattle.inp_recon.specs.Synchronised.{is_dropped}
 use Rattle.inp_reader.specs.Reader.{Reading, queries, start_talk, stop_of, next_talk}
 use Rattle.inp_joy.specs.declared.joy_read.JoyRead.{JoyRead}
-use Rattle.inp_joy.specs.declared.joy_read.JoyRead.TheVariants.{Again as NothingToRead, NoDevice as Revoked}
+use Rattle.inp_joy.specs.declared.joy_read.JoyRead.TheVariants.{Again as NothingToRead}
 use Rattle.inp_joy.specs.Joy.{JoyAnswer, turns}
-use Rattle.inp_reader.proofs.Meets.{Meets, Any, Listed, meets-then, meets-weaker, meets-ends, listed-run}
-use Rattle.inp_reader.proofs.NextWalk.{OfQueries, each-query, each-sync, AskRules, asked-meets, sync-meets, Queried, start-meets, Renewed, NextRules, next-meets}
+use Rattle.inp_reader.proofs.Meets.{Meets, Any, Listed, meets-weaker, meets-ends, listed-run}
+use Rattle.inp_reader.proofs.NextWalk.{OfQueries, each-query, each-sync, AskRules, asked-meets, sync-meets, Queried, start-meets, Renewed, NextRules, next-meets, stop-cases}
 use Rattle.inp_reader.specs.Talk.{Talk, finish, EndsWith}
 use Rattle.inp_script.specs.declared.sight.Sight.{Sight}
-use Rattle.inp_script.specs.declared.stop.Stop.{Stop}
 use Rattle.inp_script.specs.declared.waiting.Waiting.{Waiting}
 use Rattle.inp_script.specs.Client.{job_after_start, after_next, mode_of}
-use Rattle.inp_script.specs.DoneLine.{unless_stopped, line_talk}
+use Rattle.inp_script.specs.DoneLine.{line_talk}
 use Rattle.inp_script.specs.Job.{Job, Stick, first_job, joying_of}
 use Rattle.inp_script.specs.Joystick.{after_joy_answer, joystick_talk}
-use Rattle.inp_script.specs.Line.{step_of, after_call, stream_talk, stream_numbered, source_talk, end_talk, tap_client_after, tap_call_if, tap_talk}
+use Rattle.inp_script.specs.Line.{step_of, after_call, source_talk, tap_client_after, tap_call_if, tap_talk}
 use Rattle.inp_script.specs.Sight.{lacks_memory}
-use Rattle.inp_script.proofs.LineWalk.{NotedBy, meets-noted, note-meets, OfJob, OfTurn, OfGoing, AfterNext, read_so, is_one_call, call_if-meets, start_job-meets, round-meets, turn-of, LineRules, line-meets}
+use Rattle.inp_script.proofs.LineWalk.{NotedBy, meets-noted, note-meets, OfJob, OfTurn, OfGoing, AfterNext, read_so, is_one_call, start_job-meets, round-meets, turn-of, LineRules, line-meets}
 use Rattle.inp_script.proofs.JoyWalk.{AfterRead, AfterTurns, is_joy_call, JoyRules, joystick-meets}
 use Rattle.inp_joy.proofs.TurnsWalk.{OfAnswer as JoyAnswers, TurnRules, turns-meets}
 use Rattle.inp_runs.proofs.memory.LineTalks.{start_joystick-meets}
-use Rattle.inp_runs.specs.Job.{on_job, last_talk, lines_talk}
+use Rattle.inp_runs.specs.Job.{last_talk, lines_talk}
+use Rattle.inp_runs.proofs.LinesWalk.{OfStep, any-lines, unless-keeps, source-keeps, last-keeps, lines-keep, is_open_if}
 
 -- A step names no client, the one that was opened last, or the number that no client has.
 abbrev pub NamesOr : ℕ → Step → Type 0
@@ -66,12 +64,8 @@ last_opened last (call ∷ calls) = last_opened (tap_client_after call.step call
 -- the job reads as the client that was opened last; a source reads as none, and so does an owner
 abbrev pub ReadsAs : Role → ℕ → Job → Type 0
 ReadsAs Source last j = Unit {0}
-ReadsAs Client last j = last ≡ j.reading.client
-ReadsAs Tap last j = last ≡ j.reading.client
-ReadsAs Joy last j = last ≡ j.reading.client
 ReadsAs Owner last j = Unit {0}
-
--- Steps
+ReadsAs _ last j = last ≡ j.reading.client
 
 names-none : (last : ℕ) (x : Step) → client_of x ≡ None → NamesOr last x
 names-none last x none = λ client e. absurd (let k : None ≡ Some client = sym none ∙ e in cc)
@@ -84,11 +78,9 @@ abbrev IsNamed : ℕ → Step → Type 0
 IsNamed last x = NamesOr last x × (is_open_step x ≡ false)
 
 -- a step that opens no client leaves the one that was opened last
-stays-last : (x : Step) (reply : Reply) (last : ℕ) → is_open_step x ≡ false → tap_client_after x reply last ≡ last
+pub stays-last : (x : Step) (reply : Reply) (last : ℕ) → is_open_step x ≡ false → tap_client_after x reply last ≡ last
 stays-last ToOpen reply last h = absurd (true≢false h)
 stays-last _ reply last h = refl
-
--- Calls
 
 -- these calls name so, where this client was opened last before them, and behind them this one is
 abbrev Named : ℕ → List Call → ℕ → Type 0
@@ -113,8 +105,6 @@ named-more first (call ∷ calls) t client x a h of by =
 named-by : (first : ℕ) (s t : List Call) (client : ℕ) (x : Step) (a : Answer) → Named first s client → IsNamed client x → Listed s x a t → Named first t client
 named-by first s t client x a h of by =
     subst (Named first t) (stays-last x a.reply client of.1) (named-more first s t client x a h of.0 by)
-
--- Readers
 
 of_queries : (d : Description) (client : ℕ) → OfQueries d client (IsNamed client)
 of_queries d client = record {
@@ -164,15 +154,8 @@ Drops _ = Unit {0}
 abbrev OfAnswer : ℕ → List Call → Next × Reading → Type 0
 OfAnswer first s o = Named first s o.1.client × Drops o.0
 
-drops-refused : (at : ℕ) (why : Refusal) → Drops (stop_of (StepRefused at why))
-drops-refused at Revoked = tt
-drops-refused at LogFull = tt
-drops-refused at _ = tt
-
 drops-stop : (reply : Reply) → Drops (stop_of reply)
-drops-stop (NothingVisible at ends) = tt
-drops-stop (StepRefused at why) = drops-refused at why
-drops-stop _ = tt
+drops-stop reply = stop-cases Drops reply (λ at ends is. tt) tt tt (λ at. tt)
 
 abbrev IsReader : ℕ → List Call → Reading → Type 0
 IsReader first s r = Named first s r.client
@@ -210,12 +193,6 @@ pub next-names : (d : Description) (mode : Mode) (r s : Reading) (next : Next) (
 next-names d mode r s next calls h =
     let k : OfAnswer r.client calls (next, s) = meets-ends Any Listed (OfAnswer r.client) [] calls (next_talk d mode r) calls (next, s) (names-next r.client d mode r [] (named-none r.client)) (listed-run [] calls) h in (k.0.1, k.1)
 
--- Commands
-
-abbrev OfStep : (Step → Type 0) → Option Step → Type 0
-OfStep P None = Unit {0}
-OfStep P (Some x) = P x
-
 -- a command's step names the client, or none
 names-command : (client : ℕ) (command : Command) → OfStep (NamesOr client) (step_of client command)
 names-command client (ToEvent moment kind code value) = λ named e. absurd (let k : None ≡ Some named = e in cc)
@@ -232,26 +209,17 @@ names-command client Force = tt
 names-command client (Feedback count) = tt
 names-command client _ = λ named e. inl (same_Some named client (sym e))
 
-shut-command : (client : ℕ) (command : Command) → (command ≡ Open → ⊥) → OfStep (λ x. is_open_step x ≡ false) (step_of client command)
+shut-command : (client : ℕ) (command : Command) → (command ≡ Open → ⊥) → is_open_if (step_of client command) ≡ false
 shut-command client Open h = absurd (h refl)
-shut-command client (Stream file index) h = tt
-shut-command client (Stream16 file index) h = tt
-shut-command client (ToNext count) h = tt
-shut-command client (Skip count) h = tt
-shut-command client Follow h = tt
-shut-command client Force h = tt
-shut-command client (Feedback count) h = tt
 shut-command client _ h = refl
 
 one_call : (client : ℕ) (command : Command) (x : Step) → step_of client command ≡ Some x → (command ≡ Open → ⊥) → IsNamed client x
 one_call client command x is other =
     subst (OfStep (IsNamed client)) is (both (step_of client command) (names-command client command) (shut-command client command other))
   where
-    both : (o : Option Step) → OfStep (NamesOr client) o → OfStep (λ x. is_open_step x ≡ false) o → OfStep (IsNamed client) o
+    both : (o : Option Step) → OfStep (NamesOr client) o → is_open_if o ≡ false → OfStep (IsNamed client) o
     both None h shut = tt
     both (Some y) h shut = (h, shut)
-
--- Jobs
 
 -- the calls so far name so, and the job reads as the client opened last
 abbrev Reads : Role → ℕ → List Call → Job → Type 0
@@ -261,8 +229,6 @@ Reads role first s j = NameLast first s × ReadsAs role (last_opened first s) j
 abbrev Keeps : Role → ℕ → List Call → Talk (Option Job) → Type 0
 Keeps role first s talk = Meets Any Listed (OfJob (Reads role first)) s talk
 
--- Sources
-
 -- a step that names no client
 no-client : (first : ℕ) (s t : List Call) (j k : Job) (x : Step) (a : Answer) → Reads Source first s j → NamesOr NO_CLIENT x → Listed s x a t → Reads Source first t k
 no-client first s t j k x a h of by = ((named-more first s t (last_opened first s) x a (h.0, refl) (λ client e. none client (of client e)) by).0, tt)
@@ -271,35 +237,12 @@ no-client first s t j k x a h of by = ((named-more first s t (last_opened first 
     none client (inl is) = inr is
     none client (inr is) = inr is
 
-names-stream : (first : ℕ) (stream : List Stamped) (j : Job) (s : List Call) → Reads Source first s j → Keeps Source first s (stream_talk stream j)
-unfolding stream_talk
-names-stream first [] j s h = h
-names-stream first (stamped ∷ stream) j s h = (
-  tt,
-  λ t a by.
-      let x : Step = Inject stamped.event stamped.now in
-      let k : Job = after_call j x a in
-      let here : Reads Source first t k = no-client first s t j k x a h (names-none NO_CLIENT x refl) by in
-      cond_both (is_accepted a.reply) _ _ (Keeps Source first t) (λ _. names-stream first stream k t here) (λ _. here),
-)
-
-names-source : (first : ℕ) (streams : List (List Stamped)) (command : Command) (j : Job) (s : List Call) → Reads Source first s j → Keeps Source first s (source_talk streams command j)
-names-source first streams (Stream file index) j s h = names-stream first (stream_numbered streams index) j s h
-names-source first streams (Stream16 file index) j s h = names-stream first (stream_numbered streams index) j s h
-names-source first streams command j s h =
-    call_if-meets Listed (Reads Source first) j (step_of NO_CLIENT command)
-    (λ u v x a is k by. no-client first u v j (after_call j x a) x a k (subst (OfStep (NamesOr NO_CLIENT)) is (names-command NO_CLIENT command)) by) s h
-
--- Taps
-
 names-tap : (first : ℕ) (j : Job) (o : Option Step) (s : List Call) → OfStep (NamesOr j.reading.client) o → Reads Tap first s j → Keeps Tap first s (tap_call_if j o)
 names-tap first j None s of h = h
 names-tap first j (Some x) s of h = (
   tt,
   λ t a by. cond_both (lacks_memory a.reply) _ _ (OfJob (Reads Tap first) t) (λ _. tt) (λ _. named-more first s t j.reading.client x a h of by),
 )
-
--- Clients
 
 client-rules : (first : ℕ) (d : Description) (command : Command) (wait : Option Waiting) → LineRules Listed (Reads Client first) (OfGoing (Reads Client first)) d Client command wait
 client-rules first d command wait = record {
@@ -321,8 +264,6 @@ client-rules first d command wait = record {
     of_next : (s : List Call) (next : Next) (j : Job) → Reads Client first s j → AfterNext (Reads Client first) s next j
     of_next s (Again at ends) j h = (h, h)
     of_next s _ j h = h
-
--- Joysticks
 
 turn-rules : (first : ℕ) (d : Description) → TurnRules Any Listed (IsReader first) (OfAnswer first) (λ s read r. IsReader first s r) d
 turn-rules first d = record {
@@ -360,53 +301,36 @@ joy-rules first d command = record {
     of_turns j s sight None h = tt
     of_turns j s sight (Some answer) h = of_read s answer.read (after_joy_answer j answer sight) h
 
--- Lines
-
-names-unless : (role : Role) (first : ℕ) (stop : Option Stop) (j : Job) (talk : Talk (Option Job)) (s : List Call) → Reads role first s j → Keeps role first s talk → Keeps role first s (unless_stopped stop j talk)
-names-unless role first None j talk s h k = k
-names-unless role first (Some stop) j talk s h k = h
-
 names-line : (role : Role) (first : ℕ) (d : Description) (streams : List (List Stamped)) (wait : Option Waiting) (n : ℕ) (command : Command) (j : Job) (s : List Call) → Reads role first s j → Keeps role first s (line_talk role d streams wait n command j)
 unfolding line_talk
-names-line Source first d streams wait n command j s h = names-unless Source first j.stop j (source_talk streams command j) s h (names-source first streams command j s h)
+names-line Source first d streams wait n command j s h =
+    unless-keeps Listed (Reads Source first) j.stop s j (source_talk streams command j) h
+    (source-keeps Listed (Reads Source first) (NamesOr NO_CLIENT) (λ u t k x a of had. no-client first u t k (after_call k x a) x a had of)
+    (λ stamped. names-none NO_CLIENT (Inject stamped.event stamped.now) refl) streams command (names-command NO_CLIENT command) s j h)
 names-line Client first d streams wait n command j s h = line-meets Listed (Reads Client first) (OfGoing (Reads Client first)) d Client command wait (client-rules first d command wait) streams n s j h
-names-line Tap first d streams wait n command j s h = names-unless Tap first j.stop j (tap_talk command j) s h (names-tap first j (step_of j.reading.client command) s (names-command j.reading.client command) h)
-names-line Joy first d streams wait n command j s h = names-unless Joy first j.stop j (joystick_talk d n command j) s h (joystick-meets Listed (Reads Joy first) d command (joy-rules first d command) n s j h)
-names-line Owner first d streams wait n command j s h = names-unless Owner first j.stop j (finish (Some j)) s h h
+names-line Tap first d streams wait n command j s h = unless-keeps Listed (Reads Tap first) j.stop s j (tap_talk command j) h (names-tap first j (step_of j.reading.client command) s (names-command j.reading.client command) h)
+names-line Joy first d streams wait n command j s h = unless-keeps Listed (Reads Joy first) j.stop s j (joystick_talk d n command j) h (joystick-meets Listed (Reads Joy first) d command (joy-rules first d command) n s j h)
+names-line Owner first d streams wait n command j s h = unless-keeps Listed (Reads Owner first) j.stop s j (finish (Some j)) h h
 
-names-last : (first : ℕ) (wait : Option Waiting) (role : Role) (j : Job) (s : List Call) → Reads role first s j → Keeps role first s (last_talk wait role j)
-names-last first None role j s h = h
-names-last first (Some waiting) Source j s h = ends j.stop
-  where
-    ends : (stop : Option Stop) → Keeps Source first s (end_talk stop j)
-    ends None = (tt, λ t a by. no-client first s t j (after_call j End a) End a h (names-none NO_CLIENT End refl) by)
-    ends (Some stop) = h
-names-last first (Some waiting) _ j s h = h
-
-names-lines : (role : Role) (first : ℕ) (d : Description) (streams : List (List Stamped)) (wait : Option Waiting) (n : ℕ) (lines : List Line) (j : Job) (s : List Call) → Reads role first s j → Keeps role first s (lines_talk role d streams wait n lines j)
-unfolding lines_talk
-names-lines role first d streams wait n [] j s h = names-last first wait role j s h
-names-lines role first d streams wait n (line ∷ lines) j s h =
-    meets-then Any Listed (OfJob (Reads role first)) (OfJob (Reads role first)) s (line_talk role d streams wait n line.command j) (on_job (lines_talk role d streams wait n lines)) (names-line role first d streams wait n line.command j s h)
-    (λ t o k. by t o (λ mid there. names-lines role first d streams wait n lines mid t there) k)
-  where
-    by : (t : List Call) (o : Option Job) → ((mid : Job) → Reads role first t mid → Keeps role first t (lines_talk role d streams wait n lines mid)) → OfJob (Reads role first) t o → Keeps role first t (on_job (lines_talk role d streams wait n lines) o)
-    by t None more k = tt
-    by t (Some mid) more k = more mid k
+names-last : (first : ℕ) (wait : Option Waiting) (role : Role) (s : List Call) (j : Job) → Reads role first s j → Keeps role first s (last_talk wait role j)
+names-last first wait role s j h =
+    last-keeps Listed (Reads role first) wait role s j
+    (λ e t a by. subst (λ (r : Role). Reads r first t (after_call j End a)) (sym e)
+    (no-client first s t j (after_call j End a) End a (subst (λ (r : Role). Reads r first s j) e h) (names-none NO_CLIENT End refl) by)) h
 
 first-reads : (role : Role) (d : Description) → ReadsAs role NO_CLIENT (first_job role d)
 first-reads Source d = tt
-first-reads Client d = refl
-first-reads Tap d = refl
-first-reads Joy d = refl
 first-reads Owner d = tt
+first-reads _ d = refl
 
 -- before the first line a job has opened no client, and then the calls of its lines name so
 pub job-names : (role : Role) (d : Description) (streams : List (List Stamped)) (wait : Option Waiting) (n : ℕ) (lines : List Line) (k : Job) (calls : List Call) → EndsWith (lines_talk role d streams wait n lines (first_job role d)) calls (Some k)
     → NameLast NO_CLIENT calls × ReadsAs role (last_opened NO_CLIENT calls) k
 job-names role d streams wait n lines k calls h =
     meets-ends Any Listed (OfJob (Reads role NO_CLIENT)) [] calls (lines_talk role d streams wait n lines (first_job role d)) calls (Some k)
-    (names-lines role NO_CLIENT d streams wait n lines (first_job role d) [] first) (listed-run [] calls) h
+    (lines-keep Listed (Reads role NO_CLIENT) (λ command. Unit {0}) role d streams wait n
+    (λ command any s j had. names-line role NO_CLIENT d streams wait n command j s had) (names-last NO_CLIENT wait role)
+    lines (any-lines lines) [] (first_job role d) first) (listed-run [] calls) h
   where
     first : Reads role NO_CLIENT [] (first_job role d)
     first =

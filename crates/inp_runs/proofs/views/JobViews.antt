@@ -1,24 +1,24 @@
 -- At each report that a job took, its view is its client's in the history, and each loss that it took has its cause.
-use Rattle.std.proofs.Common.{◌≡◌, ◌<◌, inl, inr, ℕ, Bool, true, false, ◌||◌, List, [], ◌∷◌, ◌++◌, length, map, take, reverse, suc, refl, sym, ap, subst, ◌∙◌, arith, append-nil, if◌then◌else◌, Option, Some, None}
+use Rattle.std.proofs.Common.{◌≡◌, ◌<◌, inl, inr, ℕ, Bool, true, false, ◌||◌, List, [], ◌∷◌, ◌++◌, length, take, reverse, suc, refl, sym, ap, subst, ◌∙◌, arith, append-nil, Option, Some, None, not}
 use Rattle.std.specs.Prelude.{slice_get}
 use Rattle.std.specs.List.{list_any}
 use Rattle.std.proofs.lemmas.Bool.{eq-eqb}
 use Rattle.inp_model.specs.declared.stamped.Stamped.{Stamped}
 use Rattle.inp_model.specs.declared.taken.Taken.{Taken}
 use Rattle.inp_model.specs.declared.step.Step.{Step}
-use Rattle.inp_model.specs.declared.step.Step.TheVariants.{Inject, End}
+use Rattle.inp_model.specs.declared.step.Step.TheVariants.{End}
 use Rattle.inp_model.specs.declared.reply.Reply.TheVariants.{Opened}
 use Rattle.inp_model.specs.Description.{Description}
 use Rattle.inp_model.specs.Past.{past_at}
-use Rattle.inp_model.specs.Reply.{Answer, IsAnswer, is_accepted}
-use Rattle.inp_model.specs.Run.{Call, IsLegalRun, place_of}
+use Rattle.inp_model.specs.Reply.{Answer, IsAnswer}
+use Rattle.inp_model.specs.Run.{Call, IsLegalRun, place_of, HasPlace}
 use Rattle.inp_actors.specs.declared.actor_text.ActorText.{ActorText}
 use Rattle.inp_actors.specs.declared.command.Command.{Command}
 use Rattle.inp_actors.specs.declared.command.Command.TheVariants.{Event as ToEvent, Tick, Inhibit, Uninhibit, Stream, Stream16, Close}
 use Rattle.inp_actors.specs.declared.line.Line.{Line}
 use Rattle.inp_actors.specs.declared.role.Role.{Role}
 use Rattle.inp_actors.specs.declared.role.Role.TheVariants.{Source, Client, Tap, Joy, Owner}
-use Rattle.inp_actors.specs.Command.{is_command_of}
+use Rattle.inp_actors.specs.Command.{is_command_of, is_joy, is_owner}
 use Rattle.inp_actors.specs.Record.{RecordView, IsRecord}
 use Rattle.inp_model.specs.History.{IsHistory}
 use Rattle.inp_recon.proofs.Each.{Each}
@@ -29,36 +29,34 @@ use Rattle.inp_joy.specs.declared.joy_read.JoyRead.TheVariants.{Again as Nothing
 use Rattle.inp_joy.specs.declared.joy_record.JoyRecord.{JoyRecord}
 use Rattle.inp_joy.specs.JoyRecord.{bytes_of_record}
 use Rattle.inp_joy.specs.Joy.{JoyAnswer, turns}
-use Rattle.inp_reader.specs.Talk.{Talk, finish, LeadsTo, EndsWith}
+use Rattle.inp_reader.specs.Talk.{Talk, finish, EndsWith}
 use Rattle.inp_reader.proofs.ClientViews.{no_read-takes}
 use Rattle.inp_reader.proofs.PastsAtCalls.{AreAllOwn}
 use Rattle.inp_script.specs.declared.sight.Sight.{Sight}
 use Rattle.inp_script.specs.declared.sight.Sight.TheVariants.{Again as AgainSight, Record}
-use Rattle.inp_script.specs.declared.stop.Stop.{Stop}
 use Rattle.inp_script.specs.declared.waiting.Waiting.{Waiting}
-use Rattle.inp_script.specs.DoneLine.{command_talk, unless_stopped, line_talk}
+use Rattle.inp_script.specs.DoneLine.{line_talk}
 use Rattle.inp_script.specs.Job.{Job, JobView, first_job, joying_of}
 use Rattle.inp_script.specs.Joystick.{record_sight, start_joystick, after_joy_answer, joystick_talk}
-use Rattle.inp_script.specs.Line.{step_of, after_call, call_if, stream_talk, stream_numbered, source_talk, end_talk}
-use Rattle.inp_script.specs.Sight.{call_sight, again_sight, taken_sight, noted}
-use Rattle.inp_reader.proofs.Calls.{finished, split-and_then}
-use Rattle.inp_reader.proofs.Meets.{Any, ends-meet, meets-ends}
-use Rattle.inp_script.proofs.Folds.{Placed, placed-run}
+use Rattle.inp_script.specs.Line.{step_of, after_call, source_talk, tap_talk}
+use Rattle.inp_reader.proofs.Meets.{Any, meets-ends, Meets}
 use Rattle.inp_script.proofs.JoyTold.{starts}
 use Rattle.inp_script.proofs.JoyWalk.{AfterRead, AfterTurns, is_joy_call, JoyRules, joystick-meets}
-use Rattle.inp_script.proofs.LineWalk.{OfJob, job-ends-meet}
-use Rattle.inp_script.proofs.Told.{noted-back, noted_sight}
-use Rattle.inp_runs.specs.Job.{lines_by, on_job, last_talk, lines_talk, AreTold}
+use Rattle.inp_script.proofs.LineWalk.{OfJob, job-ends-meet, OfGoing, line-meets, noted-ends-meet}
+use Rattle.inp_script.proofs.Told.{noted_sight}
+use Rattle.inp_runs.specs.Job.{lines_by, last_talk, lines_talk, AreTold}
 use Rattle.inp_runs.specs.JobViews.{AreEventsOwn, AreReportsSeen, sight_view}
 use Rattle.inp_runs.specs.Losses.{AreLossesCaused}
 use Rattle.inp_runs.proofs.views.AtHand.{own-caused, shown-own}
-use Rattle.inp_runs.proofs.views.ClientReports.{IsClientJob, ClientSaw, client-line, client-first}
-use Rattle.inp_runs.proofs.views.ClientReadings.{legal-first}
-use Rattle.inp_runs.proofs.views.Folded.{AreOfRole, its_lines, legal-placed}
-use Rattle.inp_runs.proofs.owners.Owners.{HasOwners, is_opened_as, is_opening_of, history-of-jobs}
-use Rattle.inp_runs.proofs.owners.OwnUses.{own-uses}
-use Rattle.inp_runs.proofs.views.Reports.{AtEntry, AtEach, at_each-append, at_each-at, at_each-call, at_each-again, at_each-noted, AreToCome, to-come-next, to-come-behind, place_behind, place_behind-append}
+use Rattle.inp_runs.proofs.views.ClientReports.{IsClientJob, ClientSaw, client-first, client-rules}
+use Rattle.inp_runs.proofs.views.Folded.{AreOfRole, its_lines, view-folded}
+use Rattle.inp_runs.proofs.owners.Owners.{HasOwners, is_opened_as, is_opening_of, history-of-jobs, or-true, own-uses}
+use Rattle.inp_runs.proofs.views.Reports.{AtEntry, AtEach, at_each-append, at_each-at, at_each-noted, AreToCome, Coming, Comes, coming-run, at_each-eventless}
 use Rattle.inp_runs.proofs.views.TapViews.{TapStands, TapSaw, tap-line, tap-first}
+use Rattle.inp_runs.proofs.LinesWalk.{OfStep, unless-keeps, source-keeps, last-keeps, lines-keep}
+use Rattle.inp_recon.specs.View.{IsSizedFor}
+use Rattle.inp_recon.proofs.Sizes.{IsSizedFor-first_view}
+use Rattle.inp_script.specs.Fold.{IsFolded}
 
 -- ---- sources, which read nothing, and joysticks, which take nothing
 
@@ -67,11 +65,7 @@ unread : (d : Description) (past : List Step) (x : Step) (given : Answer) → is
 unread d past x given h (inl e) = ap (λ (a : Answer). a.events) e ∙ no_read-takes d past x h
 unread d past x given h (inr l) = ap (λ (a : Answer). a.events) l.2
 
-abbrev IsUnread : Option Step → Type 0
-IsUnread None = Unit {0}
-IsUnread (Some x) = is_read x ≡ false
-
-source-step : (client : ℕ) (command : Command) → is_command_of Source command ≡ true → IsUnread (step_of client command)
+source-step : (client : ℕ) (command : Command) → is_command_of Source command ≡ true → OfStep (λ x. is_read x ≡ false) (step_of client command)
 source-step client (ToEvent moment kind code value) h = refl
 source-step client (Tick moment) h = refl
 source-step client (Inhibit moment) h = refl
@@ -80,206 +74,126 @@ source-step client (Stream file index) h = tt
 source-step client (Stream16 file index) h = tt
 source-step client _ h = absurd cc
 
-module _ (P : List Sight → Taken → Type 0) (d : Description) (h : List Step) (Q : ℕ → Type 0) where
-  -- a call that gave no event
-  call-eventless : (j : Job) (x : Step) (a : Answer) → a.events ≡ [] → AtEach P [] j.sight
-      → AtEach P [] (after_call j x a).sight
-  call-eventless j x a none s =
-      let told : List Sight = call_sight x a.reply ++ again_sight a.reply in
-      at_each-append P [] j.sight (told ++ map taken_sight a.events) s
-      (at_each-append P j.sight told (map taken_sight a.events)
-      (at_each-append P j.sight (call_sight x a.reply) (again_sight a.reply)
-      (at_each-call P j.sight x a.reply) (at_each-again P (j.sight ++ call_sight x a.reply) a.reply))
-      (subst (λ (ts : List Taken). AtEach P (j.sight ++ told) (map taken_sight ts)) (sym none) tt))
-
-  source-call : (least : ℕ) (j : Job) (call : Call) (calls : List Call) → is_read call.step ≡ false → AreToCome d h Q least (call ∷ calls) → AtEach P [] j.sight → AtEach P [] (after_call j call.step call.answer).sight
-  source-call least j call calls unread_step c s =
-      call-eventless j call.step call.answer
-      (unread d (past_at h (place_of call.answer.reply)) call.step call.answer unread_step
-      c.legal.1.exact) s
-
-  source-same : (j k : Job) (calls : List Call) → EndsWith (finish (Some j)) calls (Some k) → AtEach P [] j.sight → AtEach P [] k.sight
-  source-same j k calls ends s =
-      let f = finished (Some j) (Some k) calls ends in
-      let same : j ≡ k = (let e = f.1 in cc) in
-      subst (λ (y : Job). AtEach P [] y.sight) same s
-
-  source-if : (least : ℕ) (j k : Job) (o : Option Step) (calls more : List Call) → IsUnread o → AreToCome d h Q least (calls ++ more) → EndsWith (call_if j o) calls (Some k) → AtEach P [] j.sight → AtEach P [] k.sight
-  unfolding LeadsTo
-  source-if least j k None calls more un c ends s = source-same j k calls ends s
-  source-if least j k (Some x) [] more un c ends s = absurd cc
-  source-if least j k (Some x) (call ∷ calls) more un c ends s =
-      let one : AtEach P [] (after_call j call.step call.answer).sight = source-call least j call (calls ++ more) (ap is_read ends.0 ∙ un) c s in
-      source-same (after_call j x call.answer) k calls ends.1 (subst (λ (y : Step). AtEach P [] (after_call j y call.answer).sight) ends.0 one)
-
-  source-stream : (least : ℕ) (stream : List Stamped) (j k : Job) (calls more : List Call) → AreToCome d h Q least (calls ++ more) → EndsWith (stream_talk stream j) calls (Some k) → AtEach P [] j.sight → AtEach P [] k.sight
-  unfolding LeadsTo stream_talk
-  source-stream least [] j k calls more c ends s = source-same j k calls ends s
-  source-stream least (stamped ∷ stream) j k [] more c ends s = absurd cc
-  source-stream least (stamped ∷ stream) j k (call ∷ calls) more c ends s =
-      let x : Step = Inject stamped.event stamped.now in
-      let one : AtEach P [] (after_call j call.step call.answer).sight = source-call least j call (calls ++ more) (ap is_read ends.0) c s in
-      by (is_accepted call.answer.reply) (after_call j x call.answer) (subst (λ (y : Step). AtEach P [] (after_call j y call.answer).sight) ends.0 one)
-      (λ (mid : Job) had e. source-stream _ stream mid k calls more (to-come-next d h Q least call (calls ++ more) c) e had) ends.1
-    where
-      by : (b : Bool) (mid : Job) → AtEach P [] mid.sight → ((mid : Job) → AtEach P [] mid.sight → EndsWith (stream_talk stream mid) calls (Some k) → AtEach P [] k.sight) → EndsWith (if b then stream_talk stream mid else finish (Some mid)) calls (Some k) → AtEach P [] k.sight
-      by true mid had more_of e = more_of mid had e
-      by false mid had more_of e = source-same mid k calls e had
-
-  source-line : (least : ℕ) (streams : List (List Stamped)) (command : Command) (j k : Job) (calls more : List Call) → is_command_of Source command ≡ true → AreToCome d h Q least (calls ++ more) → EndsWith (source_talk streams command j) calls (Some k) → AtEach P [] j.sight → AtEach P [] k.sight
-  source-line least streams (Stream file index) j k calls more of_role c ends s = source-stream least (stream_numbered streams index) j k calls more c ends s
-  source-line least streams (Stream16 file index) j k calls more of_role c ends s = source-stream least (stream_numbered streams index) j k calls more c ends s
-  source-line least streams command j k calls more of_role c ends s = source-if least j k (step_of NO_CLIENT command) calls more (source-step NO_CLIENT command of_role) c ends s
-
-  -- Joysticks: their calls are told, and no events
-
-  noted-each : (j : Job) (calls : List Call) → AtEach P [] j.sight
-      → AtEach P [] (j.sight ++ noted_sight calls)
-  noted-each j calls s = at_each-append P [] j.sight (noted_sight calls) s (at_each-noted P j.sight calls)
-
-  abbrev HasEach : Unit {0} → Job → Type 0
-  HasEach u j = AtEach P [] j.sight
-
-  joystick-rules : (command : Command) → is_command_of Joy command ≡ true
-      → JoyRules (Placed d h) HasEach d command
-  joystick-rules command of_role = record {
-    starts = λ u j s.
-        job-ends-meet (Placed d h) HasEach u (start_joystick d j)
-        (λ t calls k run ends. subst (HasEach t) (sym (starts d j k calls ends).is) (noted-each j calls s));
-    reads = λ u j most s.
-        let talk : Talk (Option JoyAnswer) = turns d most 0 (joying_of j) in
-        ends-meet (Placed d h)
-        (λ (t : Unit {0}) (o : Option JoyAnswer × List Sight). AfterTurns HasEach j t o.0 o.1) u
-        (noted talk j.sight)
-        (λ t calls o run ends. of_turns j o.0 o.1
-        (subst (AtEach P []) (sym (noted-back talk j.sight calls o ends).1) (noted-each j calls s)));
-    calls = λ one u v j x a is s by.
-        call-eventless j x a
-        (unread d (past_at h (place_of a.reply)) x a
-        (subst IsUnread is (of_call command one of_role j.reading.client)) by.exact) s;
-  }
-    where
-      of_call : (c : Command) → is_joy_call c ≡ true → is_command_of Joy c ≡ true → (client : ℕ)
-          → IsUnread (step_of client c)
-      of_call Close one joy client = refl
-      of_call c one joy client = absurd cc
-
-      -- an entry of no event more
-      entry-each : (entry : Sight) (sight : List Sight) → AtEntry P sight entry → AtEach P [] sight
-          → AtEach P [] (sight ++ entry ∷ [])
-      entry-each entry sight none s = at_each-append P [] sight (entry ∷ []) s (none, tt)
-
-      of_read : (read : JoyRead) (j : Job) → AtEach P [] j.sight → AfterRead HasEach tt read j
-      of_read (NothingToRead at ends) j s = entry-each (AgainSight at ends) j.sight tt s
-      of_read _ j s = s
-
-      of_record : (out : Option JoyRecord) (sight : List Sight) → AtEach P [] sight
-          → AtEach P [] (sight ++ record_sight out)
-      of_record None sight s = subst (AtEach P []) (sym (append-nil sight)) s
-      of_record (Some r) sight s = entry-each (Record (bytes_of_record r)) sight tt s
-
-      of_turns : (j : Job) (o : Option JoyAnswer) (sight : List Sight) → AtEach P [] sight
-          → AfterTurns HasEach j tt o sight
-      of_turns j None sight s = tt
-      of_turns j (Some answer) sight s = of_read answer.read (after_joy_answer j answer sight)
-          (of_record answer.record_out sight s)
-
-  joystick-line : (least n : ℕ) (command : Command) (j k : Job) (calls more : List Call) → is_command_of Joy command ≡ true → AreToCome d h Q least (calls ++ more) → EndsWith (joystick_talk d n command j) calls (Some k) → AtEach P [] j.sight → AtEach P [] k.sight
-  joystick-line least n command j k calls more of_role c ends s =
-      meets-ends Any (Placed d h) (OfJob HasEach) tt tt (joystick_talk d n command j) calls (Some k)
-      (joystick-meets (Placed d h) HasEach d command (joystick-rules command of_role) n tt j s)
-      (placed-run d h calls (legal-placed d h least calls (legal-first d h least calls more c.legal))) ends
-
--- ---- the lines of a job
+-- ---- sights that took nothing
 
 -- what is promised of each event that a source, a joystick or an owner took: it took none
 abbrev TookNothing : List Sight → Taken → Type 0
 TookNothing sight taken = ⊥
 
+module _ (d : Description) (h : List Step) where
+  abbrev HasNone : Job → Type 0
+  HasNone j = AtEach TookNothing [] j.sight
+
+  -- a call that is no read
+  unread-call : (j : Job) (x : Step) (a : Answer) → is_read x ≡ false → HasPlace d h (record { step = x; answer = a }) → HasNone j → HasNone (after_call j x a)
+  unread-call j x a no_read there s =
+      at_each-eventless TookNothing j x a (unread d (past_at h (place_of a.reply)) x a no_read there.exact) s
+
+  -- Joysticks: their calls are told, and no events
+
+  noted-each : (sight : List Sight) (calls : List Call) → AtEach TookNothing [] sight → AtEach TookNothing [] (sight ++ noted_sight calls)
+  noted-each sight calls s = at_each-append TookNothing [] sight (noted_sight calls) s (at_each-noted TookNothing sight calls)
+
+  joystick-rules : {S : Type 0} (R : S → Step → Answer → S → Type 0) → ((s t : S) (x : Step) (a : Answer) → R s x a t → HasPlace d h (record { step = x; answer = a }))
+      → (command : Command) → is_command_of Joy command ≡ true → JoyRules R (λ (s : S). HasNone) d command
+  joystick-rules {S} R places command of_role = record {
+    starts = λ u j s.
+        job-ends-meet R (λ (t : S). HasNone) u (start_joystick d j)
+        (λ t calls k run ends. subst HasNone (sym (starts d j k calls ends).is) (noted-each j.sight calls s));
+    reads = λ u j most s.
+        let talk : Talk (Option JoyAnswer) = turns d most 0 (joying_of j) in
+        noted-ends-meet R (λ (t : S) (o : Option JoyAnswer × List Sight). AfterTurns (λ (v : S). HasNone) j t o.0 o.1) u j.sight talk
+        (λ t calls o run ends. of_turns t j o (j.sight ++ noted_sight calls) (noted-each j.sight calls s));
+    calls = λ one u v j x a is s by.
+        unread-call j x a (subst (OfStep (λ y. is_read y ≡ false)) is (of_call command one of_role j.reading.client)) (places u v x a by) s;
+  }
+    where
+      of_call : (c : Command) → is_joy_call c ≡ true → is_command_of Joy c ≡ true → (client : ℕ) → OfStep (λ x. is_read x ≡ false) (step_of client c)
+      of_call Close one joy client = refl
+      of_call c one joy client = absurd cc
+
+      -- an entry of no event more
+      entry-each : (entry : Sight) (sight : List Sight) → AtEntry TookNothing sight entry → AtEach TookNothing [] sight → AtEach TookNothing [] (sight ++ entry ∷ [])
+      entry-each entry sight none s = at_each-append TookNothing [] sight (entry ∷ []) s (none, tt)
+
+      of_read : (t : S) (read : JoyRead) (j : Job) → HasNone j → AfterRead (λ (v : S). HasNone) t read j
+      of_read t (NothingToRead at ends) j s = entry-each (AgainSight at ends) j.sight tt s
+      of_read t _ j s = s
+
+      of_record : (out : Option JoyRecord) (sight : List Sight) → AtEach TookNothing [] sight → AtEach TookNothing [] (sight ++ record_sight out)
+      of_record None sight s = subst (AtEach TookNothing []) (sym (append-nil sight)) s
+      of_record (Some r) sight s = entry-each (Record (bytes_of_record r)) sight tt s
+
+      of_turns : (t : S) (j : Job) (o : Option JoyAnswer) (sight : List Sight) → AtEach TookNothing [] sight → AfterTurns (λ (v : S). HasNone) j t o sight
+      of_turns t j None sight s = tt
+      of_turns t j (Some answer) sight s = of_read t answer.read (after_joy_answer j answer sight) (of_record answer.record_out sight s)
+
+-- ---- the lines of a job
+
 -- how a job of a role stands behind so many steps of the history
 abbrev JobStands : Role → Description → List Step → (ℕ → Type 0) → ℕ → Job → Type 0
-JobStands Source d h Q least j = AtEach TookNothing [] j.sight
 JobStands Client d h Q least j = IsClientJob d h Q least j
 JobStands Tap d h Q least j = TapStands d h Q least j
-JobStands Joy d h Q least j = AtEach TookNothing [] j.sight
-JobStands Owner d h Q least j = AtEach TookNothing [] j.sight
+JobStands _ d h Q least j = AtEach TookNothing [] j.sight
 
 module _ (d : Description) (h : List Step) (Q : ℕ → Type 0) (history : IsHistory d (reverse h)) (short : length h < NO_CLIENT) where
-  same-stands : (role : Role) (least : ℕ) (j k : Job) (calls : List Call) → EndsWith (finish (Some j)) calls (Some k) → JobStands role d h Q least j → JobStands role d h Q (place_behind least calls) k
-  same-stands role least j k calls ends s =
-      let f = finished (Some j) (Some k) calls ends in
-      let same : j ≡ k = (let e = f.1 in cc) in
-      subst (λ (cs : List Call). JobStands role d h Q (place_behind least cs) k) (sym f.0) (subst (JobStands role d h Q least) same s)
+  abbrev On : Role → Coming d h Q → Job → Type 0
+  On role s j = JobStands role d h Q s.place j
 
-  command-stands : (role : Role) (streams : List (List Stamped)) (wait : Option Waiting) (n : ℕ) (command : Command) (least : ℕ) (j k : Job) (calls more : List Call) → is_command_of role command ≡ true → AreToCome d h Q least (calls ++ more)
-      → EndsWith (command_talk role d streams wait n command j) calls (Some k) → JobStands role d h Q least j → JobStands role d h Q (place_behind least calls) k
-  command-stands Source streams wait n command least j k calls more of_role c ends s = source-line TookNothing d h Q least streams command j k calls more of_role c ends s
-  command-stands Client streams wait n command least j k calls more of_role c ends s = client-line d h Q history short least wait n j k command calls more of_role c ends s
-  command-stands Joy streams wait n command least j k calls more of_role c ends s = joystick-line TookNothing d h Q least n command j k calls more of_role c ends s
-  command-stands Owner streams wait n command least j k calls more of_role c ends s = same-stands Owner least j k calls ends s
-  command-stands Tap streams wait n command least j k calls more of_role c ends s = tap-line d h Q history short least j k command calls more of_role c ends s
+  place-of_call : (s t : Coming d h Q) (x : Step) (a : Answer) → Comes d h Q s x a t → HasPlace d h (record { step = x; answer = a })
+  place-of_call s t x a by = (subst (AreToCome d h Q s.place) by.0 s.to_come).legal.1
 
-  line-stands : (role : Role) (streams : List (List Stamped)) (wait : Option Waiting) (n : ℕ) (command : Command) (least : ℕ) (j k : Job) (calls more : List Call) → is_command_of role command ≡ true → AreToCome d h Q least (calls ++ more)
-      → EndsWith (line_talk role d streams wait n command j) calls (Some k) → JobStands role d h Q least j → JobStands role d h Q (place_behind least calls) k
+  line-stands : (role : Role) (streams : List (List Stamped)) (wait : Option Waiting) (n : ℕ) (command : Command) → is_command_of role command ≡ true
+      → (s : Coming d h Q) (j : Job) → On role s j → Meets Any (Comes d h Q) (OfJob (On role)) s (line_talk role d streams wait n command j)
   unfolding line_talk
-  line-stands role streams wait n command least j k calls more of_role c ends s = by j.stop ends
-    where
-      by : (stop : Option Stop) → EndsWith (unless_stopped stop j (command_talk role d streams wait n command j)) calls (Some k) → JobStands role d h Q (place_behind least calls) k
-      by None e = command-stands role streams wait n command least j k calls more of_role c e s
-      by (Some stop) e = same-stands role least j k calls e s
+  line-stands Source streams wait n command of_role s j i =
+      unless-keeps (Comes d h Q) (On Source) j.stop s j (source_talk streams command j) i
+      (source-keeps (Comes d h Q) (On Source) (λ x. is_read x ≡ false) (λ u t k x a no_read had by. unread-call d h k x a no_read (place-of_call u t x a by) had)
+      (λ stamped. refl) streams command (source-step NO_CLIENT command of_role) s j i)
+  line-stands Client streams wait n command of_role s j i =
+      line-meets (Comes d h Q) (On Client) (OfGoing (On Client)) d Client command wait (client-rules d h Q history short command wait of_role) streams n s j i
+  line-stands Tap streams wait n command of_role s j i =
+      unless-keeps (Comes d h Q) (On Tap) j.stop s j (tap_talk command j) i (tap-line d h Q history short command of_role s j i)
+  line-stands Joy streams wait n command of_role s j i =
+      unless-keeps (Comes d h Q) (On Joy) j.stop s j (joystick_talk d n command j) i
+      (joystick-meets (Comes d h Q) (On Joy) d command (joystick-rules d h (Comes d h Q) place-of_call command of_role) n s j i)
+  line-stands Owner streams wait n command of_role s j i = unless-keeps (Comes d h Q) (On Owner) j.stop s j (finish (Some j)) i i
 
   -- a source's end is no read
-  end-stands : (stop : Option Stop) (least : ℕ) (j k : Job) (calls : List Call) → AreToCome d h Q least calls → EndsWith (end_talk stop j) calls (Some k) → JobStands Source d h Q least j → JobStands Source d h Q (place_behind least calls) k
-  end-stands None least j k calls c ends s = source-if TookNothing d h Q least j k (Some End) calls [] refl (subst (AreToCome d h Q least) (sym (append-nil calls)) c) ends s
-  end-stands (Some stop) least j k calls c ends s = same-stands Source least j k calls ends s
+  last-stands : (wait : Option Waiting) (role : Role) (s : Coming d h Q) (j : Job) → On role s j → Meets Any (Comes d h Q) (OfJob (On role)) s (last_talk wait role j)
+  last-stands wait role s j i =
+      last-keeps (Comes d h Q) (On role) wait role s j
+      (λ e t a by. subst (λ (r : Role). On r t (after_call j End a)) (sym e)
+      (unread-call d h j End a refl (place-of_call s t End a by) (subst (λ (r : Role). On r s j) e i))) i
 
-  last-stands : (wait : Option Waiting) (role : Role) (least : ℕ) (j k : Job) (calls : List Call) → AreToCome d h Q least calls → EndsWith (last_talk wait role j) calls (Some k) → JobStands role d h Q least j → JobStands role d h Q (place_behind least calls) k
-  last-stands None role least j k calls c ends s = same-stands role least j k calls ends s
-  last-stands (Some waiting) Source least j k calls c ends s = end-stands j.stop least j k calls c ends s
-  last-stands (Some waiting) Client least j k calls c ends s = same-stands Client least j k calls ends s
-  last-stands (Some waiting) Tap least j k calls c ends s = same-stands Tap least j k calls ends s
-  last-stands (Some waiting) Joy least j k calls c ends s = same-stands Joy least j k calls ends s
-  last-stands (Some waiting) Owner least j k calls c ends s = same-stands Owner least j k calls ends s
-
-  lines-stand : (role : Role) (streams : List (List Stamped)) (wait : Option Waiting) (n : ℕ) (lines : List Line) (least : ℕ) (j k : Job) (calls : List Call) → AreOfRole role lines → AreToCome d h Q least calls → EndsWith (lines_talk role d streams wait n lines j) calls (Some k)
-      → JobStands role d h Q least j → JobStands role d h Q (place_behind least calls) k
-  unfolding lines_talk
-  lines-stand role streams wait n [] least j k calls of_role c ends s = last-stands wait role least j k calls c ends s
-  lines-stand role streams wait n (line ∷ lines) least j k calls of_role c ends s =
-      let talk : Talk (Option Job) = line_talk role d streams wait n line.command j in
-      let p = split-and_then talk (on_job (lines_talk role d streams wait n lines)) calls (Some k) ends in
-      let here : AreToCome d h Q least (p.first ++ p.later) = subst (AreToCome d h Q least) p.calls_are c in
-      subst (λ (m : ℕ). JobStands role d h Q m k) (sym (ap (λ (cs : List Call). place_behind least cs) p.calls_are ∙ place_behind-append least p.first p.later))
-      (by p.between p.later
-      (λ (mid : Job) is e. lines-stand role streams wait n lines (place_behind least p.first) mid k p.later of_role.1 (to-come-behind d h Q least p.first p.later here) e
-      (line-stands role streams wait n line.command least j mid p.first p.later of_role.0 here (subst (λ (o : Option Job). EndsWith talk p.first o) is p.first_ends) s))
-      p.later_ends)
-    where
-      by : {R : Type 0} (o : Option Job) (second : List Call) → ((mid : Job) → o ≡ Some mid → EndsWith (lines_talk role d streams wait n lines mid) second (Some k) → R) → EndsWith (on_job (lines_talk role d streams wait n lines) o) second (Some k) → R
-      by None second more e = let f = finished None (Some k) second e in absurd cc
-      by (Some mid) second more e = more mid refl e
+  lines-stand : (role : Role) (streams : List (List Stamped)) (wait : Option Waiting) (n : ℕ) (lines : List Line) → AreOfRole role lines
+      → (s : Coming d h Q) (j : Job) → On role s j → Meets Any (Comes d h Q) (OfJob (On role)) s (lines_talk role d streams wait n lines j)
+  lines-stand role streams wait n =
+      lines-keep (Comes d h Q) (On role) (λ command. is_command_of role command ≡ true) role d streams wait n
+      (line-stands role streams wait n) (last-stands wait role)
 
   first-stands : (role : Role) → JobStands role d h Q 0 (first_job role d)
-  first-stands Source = tt
   first-stands Client = client-first d h Q history short
   first-stands Tap = tap-first d h Q history short
-  first-stands Joy = tt
-  first-stands Owner = tt
+  first-stands _ = tt
 
   stands-seen : (role : Role) (least : ℕ) (j : Job) → JobStands role d h Q least j → AreReportsSeen d h role j.sight
-  stands-seen Source least j s = λ k taken at report. absurd (at_each-at TookNothing [] j.sight k taken s at)
   stands-seen Client least j s = λ k taken at report. (let saw : ClientSaw d h (take (suc k) j.sight) taken = at_each-at (ClientSaw d h) [] j.sight k taken s.seen at in saw.seen report)
-  stands-seen Joy least j s = λ k taken at report. absurd (at_each-at TookNothing [] j.sight k taken s at)
-  stands-seen Owner least j s = λ k taken at report. absurd (at_each-at TookNothing [] j.sight k taken s at)
   stands-seen Tap least j s = λ k taken at report. at_each-at (TapSaw d h) [] j.sight k taken s.seen at
+  stands-seen _ least j s = λ k taken at report. absurd (at_each-at TookNothing [] j.sight k taken s at)
 
   -- each event that it took is the one of its own index
   stands-own : (role : Role) (least : ℕ) (j : Job) → JobStands role d h Q least j → AreEventsOwn d h j.sight
-  stands-own Source least j s = λ k taken at. absurd (at_each-at TookNothing [] j.sight k taken s at)
   stands-own Client least j s = λ k taken at. (let saw : ClientSaw d h (take (suc k) j.sight) taken = at_each-at (ClientSaw d h) [] j.sight k taken s.seen at in saw.own)
-  stands-own Joy least j s = λ k taken at. absurd (at_each-at TookNothing [] j.sight k taken s at)
-  stands-own Owner least j s = λ k taken at. absurd (at_each-at TookNothing [] j.sight k taken s at)
   stands-own Tap least j s = λ k taken at. shown-own d h (take (suc k) j.sight) taken (sight_view Tap d h (take (suc k) j.sight)) (at_each-at (TapSaw d h) [] j.sight k taken s.seen at)
+  stands-own _ least j s = λ k taken at. absurd (at_each-at TookNothing [] j.sight k taken s at)
+
+  -- its view has the device's size
+  stands-sized : (role : Role) (least : ℕ) (j : Job) → IsFolded role d h j → JobStands role d h Q least j → not (is_joy role || is_owner role) ≡ true → IsSizedFor d.slots j.reading.view
+  stands-sized Source least j folded s other = subst (IsSizedFor d.slots) (sym folded) (IsSizedFor-first_view d)
+  stands-sized Client least j folded s other = s.reading.spare.view.sized
+  stands-sized Tap least j folded s other = s.sized
+  stands-sized _ least j folded s other = absurd cc
 
 -- ---- all of it
 
@@ -291,31 +205,35 @@ opened-among all (call ∷ calls) f = (
   λ at client ring is. f client (ap (λ (b : Bool). b || list_any (is_opened_as client) calls) (ap (is_opening_of client) is ∙ eq-eqb client client refl)),
   opened-among all calls (λ client k. f client (or-true (is_opened_as client call) (list_any (is_opened_as client) calls) k)),
 )
-  where
-    or-true : (a b : Bool) → b ≡ true → (a || b) ≡ true
-    or-true true b k = refl
-    or-true false b k = k
 
--- What the sight of a job shows: which events it took, its view at each report, and why it lost events.
-pub record IsShown (d : Description) (h : List Step) (role : Role) (sight : List Sight) : Type 0 where
-  pub own : AreEventsOwn d h sight
-  pub seen : AreReportsSeen d h role sight
-  pub losses : AreLossesCaused d h sight
+-- What a job shows: which events it took, its view at each report, why it lost events, and how large its view is.
+pub record IsShown (d : Description) (h : List Step) (role : Role) (last : Job) : Type 0 where
+  pub own : AreEventsOwn d h last.sight
+  pub seen : AreReportsSeen d h role last.sight
+  pub losses : AreLossesCaused d h last.sight
+  pub sized : not (is_joy role || is_owner role) ≡ true → IsSizedFor d.slots last.reading.view
 
 pub job-shown : (r : RecordView) (d : Description) (h : List Step) (jobs : List JobView) (i : ℕ) (job : JobView) (text : ActorText) (wait : Option Waiting) (rounds : ℕ) (last : Job) (calls : List Call) → IsRecord r → HasOwners d h jobs → slice_get jobs i ≡ Some job → slice_get r.actors job.actor ≡ Some text
-    → IsLegalRun d h calls → AreTold wait calls job.sight → EndsWith (lines_talk text.role d r.streams wait rounds (lines_by job.actor r.lines) (first_job text.role d)) calls (Some last) → job.sight ≡ last.sight → IsShown d h text.role job.sight
-job-shown r d h jobs i job text wait rounds last calls is_record owners is_job is_text legal told follows same =
+    → IsLegalRun d h calls → AreTold wait calls job.sight → EndsWith (lines_talk text.role d r.streams wait rounds (lines_by job.actor r.lines) (first_job text.role d)) calls (Some last) → IsShown d h text.role last
+job-shown r d h jobs i job text wait rounds last calls is_record owners is_job is_text legal told follows =
     let lines : List Line = lines_by job.actor r.lines in
     let Q : ℕ → Type 0 = λ client. list_any (is_opened_as client) calls ≡ true in
     let own : (client : ℕ) → Q client → AreAllOwn client 0 h calls = λ client q place x from at used. own-uses text.role d h r.streams wait rounds lines jobs i job last calls owners is_job legal told follows client place x q at used in
     let history : IsHistory d (reverse h) = history-of-jobs d h jobs owners in
     let c : AreToCome d h Q 0 calls = record { within = omega arith; legal = legal; own = own; opened = opened-among calls calls (λ client k. k) } in
-    let stands : JobStands text.role d h Q (place_behind 0 calls) last =
-    lines-stand d h Q history owners.short text.role r.streams wait rounds lines 0 (first_job text.role d) last calls (its_lines r job.actor text is_text r.lines is_record.commands) c follows (first-stands d h Q history owners.short text.role) in
-    let own_events : AreEventsOwn d h last.sight = stands-own d h Q history owners.short text.role (place_behind 0 calls) last stands in
-    subst (IsShown d h text.role) (sym same)
-    (record {
+    let first : Coming d h Q = record { place = 0; left = calls; to_come = c } in
+    let run = coming-run d h Q 0 calls c in
+    let talk : Talk (Option Job) = lines_talk text.role d r.streams wait rounds lines (first_job text.role d) in
+    let stands : JobStands text.role d h Q run.0.place last =
+    meets-ends Any (Comes d h Q) (OfJob (λ (s : Coming d h Q). JobStands text.role d h Q s.place)) first run.0 talk calls (Some last)
+    (lines-stand d h Q history owners.short text.role r.streams wait rounds lines (its_lines r job.actor text is_text r.lines is_record.commands)
+    first (first_job text.role d) (first-stands d h Q history owners.short text.role)) run.1 follows in
+    let own_events : AreEventsOwn d h last.sight = stands-own d h Q history owners.short text.role run.0.place last stands in
+    record {
       own = own_events;
-      seen = stands-seen d h Q history owners.short text.role (place_behind 0 calls) last stands;
+      seen = stands-seen d h Q history owners.short text.role run.0.place last stands;
       losses = λ k taken at lost. own-caused d h (take (suc k) last.sight) taken (own_events k taken at) lost;
-    })
+      sized =
+          stands-sized d h Q history owners.short text.role run.0.place last
+          (view-folded r d h wait rounds job.actor text last calls is_record is_text legal follows) stands;
+    }

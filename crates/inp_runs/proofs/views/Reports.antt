@@ -1,12 +1,11 @@
 -- What holds at each event that a sight took, and what a client took and saw where its history grows.
-use Rattle.std.proofs.Common.{◌≡◌, ◌≤◌, ◌<◌, inl, inr, ℕ, zero, suc, ◌+◌, ◌-◌, nat_eq, nat_lt, Bool, true, false, not, if◌then◌else◌, ℤ, List, [], ◌∷◌, ◌++◌, length, map, take, drop, reverse, replicate, get_or, refl, sym, ap, subst, ◌∙◌, arith, append-nil, append_assoc, take-append-drop, Option, Some, None}
+use Rattle.std.proofs.Common.{◌≡◌, ◌≤◌, ◌<◌, inl, inr, ℕ, zero, suc, ◌+◌, ◌-◌, nat_eq, nat_lt, Bool, true, false, not, if◌then◌else◌, ℤ, List, [], ◌∷◌, ◌++◌, length, map, take, drop, reverse, replicate, refl, sym, ap, subst, ◌∙◌, arith, append-nil, append_assoc, take-append-drop, Option, Some, None}
 use Rattle.std.specs.Prelude.{slice_get}
 use Rattle.std.specs.List.{All}
-use Rattle.std.proofs.lemmas.Bool.{true≢false, cond-false, cases_lt, lt-ltb, false_from_ne_true, cond_both}
-use Rattle.std.proofs.lemmas.List.{ext_get_or, length-replicate, length-take, nil_from_length, reverse-append, take_more}
+use Rattle.std.proofs.lemmas.Bool.{true≢false, cond-false, cases_lt, lt-ltb, false_from_ne_true, cond_both, cases_Bool}
+use Rattle.std.proofs.lemmas.List.{ext_get_or, length-replicate, length-take, nil_from_length, reverse-append, get_or-replicate}
 use Rattle.std.proofs.lemmas.List.Elements.{All-nil, All-head, All-tail, All-take}
 use Rattle.std.proofs.lemmas.List.FromFn.{length-map-range_with_len}
-use Rattle.std.proofs.lemmas.Option.{slice_get_within, get_or_from_slice_get}
 use Rattle.inp_model.specs.declared.event.Event.{Event}
 use Rattle.inp_model.specs.declared.event.TheConstants.{EV_KEY, EV_SW, EV_LED}
 use Rattle.inp_model.specs.declared.taken.Taken.{Taken}
@@ -24,7 +23,7 @@ use Rattle.inp_model.specs.Reply.{Answer, IsAnswer, answer, answer_by, accepted,
 use Rattle.inp_model.specs.Run.{Call, IsLegalFrom, HasPlace, place_of, next_place}
 use Rattle.inp_recon.specs.declared.view.View.{View}
 use Rattle.inp_recon.specs.View.{IsSizedFor, key_count, code_count, with_flag, bits_in, flags_after_reply, keys_after_answer, switches_after_answer, leds_after_answer, first_view, view_after_event, view_after_events, view_after_answer}
-use Rattle.inp_recon.specs.ClientView.{ReadEntry, view_after_step, client_view, client_view_with, read_entries, read_entries_with, view_at}
+use Rattle.inp_recon.specs.ClientView.{ReadEntry, client_view, client_view_with, read_entries, read_entries_with, view_at}
 use Rattle.inp_recon.proofs.ReadEntries.{entry-before, entry-kept}
 use Rattle.inp_model.specs.Left.{eaten}
 use Rattle.inp_model.specs.History.{IsHistory}
@@ -43,22 +42,24 @@ use Rattle.inp_reader.proofs.ShowsDevice.{what_is_had, no-key-down, nothing-on}
 use Rattle.inp_reader.proofs.SpareAgrees.{no-keys, no-switches, no-leds, keys-stay}
 use Rattle.inp_reader.proofs.Supported.{events-of}
 use Rattle.inp_script.specs.declared.sight.Sight.{Sight}
-use Rattle.inp_script.specs.declared.sight.Sight.TheVariants.{Call as CallSight, Took, Made, Again as AgainSight, Record}
-use Rattle.inp_script.specs.Sight.{call_sight, again_sight}
+use Rattle.inp_script.specs.declared.sight.Sight.TheVariants.{Took}
+use Rattle.inp_script.specs.Sight.{call_sight, again_sight, taken_sight}
+use Rattle.inp_script.specs.Job.{Job}
+use Rattle.inp_script.specs.Line.{after_call}
+use Rattle.inp_reader.proofs.Meets.{Runs}
 use Rattle.inp_script.proofs.Told.{noted_sight}
 use Rattle.inp_runs.specs.JobViews.{AgreesIn, ShowsAt}
 use Rattle.inp_script.proofs.Runs.{next_place-within}
 use Rattle.inp_model.proofs.Injection.{past-shorter}
+use Rattle.inp_runs.proofs.owners.Owners.{past-next}
+use Rattle.std.proofs.Math.Seq.{take-nil}
 
 -- ---- what a sight took
 
 -- of an entry, with the sight before it
 abbrev pub AtEntry : (List Sight → Taken → Type 0) → List Sight → Sight → Type 0
-AtEntry P before (CallSight x reply) = Unit {0}
 AtEntry P before (Took taken) = P (before ++ Took taken ∷ []) taken
-AtEntry P before (Made event) = Unit {0}
-AtEntry P before (AgainSight at ends) = Unit {0}
-AtEntry P before (Record bytes) = Unit {0}
+AtEntry P before _ = Unit {0}
 
 abbrev pub AtEach : (List Sight → Taken → Type 0) → List Sight → List Sight → Type 0
 AtEach P before [] = Unit {0}
@@ -90,7 +91,32 @@ at_each-noted P before (call ∷ calls) =
     at_each-append P before (call_sight call.step call.answer.reply) (noted_sight calls) (at_each-call P before call.step call.answer.reply)
     (at_each-noted P (before ++ call_sight call.step call.answer.reply) calls)
 
+-- what a call tells of, and then the events that it gave
+pub at_each-told : (P : List Sight → Taken → Type 0) (sight : List Sight) (x : Step) (reply : Reply) (events : List Taken)
+    → AtEach P [] sight → AtEach P (sight ++ (call_sight x reply ++ again_sight reply)) (map taken_sight events)
+    → AtEach P [] (sight ++ ((call_sight x reply ++ again_sight reply) ++ map taken_sight events))
+at_each-told P sight x reply events s es =
+    at_each-append P [] sight ((call_sight x reply ++ again_sight reply) ++ map taken_sight events) s
+    (at_each-append P sight (call_sight x reply ++ again_sight reply) (map taken_sight events)
+    (at_each-append P sight (call_sight x reply) (again_sight reply) (at_each-call P sight x reply)
+    (at_each-again P (sight ++ call_sight x reply) reply)) es)
+
+-- a call that gave no event
+pub at_each-eventless : (P : List Sight → Taken → Type 0) (j : Job) (x : Step) (a : Answer) → a.events ≡ []
+    → AtEach P [] j.sight → AtEach P [] (after_call j x a).sight
+at_each-eventless P j x a none s =
+    at_each-told P j.sight x a.reply a.events s
+    (subst (λ (ts : List Taken). AtEach P (j.sight ++ (call_sight x a.reply ++ again_sight a.reply)) (map taken_sight ts)) (sym none) tt)
+
 -- ---- a history that grows
+
+-- what is shown, told by what is the same
+pub shows-as : (d : Description) (past : List Step) (client now : ℕ) (own here : Option ℕ) (taken : Taken) (view shown : View)
+    → now ≡ client → here ≡ own → shown ≡ view → ShowsAt d past client own taken view → ShowsAt d past now here taken shown
+shows-as d past client now own here taken view shown n o v s =
+    subst (λ (m : ℕ). ShowsAt d past m here taken shown) (sym n)
+    (subst (λ (i : Option ℕ). ShowsAt d past client i taken shown) (sym o)
+    (subst (λ (w : View). ShowsAt d past client own taken w) (sym v) s))
 
 shows-one : (d : Description) (past : List Step) (client : ℕ) (own : Option ℕ) (taken : Taken) (view : View) (x : Step) → ShowsAt d past client own taken view → ShowsAt d (x ∷ past) client own taken view
 shows-one d past client own taken view x s = record {
@@ -139,17 +165,12 @@ no-others-events d v (t ∷ taken) all s =
     no-others-events d (view_after_event v t.event) taken (All-tail (λ (t : Taken). is_event_of d t.event ≡ true) t taken all)
     (no-others-event d v t.event (All-head (λ (t : Taken). is_event_of d t.event ≡ true) t taken all) s)
 
-all-off : (n code : ℕ) → get_or (replicate n false) code false ≡ false
-all-off zero code = refl
-all-off (suc n) zero = refl
-all-off (suc n) (suc code) = all-off n code
-
 told-off : (count : ℕ) (test : ℕ → Bool) → count ≤ 768 → ((code : ℕ) → test code ≡ false) → bits_in count (bitmap_of test) ≡ replicate count false
 unfolding bits_in
 told-off count test few off =
     let long : length (bits_in count (bitmap_of test)) ≡ count = length-map-range_with_len _ 0 count in
     ext_get_or false (bits_in count (bitmap_of test)) (replicate count false) (long ∙ sym (length-replicate count false))
-    (λ code within. told_flag count test code (omega (arith, within, long)) (omega (arith, within, long, few)) ∙ off code ∙ sym (all-off count code))
+    (λ code within. told_flag count test code (omega (arith, within, long)) (omega (arith, within, long, few)) ∙ off code ∙ sym (get_or-replicate count code false false (omega (arith, within, long))))
 
 not-told : (count : ℕ) (reply : Reply) (flags : List Bool) → is_accepted reply ≡ false → flags_after_reply count reply flags ≡ flags
 not-told count (Bits at words) flags h = absurd (true≢false h)
@@ -184,22 +205,17 @@ no-others-answer d past v x cells s = record {
 no-others-client : (d : Description) (past : List Step) (client : ℕ) → IsHistory d past → HasNoOthers d (client_view d past client)
 unfolding client_view_with
 no-others-client d [] client h = no-others-first d
-no-others-client d (x ∷ past) client h = by (is_use_of client x) refl (no-others-client d past client h.0)
-  where
-    v : View
-    v = client_view d past client
-
-    by : (b : Bool) → is_use_of client x ≡ b → HasNoOthers d v → HasNoOthers d (view_after_step (eaten d) d past client x v)
-    by true used s =
-        let given : Answer = answer d past x in
-        subst (HasNoOthers d) (sym (used-view d past client x v h.1 used))
-        (no-others-answer d past (view_after_events v (taken_events given.events)) x given.cells (no-others-events d v given.events (events-of d past x given (inl refl)) s))
-    by false idle s = subst (HasNoOthers d) (sym (idle-step d past client x v idle)) s
-
-take-none : (n : ℕ) (es : List Entry) → es ≡ [] → take n es ≡ []
-take-none zero es h = refl
-take-none (suc n) [] h = refl
-take-none (suc n) (e ∷ es) h = absurd cc
+no-others-client d (x ∷ past) client h =
+    let v : View = client_view d past client in
+    let s : HasNoOthers d v = no-others-client d past client h.0 in
+    let given : Answer = answer d past x in
+    elim (cases_Bool (is_use_of client x)) [
+      | inl used ↦
+          subst (HasNoOthers d) (sym (used-view d past client x v h.1 used))
+          (no-others-answer d past (view_after_events v (taken_events given.events)) x given.cells
+          (no-others-events d v given.events (events-of d past x given (inl refl)) s))
+      | inr idle ↦ subst (HasNoOthers d) (sym (idle-step d past client x v idle)) s
+    ]
 
 -- the view at an event
 pub no-others-at : (d : Description) (past : List Step) (client i : ℕ) (at : ReadEntry) → IsHistory d past → slice_get (read_entries d past client) i ≡ Some at → HasNoOthers d (view_at d client at)
@@ -221,13 +237,10 @@ no-others-at d (x ∷ past) client i at h is = elim (cases_lt i (length (took d 
         let given : Answer = answer d past x in
         subst (λ (es : List Event). HasNoOthers d (view_after_events v es)) (sym (taken-events d past client n x h.1 used))
         (no-others-events d v (take n given.events) (All-take (λ (t : Taken). is_event_of d t.event ≡ true) n given.events (events-of d past x given (inl refl))) (no-others-client d past client h.0))
-    by false idle = subst (λ (es : List Entry). HasNoOthers d (view_after_events v (map event_of es))) (sym none) (nothing (no-others-client d past client h.0))
-      where
-        none : take n (taken_by d past client x) ≡ []
-        none = take-none n (taken_by d past client x) (idle-taken d past client x idle)
-
-        nothing : HasNoOthers d v → HasNoOthers d (view_after_events v [])
-        nothing s = no-others-events d v [] (All-nil (λ (t : Taken). is_event_of d t.event ≡ true)) s
+    by false idle =
+        subst (λ (es : List Entry). HasNoOthers d (view_after_events v (map event_of es)))
+        (sym (ap (λ (es : List Entry). take n es) (idle-taken d past client x idle) ∙ take-nil n))
+        (no-others-events d v [] (All-nil (λ (t : Taken). is_event_of d t.event ≡ true)) (no-others-client d past client h.0))
 
 -- ---- views that agree in what the device has
 
@@ -270,15 +283,6 @@ pub record AreToCome (d : Description) (h : List Step) (Q : ℕ → Type 0) (lea
   pub legal : IsLegalFrom d h least calls
   pub own : (client : ℕ) → Q client → AreAllOwn client least h calls
   pub opened : Each (λ (call : Call). (at client ring : ℕ) → call.answer.reply ≡ Opened at client ring → Q client) calls
-
-past-next : (h : List Step) (at : ℕ) (x : Step) → slice_get h at ≡ Some x → past_at h (suc at) ≡ x ∷ past_at h at
-past-next h at x there =
-    let within : at < length h = slice_get_within h at x there in
-    let last : get_or h at x ≡ x = get_or_from_slice_get h at x x there in
-    let one : suc at ≡ at + 1 = omega arith in
-    ap (λ (n : ℕ). past_at h n) one
-    ∙ ap (λ (xs : List Step). reverse xs) (take_more h at x within ∙ ap (λ (y : Step). take at h ++ y ∷ []) last)
-    ∙ reverse-append (take at h) (x ∷ [])
 
 at_most_next : (reply : Reply) (b : Bool) → place_of reply ≤ (if b then suc (place_of reply) else place_of reply)
 at_most_next reply true = omega arith
@@ -342,3 +346,43 @@ unfolding AreMet
 calls-met d h Q client least [] second c q = refl
 calls-met d h Q client least (call ∷ first) second c q =
     (past_at h (next_place call.answer.reply), call-met d h Q client least call (first ++ second) c q, calls-met d h Q client (next_place call.answer.reply) first second (to-come-next d h Q least call (first ++ second) c) q)
+
+-- ---- a walk of talks, which meets these calls
+
+-- the place from which on calls are to come
+pub record Coming (d : Description) (h : List Step) (Q : ℕ → Type 0) : Type 0 where
+  pub place : ℕ
+  pub left : List Call
+  pub to_come : AreToCome d h Q place left
+
+-- the first of them is made
+abbrev pub Comes : (d : Description) (h : List Step) (Q : ℕ → Type 0) → Coming d h Q → Step → Answer → Coming d h Q → Type 0
+Comes d h Q s x a t = (s.left ≡ record { step = x; answer = a } ∷ t.left) × (t.place ≡ next_place a.reply)
+
+pub coming-run : (d : Description) (h : List Step) (Q : ℕ → Type 0) (least : ℕ) (calls : List Call) (c : AreToCome d h Q least calls)
+    → (t : Coming d h Q) × Runs (Comes d h Q) (record { place = least; left = calls; to_come = c }) calls t
+unfolding Runs
+coming-run d h Q least [] c = (record { place = least; left = []; to_come = c }, refl)
+coming-run d h Q least (call ∷ calls) c =
+    let later : AreToCome d h Q (next_place call.answer.reply) calls = to-come-next d h Q least call calls c in
+    let rest = coming-run d h Q (next_place call.answer.reply) calls later in
+    (rest.0, (record { place = next_place call.answer.reply; left = calls; to_come = later }, (refl, refl), rest.1))
+
+-- these calls were to come between the two
+pub record HaveCome (d : Description) (h : List Step) (Q : ℕ → Type 0) (s t : Coming d h Q) (calls : List Call) : Type 0 where
+  pub to_come : AreToCome d h Q s.place (calls ++ t.left)
+  pub place : t.place ≡ place_behind s.place calls
+
+were-left : (d : Description) (h : List Step) (Q : ℕ → Type 0) (s t : Coming d h Q) (calls : List Call)
+    → Runs (Comes d h Q) s calls t → (s.left ≡ calls ++ t.left) × (t.place ≡ place_behind s.place calls)
+unfolding Runs
+were-left d h Q s t [] run = (ap (λ (u : Coming d h Q). u.left) (sym run), ap (λ (u : Coming d h Q). u.place) run)
+were-left d h Q s t (call ∷ calls) run =
+    let rest = were-left d h Q run.0 t calls run.2 in
+    (run.1.0 ∙ ap (λ (cs : List Call). call ∷ cs) rest.0, rest.1 ∙ ap (λ (n : ℕ). place_behind n calls) run.1.1)
+
+pub have-come : (d : Description) (h : List Step) (Q : ℕ → Type 0) (s t : Coming d h Q) (calls : List Call)
+    → Runs (Comes d h Q) s calls t → HaveCome d h Q s t calls
+have-come d h Q s t calls run =
+    let w = were-left d h Q s t calls run in
+    record { to_come = subst (AreToCome d h Q s.place) w.0 s.to_come; place = w.1 }

@@ -1,8 +1,9 @@
 -- At each report that a tap took, its view is its client's in the history.
-use Rattle.std.proofs.Common.{◌≡◌, ◌≤◌, ◌<◌, ◌⊎◌, inl, inr, ℕ, zero, suc, ◌+◌, ◌-◌, nat_eq, nat_lt, Bool, true, false, ◌&&◌, ◌||◌, not, if◌then◌else◌, ℤ, pos, List, [], ◌∷◌, ◌++◌, length, map, take, drop, reverse, refl, sym, ap, subst, ◌∙◌, arith, append-nil, append_assoc, length-append, Option, Some, None}
+use Rattle.std.proofs.Common.{◌≡◌, ◌≤◌, ◌<◌, ◌⊎◌, inl, inr, ℕ, zero, suc, ◌+◌, ◌-◌, nat_eq, nat_lt, Bool, true, false, ◌&&◌, ◌||◌, not, ℤ, pos, List, [], ◌∷◌, ◌++◌, length, map, take, drop, reverse, refl, sym, ap, subst, ◌∙◌, arith, append-nil, append_assoc, length-append, Option, Some, None}
 use Rattle.std.specs.Prelude.{slice_get, slice_index_or}
-use Rattle.std.specs.List.{All, list_all, range_with_len}
-use Rattle.std.proofs.lemmas.Bool.{true≢false, false≢true, cond-false, cond-true, and_parts, cases_lt, eqb-true, eq-eqb, lt-ltb}
+use Rattle.std.specs.List.{All, list_all, list_any, range_with_len}
+use Rattle.std.proofs.Math.Bool.{and-false}
+use Rattle.std.proofs.lemmas.Bool.{true≢false, false≢true, cond_both, cond-false, cond-true, and_parts, cases_lt, eqb-true, eq-eqb, lt-ltb}
 use Rattle.std.proofs.lemmas.List.{length-map, length-reverse, length-take, map-append, take_at, get_or_past}
 use Rattle.std.proofs.lemmas.List.Elements.{All-take}
 use Rattle.inp_model.specs.declared.event.Event.{Event}
@@ -16,10 +17,9 @@ use Rattle.inp_model.specs.declared.reply.Refusal.{Refusal}
 use Rattle.inp_model.specs.Description.{Description, has_kind, ring, supports, is_multi_touch_code}
 use Rattle.inp_model.specs.Past.{past_at, opens}
 use Rattle.inp_model.specs.Queue.{Entry, taken_by, took, took_with}
-use Rattle.inp_model.specs.Reply.{Answer, IsAnswer, answer, answer_by, accepted, refused, is_accepted, is_bad_client, past_after, taken_of}
+use Rattle.inp_model.specs.Reply.{Answer, IsAnswer, answer, answer_by, accepted, refused, is_accepted, past_after, taken_of}
 use Rattle.inp_model.specs.Run.{Call, HasPlace, place_of, next_place}
 use Rattle.inp_model.specs.Step.{client_of, is_open_step, is_same}
-use Rattle.inp_model.proofs.Allowed.{named_open, head_fails}
 use Rattle.inp_model.proofs.Opens.{is_open-lt, opens-le}
 use Rattle.inp_actors.specs.declared.command.Command.{Command}
 use Rattle.inp_actors.specs.declared.command.Command.TheVariants.{Event as ToEvent, Tick, Inhibit, Uninhibit, Stream, Stream16, Open, Next, Skip, Follow, Force, Feedback}
@@ -31,14 +31,16 @@ use Rattle.inp_recon.specs.ClientView.{client_view, client_view_with, view_at}
 use Rattle.inp_recon.proofs.ReadEntries.{IsOfRead, HasEntry, of-read, entry-behind, entry-of}
 use Rattle.inp_model.specs.Left.{eaten}
 use Rattle.inp_model.specs.History.{IsHistory}
-use Rattle.inp_recon.specs.Synchronised.{Part, AllKeys, AllSwitches, AllLeds, OneAxis, AllSlots, asks_for, has_asked, has_asked_where, has_axis, is_synchronised, is_synchronised_with, is_start}
+use Rattle.inp_recon.specs.Synchronised.{Part, AllKeys, AllSwitches, AllLeds, OneAxis, AllSlots, asks_for, has_asked, has_asked_where, has_axis, is_synchronised, is_start}
 use Rattle.inp_recon.proofs.Each.{and-left, and-right}
+use Rattle.inp_recon.proofs.FaithfulReads.{HasAskedForAll, all-asked}
+use Rattle.inp_reader.proofs.Meets.{Any, Meets}
+use Rattle.inp_script.proofs.LineWalk.{OfJob}
 use Rattle.inp_recon.proofs.Sizes.{IsSizedFor-after_events, IsSizedFor-after_answer, IsSizedFor-first_view}
 use Rattle.inp_recon.proofs.ViewSteps.{client_view-sized}
 use Rattle.inp_reader.specs.declared.reader.TheConstants.{NO_CLIENT}
 use Rattle.inp_reader.specs.Spare.{is_event_of}
 use Rattle.inp_reader.specs.ReaderPlace.{is_use, is_use_of, is_read, taken_events}
-use Rattle.inp_reader.specs.Talk.{LeadsTo, EndsWith}
 use Rattle.inp_reader.proofs.AgreedViews.{Compared, AgreeBut, is_get_keys, is_get_switches, is_get_leds, is_get_axis, is_sync_slots, agree-answer}
 use Rattle.inp_reader.proofs.ClientViews.{accepted-answer, accepted-accepts, at-last, idle-step, no-events, no_read-takes, read-view, taken-events, used-taken, used-view}
 use Rattle.inp_reader.proofs.PastsAtCalls.{AreQuiet}
@@ -46,19 +48,19 @@ use Rattle.inp_reader.proofs.ShowsDevice.{what_is_had, agree-events, at-it}
 use Rattle.inp_reader.proofs.StandsAfterTalks.{open-opens, opens-step}
 use Rattle.inp_reader.proofs.Supported.{events-of}
 use Rattle.inp_script.specs.declared.sight.Sight.{Sight}
-use Rattle.inp_script.specs.declared.sight.Sight.TheVariants.{Call as CallSight, Took, Made, Again as AgainSight, Record}
+use Rattle.inp_script.specs.declared.sight.Sight.TheVariants.{Call as CallSight, Took}
 use Rattle.inp_script.specs.Fold.{tap_fold}
 use Rattle.inp_script.specs.Job.{Job, first_job}
-use Rattle.inp_script.specs.Line.{step_of, tap_client_after, event_of_taken, view_after_call, after_tap_call, tap_call_if, tap_talk, unless_lacking}
+use Rattle.inp_script.specs.Line.{step_of, tap_client_after, event_of_taken, view_after_call, after_tap_call, tap_call_if, tap_talk}
 use Rattle.inp_script.specs.Sight.{call_sight, again_sight, taken_sight, lacks_memory}
 use Rattle.inp_script.proofs.Folds.{tap_fold-append, call-folds, entries-fold, fold-taken, again_sets_nothing}
-use Rattle.inp_reader.proofs.Calls.{finished}
 use Rattle.inp_runs.specs.JobViews.{client_after_sight, reads_as, index_in_history, ShowsAt, IsSeenAt}
-use Rattle.inp_runs.proofs.views.AtHand.{accepted-exact, index-read}
-use Rattle.inp_runs.proofs.views.LastReads.{read-as}
-use Rattle.inp_runs.proofs.views.Reports.{AtEach, at_each-append, at_each-call, at_each-again, shows-later, history-at, whole-past, HasNoOthers, no-others-first, no-others-events, no-others-answer, no-others-at, agrees-had, sized-at, AreToCome, quiet-before, past-entered, place_behind}
-use Rattle.inp_script.proofs.Told.{memory_there}
+use Rattle.inp_runs.proofs.views.AtHand.{accepted-exact, index-read, read-as}
+use Rattle.inp_runs.proofs.LinesWalk.{OfStep}
+use Rattle.inp_runs.proofs.views.Reports.{AtEach, at_each-told, Coming, Comes, shows-as, shows-later, history-at, whole-past, HasNoOthers, no-others-first, no-others-events, no-others-answer, no-others-at, agrees-had, sized-at, AreToCome, quiet-before, past-entered}
 use Rattle.inp_reader.proofs.UnsetSlotAxes.{has_cells}
+use Rattle.inp_runs.proofs.views.JobClients.{stays-last}
+use Rattle.inp_runs.proofs.owners.Owners.{names-open}
 
 -- ---- what was asked for since the client's start
 
@@ -71,16 +73,31 @@ asked_at past client = record {
   slots = has_asked AllSlots past client;
 }
 
--- less is compared
-narrower : (which other : Compared) (v w : View) → AgreeBut which [] v w → (other.keys ≡ true → which.keys ≡ true) → (other.switches ≡ true → which.switches ≡ true) → (other.leds ≡ true → which.leds ≡ true)
-    → ((code : ℕ) → other.axes code ≡ true → which.axes code ≡ true) → (other.slots ≡ true → which.slots ≡ true) → AgreeBut other [] v w
-narrower which other v w a keys switches leds axes slots = record {
-  keys = λ is h. a.keys (keys is) h;
-  switches = λ is h. a.switches (switches is) h;
-  leds = λ is h. a.leds (leds is) h;
-  axes = λ code is h. a.axes code (axes code is) h;
-  slot = λ is h. a.slot (slots is) h;
-  cells = λ is h. a.cells (slots is) h;
+-- whether a part of a view is compared, and whether these steps ask for it
+abbrev compared : Compared → Part → Bool
+compared which AllKeys = which.keys
+compared which AllSwitches = which.switches
+compared which AllLeds = which.leds
+compared which (OneAxis code) = which.axes code
+compared which AllSlots = which.slots
+
+abbrev told_by : List Step → Part → Bool
+told_by xs AllKeys = list_any is_get_keys xs
+told_by xs AllSwitches = list_any is_get_switches xs
+told_by xs AllLeds = list_any is_get_leds xs
+told_by xs (OneAxis code) = list_any (is_get_axis code) xs
+told_by xs AllSlots = list_any is_sync_slots xs
+
+-- less is compared, but for what these steps ask for
+narrower : (which other : Compared) (xs : List Step) (v w : View) → AgreeBut which [] v w
+    → ((part : Part) → compared other part ≡ true → told_by xs part ≡ false → compared which part ≡ true) → AgreeBut other xs v w
+narrower which other xs v w a had = record {
+  keys = λ is none. a.keys (had AllKeys is none) refl;
+  switches = λ is none. a.switches (had AllSwitches is none) refl;
+  leds = λ is none. a.leds (had AllLeds is none) refl;
+  axes = λ code is none. a.axes code (had (OneAxis code) is none) refl;
+  slot = λ is none. a.slot (had AllSlots is none) refl;
+  cells = λ is none. a.cells (had AllSlots is none) refl;
   left_long = a.left_long;
   right_long = a.right_long;
   cells_long = a.cells_long;
@@ -103,28 +120,32 @@ idle-asks part client _ h = refl
 
 had-before : (part : Part) (past : List Step) (client : ℕ) (x : Step) → asks_for part client x ≡ false → has_asked part (x ∷ past) client ≡ true → has_asked part past client ≡ true
 unfolding has_asked
-had-before part past client x none h = by (is_start past client x) (asks_for part client x) none h
-  where
-    by : (starts asks : Bool) → asks ≡ false → (if starts then false else asks || has_asked part past client) ≡ true → has_asked part past client ≡ true
-    by true asks k e = absurd (false≢true e)
-    by false true k e = absurd (true≢false k)
-    by false false k e = e
+had-before part past client x none h =
+    (cond_both (is_start past client x) _ _ (λ (b : Bool). b ≡ true → has_asked part past client ≡ true) (λ _ e. absurd (false≢true e))
+    (λ _ e. sym (ap (λ (asks : Bool). asks || has_asked part past client) none) ∙ e)) h
 
-and-first : (a b c : Bool) → (a ≡ true → c ≡ true) → (a && b) ≡ true → (c && b) ≡ true
-and-first true b c f h = ap (λ (x : Bool). x && b) (f refl) ∙ h
-and-first false b c f h = absurd (false≢true h)
+-- an axis with a value of its own, or another part
+abbrev is_plain : Part → Bool
+is_plain (OneAxis code) = nat_lt code code_count && not (is_multi_touch_code code)
+is_plain _ = true
+
+asked-before : (past : List Step) (client : ℕ) (x : Step) (part : Part) → (is_plain part ≡ true → asks_for part client x ≡ false)
+    → compared (asked_at (x ∷ past) client) part ≡ true → compared (asked_at past client) part ≡ true
+asked-before past client x (OneAxis code) none h =
+    let plain : Bool = is_plain (OneAxis code) in
+    let both : (has_asked (OneAxis code) (x ∷ past) client ≡ true) × (plain ≡ true) = and_parts (has_asked (OneAxis code) (x ∷ past) client) plain h in
+    ap (λ (b : Bool). b && plain) (had-before (OneAxis code) past client x (none both.1) both.0) ∙ both.1
+asked-before past client x part none h = had-before part past client x (none refl) h
 
 asked-idle : (d : Description) (past : List Step) (client : ℕ) (x : Step) (v : View) → is_use_of client x ≡ false → IsAsked d past client v → IsAsked d (x ∷ past) client v
 unfolding client_view_with
-asked-idle d past client x v idle a =
-    let had : (part : Part) → has_asked part (x ∷ past) client ≡ true → has_asked part past client ≡ true = λ part. had-before part past client x (idle-asks part client x idle) in
-    record {
-      opened = opens-step past x client a.opened;
-      agree =
-          subst (λ (w : View). AgreeBut (asked_at (x ∷ past) client) [] v w) (sym (idle-step d past client x (client_view d past client) idle))
-          (narrower (asked_at past client) (asked_at (x ∷ past) client) v (client_view d past client) a.agree (had AllKeys) (had AllSwitches) (had AllLeds)
-          (λ code. and-first (has_asked (OneAxis code) (x ∷ past) client) (nat_lt code code_count && not (is_multi_touch_code code)) (has_asked (OneAxis code) past client) (had (OneAxis code))) (had AllSlots));
-    }
+asked-idle d past client x v idle a = record {
+  opened = opens-step past x client a.opened;
+  agree =
+      subst (λ (w : View). AgreeBut (asked_at (x ∷ past) client) [] v w) (sym (idle-step d past client x (client_view d past client) idle))
+      (narrower (asked_at past client) (asked_at (x ∷ past) client) [] v (client_view d past client) a.agree
+      (λ part is none. asked-before past client x part (λ plain. idle-asks part client x idle) is));
+}
 
 pub asked-quiet : (d : Description) (past others : List Step) (client : ℕ) (v : View) → AreQuiet client others → IsAsked d past client v → IsAsked d (others ++ past) client v
 unfolding AreQuiet
@@ -133,55 +154,22 @@ asked-quiet d past (x ∷ others) client v quiet a = asked-idle d (others ++ pas
 
 -- ---- a step of the client's own
 
-not_keys : (client : ℕ) (x : Step) → (is_get_keys x || false) ≡ false → asks_for AllKeys client x ≡ false
-not_keys client (GetKeys named) h = absurd (true≢false h)
-not_keys client _ h = refl
-
-not_switches : (client : ℕ) (x : Step) → (is_get_switches x || false) ≡ false → asks_for AllSwitches client x ≡ false
-not_switches client (GetSwitches named) h = absurd (true≢false h)
-not_switches client _ h = refl
-
-not_leds : (client : ℕ) (x : Step) → (is_get_leds x || false) ≡ false → asks_for AllLeds client x ≡ false
-not_leds client (GetLeds named) h = absurd (true≢false h)
-not_leds client _ h = refl
-
-not_slots : (client : ℕ) (x : Step) → (is_sync_slots x || false) ≡ false → asks_for AllSlots client x ≡ false
-not_slots client (SyncSlots named) h = absurd (true≢false h)
-not_slots client _ h = refl
-
-never : (a : Bool) → (a && false) ≡ false
-never true = refl
-never false = refl
-
-not_axis : (code client : ℕ) (x : Step) → (nat_lt code code_count && not (is_multi_touch_code code)) ≡ true → (is_get_axis code x || false) ≡ false → asks_for (OneAxis code) client x ≡ false
-not_axis code client (GetAxis named asked) plain h = by (nat_eq asked code) refl
+not_asked : (part : Part) (client : ℕ) (x : Step) → is_plain part ≡ true → told_by (x ∷ []) part ≡ false → asks_for part client x ≡ false
+not_asked AllKeys client (GetKeys named) plain h = absurd (true≢false h)
+not_asked AllSwitches client (GetSwitches named) plain h = absurd (true≢false h)
+not_asked AllLeds client (GetLeds named) plain h = absurd (true≢false h)
+not_asked AllSlots client (SyncSlots named) plain h = absurd (true≢false h)
+not_asked (OneAxis code) client (GetAxis named asked) plain h = by (nat_eq asked code) refl
   where
     by : (b : Bool) → nat_eq asked code ≡ b → (nat_eq named client && b) ≡ false
-    by false is = never (nat_eq named client)
+    by false is = and-false (nat_eq named client)
     by true is =
         let same : asked ≡ code = eqb-true asked code is in
         let whole : is_get_axis code (GetAxis named asked) ≡ true =
         ap (λ (b : Bool). b && (nat_lt asked code_count && not (is_multi_touch_code asked))) is
         ∙ ap (λ (n : ℕ). nat_lt n code_count && not (is_multi_touch_code n)) same ∙ plain in
         absurd (true≢false (sym (ap (λ (b : Bool). b || false) whole) ∙ h))
-not_axis code client _ plain h = refl
-
-asked-but : (past : List Step) (client : ℕ) (x : Step) (v w : View) → AgreeBut (asked_at past client) [] v w → AgreeBut (asked_at (x ∷ past) client) (x ∷ []) v w
-asked-but past client x v w a = record {
-  keys = λ is h. a.keys (had-before AllKeys past client x (not_keys client x h) is) refl;
-  switches = λ is h. a.switches (had-before AllSwitches past client x (not_switches client x h) is) refl;
-  leds = λ is h. a.leds (had-before AllLeds past client x (not_leds client x h) is) refl;
-  axes = λ code is h.
-      let plain : Bool = nat_lt code code_count && not (is_multi_touch_code code) in
-      let both : (has_asked (OneAxis code) (x ∷ past) client ≡ true) × (plain ≡ true) = and_parts (has_asked (OneAxis code) (x ∷ past) client) plain is in
-      let had : has_asked (OneAxis code) past client ≡ true = had-before (OneAxis code) past client x (not_axis code client x both.1 h) both.0 in
-      a.axes code (ap (λ (b : Bool). b && plain) had ∙ both.1) refl;
-  slot = λ is h. a.slot (had-before AllSlots past client x (not_slots client x h) is) refl;
-  cells = λ is h. a.cells (had-before AllSlots past client x (not_slots client x h) is) refl;
-  left_long = a.left_long;
-  right_long = a.right_long;
-  cells_long = a.cells_long;
-}
+not_asked part client _ plain h = refl
 
 -- what a step makes of both views
 abbrev view_made : View → Step → Answer → View
@@ -200,7 +188,8 @@ asked-own d past client x v accepts used sized a =
       agree =
           subst (λ (u : View). AgreeBut (asked_at (x ∷ past) client) [] (view_made v x given) u) (sym (used-view d past client x w accepts used))
           (agree-answer (asked_at (x ∷ past) client) d past x [] given (view_after_events v es) (view_after_events w es) (inl refl) is (IsSizedFor-after_events d.slots v es sized).cells
-          (asked-but past client x (view_after_events v es) (view_after_events w es) events));
+          (narrower (asked_at past client) (asked_at (x ∷ past) client) (x ∷ []) (view_after_events v es) (view_after_events w es) events
+          (λ part is none. asked-before past client x part (λ plain. not_asked part client x plain none) is)));
     }
 
 -- ---- where all is asked for
@@ -216,25 +205,16 @@ where-had : (has_it : Bool) (part : Part) (past : List Step) (client : ℕ) → 
 where-had true part past client h is = h
 where-had false part past client h is = absurd (false≢true is)
 
-pub all-asked : (d : Description) (past : List Step) (client : ℕ) (taken : List Entry) (v w : View) → is_synchronised d past client taken ≡ true → AgreeBut (asked_at past client) [] v w → AgreeBut (what_is_had d) [] v w
-unfolding is_synchronised_with
-all-asked d past client taken v w h a =
-    let e5 = and-left _ _ h in
-    let e4 = and-left _ _ e5 in
-    let e3 = and-left _ _ e4 in
-    let e2 = and-left _ _ e3 in
-    let keys : has_asked_where (has_kind d EV_KEY) AllKeys past client ≡ true = and-left _ _ e2 in
-    let switches : has_asked_where (has_kind d EV_SW) AllSwitches past client ≡ true = and-right _ _ e2 in
-    let leds : has_asked_where (has_kind d EV_LED) AllLeds past client ≡ true = and-right _ _ e3 in
-    let axes : list_all (λ code. has_asked_where (has_axis d code) (OneAxis code) past client) (range_with_len 0 (ABS_MAX + 1)) ≡ true = and-right _ _ e4 in
-    let slots : has_asked_where (nat_lt 0 d.slots) AllSlots past client ≡ true = and-right _ _ e5 in
+agrees-asked : (d : Description) (past : List Step) (client : ℕ) (taken : List Entry) (v w : View) → is_synchronised d past client taken ≡ true → AgreeBut (asked_at past client) [] v w → AgreeBut (what_is_had d) [] v w
+agrees-asked d past client taken v w h a =
+    let all : HasAskedForAll (eaten d) d past client taken = all-asked (eaten d) d past client taken h in
     record {
-      keys = λ is k. a.keys (where-had (has_kind d EV_KEY) AllKeys past client keys is) refl;
-      switches = λ is k. a.switches (where-had (has_kind d EV_SW) AllSwitches past client switches is) refl;
-      leds = λ is k. a.leds (where-had (has_kind d EV_LED) AllLeds past client leds is) refl;
-      axes = λ code is k. axis code is axes;
-      slot = λ is k. a.slot (where-had (nat_lt 0 d.slots) AllSlots past client slots is) refl;
-      cells = λ is k. a.cells (where-had (nat_lt 0 d.slots) AllSlots past client slots is) refl;
+      keys = λ is k. a.keys (where-had (has_kind d EV_KEY) AllKeys past client all.keys is) refl;
+      switches = λ is k. a.switches (where-had (has_kind d EV_SW) AllSwitches past client all.switches is) refl;
+      leds = λ is k. a.leds (where-had (has_kind d EV_LED) AllLeds past client all.leds is) refl;
+      axes = λ code is k. axis code is all.axes;
+      slot = λ is k. a.slot (where-had (nat_lt 0 d.slots) AllSlots past client all.slots is) refl;
+      cells = λ is k. a.cells (where-had (nat_lt 0 d.slots) AllSlots past client all.slots is) refl;
       left_long = a.left_long;
       right_long = a.right_long;
       cells_long = a.cells_long;
@@ -288,7 +268,7 @@ read-shows d past client x v done rest t history used is bare sized a =
       is_taken = e.is_taken;
       agrees = λ h.
           let synchronised : is_synchronised d past client e.at.taken ≡ true = subst (λ (p : List Step). is_synchronised d p client e.at.taken ≡ true) o.is_before h in
-          let had : AgreeBut (what_is_had d) [] v (client_view d past client) = all-asked d past client e.at.taken v (client_view d past client) synchronised a.agree in
+          let had : AgreeBut (what_is_had d) [] v (client_view d past client) = agrees-asked d past client e.at.taken v (client_view d past client) synchronised a.agree in
           agrees-had d (view_after_events v es) (view_at d client e.at)
           (subst (λ (w : View). AgreeBut (what_is_had d) [] (view_after_events v es) w) (sym view) (agree-events (what_is_had d) v (client_view d past client) es had))
           (no-others-events d v (done ++ t ∷ []) all bare) (no-others-at d (x ∷ past) client i e.at history e.is_at)
@@ -316,10 +296,7 @@ pub client_after-append : (client : ℕ) (xs ys : List Sight) → client_after_s
 unfolding client_after_sight
 client_after-append client [] ys = refl
 client_after-append client (CallSight x reply ∷ xs) ys = client_after-append (tap_client_after x reply client) xs ys
-client_after-append client (Took taken ∷ xs) ys = client_after-append client xs ys
-client_after-append client (Made event ∷ xs) ys = client_after-append client xs ys
-client_after-append client (AgainSight at ends ∷ xs) ys = client_after-append client xs ys
-client_after-append client (Record bytes ∷ xs) ys = client_after-append client xs ys
+client_after-append client (entry ∷ xs) ys = client_after-append client xs ys
 
 client_after-takens : (client : ℕ) (events : List Taken) → client_after_sight client (map taken_sight events) ≡ client
 unfolding client_after_sight
@@ -341,25 +318,22 @@ client_after-taking client x reply events =
     ∙ ap (λ (c : ℕ). client_after_sight c (map taken_sight events)) (client_after-call client x reply)
     ∙ client_after-takens (tap_client_after x reply client) events
 
--- a step that is no Open keeps it
-pub client_after-kept : (x : Step) (reply : Reply) (client : ℕ) → is_open_step x ≡ false → tap_client_after x reply client ≡ client
-client_after-kept ToOpen reply client h = absurd (true≢false h)
-client_after-kept _ reply client h = refl
+-- a job's sight after a call
+pub client_after-told : (j : Job) (x : Step) (reply : Reply) (events : List Taken) → reads_as j.sight ≡ j.reading.client
+    → reads_as (j.sight ++ ((call_sight x reply ++ again_sight reply) ++ map taken_sight events)) ≡ tap_client_after x reply j.reading.client
+client_after-told j x reply events reads =
+    let more : List Sight = (call_sight x reply ++ again_sight reply) ++ map taken_sight events in
+    client_after-append NO_CLIENT j.sight more ∙ ap (λ (n : ℕ). client_after_sight n more) reads
+    ∙ client_after-taking j.reading.client x reply events
 
 client_after-refused : (x : Step) (reply : Reply) (client : ℕ) → is_accepted reply ≡ false → tap_client_after x reply client ≡ client
 client_after-refused ToOpen (Opened at opened ring) client h = absurd (true≢false h)
 client_after-refused ToOpen _ client h = refl
 client_after-refused _ reply client h = refl
 
--- An answer
-
 refusal_sets_nothing : (v : View) (x : Step) (at : ℕ) (why : Refusal) (cells : List ℤ) → view_after_answer v x (Refused at why) cells ≡ v
 unfolding view_after_answer
 refusal_sets_nothing v (GetKeys client) at why cells = refl
-refusal_sets_nothing v (GetSwitches client) at why cells = refl
-refusal_sets_nothing v (GetLeds client) at why cells = refl
-refusal_sets_nothing v (GetAxis client code) at why cells = refl
-refusal_sets_nothing v (SyncSlots client) at why cells = refl
 refusal_sets_nothing v _ at why cells = refl
 
 refused-view : (v : View) (x : Step) (reply : Reply) (cells : List ℤ) → is_accepted reply ≡ false → view_after_answer v x reply cells ≡ v
@@ -435,225 +409,190 @@ opened-asked d past v sized =
 abbrev pub IsTapStep : ℕ → Step → Type 0
 IsTapStep client x = (x ≡ ToOpen) ⊎ (client_of x ≡ Some client)
 
--- a client that a step names is open, where the step is not refused
-pub opened-there : (d : Description) (past : List Step) (x : Step) (client : ℕ) → refused d past x ≡ None → client_of x ≡ Some client → client < opens past
-opened-there d past x client accepts named =
-    is_open-lt past client (named_open past x client named (head_fails (is_bad_client past (client_of x)) _ _ accepts))
-
 read-is_use : (client : ℕ) (x : Step) → is_read x ≡ true → client_of x ≡ Some client → is_use_of client x ≡ true
 read-is_use client (Read named count) h is = let same : named ≡ client = (let e : Some named ≡ Some client = is in cc) in eq-eqb named client same
 read-is_use client _ h is = absurd (false≢true h)
 
-read-no_open : (x : Step) → is_read x ≡ true → is_open_step x ≡ false
-read-no_open ToOpen h = absurd (false≢true h)
-read-no_open _ h = refl
-
-read-sets_nothing : (v : View) (x : Step) (reply : Reply) (cells : List ℤ) → is_read x ≡ true → view_after_answer v x reply cells ≡ v
-read-sets_nothing v x reply cells h = read-view x v reply cells h
+named-no_open : (client : ℕ) (x : Step) → client_of x ≡ Some client → is_open_step x ≡ false
+named-no_open client ToOpen e = absurd cc
+named-no_open client _ e = refl
 
 module _ (d : Description) (h : List Step) (Q : ℕ → Type 0) (history : IsHistory d (reverse h)) (short : length h < NO_CLIENT) where
   few-opens : (at : ℕ) → opens (past_at h at) < NO_CLIENT
   few-opens at = omega (arith, short, opens-le (past_at h at), length-reverse (take at h), length-take at h)
 
-  -- the client that a tap's accepted step names was opened by it
-  named-asked : (least : ℕ) (j : Job) (call : Call) (calls : List Call) → AreToCome d h Q least (call ∷ calls) → TapStands d h Q least j → refused d (past_at h (place_of call.answer.reply)) call.step ≡ None → client_of call.step ≡ Some j.reading.client
-      → Q j.reading.client × IsAsked d (past_at h (place_of call.answer.reply)) j.reading.client j.reading.view
-  named-asked least j call calls c s accepts named = by s.asked
-    where
-      at : ℕ
-      at = place_of call.answer.reply
+  -- One call of a tap
+  module _ (least : ℕ) (j : Job) (call : Call) (calls : List Call) (c : AreToCome d h Q least (call ∷ calls)) (s : TapStands d h Q least j) where
+    abbrev x : Step
+    x = call.step
 
-      by : (j.reading.client ≡ NO_CLIENT) ⊎ (Q j.reading.client × IsAsked d (past_at h least) j.reading.client j.reading.view) → Q j.reading.client × IsAsked d (past_at h at) j.reading.client j.reading.view
-      by (inl none) = absurd (omega (arith, few-opens at, none, opened-there d (past_at h at) call.step j.reading.client accepts named))
-      by (inr (q, a)) =
-          let b : (others : List Step) × AreQuiet j.reading.client others × (past_at h at ≡ others ++ past_at h least) = quiet-before d h Q j.reading.client least call calls c q in
-          (q, subst (λ (p : List Step). IsAsked d p j.reading.client j.reading.view) (sym b.2) (asked-quiet d (past_at h least) b.0 j.reading.client j.reading.view b.1 a))
+    abbrev given : Answer
+    given = call.answer
 
-  -- an event that a tap read
-  tap-read : (least : ℕ) (j : Job) (call : Call) (calls : List Call) → AreToCome d h Q least (call ∷ calls) → TapStands d h Q least j → IsTapStep j.reading.client call.step → is_read call.step ≡ true → is_accepted call.answer.reply ≡ true
-      → (front : List Taken) (t : Taken) (behind : List Taken) → call.answer.events ≡ front ++ t ∷ behind
-      → TapSaw d h ((j.sight ++ (call_sight call.step call.answer.reply ++ again_sight call.answer.reply)) ++ map taken_sight (front ++ t ∷ [])) t
-  tap-read least j call calls c s (inl opens_it) read is front t behind e = absurd (false≢true (ap is_read (sym opens_it) ∙ read))
-  tap-read least j call calls c s (inr named) read is front t behind e =
-      let x : Step = call.step in
-      let given : Answer = call.answer in
-      let reply : Reply = given.reply in
-      let at : ℕ = place_of reply in
-      let past : List Step = past_at h at in
-      let client : ℕ = j.reading.client in
-      let v : View = j.reading.view in
-      let told : List Sight = call_sight x reply ++ again_sight reply in
-      let taken : List Taken = front ++ t ∷ [] in
-      let es : List Sight = map taken_sight taken in
-      let placed : HasPlace d h call = c.legal.1 in
-      let exact : (given ≡ answer d past x) × (refused d past x ≡ None) = accepted-exact d past x given placed.exact is in
-      let a : Q client × IsAsked d past client v = named-asked least j call calls c s exact.1 named in
-      let next : past_at h (next_place reply) ≡ x ∷ past = past-entered d h call placed ∙ cond-true (is_accepted reply) (x ∷ past) past is in
-      let here : IsHistory d (x ∷ past) = subst (IsHistory d) next (history-at d h (next_place reply) history) in
-      let i : ℕ = length (took d past client) + length front in
-      let shown : ShowsAt d (x ∷ past) client (Some i) t (view_after_events v (taken_events taken)) =
-      read-shows d past client x v front behind t here (read-is_use client x read named) (ap (λ (g : Answer). g.events) (sym exact.0) ∙ e) s.bare s.sized a.1 in
-      let whole : reverse h ≡ reverse (drop (next_place reply) h) ++ (x ∷ past) = whole-past h (next_place reply) ∙ ap (λ (p : List Step). reverse (drop (next_place reply) h) ++ p) next in
-      let later : ShowsAt d (reverse h) client (Some i) t (view_after_events v (taken_events taken)) =
-      subst (λ (p : List Step). ShowsAt d p client (Some i) t (view_after_events v (taken_events taken))) (sym whole) (shows-later d (reverse (drop (next_place reply) h)) (x ∷ past) client (Some i) t (view_after_events v (taken_events taken)) shown) in
-      let sight : (j.sight ++ told) ++ es ≡ j.sight ++ (told ++ es) = append_assoc j.sight told es in
-      let same : reads_as ((j.sight ++ told) ++ es) ≡ client =
-      ap reads_as sight ∙ client_after-append NO_CLIENT j.sight (told ++ es) ∙ ap (λ (n : ℕ). client_after_sight n (told ++ es)) s.reads
-      ∙ client_after-taking client x reply taken ∙ client_after-kept x reply client (read-no_open x read) in
-      let view : tap_fold d h (first_view d) ((j.sight ++ told) ++ es) ≡ view_after_events v (taken_events taken) =
-      ap (λ (l : List Sight). tap_fold d h (first_view d) l) sight
-      ∙ tap_fold-append d h (first_view d) j.sight (told ++ es) ∙ ap (λ (u : View). tap_fold d h u (told ++ es)) s.fold
-      ∙ tap_fold-append d h v told es ∙ ap (λ (u : View). tap_fold d h u es) (entries-fold d h v x given placed.exact ∙ read-sets_nothing v x reply given.cells read)
-      ∙ fold-taken d h v taken in
-      let count : (0 + length taken) - 1 ≡ length front = omega (arith, length-append front (t ∷ [])) in
-      let own : index_in_history d h ((j.sight ++ told) ++ es) ≡ Some i =
-      index-read d h client j.sight x reply taken same (read-as client x read named) is
-      ∙ ap (λ (n : ℕ). Some (length (took d past client) + n)) count in
-      subst (λ (n : ℕ). ShowsAt d (reverse h) n (index_in_history d h ((j.sight ++ told) ++ es)) t (tap_fold d h (first_view d) ((j.sight ++ told) ++ es))) (sym same)
-      (subst (λ (o : Option ℕ). ShowsAt d (reverse h) client o t (tap_fold d h (first_view d) ((j.sight ++ told) ++ es))) (sym own)
-      (subst (λ (u : View). ShowsAt d (reverse h) client (Some i) t u) (sym view) later))
+    abbrev reply : Reply
+    reply = call.answer.reply
 
-  -- all that a tap's call gave
-  tap-events : (least : ℕ) (j : Job) (call : Call) (calls : List Call) → AreToCome d h Q least (call ∷ calls) → TapStands d h Q least j → IsTapStep j.reading.client call.step
-      → AtEach (TapSaw d h) (j.sight ++ (call_sight call.step call.answer.reply ++ again_sight call.answer.reply)) (map taken_sight call.answer.events)
-  tap-events least j call calls c s step = by (is_accepted call.answer.reply) (is_read call.step) refl refl
-    where
-      before : List Sight
-      before = j.sight ++ (call_sight call.step call.answer.reply ++ again_sight call.answer.reply)
+    abbrev past : List Step
+    past = past_at h (place_of call.answer.reply)
 
-      at : ℕ
-      at = place_of call.answer.reply
+    abbrev client : ℕ
+    client = j.reading.client
 
-      nothing : call.answer.events ≡ [] → AtEach (TapSaw d h) before (map taken_sight call.answer.events)
-      nothing none = subst (λ (ts : List Taken). AtEach (TapSaw d h) before (map taken_sight ts)) (sym none) tt
+    abbrev v : View
+    v = j.reading.view
 
-      by : (a r : Bool) → is_accepted call.answer.reply ≡ a → is_read call.step ≡ r → AtEach (TapSaw d h) before (map taken_sight call.answer.events)
-      by false r is read = nothing (refused-events d (past_at h at) call.step call.answer c.legal.1.exact is)
-      by true false is read =
-          nothing (ap (λ (g : Answer). g.events) (accepted-exact d (past_at h at) call.step call.answer c.legal.1.exact is).0 ∙ no_read-takes d (past_at h at) call.step read)
-      by true true is read =
-          subst (λ (b : List Sight). AtEach (TapSaw d h) b (map taken_sight call.answer.events)) (append-nil before)
-          (events-seen (TapSaw d h) before [] call.answer.events call.answer.events refl (λ front t behind e. tap-read least j call calls c s step read is front t behind e))
+    abbrev made : View
+    made = view_after_call j.reading.view call.step call.answer
 
-  -- what a tap's client is asked for after its call
-  tap-asked : (least : ℕ) (j : Job) (call : Call) (calls : List Call) → AreToCome d h Q least (call ∷ calls) → TapStands d h Q least j → IsTapStep j.reading.client call.step → IsSizedFor d.slots (view_after_call j.reading.view call.step call.answer)
-      → (let client : ℕ = tap_client_after call.step call.answer.reply j.reading.client in (client ≡ NO_CLIENT) ⊎ (Q client × IsAsked d (past_at h (next_place call.answer.reply)) client (view_after_call j.reading.view call.step call.answer)))
-  tap-asked least j call calls c s step sized = by (is_accepted call.answer.reply) refl
-    where
-      x : Step
-      x = call.step
+    abbrev told : List Sight
+    told = call_sight call.step call.answer.reply ++ again_sight call.answer.reply
 
-      given : Answer
-      given = call.answer
+    placed : HasPlace d h call
+    placed = c.legal.1
 
-      at : ℕ
-      at = place_of call.answer.reply
+    entered : past_at h (next_place reply) ≡ past_after reply x past
+    entered = past-entered d h call c.legal.1
 
-      past : List Step
-      past = past_at h (place_of call.answer.reply)
+    exact : is_accepted reply ≡ true → (given ≡ answer d past x) × (refused d past x ≡ None)
+    exact is = accepted-exact d past x given placed.exact is
 
-      client : ℕ
-      client = j.reading.client
+    -- how a client stands behind a past
+    abbrev Stands : ℕ → List Step → View → Type 0
+    Stands n p u = (n ≡ NO_CLIENT) ⊎ (Q n × IsAsked d p n u)
 
-      v : View
-      v = j.reading.view
+    -- the tap's own before the call
+    stood : Stands client past v
+    stood = elim s.asked [
+      | inl none ↦ inl none
+      | inr (q, a) ↦
+          (let b : (others : List Step) × AreQuiet client others × (past ≡ others ++ past_at h least) =
+          quiet-before d h Q client least call calls c q in
+          inr (q, subst (λ (p : List Step). IsAsked d p client v) (sym b.2) (asked-quiet d (past_at h least) b.0 client v b.1 a)))
+    ]
 
-      Stands : ℕ → List Step → View → Type 0
-      Stands n p u = (n ≡ NO_CLIENT) ⊎ (Q n × IsAsked d p n u)
+    -- the client that an accepted step names was opened by the tap
+    named-asked : refused d past x ≡ None → client_of x ≡ Some client → Q client × IsAsked d past client v
+    named-asked accepts named = elim stood [
+      | inl none ↦ absurd (omega (arith, few-opens (place_of reply), none, is_open-lt past client (names-open d past x client accepts named)))
+      | inr a ↦ a
+    ]
 
-      placed : HasPlace d h call
-      placed = c.legal.1
+    -- an event that it read
+    tap-read : client_of x ≡ Some client → is_read x ≡ true → is_accepted reply ≡ true → (front : List Taken) (t : Taken) (behind : List Taken)
+        → given.events ≡ front ++ t ∷ behind → TapSaw d h ((j.sight ++ told) ++ map taken_sight (front ++ t ∷ [])) t
+    tap-read named read is front t behind e =
+        let taken : List Taken = front ++ t ∷ [] in
+        let es : List Sight = map taken_sight taken in
+        let now : View = view_after_events v (taken_events taken) in
+        let a : Q client × IsAsked d past client v = named-asked (exact is).1 named in
+        let next : past_at h (next_place reply) ≡ x ∷ past = entered ∙ cond-true (is_accepted reply) (x ∷ past) past is in
+        let here : IsHistory d (x ∷ past) = subst (IsHistory d) next (history-at d h (next_place reply) history) in
+        let i : ℕ = length (took d past client) + length front in
+        let shown : ShowsAt d (x ∷ past) client (Some i) t now =
+        read-shows d past client x v front behind t here (read-is_use client x read named)
+        (ap (λ (g : Answer). g.events) (sym (exact is).0) ∙ e) s.bare s.sized a.1 in
+        let later : List Step = reverse (drop (next_place reply) h) in
+        let whole : reverse h ≡ later ++ (x ∷ past) = whole-past h (next_place reply) ∙ ap (λ (p : List Step). later ++ p) next in
+        let sight : (j.sight ++ told) ++ es ≡ j.sight ++ (told ++ es) = append_assoc j.sight told es in
+        let same : reads_as ((j.sight ++ told) ++ es) ≡ client =
+        ap reads_as sight ∙ client_after-told j x reply taken s.reads ∙ stays-last x reply client (named-no_open client x named) in
+        let view : tap_fold d h (first_view d) ((j.sight ++ told) ++ es) ≡ now =
+        ap (λ (l : List Sight). tap_fold d h (first_view d) l) sight
+        ∙ tap_fold-append d h (first_view d) j.sight (told ++ es) ∙ ap (λ (u : View). tap_fold d h u (told ++ es)) s.fold
+        ∙ tap_fold-append d h v told es
+        ∙ ap (λ (u : View). tap_fold d h u es) (entries-fold d h v x given placed.exact ∙ read-view x v reply given.cells read)
+        ∙ fold-taken d h v taken in
+        let count : (0 + length taken) - 1 ≡ length front = omega (arith, length-append front (t ∷ [])) in
+        let own : index_in_history d h ((j.sight ++ told) ++ es) ≡ Some i =
+        index-read d h client j.sight x reply taken same (read-as client x read named) is
+        ∙ ap (λ (n : ℕ). Some (length (took d past client) + n)) count in
+        shows-as d (reverse h) client _ (Some i) _ t now _ same own view
+        (subst (λ (p : List Step). ShowsAt d p client (Some i) t now) (sym whole) (shows-later d later (x ∷ past) client (Some i) t now shown))
 
-      entered : past_at h (next_place call.answer.reply) ≡ past_after call.answer.reply call.step (past_at h (place_of call.answer.reply))
-      entered = past-entered d h call c.legal.1
+    -- all that the call gave
+    tap-events : IsTapStep client x → AtEach (TapSaw d h) (j.sight ++ told) (map taken_sight given.events)
+    tap-events step = by (is_accepted reply) (is_read x) refl refl step
+      where
+        nothing : given.events ≡ [] → AtEach (TapSaw d h) (j.sight ++ told) (map taken_sight given.events)
+        nothing none = subst (λ (ts : List Taken). AtEach (TapSaw d h) (j.sight ++ told) (map taken_sight ts)) (sym none) tt
 
-      -- as before
-      kept : (client ≡ NO_CLIENT) ⊎ (Q client × IsAsked d (past_at h least) client v) → Stands client past v
-      kept (inl none) = inl none
-      kept (inr (q, a)) =
-          let b : (others : List Step) × AreQuiet client others × (past ≡ others ++ past_at h least) = quiet-before d h Q client least call calls c q in
-          inr (q, subst (λ (p : List Step). IsAsked d p client v) (sym b.2) (asked-quiet d (past_at h least) b.0 client v b.1 a))
+        by : (a r : Bool) → is_accepted reply ≡ a → is_read x ≡ r → IsTapStep client x → AtEach (TapSaw d h) (j.sight ++ told) (map taken_sight given.events)
+        by false r is read step = nothing (refused-events d past x given placed.exact is)
+        by true false is read step = nothing (ap (λ (g : Answer). g.events) (exact is).0 ∙ no_read-takes d past x read)
+        by true true is read (inl opens_it) = absurd (false≢true (ap is_read (sym opens_it) ∙ read))
+        by true true is read (inr named) =
+            subst (λ (b : List Sight). AtEach (TapSaw d h) b (map taken_sight given.events)) (append-nil (j.sight ++ told))
+            (events-seen (TapSaw d h) (j.sight ++ told) [] given.events given.events refl (tap-read named read is))
 
-      opens-one : is_accepted given.reply ≡ true → x ≡ ToOpen → Stands (tap_client_after x given.reply client) (x ∷ past) (view_after_call v x given)
-      opens-one is opening =
-          let exact : (given ≡ answer d past x) × (refused d past x ≡ None) = accepted-exact d past x given placed.exact is in
-          let reply : given.reply ≡ Opened (length past) (opens past) (ring d) =
-          ap (λ (g : Answer). g.reply) exact.0 ∙ ap (λ (g : Answer). g.reply) (accepted-answer d past x exact.1) ∙ ap (λ (y : Step). (accepted d past y).reply) opening in
-          let q : Q (opens past) = c.opened.0 (length past) (opens past) (ring d) reply in
-          let new : tap_client_after x given.reply client ≡ opens past = ap (λ (y : Step). tap_client_after y given.reply client) opening ∙ ap (λ (r : Reply). tap_client_after ToOpen r client) reply in
-          subst (λ (n : ℕ). Stands n (x ∷ past) (view_after_call v x given)) (sym new)
-          (inr (q, subst (λ (y : Step). IsAsked d (y ∷ past) (opens past) (view_after_call v x given)) (sym opening) (opened-asked d past (view_after_call v x given) sized)))
+    -- the client is open behind an Open, and nothing was asked for
+    opens-one : is_accepted reply ≡ true → IsSizedFor d.slots made → x ≡ ToOpen → Stands (tap_client_after x reply client) (x ∷ past) made
+    opens-one is sized opening =
+        let opened : reply ≡ Opened (length past) (opens past) (ring d) =
+        ap (λ (g : Answer). g.reply) ((exact is).0 ∙ accepted-answer d past x (exact is).1) ∙ ap (λ (y : Step). (accepted d past y).reply) opening in
+        let new : tap_client_after x reply client ≡ opens past =
+        ap (λ (y : Step). tap_client_after y reply client) opening ∙ ap (λ (r : Reply). tap_client_after ToOpen r client) opened in
+        subst (λ (n : ℕ). Stands n (x ∷ past) made) (sym new)
+        (inr (
+          c.opened.0 (length past) (opens past) (ring d) opened,
+          subst (λ (y : Step). IsAsked d (y ∷ past) (opens past) made) (sym opening) (opened-asked d past made sized),
+        ))
 
-      own-one : is_accepted given.reply ≡ true → client_of x ≡ Some client → Stands (tap_client_after x given.reply client) (x ∷ past) (view_after_call v x given)
-      own-one is named =
-          let exact : (given ≡ answer d past x) × (refused d past x ≡ None) = accepted-exact d past x given placed.exact is in
-          let a : Q client × IsAsked d past client v = named-asked least j call calls c s exact.1 named in
-          let same : tap_client_after x given.reply client ≡ client = client_after-kept x given.reply client (named-no_open x named) in
-          subst (λ (n : ℕ). Stands n (x ∷ past) (view_after_call v x given)) (sym same)
-          (inr (a.0, subst (λ (g : Answer). IsAsked d (x ∷ past) client (view_after_call v x g)) (sym exact.0) (used_or_idle (is_use x) refl a.1 exact.1 (ap (λ (g : Answer). is_accepted g.reply) (sym exact.0) ∙ is))))
-        where
-          named-no_open : (y : Step) → client_of y ≡ Some client → is_open_step y ≡ false
-          named-no_open ToOpen e = absurd cc
-          named-no_open _ e = refl
+    own-one : is_accepted reply ≡ true → client_of x ≡ Some client → Stands (tap_client_after x reply client) (x ∷ past) made
+    own-one is named =
+        let a : Q client × IsAsked d past client v = named-asked (exact is).1 named in
+        subst (λ (n : ℕ). Stands n (x ∷ past) made) (sym (stays-last x reply client (named-no_open client x named)))
+        (inr (
+          a.0,
+          subst (λ (g : Answer). IsAsked d (x ∷ past) client (view_after_call v x g)) (sym (exact is).0)
+              (used_or_idle (is_use x) refl a.1 (ap (λ (g : Answer). is_accepted g.reply) (sym (exact is).0) ∙ is)),
+        ))
+      where
+        used_or_idle : (b : Bool) → is_use x ≡ b → IsAsked d past client v → is_accepted (answer d past x).reply ≡ true
+            → IsAsked d (x ∷ past) client (view_after_call v x (answer d past x))
+        used_or_idle true used a good =
+            let is_own : is_same (client_of x) client ≡ true = ap (λ (o : Option ℕ). is_same o client) named ∙ eq-eqb client client refl in
+            let own_use : is_use_of client x ≡ true = ap (λ (b : Bool). b && is_same (client_of x) client) used ∙ is_own in
+            subst (IsAsked d (x ∷ past) client) (sym (made-same d past v x (refused d past x)))
+            (asked-own d past client x v (exact is).1 own_use s.sized a)
+        used_or_idle false idle a good =
+            let own_use : is_use_of client x ≡ false = ap (λ (b : Bool). b && is_same (client_of x) client) idle in
+            subst (IsAsked d (x ∷ past) client) (sym (idle-made d past v x (refused d past x) idle good)) (asked-idle d past client x v own_use a)
 
-          used_or_idle : (b : Bool) → is_use x ≡ b → IsAsked d past client v → refused d past x ≡ None → is_accepted (answer d past x).reply ≡ true → IsAsked d (x ∷ past) client (view_after_call v x (answer d past x))
-          used_or_idle true used a accepts good =
-              let is_own : is_same (client_of x) client ≡ true = ap (λ (o : Option ℕ). is_same o client) named ∙ eq-eqb client client refl in
-              let own_use : is_use_of client x ≡ true = ap (λ (b : Bool). b && is_same (client_of x) client) used ∙ is_own in
-              subst (IsAsked d (x ∷ past) client) (sym (made-same d past v x (refused d past x))) (asked-own d past client x v accepts own_use s.sized a)
-          used_or_idle false idle a accepts good =
-              let own_use : is_use_of client x ≡ false = ap (λ (b : Bool). b && is_same (client_of x) client) idle in
-              subst (IsAsked d (x ∷ past) client) (sym (idle-made d past v x (refused d past x) idle good)) (asked-idle d past client x v own_use a)
+    -- what the tap's client was asked for after the call
+    tap-asked : IsTapStep client x → IsSizedFor d.slots made → Stands (tap_client_after x reply client) (past_at h (next_place reply)) made
+    tap-asked step sized = by (is_accepted reply) refl
+      where
+        by : (b : Bool) → is_accepted reply ≡ b → Stands (tap_client_after x reply client) (past_at h (next_place reply)) made
+        by true is =
+            subst (λ (p : List Step). Stands (tap_client_after x reply client) p made) (sym (entered ∙ cond-true (is_accepted reply) (x ∷ past) past is))
+            (elim step [ inl opening ↦ opens-one is sized opening | inr named ↦ own-one is named ])
+        by false is =
+            let answered : View = view_after_answer v x reply given.cells in
+            let view : made ≡ v =
+            ap (λ (ts : List Taken). view_after_events answered (map event_of_taken ts)) (refused-events d past x given placed.exact is)
+            ∙ no-events answered ∙ refused-view v x reply given.cells is in
+            subst (λ (p : List Step). Stands (tap_client_after x reply client) p made) (sym (entered ∙ cond-false (is_accepted reply) (x ∷ past) past is))
+            (subst (λ (n : ℕ). Stands n past made) (sym (client_after-refused x reply client is)) (subst (Stands client past) (sym view) stood))
 
-      by_step : is_accepted given.reply ≡ true → IsTapStep client x → Stands (tap_client_after x given.reply client) (x ∷ past) (view_after_call v x given)
-      by_step is (inl opening) = opens-one is opening
-      by_step is (inr named) = own-one is named
-
-      by : (b : Bool) → is_accepted given.reply ≡ b → Stands (tap_client_after x given.reply client) (past_at h (next_place given.reply)) (view_after_call v x given)
-      by true is =
-          subst (λ (p : List Step). Stands (tap_client_after x given.reply client) p (view_after_call v x given)) (sym (entered ∙ cond-true (is_accepted given.reply) (x ∷ past) past is)) (by_step is step)
-      by false is =
-          let none : given.events ≡ [] = refused-events d past x given placed.exact is in
-          let view : view_after_call v x given ≡ v =
-          ap (λ (ts : List Taken). view_after_events (view_after_answer v x given.reply given.cells) (map event_of_taken ts)) none
-          ∙ no-events (view_after_answer v x given.reply given.cells) ∙ refused-view v x given.reply given.cells is in
-          subst (λ (p : List Step). Stands (tap_client_after x given.reply client) p (view_after_call v x given)) (sym (entered ∙ cond-false (is_accepted given.reply) (x ∷ past) past is))
-          (subst (λ (n : ℕ). Stands n past (view_after_call v x given)) (sym (client_after-refused x given.reply client is))
-          (subst (Stands client past) (sym view) (kept s.asked)))
-
-  -- a tap stands so after its call
-  pub tap-call : (least : ℕ) (j : Job) (call : Call) (calls : List Call) → AreToCome d h Q least (call ∷ calls) → TapStands d h Q least j → IsTapStep j.reading.client call.step → TapStands d h Q (next_place call.answer.reply) (after_tap_call j call.step call.answer)
-  tap-call least j call calls c s step =
-      let x : Step = call.step in
-      let given : Answer = call.answer in
-      let reply : Reply = given.reply in
-      let past : List Step = past_at h (place_of reply) in
-      let v : View = j.reading.view in
-      let told : List Sight = call_sight x reply ++ again_sight reply in
-      let placed : HasPlace d h call = c.legal.1 in
-      let supported : All (λ (t : Taken). is_event_of d t.event ≡ true) given.events = events-of d past x given placed.exact in
-      let answered : View = view_after_answer v x reply given.cells in
-      let sized : IsSizedFor d.slots (view_after_call v x given) =
-      IsSizedFor-after_events d.slots answered (map event_of_taken given.events) (IsSizedFor-after_answer d.slots v x reply given.cells (has_cells d past x given v.cells placed.exact s.sized.cells) s.sized) in
-      record {
-        seen =
-            at_each-append (TapSaw d h) [] j.sight (told ++ map taken_sight given.events) s.seen
-            (at_each-append (TapSaw d h) j.sight told (map taken_sight given.events)
-            (at_each-append (TapSaw d h) j.sight (call_sight x reply) (again_sight reply) (at_each-call (TapSaw d h) j.sight x reply) (at_each-again (TapSaw d h) (j.sight ++ call_sight x reply) reply))
-            (tap-events least j call calls c s step));
-        fold = call-folds d h (first_view d) j (after_tap_call j x given) x call placed refl refl s.fold;
-        reads = client_after-append NO_CLIENT j.sight (told ++ map taken_sight given.events) ∙ ap (λ (n : ℕ). client_after_sight n (told ++ map taken_sight given.events)) s.reads ∙ client_after-taking j.reading.client x reply given.events;
-        bare = no-others-events d answered given.events supported (bare-given d past v x given placed.exact s.bare);
-        sized = sized;
-        asked = tap-asked least j call calls c s step sized;
-      }
+    -- a tap stands so after its call
+    pub tap-call : IsTapStep client x → TapStands d h Q (next_place reply) (after_tap_call j x given)
+    tap-call step =
+        let supported : All (λ (t : Taken). is_event_of d t.event ≡ true) given.events = events-of d past x given placed.exact in
+        let answered : View = view_after_answer v x reply given.cells in
+        let sized : IsSizedFor d.slots made =
+        IsSizedFor-after_events d.slots answered (map event_of_taken given.events)
+        (IsSizedFor-after_answer d.slots v x reply given.cells (has_cells d past x given v.cells placed.exact s.sized.cells) s.sized) in
+        record {
+          seen = at_each-told (TapSaw d h) j.sight x reply given.events s.seen (tap-events step);
+          fold = call-folds d h (first_view d) j (after_tap_call j x given) x call placed refl refl s.fold;
+          reads = client_after-told j x reply given.events s.reads;
+          bare = no-others-events d answered given.events supported (bare-given d past v x given placed.exact s.bare);
+          sized = sized;
+          asked = tap-asked step sized;
+        }
 
   -- what a tap does at a command
-  abbrev IsTapStepOf : ℕ → Option Step → Type 0
-  IsTapStepOf client None = Unit {0}
-  IsTapStepOf client (Some x) = IsTapStep client x
-
-  tap-step : (client : ℕ) (command : Command) → is_command_of Tap command ≡ true → IsTapStepOf client (step_of client command)
+  tap-step : (client : ℕ) (command : Command) → is_command_of Tap command ≡ true → OfStep (IsTapStep client) (step_of client command)
   tap-step client (ToEvent moment kind code value) h = absurd cc
   tap-step client (Tick moment) h = absurd cc
   tap-step client (Inhibit moment) h = absurd cc
@@ -668,22 +607,21 @@ module _ (d : Description) (h : List Step) (Q : ℕ → Type 0) (history : IsHis
   tap-step client Open h = inl refl
   tap-step client _ h = inr refl
 
-  tap-if : (least : ℕ) (j k : Job) (o : Option Step) (calls more : List Call) → IsTapStepOf j.reading.client o → AreToCome d h Q least (calls ++ more) → EndsWith (tap_call_if j o) calls (Some k) → TapStands d h Q least j → TapStands d h Q (place_behind least calls) k
-  unfolding LeadsTo
-  tap-if least j k None calls more step c ends s =
-      let f = finished (Some j) (Some k) calls ends in
-      let same : j ≡ k = (let e = f.1 in cc) in
-      subst (λ (cs : List Call). TapStands d h Q (place_behind least cs) k) (sym f.0) (subst (TapStands d h Q least) same s)
-  tap-if least j k (Some x) [] more step c ends s = absurd cc
-  tap-if least j k (Some x) (call ∷ calls) more step c ends s =
-      let f = finished (unless_lacking call.answer.reply (after_tap_call j x call.answer)) (Some k) calls ends.1 in
-      let same : after_tap_call j x call.answer ≡ k = memory_there (lacks_memory call.answer.reply) (after_tap_call j x call.answer) k f.1 in
-      let one : TapStands d h Q (next_place call.answer.reply) (after_tap_call j call.step call.answer) = tap-call least j call (calls ++ more) c s (subst (IsTapStep j.reading.client) (sym ends.0) step) in
-      subst (λ (cs : List Call). TapStands d h Q (place_behind (next_place call.answer.reply) cs) k) (sym f.0)
-      (subst (TapStands d h Q (next_place call.answer.reply)) (ap (λ (y : Step). after_tap_call j y call.answer) ends.0 ∙ same) one)
+  abbrev pub IsTapOn : Coming d h Q → Job → Type 0
+  IsTapOn s j = TapStands d h Q s.place j
 
-  pub tap-line : (least : ℕ) (j k : Job) (command : Command) (calls more : List Call) → is_command_of Tap command ≡ true → AreToCome d h Q least (calls ++ more) → EndsWith (tap_talk command j) calls (Some k) → TapStands d h Q least j → TapStands d h Q (place_behind least calls) k
-  tap-line least j k command calls more of_role c ends s = tap-if least j k (step_of j.reading.client command) calls more (tap-step j.reading.client command of_role) c ends s
+  pub tap-line : (command : Command) → is_command_of Tap command ≡ true → (s : Coming d h Q) (j : Job) → IsTapOn s j
+      → Meets Any (Comes d h Q) (OfJob IsTapOn) s (tap_talk command j)
+  tap-line command of_role s j i = by_step (step_of j.reading.client command) (tap-step j.reading.client command of_role)
+    where
+      by_step : (o : Option Step) → OfStep (IsTapStep j.reading.client) o → Meets Any (Comes d h Q) (OfJob IsTapOn) s (tap_call_if j o)
+      by_step None step = i
+      by_step (Some x) step = (
+        tt,
+        λ t a by. cond_both (lacks_memory a.reply) _ _ (OfJob IsTapOn t) (λ _. tt)
+            (λ _. subst (λ (n : ℕ). TapStands d h Q n (after_tap_call j x a)) (sym by.1)
+            (tap-call s.place j (record { step = x; answer = a }) t.left (subst (AreToCome d h Q s.place) by.0 s.to_come) i step)),
+      )
 
   pub tap-first : TapStands d h Q 0 (first_job Tap d)
   unfolding tap_fold client_after_sight
