@@ -64,7 +64,8 @@ module _ (d : Description) (streams : List (List Stamped)) (wait : Option Waitin
 
     -- nor is there a call where nothing more is asked
     none-more : (events : List Stamped) (j mid new : Job) (calls more : List Call) → lines_of events j ≡ lines_of [] j
-        → EndsWith (finish (Some j)) calls (Some mid) → EndsWith (lines_of [] mid) more (Some new) → EndsWith (lines_of events j) (calls ++ more) (Some new)
+        → EndsWith (finish (Some j)) calls (Some mid) → EndsWith (lines_of [] mid) more (Some new)
+        → EndsWith (lines_of events j) (calls ++ more) (Some new)
     none-more events j mid new calls more nothing ends last =
         let f = finished (Some j) (Some mid) calls ends in
         subst (λ (t : Talk (Option Job)). EndsWith t (calls ++ more) (Some new)) (sym nothing)
@@ -74,7 +75,8 @@ module _ (d : Description) (streams : List (List Stamped)) (wait : Option Waitin
     lines-going : (events : List Stamped) (before after : EvdevView) (j mid new : Job) (calls more : List Call) → j.stop ≡ None → EndsWith (stream_talk events j) calls (Some mid) → AreCalls before after calls
         → EndsWith (lines_of [] mid) more (Some new) → EndsWith (lines_of events j) (calls ++ more) (Some new)
     unfolding LeadsTo AreCalls stream_talk
-    lines-going [] before after j mid new calls more goes leads are last = none-more [] j mid new calls more refl leads last
+    lines-going [] before after j mid new calls more goes leads are last = none-more [] j mid new calls more
+        refl leads last
     lines-going (x ∷ events) before after j mid new [] more goes leads are last = absurd cc
     lines-going (x ∷ events) before after j mid new (call ∷ calls) more goes (step, leads) (between, is_call, are) last =
         subst (λ (t : Talk (Option Job)). EndsWith t (call ∷ (calls ++ more)) (Some new)) (sym (first-line None x events j goes))

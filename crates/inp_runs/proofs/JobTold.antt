@@ -30,11 +30,13 @@ abbrev ToldBy : List Call → Job → Type 0
 ToldBy calls j = Tells calls [] j.sight
 
 -- what a talk adds to it
-tells-more : (s : List Call) (j : Job) (talk : Talk (Option Job)) → ToldBy s j → ((calls : List Call) (k : Job) → EndsWith talk calls (Some k) → Tells calls j.sight k.sight)
+tells-more : (s : List Call) (j : Job) (talk : Talk (Option Job)) → ToldBy s j
+    → ((calls : List Call) (k : Job) → EndsWith talk calls (Some k) → Tells calls j.sight k.sight)
     → Meets Any Listed (OfJob ToldBy) s talk
 tells-more s j talk told more =
     job-ends-meet Listed ToldBy s talk (λ t calls k run ends.
-    subst (λ (cs : List Call). ToldBy cs k) (sym (run-listed s t calls run)) (tells-then s calls [] j.sight k.sight told (more calls k ends)))
+    subst (λ (cs : List Call). ToldBy cs k) (sym (run-listed s t calls run))
+    (tells-then s calls [] j.sight k.sight told (more calls k ends)))
 
 lines-told : (role : Role) (d : Description) (streams : List (List Stamped)) (wait : Option Waiting) (n : ℕ) (lines : List Line) (j k : Job) (calls : List Call) → j.sight ≡ [] → EndsWith (lines_talk role d streams wait n lines j) calls (Some k) → ToldBy calls k
 lines-told role d streams wait n lines j k calls none h =
@@ -44,10 +46,12 @@ lines-told role d streams wait n lines j k calls none h =
     (λ s i told. last-keeps Listed ToldBy wait role s i (λ e t a by. called s t i a by told) told)
     lines (any-lines lines) [] j (subst (Tells [] []) (sym none) (tells-none []))) (listed-run [] calls) h
   where
-    called : (s t : List Call) (i : Job) (a : Answer) → Listed s End a t → ToldBy s i → ToldBy t (after_call i End a)
+    called : (s t : List Call) (i : Job) (a : Answer) → Listed s End a t → ToldBy s i
+        → ToldBy t (after_call i End a)
     called s t i a by told =
         subst (λ (cs : List Call). ToldBy cs (after_call i End a)) (sym by)
-        (tells-then s (record { step = End; answer = a } ∷ []) [] i.sight (after_call i End a).sight told (tells-call End (record { step = End; answer = a }) i.sight refl))
+        (tells-then s (record { step = End; answer = a } ∷ []) [] i.sight (after_call i End a).sight told
+        (tells-call End (record { step = End; answer = a }) i.sight refl))
 
 pub job-told : (role : Role) (d : Description) (streams : List (List Stamped)) (wait : Option Waiting) (n : ℕ) (lines : List Line) (k : Job) (calls : List Call) → AreAnswered d calls → EndsWith (lines_talk role d streams wait n lines (first_job role d)) calls (Some k) → AreTold wait calls k.sight
 job-told role d streams None n lines k calls answered h =

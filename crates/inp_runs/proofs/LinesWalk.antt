@@ -1,4 +1,5 @@
--- The talks of an actor's lines, walked once: what has to be shown of one line, of a source's step, and of its end.
+-- The talks of an actor's lines, walked once: what has to be shown of one line, of a source's step, and of
+-- its end.
 use Rattle.std.proofs.Common.{◌≡◌, ℕ, List, [], ◌∷◌, refl, subst, Option, Some, None, Bool, false, true, cond, nat_eq, ◌++◌, sym, ap, ◌∙◌, append_assoc, append-nil}
 use Rattle.std.proofs.lemmas.Bool.{cond_both}
 use Rattle.inp_model.specs.declared.step.Step.{Step}
@@ -42,10 +43,13 @@ pub any-lines : (lines : List Line) → Each (λ (line : Line). Unit {0}) lines
 any-lines [] = tt
 any-lines (line ∷ lines) = (tt, any-lines lines)
 
--- The steps that a source asks for have a property, N: each that injects an event, and the one of its command.
+-- The steps that a source asks for have a property, N: each that injects an event, and the one of its
+-- command.
 module _ {S : Type 0} (R : S → Step → Answer → S → Type 0) (I : S → Job → Type 0) where
-  stream-keeps : (N : Step → Type 0) → ((s t : S) (j : Job) (x : Step) (a : Answer) → N x → I s j → R s x a t → I t (after_call j x a))
-      → ((stamped : Stamped) → N (Inject stamped.event stamped.now)) → (stream : List Stamped) (s : S) (j : Job) → I s j → Meets Any R (OfJob I) s (stream_talk stream j)
+  stream-keeps : (N : Step → Type 0) → ((s t : S) (j : Job) (x : Step) (a : Answer) → N x → I s j → R s x a t
+      → I t (after_call j x a))
+      → ((stamped : Stamped) → N (Inject stamped.event stamped.now))
+      → (stream : List Stamped) (s : S) (j : Job) → I s j → Meets Any R (OfJob I) s (stream_talk stream j)
   unfolding stream_talk
   stream-keeps N calls injects [] s j i = i
   stream-keeps N calls injects (stamped ∷ stream) s j i = (
@@ -57,23 +61,29 @@ module _ {S : Type 0} (R : S → Step → Answer → S → Type 0) (I : S → Jo
         (λ _. stream-keeps N calls injects stream t (after_call j x a) here) (λ _. here),
   )
 
-  pub source-keeps : (N : Step → Type 0) → ((s t : S) (j : Job) (x : Step) (a : Answer) → N x → I s j → R s x a t → I t (after_call j x a))
-      → ((stamped : Stamped) → N (Inject stamped.event stamped.now)) → (streams : List (List Stamped)) (command : Command)
-      → OfStep N (step_of NO_CLIENT command) → (s : S) (j : Job) → I s j → Meets Any R (OfJob I) s (source_talk streams command j)
+  pub source-keeps : (N : Step → Type 0) → ((s t : S) (j : Job) (x : Step) (a : Answer) → N x → I s j
+      → R s x a t → I t (after_call j x a))
+      → ((stamped : Stamped) → N (Inject stamped.event stamped.now))
+      → (streams : List (List Stamped)) (command : Command)
+      → OfStep N (step_of NO_CLIENT command) → (s : S) (j : Job) → I s j
+      → Meets Any R (OfJob I) s (source_talk streams command j)
   source-keeps N calls injects streams (Stream file index) of s j i = stream-keeps N calls injects (stream_numbered streams index) s j i
   source-keeps N calls injects streams (Stream16 file index) of s j i = stream-keeps N calls injects (stream_numbered streams index) s j i
   source-keeps N calls injects streams command of s j i =
-      call_if-meets R I j (step_of NO_CLIENT command) (λ u v x a is. calls u v j x a (subst (OfStep N) is of)) s i
+      call_if-meets R I j (step_of NO_CLIENT command) (λ u v x a is. calls u v j x a (subst (OfStep N) is of))
+      s i
 
   -- a job that stopped does nothing
-  pub unless-keeps : (stop : Option Stop) (s : S) (j : Job) (talk : Talk (Option Job)) → I s j → Meets Any R (OfJob I) s talk
+  pub unless-keeps : (stop : Option Stop) (s : S) (j : Job) (talk : Talk (Option Job)) → I s j
+      → Meets Any R (OfJob I) s talk
       → Meets Any R (OfJob I) s (unless_stopped stop j talk)
   unless-keeps None s j talk i more = more
   unless-keeps (Some stop) s j talk i more = i
 
   -- behind its lines a source says that it is done, where lines wait, and another one nothing
   pub last-keeps : (wait : Option Waiting) (role : Role) (s : S) (j : Job)
-      → (role ≡ Source → (t : S) (a : Answer) → R s End a t → I t (after_call j End a)) → I s j → Meets Any R (OfJob I) s (last_talk wait role j)
+      → (role ≡ Source → (t : S) (a : Answer) → R s End a t → I t (after_call j End a)) → I s j
+      → Meets Any R (OfJob I) s (last_talk wait role j)
   last-keeps None role s j ends i = i
   last-keeps (Some waiting) Source s j ends i = by j.stop
     where
@@ -84,22 +94,27 @@ module _ {S : Type 0} (R : S → Step → Answer → S → Type 0) (I : S → Jo
 
   -- lines, one after another, each with a command of this kind
   pub lines-keep : (C : Command → Type 0) (role : Role) (d : Description) (streams : List (List Stamped)) (wait : Option Waiting) (n : ℕ)
-      → ((command : Command) → C command → (s : S) (j : Job) → I s j → Meets Any R (OfJob I) s (line_talk role d streams wait n command j))
+      → ((command : Command) → C command → (s : S) (j : Job) → I s j
+      → Meets Any R (OfJob I) s (line_talk role d streams wait n command j))
       → ((s : S) (j : Job) → I s j → Meets Any R (OfJob I) s (last_talk wait role j))
-      → (lines : List Line) → Each (λ (line : Line). C line.command) lines → (s : S) (j : Job) → I s j → Meets Any R (OfJob I) s (lines_talk role d streams wait n lines j)
+      → (lines : List Line) → Each (λ (line : Line). C line.command) lines → (s : S) (j : Job) → I s j
+      → Meets Any R (OfJob I) s (lines_talk role d streams wait n lines j)
   unfolding lines_talk
   lines-keep C role d streams wait n one last [] of s j i = last s j i
   lines-keep C role d streams wait n one last (line ∷ lines) of s j i =
       meets-then Any R (OfJob I) (OfJob I) s (line_talk role d streams wait n line.command j) (on_job (lines_talk role d streams wait n lines))
-      (one line.command of.0 s j i) (λ t o k. by t o (λ mid m. lines-keep C role d streams wait n one last lines of.1 t mid m) k)
+      (one line.command of.0 s j i) (λ t o k. by t o (λ mid m. lines-keep C role d streams wait n one last
+      lines of.1 t mid m) k)
     where
-      by : (t : S) (o : Option Job) → ((mid : Job) → I t mid → Meets Any R (OfJob I) t (lines_talk role d streams wait n lines mid))
+      by : (t : S) (o : Option Job) → ((mid : Job) → I t mid
+          → Meets Any R (OfJob I) t (lines_talk role d streams wait n lines mid))
           → OfJob I t o → Meets Any R (OfJob I) t (on_job (lines_talk role d streams wait n lines) o)
       by t None more k = tt
       by t (Some mid) more k = more mid k
 
 -- lines leave a job where the line before them did
-pub on_job-ends : {R : Type 0} (next : Job → Talk (Option Job)) (o : Option Job) (calls : List Call) (k : Job) → EndsWith (on_job next o) calls (Some k)
+pub on_job-ends : {R : Type 0} (next : Job → Talk (Option Job)) (o : Option Job) (calls : List Call) (k : Job)
+    → EndsWith (on_job next o) calls (Some k)
     → ((mid : Job) → o ≡ Some mid → EndsWith (next mid) calls (Some k) → R) → R
 on_job-ends next None calls k ends more = let f = finished None (Some k) calls ends in absurd cc
 on_job-ends next (Some mid) calls k ends more = more mid refl ends

@@ -89,20 +89,24 @@ abbrev is_joy_on : List ActorText → ℕ → JoyJobView → Bool
 is_joy_on actors number joy = is_on_device number (slice_get actors joy.actor)
 
 -- one whose number is among those of a device's actors that a test keeps is on it
-is-on : {X : Type 0} (number : X → ℕ) (test : Option ActorText → Bool) (actors : List ActorText) (device : ℕ) (xs : List X) (k : ℕ) (x : X)
-    → map number xs ≡ filter (λ n. test (slice_get actors n)) (actors_of actors device) → slice_get xs k ≡ Some x
+is-on : {X : Type 0} (number : X → ℕ) (test : Option ActorText → Bool) (actors : List ActorText) (device : ℕ)
+    (xs : List X) (k : ℕ) (x : X)
+    → map number xs ≡ filter (λ n. test (slice_get actors n)) (actors_of actors device)
+    → slice_get xs k ≡ Some x
     → is_on_device device (slice_get actors (number x)) ≡ true
 is-on {X} number test actors device xs k x same is =
     let on : ℕ → Bool = λ (n : ℕ). is_on_device device (slice_get actors n) in
     let its : ℕ → Bool = λ (n : ℕ). test (slice_get actors n) in
     let there : slice_get (filter its (actors_of actors device)) k ≡ Some (number x) =
     ap (λ (ns : List ℕ). slice_get ns k) (sym same) ∙ slice_get-map number xs k ∙ ap (λ (o : Option X). option_map number o) is in
-    let kept : IsAt its (actors_of actors device) (number x) = slice_get-filter its (actors_of actors device) k (number x) there in
+    let kept : IsAt its (actors_of actors device) (number x) = slice_get-filter its (actors_of actors device)
+    k (number x) there in
     let at : IsAt on (range_with_len 0 (length actors)) (number x) = slice_get-filter on (range_with_len 0 (length actors)) kept.index (number x) kept.is in
     at.passes
 
 on-device : (actors : List ActorText) (number : ℕ) (joys : List JoyJobView) (k : ℕ) (joy : JoyJobView) → joy_actors joys ≡ joysticks_of actors number → slice_get joys k ≡ Some joy → is_joy_on actors number joy ≡ true
-on-device actors number joys k joy same is = is-on (λ (j : JoyJobView). j.actor) is_joystick actors number joys k joy same is
+on-device actors number joys k joy same is = is-on (λ (j : JoyJobView). j.actor) is_joystick actors number
+    joys k joy same is
 
 -- and on no other one
 on-one : (o : Option ActorText) (one other : ℕ) → (one ≡ other → ⊥) → is_on_device one o ≡ true → is_on_device other o ≡ false

@@ -222,4 +222,5 @@ leaves-line role d streams n command j entries h = line-meets (EntriesBy d) (Kep
 pub leaves-lines : (role : Role) (d : Description) (streams : List (List Stamped)) (n : ℕ) (lines : List Line) (j : Job) (entries : List Sight) → IsKept d j entries → Leaves d (IsKeptIfSome d) entries (lines_talk role d streams None n lines j)
 leaves-lines role d streams n lines j entries h =
     lines-keep (EntriesBy d) (KeptAt d) (λ command. Unit {0}) role d streams None n
-    (λ command any s k. leaves-line role d streams n command k s) (λ s k i. i) lines (any-lines lines) entries j h
+    (λ command any s k. leaves-line role d streams n command k s) (λ s k i. i) lines (any-lines lines) entries
+    j h

@@ -1,4 +1,5 @@
--- What a talk leaves, whatever the one-thread device answers: of its result, and of the entries of its calls. A reader's
+-- What a talk leaves, whatever the one-thread device answers: of its result, and of the entries of its calls.
+-- A reader's
 -- talks leave a view of the device's size, and each answer told but Again, which ends them.
 use Rattle.std.proofs.Common.{◌≡◌, List, [], ◌∷◌, ◌++◌, ap, subst, ◌∙◌, append_assoc, append-nil, refl, true, false, sym, inl}
 use Rattle.std.specs.Prelude.{filter, Result, Ok, Err}

@@ -1,4 +1,5 @@
--- The calls that a talk makes of the one-thread device: what they leave of its past, and at which places they are entered.
+-- The calls that a talk makes of the one-thread device: what they leave of its past, and at which places they
+-- are entered.
 use Rattle.std.proofs.Common.{◌≡◌, ℕ, ◌≤◌, Bool, true, false, if◌then◌else◌, List, [], ◌∷◌, ◌++◌, length, reverse, refl, sym, ap, subst, ◌∙◌, arith, inl, None, ◌+◌, ◌&&◌, nat_eq, zero-add}
 use Rattle.std.specs.List.{list_any}
 use Rattle.inp_model.specs.declared.step.Step.{Step}

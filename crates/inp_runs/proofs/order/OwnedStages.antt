@@ -47,7 +47,9 @@ exact-front : (d : Description) (past after : List Step) (calls : List Call) →
 exact-front d past after [] e = ([], e)
 exact-front d past after (call ∷ calls) e =
     let between : List Step = past_after call.answer.reply call.step past in
-    let one : (more : List Step) × (between ≡ more ++ past) = cond_both (is_accepted call.answer.reply) _ _ (λ (p : List Step). (more : List Step) × (p ≡ more ++ past)) (λ _. (call.step ∷ [], refl)) (λ _. ([], refl)) in
+    let one : (more : List Step) × (between ≡ more ++ past) = cond_both (is_accepted call.answer.reply) _ _
+    (λ (p : List Step). (more : List Step) × (p ≡ more ++ past)) (λ _. (call.step ∷ [], refl))
+    (λ _. ([], refl)) in
     let rest : (more : List Step) × (after ≡ more ++ between) = exact-front d between after calls e.1 in
     (rest.0 ++ one.0, rest.1 ∙ ap (λ (p : List Step). rest.0 ++ p) one.1 ∙ sym (append_assoc rest.0 one.0 past))
 

@@ -86,7 +86,8 @@ so_far-more r rounds lines line d role past after a job owning calls s own ends 
       calls = s.calls ++ calls;
       legal = exact-legal d past after s.calls calls exact_here history s.legal;
       memory =
-          list_any-append call_lacks_memory s.calls calls ∙ ap (λ (b : Bool). b || list_any call_lacks_memory calls) s.memory
+          list_any-append call_lacks_memory s.calls calls ∙ ap
+          (λ (b : Bool). b || list_any call_lacks_memory calls) s.memory
           ∙ exact-memory d past after calls exact_here;
       told = sight_of_calls-append s.calls calls ∙ ap (λ es. es ++ sight_of_calls calls) s.told ∙ sym kept_here.1;
       follows = subst (λ (ls : List Line). EndsWith (lines_talk role d r.streams None rounds ls (first_job role d)) (s.calls ++ calls) (Some job)) (sym (lines_by-more a.actor lines line (eq_true line.actor a.actor own)))
@@ -265,15 +266,19 @@ may-do r rounds lines more stage line s commands room text a past is_room is_tex
 
 -- what is so of the lines so far and of their stage, where each line more keeps it
 pub stages-keep : (r : RecordView) (rounds : ℕ) (P : List Line → Stage → Type 0)
-    → ((lines more : List Line) (line : Line) (stage now : Stage) → IsStage r rounds lines stage → P lines stage → AreCommandsOf r (line ∷ more)
+    → ((lines more : List Line) (line : Line) (stage now : Stage) → IsStage r rounds lines stage
+    → P lines stage → AreCommandsOf r (line ∷ more)
     → IsLinePlayed r rounds stage now line → P (lines ++ line ∷ []) now)
-    → (lines more : List Line) (stage last : Stage) → IsStage r rounds lines stage → P lines stage → AreCommandsOf r more
-    → after_lines r rounds stage more ≡ Some last → IsStage r rounds (lines ++ more) last × P (lines ++ more) last
+    → (lines more : List Line) (stage last : Stage) → IsStage r rounds lines stage → P lines stage
+    → AreCommandsOf r more
+    → after_lines r rounds stage more ≡ Some last → IsStage r rounds (lines ++ more) last × P (lines ++ more)
+    last
 unfolding after_lines
 stages-keep r rounds P keeps lines [] stage last s p commands h =
     let same : stage ≡ last = cc in
     let now : (ls : List Line) → Type 0 = λ ls. IsStage r rounds ls last × P ls last in
-    subst now (sym (append-nil lines)) (subst (λ (u : Stage). IsStage r rounds lines u × P lines u) same (s, p))
+    subst now (sym (append-nil lines)) (subst (λ (u : Stage). IsStage r rounds lines u × P lines u) same
+    (s, p))
 stages-keep r rounds P keeps lines (line ∷ more) stage last s p commands h =
     option_and_then_some _ (after_line r rounds stage line) last h (λ now is_now rest.
     let done : IsLinePlayed r rounds stage now line = line-done r rounds stage now line (may-do r rounds lines more stage line s commands) is_now in
@@ -283,4 +288,5 @@ stages-keep r rounds P keeps lines (line ∷ more) stage last s p commands h =
 
 pub stages : (r : RecordView) (rounds : ℕ) (lines more : List Line) (stage last : Stage) → IsStage r rounds lines stage → AreCommandsOf r more → after_lines r rounds stage more ≡ Some last → IsStage r rounds (lines ++ more) last
 stages r rounds lines more stage last s commands h =
-    (stages-keep r rounds (λ ls u. Unit {0}) (λ ls ms line u now k p c done. tt) lines more stage last s tt commands h).0
+    (stages-keep r rounds (λ ls u. Unit {0}) (λ ls ms line u now k p c done. tt) lines more stage last s tt
+    commands h).0

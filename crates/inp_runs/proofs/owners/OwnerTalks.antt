@@ -17,7 +17,8 @@ last-nothing : (wait : Option Waiting) (j : Job) → last_talk wait Owner j ≡ 
 last-nothing None j = refl
 last-nothing (Some waiting) j = refl
 
-pub stopped-nothing : (stop : Option Stop) (j : Job) → unless_stopped stop j (finish (Some j)) ≡ finish (Some j)
+pub stopped-nothing : (stop : Option Stop) (j : Job) → unless_stopped stop j (finish (Some j)) ≡ finish
+    (Some j)
 stopped-nothing None j = refl
 stopped-nothing (Some stop) j = refl
 

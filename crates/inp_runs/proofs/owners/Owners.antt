@@ -66,7 +66,12 @@ short-history d history is h =
 -- Sums of one
 
 term-within : {X : Type 0} (f : X → ℕ) (xs : List X) (i : ℕ) (x : X) → slice_get xs i ≡ Some x → f x ≤ sum_by f xs
-term-within f xs i x h = omega (arith, get_or-le-sum_by f xs i x (slice_get_within xs i x h), ap f (get_or_from_slice_get xs i x x h))
+term-within f xs i x h = omega (
+  arith,
+  get_or-le-sum_by f xs i x (slice_get_within xs i x h),
+  ap f
+      (get_or_from_slice_get xs i x x h),
+)
 
 -- where a sum is one at most, one item alone counts
 only-one : {X : Type 0} (f : X → ℕ) (xs : List X) (i k : ℕ) (x y : X) → slice_get xs i ≡ Some x → slice_get xs k ≡ Some y → sum_by f xs ≤ 1 → 1 ≤ f x → 1 ≤ f y → x ≡ y
@@ -213,7 +218,8 @@ opens-rise : (history : List Step) (at upto : ℕ) → slice_get history at ≡ 
 opens-rise history at upto is h =
     let before : List Step = past_at history at in
     let next : opens before < opens (past_at history (suc at)) =
-    subst (λ (p : List Step). opens before < opens p) (sym (past-next history at Open is)) (open-opens before (opens before) refl) in
+    subst (λ (p : List Step). opens before < opens p) (sym (past-next history at Open is))
+    (open-opens before (opens before) refl) in
     let later = past-grows history (suc at) upto h in
     subst (λ (p : List Step). opens before < opens p) (sym later.1)
     (opens-steps (past_at history (suc at)) later.0 (opens before) next)
@@ -259,7 +265,8 @@ names-opened d history least last place client x (call ∷ calls) legal names (i
 names-opened d history least last place client x (call ∷ calls) legal names (inr h) at is other =
     let later : Bool = list_any (is_opened_as client) calls in
     elim (names-opened d history (next_place call.answer.reply) (tap_client_after call.step call.answer.reply last) place client x calls legal.2 names.1 h at is other) [
-      | inl e ↦ elim (after-or call.step call.answer.reply last client e) [ inl same ↦ inl same | inr here ↦ inr (ap (λ (b : Bool). b || later) here) ]
+      | inl e ↦ elim (after-or call.step call.answer.reply last client e)
+          [ inl same ↦ inl same | inr here ↦ inr (ap (λ (b : Bool). b || later) here) ]
       | inr e ↦ inr (or-true (is_opened_as client call) later e)
     ]
 
@@ -308,7 +315,8 @@ maker-of d history jobs place x owners at =
 -- what made a step that names an opened client opened it
 maker-opens : (d : Description) (history : List Step) (client place : ℕ) (x : Step) (job : JobView) (a : AreCallsOf d history job) → IsPlaceOf place a.calls → slice_get history place ≡ Some x → client_of x ≡ Some client → (client ≡ NO_CLIENT → ⊥) → list_any (is_opened_as client) a.calls ≡ true
 maker-opens d history client place x job a made at names other =
-    elim (names-opened d history 0 NO_CLIENT place client x a.calls a.legal a.names made at names other) [ inl is ↦ absurd (other (sym is)) | inr h ↦ h ]
+    elim (names-opened d history 0 NO_CLIENT place client x a.calls a.legal a.names made at names other)
+    [ inl is ↦ absurd (other (sym is)) | inr h ↦ h ]
 
 place-moves : (place : ℕ) (one other : JobView) (calls more : List Call) → entries place (sight_of_calls calls) ≡ entries place one.sight → entries place (sight_of_calls more) ≡ entries place other.sight → one ≡ other → IsPlaceOf place calls → IsPlaceOf place more
 place-moves place one other calls more told also same h =

@@ -69,7 +69,8 @@ read_after-told client last x reply h = kept-if (is_read_as client x) (is_accept
 
 -- an accepted read as this client is the last one
 read-if : (own good : Bool) (read : LastRead) (last : Option LastRead) → own ≡ true → good ≡ true → (if own && good then Some read else last) ≡ Some read
-read-if own good read last h k = ap (λ (b : Bool). if b && good then Some read else last) h ∙ ap (λ (b : Bool). if b then Some read else last) k
+read-if own good read last h k = ap (λ (b : Bool). if b && good then Some read else last) h ∙ ap
+    (λ (b : Bool). if b then Some read else last) k
 
 pub read_after-read : (client : ℕ) (last : Option LastRead) (x : Step) (reply : Reply) → is_read_as client x ≡ true → is_accepted reply ≡ true
     → read_after_sight client last (call_sight x reply ++ again_sight reply) ≡ Some (record { place = place_of reply; events = 0 })

@@ -133,7 +133,8 @@ module _ (d : Description) (h : List Step) (Q : ℕ → Type 0) (history : IsHis
       let i : ℕ = index_handed_out d (past_at h least) j.reading in
       let now : reads_as sight ≡ client = client_after-append NO_CLIENT j.sight (Took taken ∷ []) ∙ r.reads in
       let own : index_in_history d h sight ≡ Some i =
-      index-took d h client j.sight taken now ∙ hand-index d h least client (last_read j) taken j.reading.queue rest in
+      index-took d h client j.sight taken now ∙ hand-index d h least client (last_read j) taken
+      j.reading.queue rest in
       let e : HasEntry (eaten d) d (reverse h) client i taken =
       entry-of (eaten d) d (reverse h) client i taken
       (taken-later d h least client i taken (hand-taken d h least client (last_read j) taken j.reading.queue rest)) in
@@ -151,7 +152,8 @@ module _ (d : Description) (h : List Step) (Q : ℕ → Type 0) (history : IsHis
       }
 
   -- what the reader has at hand goes on with the job
-  hand-on : (least : ℕ) (j : Job) (entry : Sight) (queue : List Taken) → read_after_sight j.reading.client (last_read j) (entry ∷ []) ≡ last_read j
+  hand-on : (least : ℕ) (j : Job) (entry : Sight) (queue : List Taken)
+      → read_after_sight j.reading.client (last_read j) (entry ∷ []) ≡ last_read j
       → HasAtHand d h least j queue → HasAtHand d h least (with_sight j entry) queue
   hand-on least j entry queue same hand =
       subst (λ (o : Option LastRead). AreAtHand d h least j.reading.client o queue)
@@ -172,7 +174,8 @@ module _ (d : Description) (h : List Step) (Q : ℕ → Type 0) (history : IsHis
         reads = client_after-append NO_CLIENT j.sight (Took taken ∷ []) ∙ r.reads;
         hand =
             subst (λ (o : Option LastRead). AreAtHand d h least client o queue)
-            (sym (read_after-append client None j.sight (Took taken ∷ []) ∙ read_after-took client (last_read j) taken))
+            (sym (read_after-append client None j.sight (Took taken ∷ []) ∙ read_after-took client
+            (last_read j) taken))
             (inr (hand-took d h least client (last_read j) taken queue rest));
         seen =
             at_each-append (ClientSaw d h) [] j.sight (Took taken ∷ []) r.seen
@@ -206,7 +209,8 @@ module _ (d : Description) (h : List Step) (Q : ℕ → Type 0) (history : IsHis
   -- Rounds
 
   -- no entry is added
-  bare-job : (least : ℕ) (j : Job) → IsReadTo least j [] → HasAtHand d h least j j.reading.queue → IsAt least j
+  bare-job : (least : ℕ) (j : Job) → IsReadTo least j [] → HasAtHand d h least j j.reading.queue
+      → IsAt least j
   bare-job least j r hand = record {
     reading = r.reading;
     folded = ap (λ (es : List Sight). client_fold d h (settled (first_view d)) es) (sym (append-nil j.sight)) ∙ r.folded;
@@ -245,7 +249,8 @@ module _ (d : Description) (h : List Step) (Q : ℕ → Type 0) (history : IsHis
       → AreAtHand d h at client (read_after_sight client (read_after_sight client None sight) (noted_sight calls)) queue
       → AreAtHand d h at now (read_after_sight now None (sight ++ noted_sight calls)) queue
   noted-hand at client now sight calls queue same hand =
-      subst (λ (n : ℕ). AreAtHand d h at n (read_after_sight n None (sight ++ noted_sight calls)) queue) (sym same)
+      subst (λ (n : ℕ). AreAtHand d h at n (read_after_sight n None (sight ++ noted_sight calls)) queue)
+      (sym same)
       (subst (λ (o : Option LastRead). AreAtHand d h at client o queue)
       (sym (read_after-append client None sight (noted_sight calls))) hand)
 
@@ -264,7 +269,8 @@ module _ (d : Description) (h : List Step) (Q : ℕ → Type 0) (history : IsHis
       (next-reads d h Q s.place mode j.reading o.1 o.0 calls t.left history short c.to_come i.reading ends) in
       let names = next-names d mode j.reading o.1 o.0 calls ends in
       let hand : AreAtHand d h t.place client (read_after_sight client (last_read j) told) queue =
-      subst (λ (n : ℕ). AreAtHand d h n client (read_after_sight client (last_read j) told) queue) (sym c.place)
+      subst (λ (n : ℕ). AreAtHand d h n client (read_after_sight client (last_read j) told) queue)
+      (sym c.place)
       (next-hand d h Q s.place client (last_read j) j.reading.queue queue calls t.left c.to_come i.hand
       (next-sources d mode j.reading o.1 o.0 calls ends)) in
       let read : IsReadTo t.place (read_so j o.1 (j.sight ++ told)) entries = record {
@@ -277,7 +283,8 @@ module _ (d : Description) (h : List Step) (Q : ℕ → Type 0) (history : IsHis
         seen = noted-seen j calls i.seen;
       } in
       turn-job t o.0 (read_so j o.1 (j.sight ++ told)) read
-      (noted-hand t.place client o.1.client j.sight calls queue (client-next d mode j.reading calls o ends) hand)
+      (noted-hand t.place client o.1.client j.sight calls queue (client-next d mode j.reading calls o ends)
+      hand)
       reads.hands names.1
 
   round-job : (s : Coming d h Q) (wait : Option Waiting) (skips : Bool) (g : Going) → IsClientOn s g.job
@@ -302,7 +309,8 @@ module _ (d : Description) (h : List Step) (Q : ℕ → Type 0) (history : IsHis
   started-job s t j calls o run ends i =
       let c : HaveCome d h Q s t calls = have-come d h Q s t calls run in
       let client : ℕ = o.1.client in
-      subst (λ (n : ℕ). IsAt n (job_after_start o.0 o.1 (j.sight ++ noted_sight calls))) (sym c.place) (record {
+      subst (λ (n : ℕ). IsAt n (job_after_start o.0 o.1 (j.sight ++ noted_sight calls))) (sym c.place)
+      (record {
         reading = start-reads d h Q s.place j.reading o.1 o.0 calls t.left c.to_come i.reading ends;
         folded =
             folds-on d h (first_view d) j (noted_sight calls) i.folded
@@ -323,7 +331,8 @@ module _ (d : Description) (h : List Step) (Q : ℕ → Type 0) (history : IsHis
       let A : Coming d h Q → (Started × Reading) × List Sight → Type 0 = λ t o.
       IsClientOn t (job_after_start o.0.0 o.0.1 o.1) in
       meets-then Any (Comes d h Q) A (OfJob IsClientOn) s (noted talk j.sight) (λ o. finish (start_ends o))
-      (noted-ends-meet (Comes d h Q) A s j.sight talk (λ t calls o run ends. started-job s t j calls o run ends i))
+      (noted-ends-meet (Comes d h Q) A s j.sight talk (λ t calls o run ends. started-job s t j calls o run
+      ends i))
       (λ t o k. cond_both (start_lacks_memory o.0.0) _ _ (OfJob IsClientOn t) (λ _. tt) (λ _. k))
 
   -- Single calls, which ask for nothing and read nothing
@@ -389,7 +398,8 @@ module _ (d : Description) (h : List Step) (Q : ℕ → Type 0) (history : IsHis
   idle_step client Revoke of_role one = idle (λ view reply. refl) (λ past. refl) refl refl
   idle_step client (Mask kind word bits) of_role one = idle (λ view reply. refl) (λ past. refl) refl refl
   idle_step client (Clock clock moment) of_role one = idle (λ view reply. refl) (λ past. refl) refl refl
-  idle_step client (Write moment kind code value) of_role one = idle (λ view reply. refl) (λ past. refl) refl refl
+  idle_step client (Write moment kind code value) of_role one = idle (λ view reply. refl) (λ past. refl) refl
+      refl
   idle_step client (SetAxis code info) of_role one = idle (λ view reply. refl) (λ past. refl) refl refl
   idle_step client command of_role one = absurd cc
 

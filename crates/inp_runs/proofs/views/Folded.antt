@@ -40,15 +40,19 @@ lines-folded role d h streams wait rounds lines j k calls of_role placed ends fo
     meets-ends Any (Placed d h) (OfJob Folds) tt tt (lines_talk role d streams wait rounds lines j) calls (Some k)
     (lines-keep (Placed d h) Folds (λ command. is_command_of role command ≡ true) role d streams wait rounds
     (λ command of u i had. job-ends-meet (Placed d h) Folds u (line_talk role d streams wait rounds command i)
-    (λ v cs l run e. line_talk-folds role d h streams wait rounds command i l cs of (run-placed d h u v cs run) e had))
+    (λ v cs l run e. line_talk-folds role d h streams wait rounds command i l cs of
+    (run-placed d h u v cs run) e had))
     last lines of_role tt j fold)
     (placed-run d h calls placed) ends
   where
     Folds : Unit {0} → Job → Type 0
     Folds u i = IsFolded role d h i
 
-    last : (u : Unit {0}) (i : Job) → Folds u i → Meets Any (Placed d h) (OfJob Folds) u (last_talk wait role i)
-    last u i had = last-keeps (Placed d h) Folds wait role u i (λ e v a there. subst (λ (r : Role). IsFolded r d h (after_call i End a)) (sym e) (subst (λ (r : Role). IsFolded r d h i) e had)) had
+    last : (u : Unit {0}) (i : Job) → Folds u i → Meets Any (Placed d h) (OfJob Folds) u
+        (last_talk wait role i)
+    last u i had = last-keeps (Placed d h) Folds wait role u i
+        (λ e v a there. subst (λ (r : Role). IsFolded r d h (after_call i End a)) (sym e)
+        (subst (λ (r : Role). IsFolded r d h i) e had)) had
 
 -- the lines of an actor are such
 pub its_lines : (r : RecordView) (actor : ℕ) (text : ActorText) → slice_get r.actors actor ≡ Some text → (lines : List Line)

@@ -305,8 +305,10 @@ names-line : (role : Role) (first : ℕ) (d : Description) (streams : List (List
 unfolding line_talk
 names-line Source first d streams wait n command j s h =
     unless-keeps Listed (Reads Source first) j.stop s j (source_talk streams command j) h
-    (source-keeps Listed (Reads Source first) (NamesOr NO_CLIENT) (λ u t k x a of had. no-client first u t k (after_call k x a) x a had of)
-    (λ stamped. names-none NO_CLIENT (Inject stamped.event stamped.now) refl) streams command (names-command NO_CLIENT command) s j h)
+    (source-keeps Listed (Reads Source first) (NamesOr NO_CLIENT)
+    (λ u t k x a of had. no-client first u t k (after_call k x a) x a had of)
+    (λ stamped. names-none NO_CLIENT (Inject stamped.event stamped.now) refl) streams command
+    (names-command NO_CLIENT command) s j h)
 names-line Client first d streams wait n command j s h = line-meets Listed (Reads Client first) (OfGoing (Reads Client first)) d Client command wait (client-rules first d command wait) streams n s j h
 names-line Tap first d streams wait n command j s h = unless-keeps Listed (Reads Tap first) j.stop s j (tap_talk command j) h (names-tap first j (step_of j.reading.client command) s (names-command j.reading.client command) h)
 names-line Joy first d streams wait n command j s h = unless-keeps Listed (Reads Joy first) j.stop s j (joystick_talk d n command j) h (joystick-meets Listed (Reads Joy first) d command (joy-rules first d command) n s j h)
@@ -329,7 +331,8 @@ pub job-names : (role : Role) (d : Description) (streams : List (List Stamped)) 
 job-names role d streams wait n lines k calls h =
     meets-ends Any Listed (OfJob (Reads role NO_CLIENT)) [] calls (lines_talk role d streams wait n lines (first_job role d)) calls (Some k)
     (lines-keep Listed (Reads role NO_CLIENT) (λ command. Unit {0}) role d streams wait n
-    (λ command any s j had. names-line role NO_CLIENT d streams wait n command j s had) (names-last NO_CLIENT wait role)
+    (λ command any s j had. names-line role NO_CLIENT d streams wait n command j s had)
+    (names-last NO_CLIENT wait role)
     lines (any-lines lines) [] (first_job role d) first) (listed-run [] calls) h
   where
     first : Reads role NO_CLIENT [] (first_job role d)

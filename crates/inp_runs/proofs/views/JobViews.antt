@@ -85,7 +85,8 @@ module _ (d : Description) (h : List Step) where
   HasNone j = AtEach TookNothing [] j.sight
 
   -- a call that is no read
-  unread-call : (j : Job) (x : Step) (a : Answer) → is_read x ≡ false → HasPlace d h (record { step = x; answer = a }) → HasNone j → HasNone (after_call j x a)
+  unread-call : (j : Job) (x : Step) (a : Answer) → is_read x ≡ false
+      → HasPlace d h (record { step = x; answer = a }) → HasNone j → HasNone (after_call j x a)
   unread-call j x a no_read there s =
       at_each-eventless TookNothing j x a (unread d (past_at h (place_of a.reply)) x a no_read there.exact) s
 
@@ -94,7 +95,8 @@ module _ (d : Description) (h : List Step) where
   noted-each : (sight : List Sight) (calls : List Call) → AtEach TookNothing [] sight → AtEach TookNothing [] (sight ++ noted_sight calls)
   noted-each sight calls s = at_each-append TookNothing [] sight (noted_sight calls) s (at_each-noted TookNothing sight calls)
 
-  joystick-rules : {S : Type 0} (R : S → Step → Answer → S → Type 0) → ((s t : S) (x : Step) (a : Answer) → R s x a t → HasPlace d h (record { step = x; answer = a }))
+  joystick-rules : {S : Type 0} (R : S → Step → Answer → S → Type 0)
+      → ((s t : S) (x : Step) (a : Answer) → R s x a t → HasPlace d h (record { step = x; answer = a }))
       → (command : Command) → is_command_of Joy command ≡ true → JoyRules R (λ (s : S). HasNone) d command
   joystick-rules {S} R places command of_role = record {
     starts = λ u j s.
@@ -105,26 +107,31 @@ module _ (d : Description) (h : List Step) where
         noted-ends-meet R (λ (t : S) (o : Option JoyAnswer × List Sight). AfterTurns (λ (v : S). HasNone) j t o.0 o.1) u j.sight talk
         (λ t calls o run ends. of_turns t j o (j.sight ++ noted_sight calls) (noted-each j.sight calls s));
     calls = λ one u v j x a is s by.
-        unread-call j x a (subst (OfStep (λ y. is_read y ≡ false)) is (of_call command one of_role j.reading.client)) (places u v x a by) s;
+        unread-call j x a (subst (OfStep (λ y. is_read y ≡ false)) is
+        (of_call command one of_role j.reading.client)) (places u v x a by) s;
   }
     where
-      of_call : (c : Command) → is_joy_call c ≡ true → is_command_of Joy c ≡ true → (client : ℕ) → OfStep (λ x. is_read x ≡ false) (step_of client c)
+      of_call : (c : Command) → is_joy_call c ≡ true → is_command_of Joy c ≡ true → (client : ℕ)
+          → OfStep (λ x. is_read x ≡ false) (step_of client c)
       of_call Close one joy client = refl
       of_call c one joy client = absurd cc
 
       -- an entry of no event more
-      entry-each : (entry : Sight) (sight : List Sight) → AtEntry TookNothing sight entry → AtEach TookNothing [] sight → AtEach TookNothing [] (sight ++ entry ∷ [])
+      entry-each : (entry : Sight) (sight : List Sight) → AtEntry TookNothing sight entry
+          → AtEach TookNothing [] sight → AtEach TookNothing [] (sight ++ entry ∷ [])
       entry-each entry sight none s = at_each-append TookNothing [] sight (entry ∷ []) s (none, tt)
 
       of_read : (t : S) (read : JoyRead) (j : Job) → HasNone j → AfterRead (λ (v : S). HasNone) t read j
       of_read t (NothingToRead at ends) j s = entry-each (AgainSight at ends) j.sight tt s
       of_read t _ j s = s
 
-      of_record : (out : Option JoyRecord) (sight : List Sight) → AtEach TookNothing [] sight → AtEach TookNothing [] (sight ++ record_sight out)
+      of_record : (out : Option JoyRecord) (sight : List Sight) → AtEach TookNothing [] sight
+          → AtEach TookNothing [] (sight ++ record_sight out)
       of_record None sight s = subst (AtEach TookNothing []) (sym (append-nil sight)) s
       of_record (Some r) sight s = entry-each (Record (bytes_of_record r)) sight tt s
 
-      of_turns : (t : S) (j : Job) (o : Option JoyAnswer) (sight : List Sight) → AtEach TookNothing [] sight → AfterTurns (λ (v : S). HasNone) j t o sight
+      of_turns : (t : S) (j : Job) (o : Option JoyAnswer) (sight : List Sight) → AtEach TookNothing [] sight
+          → AfterTurns (λ (v : S). HasNone) j t o sight
       of_turns t j None sight s = tt
       of_turns t j (Some answer) sight s = of_read t answer.read (after_joy_answer j answer sight) (of_record answer.record_out sight s)
 
@@ -140,34 +147,43 @@ module _ (d : Description) (h : List Step) (Q : ℕ → Type 0) (history : IsHis
   abbrev On : Role → Coming d h Q → Job → Type 0
   On role s j = JobStands role d h Q s.place j
 
-  place-of_call : (s t : Coming d h Q) (x : Step) (a : Answer) → Comes d h Q s x a t → HasPlace d h (record { step = x; answer = a })
+  place-of_call : (s t : Coming d h Q) (x : Step) (a : Answer) → Comes d h Q s x a t
+      → HasPlace d h (record { step = x; answer = a })
   place-of_call s t x a by = (subst (AreToCome d h Q s.place) by.0 s.to_come).legal.1
 
   line-stands : (role : Role) (streams : List (List Stamped)) (wait : Option Waiting) (n : ℕ) (command : Command) → is_command_of role command ≡ true
-      → (s : Coming d h Q) (j : Job) → On role s j → Meets Any (Comes d h Q) (OfJob (On role)) s (line_talk role d streams wait n command j)
+      → (s : Coming d h Q) (j : Job) → On role s j → Meets Any (Comes d h Q) (OfJob (On role)) s
+      (line_talk role d streams wait n command j)
   unfolding line_talk
   line-stands Source streams wait n command of_role s j i =
       unless-keeps (Comes d h Q) (On Source) j.stop s j (source_talk streams command j) i
-      (source-keeps (Comes d h Q) (On Source) (λ x. is_read x ≡ false) (λ u t k x a no_read had by. unread-call d h k x a no_read (place-of_call u t x a by) had)
+      (source-keeps (Comes d h Q) (On Source) (λ x. is_read x ≡ false)
+      (λ u t k x a no_read had by. unread-call d h k x a no_read (place-of_call u t x a by) had)
       (λ stamped. refl) streams command (source-step NO_CLIENT command of_role) s j i)
   line-stands Client streams wait n command of_role s j i =
-      line-meets (Comes d h Q) (On Client) (OfGoing (On Client)) d Client command wait (client-rules d h Q history short command wait of_role) streams n s j i
+      line-meets (Comes d h Q) (On Client) (OfGoing (On Client)) d Client command wait
+      (client-rules d h Q history short command wait of_role) streams n s j i
   line-stands Tap streams wait n command of_role s j i =
-      unless-keeps (Comes d h Q) (On Tap) j.stop s j (tap_talk command j) i (tap-line d h Q history short command of_role s j i)
+      unless-keeps (Comes d h Q) (On Tap) j.stop s j (tap_talk command j) i
+      (tap-line d h Q history short command of_role s j i)
   line-stands Joy streams wait n command of_role s j i =
       unless-keeps (Comes d h Q) (On Joy) j.stop s j (joystick_talk d n command j) i
-      (joystick-meets (Comes d h Q) (On Joy) d command (joystick-rules d h (Comes d h Q) place-of_call command of_role) n s j i)
-  line-stands Owner streams wait n command of_role s j i = unless-keeps (Comes d h Q) (On Owner) j.stop s j (finish (Some j)) i i
+      (joystick-meets (Comes d h Q) (On Joy) d command (joystick-rules d h (Comes d h Q) place-of_call command
+      of_role) n s j i)
+  line-stands Owner streams wait n command of_role s j i = unless-keeps (Comes d h Q) (On Owner) j.stop s j
+      (finish (Some j)) i i
 
   -- a source's end is no read
-  last-stands : (wait : Option Waiting) (role : Role) (s : Coming d h Q) (j : Job) → On role s j → Meets Any (Comes d h Q) (OfJob (On role)) s (last_talk wait role j)
+  last-stands : (wait : Option Waiting) (role : Role) (s : Coming d h Q) (j : Job) → On role s j
+      → Meets Any (Comes d h Q) (OfJob (On role)) s (last_talk wait role j)
   last-stands wait role s j i =
       last-keeps (Comes d h Q) (On role) wait role s j
       (λ e t a by. subst (λ (r : Role). On r t (after_call j End a)) (sym e)
       (unread-call d h j End a refl (place-of_call s t End a by) (subst (λ (r : Role). On r s j) e i))) i
 
   lines-stand : (role : Role) (streams : List (List Stamped)) (wait : Option Waiting) (n : ℕ) (lines : List Line) → AreOfRole role lines
-      → (s : Coming d h Q) (j : Job) → On role s j → Meets Any (Comes d h Q) (OfJob (On role)) s (lines_talk role d streams wait n lines j)
+      → (s : Coming d h Q) (j : Job) → On role s j → Meets Any (Comes d h Q) (OfJob (On role)) s
+      (lines_talk role d streams wait n lines j)
   lines-stand role streams wait n =
       lines-keep (Comes d h Q) (On role) (λ command. is_command_of role command ≡ true) role d streams wait n
       (line-stands role streams wait n) (last-stands wait role)
@@ -189,8 +205,10 @@ module _ (d : Description) (h : List Step) (Q : ℕ → Type 0) (history : IsHis
   stands-own _ least j s = λ k taken at. absurd (at_each-at TookNothing [] j.sight k taken s at)
 
   -- its view has the device's size
-  stands-sized : (role : Role) (least : ℕ) (j : Job) → IsFolded role d h j → JobStands role d h Q least j → not (is_joy role || is_owner role) ≡ true → IsSizedFor d.slots j.reading.view
-  stands-sized Source least j folded s other = subst (IsSizedFor d.slots) (sym folded) (IsSizedFor-first_view d)
+  stands-sized : (role : Role) (least : ℕ) (j : Job) → IsFolded role d h j → JobStands role d h Q least j
+      → not (is_joy role || is_owner role) ≡ true → IsSizedFor d.slots j.reading.view
+  stands-sized Source least j folded s other = subst (IsSizedFor d.slots) (sym folded)
+      (IsSizedFor-first_view d)
   stands-sized Client least j folded s other = s.reading.spare.view.sized
   stands-sized Tap least j folded s other = s.sized
   stands-sized _ least j folded s other = absurd cc
@@ -206,7 +224,8 @@ opened-among all (call ∷ calls) f = (
   opened-among all calls (λ client k. f client (or-true (is_opened_as client call) (list_any (is_opened_as client) calls) k)),
 )
 
--- What a job shows: which events it took, its view at each report, why it lost events, and how large its view is.
+-- What a job shows: which events it took, its view at each report, why it lost events, and how large its view
+-- is.
 pub record IsShown (d : Description) (h : List Step) (role : Role) (last : Job) : Type 0 where
   pub own : AreEventsOwn d h last.sight
   pub seen : AreReportsSeen d h role last.sight
@@ -225,7 +244,8 @@ job-shown r d h jobs i job text wait rounds last calls is_record owners is_job i
     let run = coming-run d h Q 0 calls c in
     let talk : Talk (Option Job) = lines_talk text.role d r.streams wait rounds lines (first_job text.role d) in
     let stands : JobStands text.role d h Q run.0.place last =
-    meets-ends Any (Comes d h Q) (OfJob (λ (s : Coming d h Q). JobStands text.role d h Q s.place)) first run.0 talk calls (Some last)
+    meets-ends Any (Comes d h Q) (OfJob (λ (s : Coming d h Q). JobStands text.role d h Q s.place)) first run.0
+    talk calls (Some last)
     (lines-stand d h Q history owners.short text.role r.streams wait rounds lines (its_lines r job.actor text is_text r.lines is_record.commands)
     first (first_job text.role d) (first-stands d h Q history owners.short text.role)) run.1 follows in
     let own_events : AreEventsOwn d h last.sight = stands-own d h Q history owners.short text.role run.0.place last stands in

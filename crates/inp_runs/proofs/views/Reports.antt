@@ -111,8 +111,10 @@ at_each-eventless P j x a none s =
 -- ---- a history that grows
 
 -- what is shown, told by what is the same
-pub shows-as : (d : Description) (past : List Step) (client now : ℕ) (own here : Option ℕ) (taken : Taken) (view shown : View)
-    → now ≡ client → here ≡ own → shown ≡ view → ShowsAt d past client own taken view → ShowsAt d past now here taken shown
+pub shows-as : (d : Description) (past : List Step) (client now : ℕ) (own here : Option ℕ) (taken : Taken)
+    (view shown : View)
+    → now ≡ client → here ≡ own → shown ≡ view → ShowsAt d past client own taken view
+    → ShowsAt d past now here taken shown
 shows-as d past client now own here taken view shown n o v s =
     subst (λ (m : ℕ). ShowsAt d past m here taken shown) (sym n)
     (subst (λ (i : Option ℕ). ShowsAt d past client i taken shown) (sym o)
@@ -356,7 +358,8 @@ pub record Coming (d : Description) (h : List Step) (Q : ℕ → Type 0) : Type 
   pub to_come : AreToCome d h Q place left
 
 -- the first of them is made
-abbrev pub Comes : (d : Description) (h : List Step) (Q : ℕ → Type 0) → Coming d h Q → Step → Answer → Coming d h Q → Type 0
+abbrev pub Comes : (d : Description) (h : List Step) (Q : ℕ → Type 0) → Coming d h Q → Step → Answer
+    → Coming d h Q → Type 0
 Comes d h Q s x a t = (s.left ≡ record { step = x; answer = a } ∷ t.left) × (t.place ≡ next_place a.reply)
 
 pub coming-run : (d : Description) (h : List Step) (Q : ℕ → Type 0) (least : ℕ) (calls : List Call) (c : AreToCome d h Q least calls)
@@ -364,9 +367,16 @@ pub coming-run : (d : Description) (h : List Step) (Q : ℕ → Type 0) (least :
 unfolding Runs
 coming-run d h Q least [] c = (record { place = least; left = []; to_come = c }, refl)
 coming-run d h Q least (call ∷ calls) c =
-    let later : AreToCome d h Q (next_place call.answer.reply) calls = to-come-next d h Q least call calls c in
-    let rest = coming-run d h Q (next_place call.answer.reply) calls later in
-    (rest.0, (record { place = next_place call.answer.reply; left = calls; to_come = later }, (refl, refl), rest.1))
+    let later : AreToCome d h Q (next_place call.answer.reply) calls = to-come-next d h Q least call calls
+    c in
+    let rest = coming-run d h Q (next_place call.answer.reply) calls later in (
+      rest.0,
+      (
+        record { place = next_place call.answer.reply; left = calls; to_come = later },
+        (refl, refl),
+        rest.1,
+      ),
+    )
 
 -- these calls were to come between the two
 pub record HaveCome (d : Description) (h : List Step) (Q : ℕ → Type 0) (s t : Coming d h Q) (calls : List Call) : Type 0 where
@@ -376,10 +386,17 @@ pub record HaveCome (d : Description) (h : List Step) (Q : ℕ → Type 0) (s t 
 were-left : (d : Description) (h : List Step) (Q : ℕ → Type 0) (s t : Coming d h Q) (calls : List Call)
     → Runs (Comes d h Q) s calls t → (s.left ≡ calls ++ t.left) × (t.place ≡ place_behind s.place calls)
 unfolding Runs
-were-left d h Q s t [] run = (ap (λ (u : Coming d h Q). u.left) (sym run), ap (λ (u : Coming d h Q). u.place) run)
+were-left d h Q s t [] run = (
+  ap (λ (u : Coming d h Q). u.left) (sym run),
+  ap (λ (u : Coming d h Q). u.place)
+      run,
+)
 were-left d h Q s t (call ∷ calls) run =
-    let rest = were-left d h Q run.0 t calls run.2 in
-    (run.1.0 ∙ ap (λ (cs : List Call). call ∷ cs) rest.0, rest.1 ∙ ap (λ (n : ℕ). place_behind n calls) run.1.1)
+    let rest = were-left d h Q run.0 t calls run.2 in (
+      run.1.0 ∙ ap (λ (cs : List Call). call ∷ cs) rest.0,
+      rest.1 ∙ ap (λ (n : ℕ). place_behind n calls)
+          run.1.1,
+    )
 
 pub have-come : (d : Description) (h : List Step) (Q : ℕ → Type 0) (s t : Coming d h Q) (calls : List Call)
     → Runs (Comes d h Q) s calls t → HaveCome d h Q s t calls

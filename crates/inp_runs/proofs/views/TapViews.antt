@@ -90,7 +90,8 @@ told_by xs AllSlots = list_any is_sync_slots xs
 
 -- less is compared, but for what these steps ask for
 narrower : (which other : Compared) (xs : List Step) (v w : View) → AgreeBut which [] v w
-    → ((part : Part) → compared other part ≡ true → told_by xs part ≡ false → compared which part ≡ true) → AgreeBut other xs v w
+    → ((part : Part) → compared other part ≡ true → told_by xs part ≡ false → compared which part ≡ true)
+    → AgreeBut other xs v w
 narrower which other xs v w a had = record {
   keys = λ is none. a.keys (had AllKeys is none) refl;
   switches = λ is none. a.switches (had AllSwitches is none) refl;
@@ -121,7 +122,8 @@ idle-asks part client _ h = refl
 had-before : (part : Part) (past : List Step) (client : ℕ) (x : Step) → asks_for part client x ≡ false → has_asked part (x ∷ past) client ≡ true → has_asked part past client ≡ true
 unfolding has_asked
 had-before part past client x none h =
-    (cond_both (is_start past client x) _ _ (λ (b : Bool). b ≡ true → has_asked part past client ≡ true) (λ _ e. absurd (false≢true e))
+    (cond_both (is_start past client x) _ _ (λ (b : Bool). b ≡ true → has_asked part past client ≡ true)
+    (λ _ e. absurd (false≢true e))
     (λ _ e. sym (ap (λ (asks : Bool). asks || has_asked part past client) none) ∙ e)) h
 
 -- an axis with a value of its own, or another part
@@ -188,8 +190,10 @@ asked-own d past client x v accepts used sized a =
       agree =
           subst (λ (u : View). AgreeBut (asked_at (x ∷ past) client) [] (view_made v x given) u) (sym (used-view d past client x w accepts used))
           (agree-answer (asked_at (x ∷ past) client) d past x [] given (view_after_events v es) (view_after_events w es) (inl refl) is (IsSizedFor-after_events d.slots v es sized).cells
-          (narrower (asked_at past client) (asked_at (x ∷ past) client) (x ∷ []) (view_after_events v es) (view_after_events w es) events
-          (λ part is none. asked-before past client x part (λ plain. not_asked part client x plain none) is)));
+          (narrower (asked_at past client) (asked_at (x ∷ past) client) (x ∷ []) (view_after_events v es)
+          (view_after_events w es) events
+          (λ part is none. asked-before past client x part (λ plain. not_asked part client x plain none)
+          is)));
     }
 
 -- ---- where all is asked for
@@ -210,7 +214,8 @@ agrees-asked d past client taken v w h a =
     let all : HasAskedForAll (eaten d) d past client taken = all-asked (eaten d) d past client taken h in
     record {
       keys = λ is k. a.keys (where-had (has_kind d EV_KEY) AllKeys past client all.keys is) refl;
-      switches = λ is k. a.switches (where-had (has_kind d EV_SW) AllSwitches past client all.switches is) refl;
+      switches = λ is k. a.switches (where-had (has_kind d EV_SW) AllSwitches past client all.switches is)
+          refl;
       leds = λ is k. a.leds (where-had (has_kind d EV_LED) AllLeds past client all.leds is) refl;
       axes = λ code is k. axis code is all.axes;
       slot = λ is k. a.slot (where-had (nat_lt 0 d.slots) AllSlots past client all.slots is) refl;
@@ -319,7 +324,8 @@ client_after-taking client x reply events =
     ∙ client_after-takens (tap_client_after x reply client) events
 
 -- a job's sight after a call
-pub client_after-told : (j : Job) (x : Step) (reply : Reply) (events : List Taken) → reads_as j.sight ≡ j.reading.client
+pub client_after-told : (j : Job) (x : Step) (reply : Reply) (events : List Taken)
+    → reads_as j.sight ≡ j.reading.client
     → reads_as (j.sight ++ ((call_sight x reply ++ again_sight reply) ++ map taken_sight events)) ≡ tap_client_after x reply j.reading.client
 client_after-told j x reply events reads =
     let more : List Sight = (call_sight x reply ++ again_sight reply) ++ map taken_sight events in
@@ -473,13 +479,21 @@ module _ (d : Description) (h : List Step) (Q : ℕ → Type 0) (history : IsHis
     -- the client that an accepted step names was opened by the tap
     named-asked : refused d past x ≡ None → client_of x ≡ Some client → Q client × IsAsked d past client v
     named-asked accepts named = elim stood [
-      | inl none ↦ absurd (omega (arith, few-opens (place_of reply), none, is_open-lt past client (names-open d past x client accepts named)))
+      | inl none ↦ absurd (omega (
+        arith,
+        few-opens (place_of reply),
+        none,
+        is_open-lt past client
+            (names-open d past x client accepts named),
+      ))
       | inr a ↦ a
     ]
 
     -- an event that it read
-    tap-read : client_of x ≡ Some client → is_read x ≡ true → is_accepted reply ≡ true → (front : List Taken) (t : Taken) (behind : List Taken)
-        → given.events ≡ front ++ t ∷ behind → TapSaw d h ((j.sight ++ told) ++ map taken_sight (front ++ t ∷ [])) t
+    tap-read : client_of x ≡ Some client → is_read x ≡ true → is_accepted reply ≡ true
+        → (front : List Taken) (t : Taken) (behind : List Taken)
+        → given.events ≡ front ++ t ∷ behind → TapSaw d h
+        ((j.sight ++ told) ++ map taken_sight (front ++ t ∷ [])) t
     tap-read named read is front t behind e =
         let taken : List Taken = front ++ t ∷ [] in
         let es : List Sight = map taken_sight taken in
@@ -495,7 +509,8 @@ module _ (d : Description) (h : List Step) (Q : ℕ → Type 0) (history : IsHis
         let whole : reverse h ≡ later ++ (x ∷ past) = whole-past h (next_place reply) ∙ ap (λ (p : List Step). later ++ p) next in
         let sight : (j.sight ++ told) ++ es ≡ j.sight ++ (told ++ es) = append_assoc j.sight told es in
         let same : reads_as ((j.sight ++ told) ++ es) ≡ client =
-        ap reads_as sight ∙ client_after-told j x reply taken s.reads ∙ stays-last x reply client (named-no_open client x named) in
+        ap reads_as sight ∙ client_after-told j x reply taken s.reads ∙ stays-last x reply client
+        (named-no_open client x named) in
         let view : tap_fold d h (first_view d) ((j.sight ++ told) ++ es) ≡ now =
         ap (λ (l : List Sight). tap_fold d h (first_view d) l) sight
         ∙ tap_fold-append d h (first_view d) j.sight (told ++ es) ∙ ap (λ (u : View). tap_fold d h u (told ++ es)) s.fold
@@ -507,7 +522,8 @@ module _ (d : Description) (h : List Step) (Q : ℕ → Type 0) (history : IsHis
         index-read d h client j.sight x reply taken same (read-as client x read named) is
         ∙ ap (λ (n : ℕ). Some (length (took d past client) + n)) count in
         shows-as d (reverse h) client _ (Some i) _ t now _ same own view
-        (subst (λ (p : List Step). ShowsAt d p client (Some i) t now) (sym whole) (shows-later d later (x ∷ past) client (Some i) t now shown))
+        (subst (λ (p : List Step). ShowsAt d p client (Some i) t now) (sym whole)
+        (shows-later d later (x ∷ past) client (Some i) t now shown))
 
     -- all that the call gave
     tap-events : IsTapStep client x → AtEach (TapSaw d h) (j.sight ++ told) (map taken_sight given.events)
@@ -518,11 +534,13 @@ module _ (d : Description) (h : List Step) (Q : ℕ → Type 0) (history : IsHis
 
         by : (a r : Bool) → is_accepted reply ≡ a → is_read x ≡ r → IsTapStep client x → AtEach (TapSaw d h) (j.sight ++ told) (map taken_sight given.events)
         by false r is read step = nothing (refused-events d past x given placed.exact is)
-        by true false is read step = nothing (ap (λ (g : Answer). g.events) (exact is).0 ∙ no_read-takes d past x read)
+        by true false is read step = nothing (ap (λ (g : Answer). g.events) (exact is).0 ∙ no_read-takes d
+            past x read)
         by true true is read (inl opens_it) = absurd (false≢true (ap is_read (sym opens_it) ∙ read))
         by true true is read (inr named) =
             subst (λ (b : List Sight). AtEach (TapSaw d h) b (map taken_sight given.events)) (append-nil (j.sight ++ told))
-            (events-seen (TapSaw d h) (j.sight ++ told) [] given.events given.events refl (tap-read named read is))
+            (events-seen (TapSaw d h) (j.sight ++ told) [] given.events given.events refl
+            (tap-read named read is))
 
     -- the client is open behind an Open, and nothing was asked for
     opens-one : is_accepted reply ≡ true → IsSizedFor d.slots made → x ≡ ToOpen → Stands (tap_client_after x reply client) (x ∷ past) made
@@ -540,14 +558,17 @@ module _ (d : Description) (h : List Step) (Q : ℕ → Type 0) (history : IsHis
     own-one : is_accepted reply ≡ true → client_of x ≡ Some client → Stands (tap_client_after x reply client) (x ∷ past) made
     own-one is named =
         let a : Q client × IsAsked d past client v = named-asked (exact is).1 named in
-        subst (λ (n : ℕ). Stands n (x ∷ past) made) (sym (stays-last x reply client (named-no_open client x named)))
+        subst (λ (n : ℕ). Stands n (x ∷ past) made) (sym
+        (stays-last x reply client (named-no_open client x named)))
         (inr (
           a.0,
           subst (λ (g : Answer). IsAsked d (x ∷ past) client (view_after_call v x g)) (sym (exact is).0)
-              (used_or_idle (is_use x) refl a.1 (ap (λ (g : Answer). is_accepted g.reply) (sym (exact is).0) ∙ is)),
+              (used_or_idle (is_use x) refl a.1 (ap (λ (g : Answer). is_accepted g.reply) (sym (exact is).0) ∙
+              is)),
         ))
       where
-        used_or_idle : (b : Bool) → is_use x ≡ b → IsAsked d past client v → is_accepted (answer d past x).reply ≡ true
+        used_or_idle : (b : Bool) → is_use x ≡ b → IsAsked d past client v
+            → is_accepted (answer d past x).reply ≡ true
             → IsAsked d (x ∷ past) client (view_after_call v x (answer d past x))
         used_or_idle true used a good =
             let is_own : is_same (client_of x) client ≡ true = ap (λ (o : Option ℕ). is_same o client) named ∙ eq-eqb client client refl in
@@ -559,7 +580,8 @@ module _ (d : Description) (h : List Step) (Q : ℕ → Type 0) (history : IsHis
             subst (IsAsked d (x ∷ past) client) (sym (idle-made d past v x (refused d past x) idle good)) (asked-idle d past client x v own_use a)
 
     -- what the tap's client was asked for after the call
-    tap-asked : IsTapStep client x → IsSizedFor d.slots made → Stands (tap_client_after x reply client) (past_at h (next_place reply)) made
+    tap-asked : IsTapStep client x → IsSizedFor d.slots made
+        → Stands (tap_client_after x reply client) (past_at h (next_place reply)) made
     tap-asked step sized = by (is_accepted reply) refl
       where
         by : (b : Bool) → is_accepted reply ≡ b → Stands (tap_client_after x reply client) (past_at h (next_place reply)) made
@@ -569,10 +591,12 @@ module _ (d : Description) (h : List Step) (Q : ℕ → Type 0) (history : IsHis
         by false is =
             let answered : View = view_after_answer v x reply given.cells in
             let view : made ≡ v =
-            ap (λ (ts : List Taken). view_after_events answered (map event_of_taken ts)) (refused-events d past x given placed.exact is)
+            ap (λ (ts : List Taken). view_after_events answered (map event_of_taken ts))
+            (refused-events d past x given placed.exact is)
             ∙ no-events answered ∙ refused-view v x reply given.cells is in
             subst (λ (p : List Step). Stands (tap_client_after x reply client) p made) (sym (entered ∙ cond-false (is_accepted reply) (x ∷ past) past is))
-            (subst (λ (n : ℕ). Stands n past made) (sym (client_after-refused x reply client is)) (subst (Stands client past) (sym view) stood))
+            (subst (λ (n : ℕ). Stands n past made) (sym (client_after-refused x reply client is))
+            (subst (Stands client past) (sym view) stood))
 
     -- a tap stands so after its call
     pub tap-call : IsTapStep client x → TapStands d h Q (next_place reply) (after_tap_call j x given)
@@ -610,17 +634,20 @@ module _ (d : Description) (h : List Step) (Q : ℕ → Type 0) (history : IsHis
   abbrev pub IsTapOn : Coming d h Q → Job → Type 0
   IsTapOn s j = TapStands d h Q s.place j
 
-  pub tap-line : (command : Command) → is_command_of Tap command ≡ true → (s : Coming d h Q) (j : Job) → IsTapOn s j
+  pub tap-line : (command : Command) → is_command_of Tap command ≡ true → (s : Coming d h Q) (j : Job)
+      → IsTapOn s j
       → Meets Any (Comes d h Q) (OfJob IsTapOn) s (tap_talk command j)
   tap-line command of_role s j i = by_step (step_of j.reading.client command) (tap-step j.reading.client command of_role)
     where
-      by_step : (o : Option Step) → OfStep (IsTapStep j.reading.client) o → Meets Any (Comes d h Q) (OfJob IsTapOn) s (tap_call_if j o)
+      by_step : (o : Option Step) → OfStep (IsTapStep j.reading.client) o
+          → Meets Any (Comes d h Q) (OfJob IsTapOn) s (tap_call_if j o)
       by_step None step = i
       by_step (Some x) step = (
         tt,
         λ t a by. cond_both (lacks_memory a.reply) _ _ (OfJob IsTapOn t) (λ _. tt)
             (λ _. subst (λ (n : ℕ). TapStands d h Q n (after_tap_call j x a)) (sym by.1)
-            (tap-call s.place j (record { step = x; answer = a }) t.left (subst (AreToCome d h Q s.place) by.0 s.to_come) i step)),
+            (tap-call s.place j (record { step = x; answer = a }) t.left
+            (subst (AreToCome d h Q s.place) by.0 s.to_come) i step)),
       )
 
   pub tap-first : TapStands d h Q 0 (first_job Tap d)

@@ -44,7 +44,8 @@ are_events r actor from count numbers events are = subst (λ (ns : List ℕ). Ar
 
 -- the actor is a source
 is_source : (r : RecordView) (number from count : ℕ) (numbers : List ℕ) (a : ActorView) (events : List Stamped) → HasActor r a → a.actor ≡ number → IsRecord r → 2 ≤ count → count ≤ length events
-    → AreEventLines r number (take count (take (length numbers - from) (drop from numbers))) (take count events) → a.role ≡ Source
+    → AreEventLines r number (take count (take (length numbers - from) (drop from numbers)))
+    (take count events) → a.role ≡ Source
 is_source r number from count numbers a events h same keeps some fits are =
     sym h.role
     ∙ events-source r number h.text (take count (take (length numbers - from) (drop from numbers))) (take count events) keeps (text_at r number a h same) are (omega (arith, some, length-take-le count events fits))
@@ -52,7 +53,8 @@ is_source r number from count numbers a events h same keeps some fits are =
 pub inject_all-requires-clause-source : goal.inject_all-requires-clause-source
 inject_all-requires-clause-source g c =
     is_source c.args.rec.now c.args.number c.args.from c.gather-count.result c.args.lines.now c.args.actor.now c.gather-count.new.events c.requires.actor c.requires.number
-    c.gather-count.ensures.«record» c.if-count-lt2.false c.gather-count.ensures.fits c.gather-count.ensures.gathered
+    c.gather-count.ensures.«record» c.if-count-lt2.false c.gather-count.ensures.fits
+    c.gather-count.ensures.gathered
 
 pub inject_all-requires-clause-moments : goal.inject_all-requires-clause-moments
 inject_all-requires-clause-moments g c =
@@ -62,7 +64,8 @@ pub returns-in_err-inject_all-clause-left : goal.returns-in_err-inject_all-claus
 returns-in_err-inject_all-clause-left g c =
     inr (
       ap is_owner (is_source c.args.rec.now c.args.number c.args.from c.gather-count.result c.args.lines.now c.args.actor.now c.gather-count.new.events c.requires.actor c.requires.number
-          c.gather-count.ensures.«record» c.if-count-lt2.false c.gather-count.ensures.fits c.gather-count.ensures.gathered),
+          c.gather-count.ensures.«record» c.if-count-lt2.false c.gather-count.ensures.fits
+          c.gather-count.ensures.gathered),
       c.inject_all.ensures.left,
     )
 
@@ -71,7 +74,8 @@ returns-clause-done g c =
     let are = are_events c.args.rec.now c.args.number c.args.from c.gather-count.result c.args.lines.now _ c.gather-count.ensures.gathered in
     inr (record {
       source = is_source c.args.rec.now c.args.number c.args.from c.gather-count.result c.args.lines.now c.args.actor.now c.gather-count.new.events c.requires.actor c.requires.number
-          c.gather-count.ensures.«record» c.if-count-lt2.false c.gather-count.ensures.fits c.gather-count.ensures.gathered;
+          c.gather-count.ensures.«record» c.if-count-lt2.false c.gather-count.ensures.fits
+          c.gather-count.ensures.gathered;
       events = take c.gather-count.result c.gather-count.new.events;
       are_lines =
           own-events c.args.rec.now c.args.number c.args.from c.gather-count.result c.args.lines.now _ c.requires.lines are
@@ -84,6 +88,7 @@ pub returns-clause-left : goal.returns-clause-left
 returns-clause-left g c =
     inr (
       ap is_owner (is_source c.args.rec.now c.args.number c.args.from c.gather-count.result c.args.lines.now c.args.actor.now c.gather-count.new.events c.requires.actor c.requires.number
-          c.gather-count.ensures.«record» c.if-count-lt2.false c.gather-count.ensures.fits c.gather-count.ensures.gathered),
+          c.gather-count.ensures.«record» c.if-count-lt2.false c.gather-count.ensures.fits
+          c.gather-count.ensures.gathered),
       c.inject_all.ensures.left,
     )
