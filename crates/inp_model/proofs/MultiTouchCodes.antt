@@ -18,7 +18,8 @@ slot_code-not_slot code h = grind (arith, nat_tests)
 pub single_touch-no_value : (e : Event) → is_multi_touch e ≡ false → is_slot_value e ≡ false
 single_touch-no_value e h = grind (arith, nat_tests)
 
-pub single_touch-no_name : (e : Event) → is_multi_touch e ≡ false → (nat_eq e.kind EV_ABS && nat_eq e.code ABS_MT_SLOT) ≡ false
+pub single_touch-no_name : (e : Event) → is_multi_touch e ≡ false
+    → (nat_eq e.kind EV_ABS && nat_eq e.code ABS_MT_SLOT) ≡ false
 single_touch-no_name e h = grind (arith, nat_tests)
 
 -- an axis with a value of its own is none of those of slots

@@ -42,15 +42,15 @@ abbrev pub axis_passes_as : Description → List RawItem → Event → Option �
 axis_passes_as d r e = moved_to (axis_value d r e.code) (axis_value d (Occurred e ∷ r) e.code)
 
 -- The naming of a slot is not passed itself. A multi-touch value is passed where it moves the value of the staged slot;
--- without slots it is always passed as it was injected, and kept nowhere (docs/RULES.md, "Multi-touch slots").
+-- without slots it is always passed as it is, and kept nowhere (docs/RULES.md, "Multi-touch slots").
 abbrev pub multi_touch_passes_as : Description → List RawItem → Event → Option ℤ
 multi_touch_passes_as d r e =
     if nat_eq e.code ABS_MT_SLOT then None
     else if nat_eq d.slots 0 then Some e.value
     else moved_to (cell d r (staged d r) e.code) (cell_after d r e)
 
--- the value under which an event of a supported code is passed, if it is: of an axis the one that it takes, and of all
--- else the one that was injected
+-- the value under which an event of a supported code is passed, if it is: of an axis the one that it takes, and
+-- of all else the one that was injected
 abbrev pub code_passes_as : Description → List RawItem → Event → Option ℤ
 code_passes_as d r e =
     if nat_eq e.kind EV_KEY then passed_if (key_passes d r e) e.value

@@ -94,8 +94,8 @@ entry d client f e = record {
 -- What comes to a client of a frame: what is left of it that the client admits, where it is offered the frame
 -- (docs/RULES.md, "A client's queue" and "Masks").
 --
--- This definition, and each that has `eats` for its first argument, speaks of any choice of what is left of a frame. The
--- device's own is `eaten d`. A name that ends in _with has beside it the same name without, which speaks of the device's own.
+-- This definition, and each that has `eats` for its first argument, speaks of any choice of what is left of a
+-- frame. The device's own is `eaten d`. Where a name ends in _with, the same name without it speaks of that one.
 abbrev pub entries_of : Eats → Description → ℕ → Frame → List Entry
 entries_of eats d client f = if is_offered f.before client then map (entry d client f) (filter (admits f.before client) (left eats f)) else []
 

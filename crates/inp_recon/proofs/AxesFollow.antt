@@ -1,7 +1,7 @@
 -- The axes of a view follow the device. A query of an axis removes nothing from the queue: what is queued of it leads
 -- to its present value.
-use Rattle.std.proofs.Common.{◌≡◌, ◌<◌, ℕ, ℤ, pos, Bool, true, false, ◌&&◌, not, if◌then◌else◌, cond, nat_eq, List, [], ◌∷◌, ◌++◌, map, get_or, refl, sym, ap, subst, ◌∙◌, Some, arith}
-use Rattle.std.proofs.lemmas.Bool.{eqb-true, not-true}
+use Rattle.std.proofs.Common.{◌≡◌, ◌<◌, ℕ, ℤ, pos, Bool, true, false, ◌&&◌, not, if◌then◌else◌, cond, nat_eq, List, [], ◌∷◌, ◌++◌, map, get_or, refl, sym, ap, subst, ◌∙◌, Some, inl, inr, arith}
+use Rattle.std.proofs.lemmas.Bool.{cases_Bool, eqb-true, not-true}
 use Rattle.inp_model.specs.declared.event.TheConstants.{EV_ABS}
 use Rattle.inp_model.specs.declared.multi_touch.TheConstants.{ABS_MT_SLOT}
 use Rattle.inp_model.specs.declared.event.Event.{Event}
@@ -176,6 +176,12 @@ module _ (eats : Eats) (d : Description) (client code : ℕ) (has : has_axis d c
       sym (over-append t (present r) (map event_of left) (pending d r))
       ∙ suffix-same (sets_axis code) value_of (present r) (over t (present r) (map event_of taken)) (map event_of left ++ pending d r) whole
 
+  -- a query of the axis leaves the queue
+  query_leads : (past : List Step) (x : Step) → asks_for (OneAxis code) client x ≡ true → (has_no_loss (queue_with eats d past client) ≡ true → LeadsBack (raw d past) (queue_with eats d past client)) → has_no_loss (left_in_queue eats d past client x) ≡ true → LeadsBack (raw d past) (left_in_queue eats d past client x)
+  query_leads past x asks before kept =
+      let same = (part-asked (OneAxis code) client x asks).flushes eats d past in
+      subst (LeadsBack (raw d past)) (sym same) (before (ap has_no_loss (sym same) ∙ kept))
+
   -- the batch leads back, where no axis was described anew since the last frame
   pending_leads : (r : List RawItem) → is_settled d r ≡ true → over (axis_after code) (present r) (pending d r) ≡ present r
   unfolding is_settled
@@ -200,7 +206,22 @@ module _ (eats : Eats) (d : Description) (client code : ℕ) (has : has_axis d c
   pub axis-leads : (past : List Step) → Receives past client → has_no_loss (taken_since_start eats d past client) ≡ true → IsClear eats client (frames_since_start d past client) (steps_since_frame_before_start d past client) → has_no_loss (queue_with eats d past client) ≡ true → LeadsBack (raw d past) (queue_with eats d past client)
   unfolding taken_since_start is_open
   axis-leads [] receives none clear kept = let bad : false ≡ true = receives.is_there in absurd cc
-  axis-leads (x ∷ past) receives none clear kept = by (is_start past client x) refl (axis-leads past)
+  axis-leads (x ∷ past) receives none clear kept =
+      elim (cases_Bool (is_start past client x)) [
+        | inl start ↦ start_leads past x start clear.1 kept
+        | inr start ↦
+            (let before : Receives past client = receives-before past client x start receives in
+            let steps : AreUndescribed (x ∷ steps_since_frame_before_start d past client) = subst AreUndescribed (steps-step d past client x start) clear.1 in
+            let took : has_no_loss (taken_since_start eats d past client ++ taken_by_with eats d past client x) ≡ true =
+            ap (λ (c : Bool). has_no_loss (if c then [] else taken_since_start eats d past client ++ taken_by_with eats d past client x)) (sym start) ∙ none in
+            let all : AreWhole eats client (frames_since_start d past client ++ fs) = subst (AreWhole eats client) (since-step d past client x start) clear.0 in
+            let mine : AreWhole eats client fs = Each-right _ (frames_since_start d past client) fs all in
+            let there = axis-leads past before (all-left _ (taken_since_start eats d past client) (taken_by_with eats d past client x) took) (Each-left _ (frames_since_start d past client) fs all, steps.1) in
+            subst (λ (l : List RawItem). LeadsBack l (queue_with eats d (x ∷ past) client)) (sym (raw-step d past x))
+            (subst (LeadsBack (raw_after r xs)) (sym (queue-step eats d past client x))
+            (frames_lead past x left (not-true _ steps.0) before mine (ap has_no_loss (sym (queue-step eats d past client x)) ∙ kept)
+            (at start (asks_for (OneAxis code) client x) refl (all-right _ (taken_since_start eats d past client) (taken_by_with eats d past client x) took) there))))
+      ]
     where
       r : List RawItem
       r = raw d past
@@ -214,39 +235,16 @@ module _ (eats : Eats) (d : Description) (client code : ℕ) (has : has_axis d c
       left : List Entry
       left = left_in_queue eats d past client x
 
-      IH : Type 0
-      IH = Receives past client → has_no_loss (taken_since_start eats d past client) ≡ true → IsClear eats client (frames_since_start d past client) (steps_since_frame_before_start d past client) → has_no_loss (queue_with eats d past client) ≡ true → LeadsBack r (queue_with eats d past client)
-
-      other : is_start past client x ≡ false → IH → LeadsBack (raw d (x ∷ past)) (queue_with eats d (x ∷ past) client)
-      other start ih =
-          let before : Receives past client = receives-before past client x start receives in
-          let steps : AreUndescribed (x ∷ steps_since_frame_before_start d past client) = subst AreUndescribed (steps-step d past client x start) clear.1 in
-          let undescribed : is_description x ≡ false = not-true _ steps.0 in
-          let took : has_no_loss (taken_since_start eats d past client ++ taken_by_with eats d past client x) ≡ true =
-          ap (λ (c : Bool). has_no_loss (if c then [] else taken_since_start eats d past client ++ taken_by_with eats d past client x)) (sym start) ∙ none in
-          let all : AreWhole eats client (frames_since_start d past client ++ fs) = subst (AreWhole eats client) (since-step d past client x start) clear.0 in
-          let mine : AreWhole eats client fs = Each-right _ (frames_since_start d past client) fs all in
-          let there = ih before (all-left _ (taken_since_start eats d past client) (taken_by_with eats d past client x) took) (Each-left _ (frames_since_start d past client) fs all, steps.1) in
-          subst (λ (l : List RawItem). LeadsBack l (queue_with eats d (x ∷ past) client)) (sym (raw-step d past x))
-          (subst (LeadsBack (raw_after r xs)) (sym (queue-step eats d past client x))
-          (frames_lead past x left undescribed before mine (ap has_no_loss (sym (queue-step eats d past client x)) ∙ kept)
-          (at (asks_for (OneAxis code) client x) refl (all-right _ (taken_since_start eats d past client) (taken_by_with eats d past client x) took) there)))
-        where
-          at : (b : Bool) → asks_for (OneAxis code) client x ≡ b → has_no_loss (taken_by_with eats d past client x) ≡ true → (has_no_loss (queue_with eats d past client) ≡ true → LeadsBack r (queue_with eats d past client)) → has_no_loss left ≡ true → LeadsBack r left
-          at true asks took there kept = subst (LeadsBack r) (sym ((part-asked (OneAxis code) client x asks).flushes eats d past)) (there (ap has_no_loss (sym ((part-asked (OneAxis code) client x asks).flushes eats d past)) ∙ kept))
-          at false asks took there kept = call_leads past x start asks took kept there
-
-      by : (c : Bool) → is_start past client x ≡ c → IH → LeadsBack (raw d (x ∷ past)) (queue_with eats d (x ∷ past) client)
-      by true start ih = start_leads past x start clear.1 kept
-      by false start ih = other start ih
+      at : is_start past client x ≡ false → (b : Bool) → asks_for (OneAxis code) client x ≡ b → has_no_loss (taken_by_with eats d past client x) ≡ true → (has_no_loss (queue_with eats d past client) ≡ true → LeadsBack r (queue_with eats d past client)) → has_no_loss left ≡ true → LeadsBack r left
+      at start true asks took there kept = query_leads past x asks there kept
+      at start false asks took there kept = call_leads past x start asks took kept there
 
   -- ---- an axis that was asked for
 
   fresh : (past : List Step) (x : Step) → is_start past client x ≡ false → asks_for (OneAxis code) client x ≡ true → Receives past client → has_no_loss (taken_since_start eats d past client) ≡ true
       → IsClear eats client (frames_since_start d past client) (steps_since_frame_before_start d past client) → has_no_loss (left_in_queue eats d past client x) ≡ true
       → LeadsBack (raw d past) (left_in_queue eats d past client x)
-  fresh past x start asks receives none clear kept =
-      subst (LeadsBack (raw d past)) (sym ((part-asked (OneAxis code) client x asks).flushes eats d past)) (axis-leads past receives none clear (ap has_no_loss (sym ((part-asked (OneAxis code) client x asks).flushes eats d past)) ∙ kept))
+  fresh past x start asks receives none clear kept = query_leads past x asks (axis-leads past receives none clear) kept
 
   pub axis-stands : (past : List Step) → Receives past client → has_no_loss (taken_since_start eats d past client) ≡ true → has_asked (OneAxis code) past client ≡ true
       → Stands eats d client (axis_after code) (axis-unviewed code) present (axis-passes d code has) (λ past. axis_of (client_view_with eats d past client)) past

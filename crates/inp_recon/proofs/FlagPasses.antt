@@ -95,9 +95,9 @@ module _ (d : Description) (kind : ℕ) (skips : ℤ → Bool) (on : List RawIte
   flag-passes code r e =
       on_or_off (λ e. over (set_by (sets_flag kind skips code) is_set) (on r code) (passed d r e) ≡ on (Occurred e ∷ r) code) kind code e (at_code code r)
       (λ h.
-          over-idle (set_by (sets_flag kind skips code) is_set) (on r code) (passed d r e)
-          (Each-weaker (λ p. (nat_eq p.kind kind && nat_eq p.code code) ≡ false) (IsIdle (set_by (sets_flag kind skips code) is_set)) (other_idle code) (passed d r e) (other_each code r e h))
-          ∙ sym (other_same code r e h))
+      over-idle (set_by (sets_flag kind skips code) is_set) (on r code) (passed d r e)
+      (Each-weaker (λ p. (nat_eq p.kind kind && nat_eq p.code code) ≡ false) (IsIdle (set_by (sets_flag kind skips code) is_set)) (other_idle code) (passed d r e) (other_each code r e h))
+      ∙ sym (other_same code r e h))
 
   -- a code that is not supported: its state stays, and nothing of it is passed
   pub unsupported-same : (code : ℕ) → supports d kind code ≡ false → (r : List RawItem) (e : Event) → on (Occurred e ∷ r) code ≡ on r code

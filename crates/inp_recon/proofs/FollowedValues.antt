@@ -1,6 +1,6 @@
 -- One value of a view follows the device: by one induction over the past, for any value that events and answers change.
 use Rattle.std.proofs.Common.{◌≡◌, ◌<◌, ◌≤◌, ℕ, suc, zero, Bool, true, false, ◌&&◌, ◌||◌, not, if◌then◌else◌, cond, List, [], ◌∷◌, ◌++◌, length, map, take, drop, refl, sym, ap, subst, ◌∙◌, Some, None, inl, inr, arith, append_assoc}
-use Rattle.std.proofs.lemmas.Bool.{eqb-true, not-true}
+use Rattle.std.proofs.lemmas.Bool.{cases_Bool, eqb-true, not-true}
 use Rattle.inp_model.specs.declared.event.TheConstants.{EV_SND}
 use Rattle.inp_model.specs.declared.event.Event.{Event}
 use Rattle.inp_model.specs.declared.step.Step.{Step}
@@ -297,21 +297,19 @@ module _ (eats : Eats) (d : Description) (client : ℕ) {V : Type 0} (t : V → 
     pub stands : (past : List Step) → Receives past client → has_no_loss (taken_since_start eats d past client) ≡ true → has_asked part past client ≡ true → Stands b past
     unfolding taken_since_start has_asked
     stands [] receives none asked = absurd (let e : false ≡ true = asked in cc)
-    stands (x ∷ past) receives none asked = by (is_start past client x) refl (stands past)
-      where
-        IH : Type 0
-        IH = Receives past client → has_no_loss (taken_since_start eats d past client) ≡ true → has_asked part past client ≡ true → Stands b past
-
-        both : is_start past client x ≡ false → has_no_loss (taken_since_start eats d past client ++ taken_by_with eats d past client x) ≡ true
-        both start = ap (λ (c : Bool). has_no_loss (if c then [] else taken_since_start eats d past client ++ taken_by_with eats d past client x)) (sym start) ∙ none
-
-        at : (start : is_start past client x ≡ false) (asks : Bool) → asks_for part client x ≡ asks → IH → Midway b past x
-        at start true asks ih = asked_midway past x start asks (receives-before past client x start receives) (all-left _ (taken_since_start eats d past client) (taken_by_with eats d past client x) (both start))
-        at start false asks ih =
-            other_midway past x start asks (all-right _ (taken_since_start eats d past client) (taken_by_with eats d past client x) (both start))
-            (ih (receives-before past client x start receives) (all-left _ (taken_since_start eats d past client) (taken_by_with eats d past client x) (both start))
-            (asked_before (is_start past client x) (asks_for part client x) (has_asked part past client) start asks asked))
-
-        by : (c : Bool) → is_start past client x ≡ c → IH → Stands b (x ∷ past)
-        by true start ih = absurd (let bad : false ≡ true = ap (λ (c : Bool). if c then false else asks_for part client x || has_asked part past client) (sym start) ∙ asked in cc)
-        by false start ih = frames_follow b past x start (receives-before past client x start receives) (at start (asks_for part client x) refl ih)
+    stands (x ∷ past) receives none asked =
+        elim (cases_Bool (is_start past client x)) [
+          | inl start ↦ absurd (let bad : false ≡ true = ap (λ (c : Bool). if c then false else asks_for part client x || has_asked part past client) (sym start) ∙ asked in cc)
+          | inr start ↦
+              (let before : Receives past client = receives-before past client x start receives in
+              let all : has_no_loss (taken_since_start eats d past client ++ taken_by_with eats d past client x) ≡ true =
+              ap (λ (c : Bool). has_no_loss (if c then [] else taken_since_start eats d past client ++ taken_by_with eats d past client x)) (sym start) ∙ none in
+              let clear : has_no_loss (taken_since_start eats d past client) ≡ true = all-left _ (taken_since_start eats d past client) (taken_by_with eats d past client x) all in
+              frames_follow b past x start before
+              (elim (cases_Bool (asks_for part client x)) [
+                | inl asks ↦ asked_midway past x start asks before clear
+                | inr asks ↦
+                    other_midway past x start asks (all-right _ (taken_since_start eats d past client) (taken_by_with eats d past client x) all)
+                    (stands past before clear (asked_before (is_start past client x) (asks_for part client x) (has_asked part past client) start asks asked))
+              ]))
+        ]

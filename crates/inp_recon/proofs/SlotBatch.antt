@@ -4,7 +4,6 @@ use Rattle.std.proofs.Common.{◌≡◌, ◌⊎◌, ℕ, ℤ, Bool, true, false,
 use Rattle.inp_model.specs.declared.event.Event.{Event}
 use Rattle.inp_model.specs.Description.{Description, is_slot_code}
 use Rattle.inp_model.specs.RawItem.{RawItem, Occurred, Described, Cut}
-use Rattle.inp_model.specs.Event.{is_report}
 use Rattle.inp_model.specs.State.{cell}
 use Rattle.inp_model.specs.Passed.{announced, passed}
 use Rattle.inp_model.specs.Cut.{pending, cut_events, at_frame}
@@ -104,7 +103,25 @@ module _ (d : Description) (some : nat_eq d.slots 0 ≡ false) (slot : ℤ) (cod
   unfolding pending at_frame announced cell
   cell-pending [] = refl
   cell-pending (Described axis i ∷ r) = cell-pending r
-  cell-pending (Occurred e ∷ r) = by (cut_cases d r (Occurred e)) (cell-pending r)
+  cell-pending (Occurred e ∷ r) =
+      elim (cut_cases d r (Occurred e)) [
+        | inr cut ↦ none cut.left (at_frame-cut d r e cut)
+        | inl cut ↦ elim cut.left [
+          | inl more ↦
+              ap (over t (pair (at_frame d (Occurred e ∷ r)) now)) more
+              ∙ ap (λ (s : ℤ). over t (pair s now) (pending d r ++ passed d r e)) (at_frame-no_cut d r e cut)
+              ∙ cell_again slot code (pending d r) (passed d r e) (at_frame d r) (cell d r slot code) (announced d r) (cell d r slot code) (announced d (Occurred e ∷ r)) now (cell-pending r) (passes r e)
+          -- a report that ends no frame
+          | inr report ↦
+              (let same : announced d r ≡ announced d (Occurred e ∷ r) =
+              ap (λ (u : SlotCell). u.0)
+              (sym (cell-unviewed slot code e (report-unviewed e report.2) (pair (announced d r) (cell d r slot code)))
+              ∙ ap (over t (pair (announced d r) (cell d r slot code))) (sym (passed-report d r e report.2)) ∙ passes r e) in
+              let before : at_frame d r ≡ announced d r =
+              ap (λ (u : SlotCell). u.0) (ap (over t (pair (at_frame d r) (cell d r slot code))) (sym report.1) ∙ cell-pending r) in
+              none report.0 (at_frame-no_cut d r e cut ∙ before ∙ same))
+        ]
+      ]
     where
       t : SlotCell → Event → SlotCell
       t = cell_then slot code
@@ -112,37 +129,6 @@ module _ (d : Description) (some : nat_eq d.slots 0 ≡ false) (slot : ℤ) (cod
       now : ℤ
       now = cell d (Occurred e ∷ r) slot code
 
-      Goal : Type 0
-      Goal = over t (pair (at_frame d (Occurred e ∷ r)) now) (pending d (Occurred e ∷ r)) ≡ pair (announced d (Occurred e ∷ r)) now
-
-      IH : Type 0
-      IH = over t (pair (at_frame d r) (cell d r slot code)) (pending d r) ≡ pair (announced d r) (cell d r slot code)
-
       -- nothing waits, and the slot of the last frame is the one announced
-      none : pending d (Occurred e ∷ r) ≡ [] → at_frame d (Occurred e ∷ r) ≡ announced d (Occurred e ∷ r) → Goal
+      none : pending d (Occurred e ∷ r) ≡ [] → at_frame d (Occurred e ∷ r) ≡ announced d (Occurred e ∷ r) → over t (pair (at_frame d (Occurred e ∷ r)) now) (pending d (Occurred e ∷ r)) ≡ pair (announced d (Occurred e ∷ r)) now
       none h k = ap (over t (pair (at_frame d (Occurred e ∷ r)) now)) h ∙ ap (λ (s : ℤ). pair s now) k
-
-      waits : NoCut d r (Occurred e) → pending d (Occurred e ∷ r) ≡ pending d r ++ passed d r e → IH → Goal
-      waits cut h ih =
-          ap (over t (pair (at_frame d (Occurred e ∷ r)) now)) h
-          ∙ ap (λ (s : ℤ). over t (pair s now) (pending d r ++ passed d r e)) (at_frame-no_cut d r e cut)
-          ∙ cell_again slot code (pending d r) (passed d r e) (at_frame d r) (cell d r slot code) (announced d r) (cell d r slot code) (announced d (Occurred e ∷ r)) now ih (passes r e)
-
-      -- a report that ends no frame
-      report : NoCut d r (Occurred e) → pending d (Occurred e ∷ r) ≡ [] → pending d r ≡ [] → is_report e ≡ true → IH → Goal
-      report cut h k is ih =
-          let same : announced d r ≡ announced d (Occurred e ∷ r) =
-          ap (λ (u : SlotCell). u.0)
-          (sym (cell-unviewed slot code e (report-unviewed e is) (pair (announced d r) (cell d r slot code)))
-          ∙ ap (over t (pair (announced d r) (cell d r slot code))) (sym (passed-report d r e is)) ∙ passes r e) in
-          let before : at_frame d r ≡ announced d r =
-          ap (λ (u : SlotCell). u.0) (ap (over t (pair (at_frame d r) (cell d r slot code))) (sym k) ∙ ih) in
-          none h (at_frame-no_cut d r e cut ∙ before ∙ same)
-
-      by : NoCut d r (Occurred e) ⊎ OneCut d r (Occurred e) → IH → Goal
-      by (inr cut) ih = none cut.left (at_frame-cut d r e cut)
-      by (inl cut) ih = left cut.left
-        where
-          left : (pending d (Occurred e ∷ r) ≡ pending d r ++ passed d r e) ⊎ ((pending d (Occurred e ∷ r) ≡ []) × (pending d r ≡ []) × (is_report e ≡ true)) → Goal
-          left (inl more) = waits cut more ih
-          left (inr k) = report cut k.0 k.1 k.2 ih
