@@ -1,6 +1,5 @@
 pub mod Lists
 pub mod CodeLists
-pub mod Startups
 pub mod Pictures
 pub mod Numbers
 pub mod Events
@@ -8,7 +7,6 @@ pub mod Nexts
 pub mod ReaderCalls
 pub mod TurnParts
 pub mod TurnEnds
-pub mod Devices
 pub mod Outcomes
 pub mod ReadTurns
 pub mod MoreTurns

@@ -1,5 +1,5 @@
 -- What a `next` or a start of a reader leaves, by its talk.
-use Rattle.std.proofs.Common.{◌≡◌, ℕ, Bool, true, false, ◌&&◌, List, [], ◌∷◌, ◌++◌, None, refl, sym, ap, subst, ◌∙◌, inl, inr, ◌⊎◌}
+use Rattle.std.proofs.Common.{◌≡◌, ℕ, Bool, true, false, ◌&&◌, List, [], ◌∷◌, None, refl, sym, ap, subst, ◌∙◌, inl, inr, ◌⊎◌}
 use Rattle.std.specs.Prelude.{Result, Ok, Err}
 use Rattle.std.proofs.lemmas.Bool.{true≢false}
 use Rattle.inp_model.specs.declared.event.Event.{Event}
@@ -100,11 +100,6 @@ next-synced d r calls result needed ends =
 
 -- Where it answers none of those that end a read, all calls were accepted
 
-pub accepted-append : (calls more : List Call) → AreAccepted calls → AreAccepted more → AreAccepted (calls ++ more)
-unfolding AreAccepted
-accepted-append [] more h k = k
-accepted-append (call ∷ calls) more h k = (h.0, accepted-append calls more h.1 k)
-
 -- so far
 abbrev all_accepted : Bool → List Call → Bool
 all_accepted b [] = b
@@ -123,7 +118,6 @@ none-accepted [] h = cc
 none-accepted (call ∷ calls) h = none-accepted calls h
 
 are-accepted : (calls : List Call) → all_accepted true calls ≡ true → AreAccepted calls
-unfolding AreAccepted
 are-accepted [] h = tt
 are-accepted (call ∷ calls) h = by_flag (is_accepted call.answer.reply) (λ k. are-accepted calls k) h
   where

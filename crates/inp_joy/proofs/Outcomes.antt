@@ -19,7 +19,7 @@ use Rattle.inp_joy.specs.Joy.{Joying, JoyTurn, gives, goes_on, hand_out_record, 
 use Rattle.inp_joy.specs.Kept.{turn_of_end, TurnEndShows, TurnEndPictures, IsTurnEndLess}
 use Rattle.inp_joy.specs.Picture.{picture_of_view}
 use Rattle.inp_joy.specs.Reads.{PicturesTheDevice, IsReadLess}
-use Rattle.inp_joy.proofs.Devices.{device-pictured}
+use Rattle.inp_joy.proofs.Pictures.{device-pictured}
 use Rattle.inp_joy.proofs.TurnEnds.{IsTurnPictured, frame-pictured}
 use Rattle.inp_reader.specs.Effort.{IsLess}
 

@@ -1,20 +1,64 @@
--- A startup leads a blank picture to the view that it is made from.
-use Rattle.std.proofs.Common.{◌≡◌, ℕ, suc, ◌+◌, ◌-◌, ◌<◌, ◌≤◌, ℤ, pos, Bool, true, false, not, int_eq, List, [], ◌∷◌, ◌++◌, length, map, drop, replicate, set, Some, refl, sym, ap, ◌∙◌, arith, append_assoc, append-nil, length-append}
-use Rattle.std.specs.List.{slice_get}
-use Rattle.std.proofs.lemmas.List.{length-map, set_at, drop_more, drop_all, replicate-append-replicate}
-use Rattle.std.proofs.lemmas.Option.{get_or_from_slice_get, slice_get_within}
-use Rattle.inp_model.specs.Description.{Description}
+-- The records of a startup lead a blank picture to the view that they are made from, and where that is the device's state
+-- the picture is the device's.
+use Rattle.std.proofs.Common.{◌≡◌, ℕ, suc, ◌+◌, ◌-◌, ◌<◌, ◌≤◌, ℤ, pos, Bool, true, false, not, int_eq, List, [], ◌∷◌, ◌++◌, length, map, drop, replicate, set, Some, refl, sym, ap, ◌∙◌, arith, append_assoc, append-nil, length-append, None, zero, ◌&&◌, ◌⊎◌, inl, inr}
+use Rattle.std.specs.List.{slice_get, range_with_len, filter}
+use Rattle.std.proofs.lemmas.List.{length-map, set_at, drop_more, drop_all, replicate-append-replicate, map-append}
+use Rattle.std.proofs.lemmas.Option.{get_or_from_slice_get, slice_get_within, slice_get-map, slice_get_past}
+use Rattle.inp_model.specs.Description.{Description, supports, is_multi_touch_code}
 use Rattle.inp_model.proofs.Descriptions.{get_or-replicate_same}
 use Rattle.inp_reader.specs.Synthesis.{bit_value}
 use Rattle.inp_recon.specs.declared.view.View.{View}
 use Rattle.inp_recon.specs.View.{first_view}
 use Rattle.inp_joy.specs.declared.joy_record.JoyRecord.{JoyRecord}
-use Rattle.inp_joy.specs.Codes.{buttons, axes, startup_len}
+use Rattle.inp_joy.specs.Codes.{buttons, axes, startup_len, codes_among}
 use Rattle.inp_joy.specs.JoyRecord.{within_16_bits, startup_button, startup_axis}
 use Rattle.inp_joy.specs.Joy.{map_numbered, startup, startup_buttons, startup_axes}
-use Rattle.inp_joy.specs.Picture.{PictureView, blank_picture, picture_after, picture_after_all, up_to_64, picture_by, is_down_in, value_in, picture_of_view}
-use Rattle.inp_joy.proofs.CodeLists.{length-buttons, length-axes}
-use Rattle.inp_joy.proofs.Startups.{length-startup}
+use Rattle.inp_joy.specs.Picture.{PictureView, blank_picture, picture_after, picture_after_all, up_to_64, picture_by, is_down_in, value_in, picture_of_view, picture_of_device}
+use Rattle.inp_joy.proofs.CodeLists.{length-buttons, length-axes, single, axes-are}
+use Rattle.std.specs.Option.{option_map}
+use Rattle.inp_joy.proofs.Lists.{slice_get-left, slice_get-right, map_numbered-get, length-map_numbered}
+use Rattle.std.proofs.lemmas.Bool.{cond_both}
+use Rattle.inp_model.specs.RawItem.{RawItem}
+use Rattle.inp_model.specs.declared.event.TheConstants.{EV_ABS}
+use Rattle.inp_model.specs.State.{key_down, axis_value}
+use Rattle.inp_recon.specs.Faithful.{IsDeviceState}
+use Rattle.inp_recon.specs.Synchronised.{has_axis}
+
+-- One record
+
+pub record-found : {X : Type 0} (made : ℕ → X → JoyRecord) (f : ℕ → X) (codes all : List ℕ) (number code : ℕ) (x : X) (r : JoyRecord) → codes ≡ all → slice_get codes number ≡ Some code → x ≡ f code → r ≡ made number x → slice_get (map_numbered made 0 (map f all)) number ≡ Some r
+record-found made f codes all number code x r are at is told =
+    let e : 0 + number ≡ number = omega arith in
+    map_numbered-get made 0 number (map f all) (f code) (slice_get-map f all number ∙ ap (λ (cs : List ℕ). option_map f (slice_get cs number)) (sym are) ∙ ap (λ o. option_map f o) at)
+    ∙ ap (λ (n : ℕ). Some (made n (f code))) e ∙ ap (λ y. Some (made number y)) (sym is) ∙ ap (λ (s : JoyRecord). Some s) (sym told)
+
+length-startup_buttons : (d : Description) (v : View) → length (startup_buttons d v) ≡ length (buttons d)
+length-startup_buttons d v = length-map_numbered startup_button 0 (map (is_down_in v) (buttons d)) ∙ length-map (buttons d) (is_down_in v)
+
+length-startup_axes : (d : Description) (v : View) → length (startup_axes d v) ≡ length (axes d)
+length-startup_axes d v = let f : ℕ → ℤ = λ c. within_16_bits (value_in v c) in length-map_numbered startup_axis 0 (map f (axes d)) ∙ length-map (axes d) f
+
+pub length-startup : (d : Description) (v : View) → length (startup d v) ≡ startup_len d
+unfolding startup
+length-startup d v = omega (arith, length-append (startup_buttons d v) (startup_axes d v), length-startup_buttons d v, length-startup_axes d v)
+
+-- The next one
+
+pub next-button : (d : Description) (v : View) (handed : ℕ) (r : JoyRecord) → slice_get (startup_buttons d v) handed ≡ Some r → Some r ≡ slice_get (startup d v) handed
+unfolding startup
+next-button d v handed r h = sym (slice_get-left (startup_buttons d v) (startup_axes d v) handed r h)
+
+pub next-axis : (d : Description) (v : View) (handed count : ℕ) (r : JoyRecord) → count ≡ length (buttons d) → count ≤ handed → slice_get (startup_axes d v) (handed - count) ≡ Some r → Some r ≡ slice_get (startup d v) handed
+unfolding startup
+next-axis d v handed count r long past h =
+    let e : handed ≡ length (startup_buttons d v) + (handed - count) = omega (arith, length-startup_buttons d v) in
+    sym (ap (λ (n : ℕ). slice_get (startup_buttons d v ++ startup_axes d v) n) e ∙ slice_get-right (startup_buttons d v) (startup_axes d v) (handed - count) ∙ h)
+
+pub next-none : (d : Description) (v : View) (handed : ℕ) → startup_len d ≤ handed → None ≡ slice_get (startup d v) handed
+next-none d v handed past = sym (slice_get_past (startup d v) handed (omega (arith, length-startup d v)))
+
+pub left-within : (d : Description) (v : View) (handed : ℕ) (r : JoyRecord) → slice_get (startup d v) handed ≡ Some r → handed < startup_len d
+left-within d v handed r h = omega (arith, slice_get_within (startup d v) handed r h, length-startup d v)
 
 pub after_all-append : (p : PictureView) (xs ys : List JoyRecord) → picture_after_all p (xs ++ ys) ≡ picture_after_all (picture_after_all p xs) ys
 after_all-append p [] ys = refl
@@ -113,3 +157,40 @@ first-blank d =
     (blank-fill (is_down_in (first_view d)) false (buttons d) (length-buttons d) (λ c. get_or-replicate_same 768 c false))
     ∙ ap (λ (zs : List ℤ). let q : PictureView = record { buttons = replicate 64 false; axes = zs } in q)
     (blank-fill (λ code. within_16_bits (value_in (first_view d) code)) (pos 0) (axes d) (omega (arith, length-axes d)) (λ c. ap (λ (z : ℤ). within_16_bits z) (get_or-replicate_same 64 c (pos 0)))))
+
+-- Where a view is the device's state
+
+map-all : {X : Type 0} (f g : ℕ → X) (codes : List ℕ) → ((c : ℕ) → f c ≡ g c) → map f codes ≡ map g codes
+map-all f g [] same = refl
+map-all f g (c ∷ cs) same = ap (λ x. x ∷ map f cs) (same c) ∙ ap (λ xs. g c ∷ xs) (map-all f g cs same)
+
+-- where both agree on the supported codes of a range
+map-among : {X : Type 0} (d : Description) (kind : ℕ) (f g : ℕ → X) (first n : ℕ) → ((c : ℕ) → first ≤ c → c < first + n → supports d kind c ≡ true → f c ≡ g c) → map f (codes_among d kind first n) ≡ map g (codes_among d kind first n)
+unfolding codes_among
+map-among d kind f g first zero same = refl
+map-among d kind f g first (suc n) same =
+    let rest : List ℕ = filter (supports d kind) (range_with_len (first + 1) n) in
+    let others : map f rest ≡ map g rest = map-among d kind f g (first + 1) n (λ c h k. same c (omega (arith, h)) (omega (arith, k))) in
+    cond_both (supports d kind first) (first ∷ rest) rest (λ (xs : List ℕ). map f xs ≡ map g xs)
+    (λ is. ap (λ y. y ∷ map f rest) (same first (omega arith) (omega arith) is) ∙ ap (λ ys. g first ∷ ys) others) (λ _. others)
+
+has-own : (d : Description) (c : ℕ) → (c < 47) ⊎ ((62 ≤ c) × (c < 64)) → supports d EV_ABS c ≡ true → has_axis d c ≡ true
+has-own d c place is = ap (λ (b : Bool). b && not (is_multi_touch_code c)) is ∙ ap not (single c place)
+
+map-axes : {X : Type 0} (d : Description) (f g : ℕ → X) → ((c : ℕ) → has_axis d c ≡ true → f c ≡ g c) → map f (axes d) ≡ map g (axes d)
+map-axes {X = X} d f g same =
+    let low : List ℕ = codes_among d EV_ABS 0 47 in
+    let high : List ℕ = codes_among d EV_ABS 62 2 in
+    ap (λ (cs : List ℕ). map f cs) (axes-are d)
+    ∙ map-append f low high
+    ∙ ap (λ (xs : List X). xs ++ map f high) (map-among d EV_ABS f g 0 47 (λ c h k is. same c (has-own d c (inl (omega (arith, k))) is)))
+    ∙ ap (λ (xs : List X). map g low ++ xs) (map-among d EV_ABS f g 62 2 (λ c h k is. same c (has-own d c (inr (h, omega (arith, k))) is)))
+    ∙ sym (map-append g low high)
+    ∙ ap (λ (cs : List ℕ). map g cs) (sym (axes-are d))
+
+pub device-pictured : (d : Description) (r : List RawItem) (v : View) → IsDeviceState d r v → picture_of_view d v ≡ picture_of_device d r
+unfolding picture_by
+device-pictured d r v h =
+    ap (λ (bs : List Bool). let p : PictureView = record { buttons = up_to_64 false bs; axes = up_to_64 (pos 0) (map (λ code. within_16_bits (value_in v code)) (axes d)) } in p) (map-all (is_down_in v) (key_down d r) (buttons d) h.keys)
+    ∙ ap (λ (zs : List ℤ). let p : PictureView = record { buttons = up_to_64 false (map (key_down d r) (buttons d)); axes = up_to_64 (pos 0) zs } in p)
+    (map-axes d (λ code. within_16_bits (value_in v code)) (λ code. within_16_bits (axis_value d r code)) (λ c is. ap (λ (z : ℤ). within_16_bits z) (h.axes c is)))

@@ -41,7 +41,6 @@ kept_one x _ h = refl
 
 -- where all were accepted each of them is kept
 pub count-kept : (calls : List Call) (n : ℕ) → AreAccepted calls → count_after calls n ≡ n + length (calls_kept calls)
-unfolding AreAccepted
 count-kept [] n h = omega arith
 count-kept (call ∷ calls) n h =
     let one : length (kept_call call.step call.answer.reply) ≡ 1 = kept_one call.step call.answer.reply h.0 in

@@ -10,8 +10,7 @@ use Rattle.inp_reader.specs.Reader.{Reading, ReaderView, next_talk}
 use Rattle.inp_reader.specs.Says.{Says}
 use Rattle.inp_reader.specs.TrueView.{AnswerShows}
 use Rattle.inp_reader.specs.ReaderPlace.{StandsAt, Stands, IsAlone}
-use Rattle.inp_reader.proofs.Calls.{alone-first, alone-then}
-use Rattle.inp_reader.proofs.LeftByCalls.{leaves_made-none, leaves_made-then}
+use Rattle.inp_reader.proofs.Calls.{alone-first, alone-then, leaves_made-none, leaves_made-then}
 use Rattle.inp_reader.proofs.StandsByCalls.{client-next}
 use Rattle.inp_joy.specs.Kept.{ReaderCalls}
 

@@ -10,6 +10,8 @@ use Rattle.inp_model.specs.Event.{is_report}
 use Rattle.inp_model.specs.Run.{Call}
 use Rattle.inp_recon.specs.declared.view.View.{View}
 use Rattle.inp_recon.specs.View.{IsSizedFor, view_after_event, first_view}
+use Rattle.inp_model.specs.Reply.{is_accepted}
+use Rattle.inp_recon.proofs.Each.{Each-append}
 use Rattle.inp_reader.specs.declared.mode.Mode.TheVariants.{Normal, Sync as Synchronising}
 use Rattle.inp_reader.specs.declared.next.Next.{Next}
 use Rattle.inp_reader.specs.declared.next.Next.TheVariants.{Success, Dropped, Sync, Synced}
@@ -31,9 +33,8 @@ use Rattle.inp_joy.specs.Kept.{turn_of_end, IsJoyState, IsJoy, kept_joying}
 use Rattle.inp_joy.specs.Picture.{PictureView, picture_after_if, picture_of_view, seen_as, blank_picture}
 use Rattle.inp_joy.specs.Reads.{IsPictured}
 use Rattle.inp_joy.proofs.Events.{event-pictured, report-none}
-use Rattle.inp_joy.proofs.Nexts.{IsLeftByStart, IsTaken, IsSynced, next-taken, next-synced, next-accepted, accepted-append, lost-needed}
-use Rattle.inp_joy.proofs.Pictures.{startup-pictured, startup-more, startup-over, startup-gone, first-blank}
-use Rattle.inp_joy.proofs.Startups.{length-startup}
+use Rattle.inp_joy.proofs.Nexts.{IsLeftByStart, IsTaken, IsSynced, next-taken, next-synced, next-accepted, lost-needed}
+use Rattle.inp_joy.proofs.Pictures.{startup-pictured, startup-more, startup-over, startup-gone, first-blank, length-startup}
 use Rattle.inp_joy.proofs.TurnCases.{Synchronises, TurnCase, of_startup, of_sync, of_loss, of_next, case-of, turn-case}
 use Rattle.inp_reader.specs.KeptViews.{IsKeptView}
 use Rattle.inp_reader.proofs.UnsetSlotAxes.{IsKeptView-first_view}
@@ -182,7 +183,7 @@ turn-accepted d j k calls h = by (turn-case d j calls (goes_on k) h)
     by (of_sync needed s) = sync_turn-accepted d j k calls s
     by (of_loss first second taken r plain whole ends s) =
         subst (λ (cs : List Call). AreAccepted cs) (sym whole)
-        (accepted-append first second (next-accepted d Normal j.reading first (Dropped taken, r) refl ends) (sync_turn-accepted d (with_reading j r) k second s))
+        (Each-append (λ (call : Call). is_accepted call.answer.reply ≡ true) first second (next-accepted d Normal j.reading first (Dropped taken, r) refl ends) (sync_turn-accepted d (with_reading j r) k second s))
     by (of_next next r plain ends is) = next-accepted d Normal j.reading calls (next, r) (next-none d (with_reading j r) k next is) ends
 
 -- A new joystick client

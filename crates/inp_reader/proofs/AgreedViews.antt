@@ -1,8 +1,8 @@
 -- Two views that keep what their device cannot have agree after the answers to all that is asked for.
-use Rattle.std.proofs.Common.{◌≡◌, ◌≤◌, ◌<◌, inl, inr, ℕ, zero, suc, ◌+◌, ◌*◌, nat_eq, nat_lt, nat_le, ℤ, pos, Bool, true, false, ◌&&◌, ◌||◌, not, List, [], ◌∷◌, ◌++◌, length, take, set, refl, sym, ap, subst, ◌∙◌, arith, if◌then◌else◌, Option, Some, None}
+use Rattle.std.proofs.Common.{◌≡◌, ◌≤◌, ◌<◌, inl, inr, ℕ, zero, suc, ◌+◌, ◌*◌, nat_eq, nat_lt, nat_le, ℤ, pos, Bool, true, false, ◌&&◌, ◌||◌, not, List, [], ◌∷◌, ◌++◌, length, take, set, refl, sym, ap, subst, ◌∙◌, arith, if◌then◌else◌}
 use Rattle.std.specs.Prelude.{slice_index_or}
 use Rattle.std.specs.List.{list_any, range_with_len, filter}
-use Rattle.std.proofs.lemmas.Bool.{true≢false, false≢true, eq-eqb, ltb-true, ltb-false, not-true, cases_eq, cases_lt, and_parts, or_parts, or_left, or_right, false_from_ne_true, cond_both, lt-ltb, le-leb, le-ltb, cond-true, cond-false, eqb-true}
+use Rattle.std.proofs.lemmas.Bool.{true≢false, eq-eqb, ltb-true, ltb-false, not-true, cases_eq, cases_lt, and_parts, or_parts, or_left, or_right, false_from_ne_true, cond_both, lt-ltb, le-leb, le-ltb, cond-true, cond-false, eqb-true}
 use Rattle.std.proofs.lemmas.List.{get_or-set_other, get_or-set_same, get_or_past, ext_get_or, nil_from_length, map-append}
 use Rattle.std.proofs.lemmas.List.Folds.{list_any-append}
 use Rattle.inp_model.specs.declared.event.TheConstants.{EV_KEY, EV_ABS, EV_SW, EV_LED}
@@ -12,16 +12,16 @@ use Rattle.inp_model.specs.declared.step.Step.TheVariants.{GetKeys, GetSwitches,
 use Rattle.inp_model.specs.declared.reply.Reply.{Reply}
 use Rattle.inp_model.specs.declared.reply.Reply.TheVariants.{Bits, Axis, Cells}
 use Rattle.inp_model.specs.Description.{Description, has_kind, supports, is_multi_touch_code}
-use Rattle.inp_model.specs.Reply.{Answer, IsAnswer, answer_by, accepted, refused, is_accepted}
+use Rattle.inp_model.specs.Reply.{Answer, IsAnswer, accepted, is_accepted}
 use Rattle.inp_model.specs.Run.{Call}
 use Rattle.inp_recon.specs.declared.view.View.{View}
 use Rattle.inp_recon.specs.View.{code_count, with_value_at, keys_after_answer, switches_after_answer, leds_after_answer, axes_after_answer, axes_after_reply, slot_after_answer, cells_after_answer, flags_after_reply, slot_after_reply, cells_after_reply, first_view, view_after_answer}
 use Rattle.inp_recon.proofs.Sizes.{length-axes_after_answer, length-cells_after_answer}
+use Rattle.inp_reader.proofs.QueryAnswers.{answered-as}
 use Rattle.inp_reader.specs.Reader.{queries, bit_queries, axis_queries, plain_axes, slot_queries, only_if, axes_among}
 use Rattle.inp_recon.specs.Synchronised.{has_axis}
 use Rattle.inp_reader.specs.Spare.{IsSpare}
 use Rattle.inp_reader.specs.ReaderPlace.{steps_of, view_after_answers}
-use Rattle.inp_model.proofs.Refused.{refused-not_accepted}
 use Rattle.inp_reader.proofs.Calls.{AreAnswered, AreAccepted}
 use Rattle.inp_reader.proofs.SpareAgrees.{IsSpare-first_view}
 use Rattle.inp_reader.proofs.StandsAfterTalks.{IsMadeAnew}
@@ -88,14 +88,10 @@ tells-accepted d past (GetAxis client code) = (_, _, refl)
 tells-accepted d past (SyncSlots client) = (_, _, _, refl)
 tells-accepted d past _ = tt
 
-tells-by : (d : Description) (past : List Step) (x : Step) (o : Option Reply) → refused d past x ≡ o → is_accepted (answer_by o (accepted d past x)).reply ≡ true → Tells x (answer_by o (accepted d past x)).reply
-tells-by d past x None h is = tells-accepted d past x
-tells-by d past x (Some reply) h is = absurd (true≢false (sym is ∙ refused-not_accepted d past x reply h))
-
 tells : (d : Description) (past : List Step) (x : Step) (given : Answer) → IsAnswer d past x given → is_accepted given.reply ≡ true → Tells x given.reply
-tells d past x given (inl e) is =
-    subst (λ (a : Answer). Tells x a.reply) (sym e) (tells-by d past x (refused d past x) refl (ap (λ (a : Answer). is_accepted a.reply) (sym e) ∙ is))
-tells d past x given (inr l) is = absurd (false≢true (ap (λ (a : Answer). is_accepted a.reply) (sym l.2) ∙ is))
+tells d past x given are =
+    answered-as d past x given (λ a. is_accepted a.reply ≡ true → Tells x a.reply) are (λ is. tells-accepted d past x)
+    (λ reply off is. absurd (true≢false (sym is ∙ off)))
 
 -- One answer
 
@@ -205,7 +201,7 @@ sized-answer d past x given v are sized = length-cells_after_answer x given.repl
 -- All answers
 
 pub agree-answers : (which : Compared) (d : Description) (calls : List Call) (v w : View) → AreAnswered d calls → AreAccepted calls → length v.cells ≡ 14 * d.slots → AgreeBut which (steps_of calls) v w → AgreeBut which [] (view_after_answers v calls) (view_after_answers w calls)
-unfolding AreAnswered AreAccepted
+unfolding AreAnswered
 agree-answers which d [] v w are accepted sized a = a
 agree-answers which d (call ∷ calls) v w are accepted sized a =
     let next : View = view_after_answer v call.step call.answer.reply call.answer.cells in

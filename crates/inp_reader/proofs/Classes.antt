@@ -11,8 +11,7 @@ use Rattle.inp_recon.specs.View.{view_after_event, view_after_events, with_value
 use Rattle.inp_reader.specs.Synthesis.{where_below, bit_value, bit_event, bit_changes, bits_differ_at, value_at, differs_at, axis_event, class_changes}
 use Rattle.inp_reader.specs.Laws.{EachChanges, AreOfOneDevice}
 use Rattle.inp_recon.proofs.Each.{Each}
-use Rattle.inp_reader.proofs.Puts.{Each-where_below, Tells, mixed-all, puts-below, EachPutChanges-below, differ_at}
-use Rattle.inp_reader.proofs.Parts.{SetsPart, leads-puts, EachChanges-puts, leads-behind, EachChanges-behind}
+use Rattle.inp_reader.proofs.Puts.{Each-where_below, Tells, mixed-all, puts-below, EachPutChanges-below, differ_at, SetsPart, leads-puts, EachChanges-puts, leads-behind, EachChanges-behind}
 
 -- ---- the tests tell whether two values differ
 

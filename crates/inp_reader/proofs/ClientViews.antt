@@ -24,6 +24,7 @@ use Rattle.inp_model.specs.History.{IsHistory}
 use Rattle.inp_recon.proofs.Folds.{view_after_events-append}
 use Rattle.inp_recon.proofs.Sizes.{IsSizedFor-first_view}
 use Rattle.inp_recon.proofs.ViewSteps.{client_view-sized}
+use Rattle.inp_reader.proofs.QueryAnswers.{answered-as}
 use Rattle.inp_reader.specs.Reader.{queries}
 use Rattle.inp_recon.specs.Synchronised.{is_start}
 use Rattle.inp_reader.specs.ReaderPlace.{is_use, is_use_of, calls_since, steps_of, view_after_answers, taken_by_calls, taken_events, is_read, AreReads}
@@ -271,12 +272,11 @@ view_at-since d (x ∷ past) client j at h k is =
 -- Queries, and then reads
 
 -- none of these calls took anything
-unfoldable NoneTakes : List Call → Type 0
-NoneTakes [] = Unit {0}
-NoneTakes (call ∷ calls) = (call.answer.events ≡ []) × NoneTakes calls
+abbrev NoneTakes : List Call → Type 0
+NoneTakes calls = Each (λ (call : Call). call.answer.events ≡ []) calls
 
 upto-asked : (v : View) (calls more : List Call) (j : ℕ) → NoneTakes calls → view_upto v (calls ++ more) j ≡ view_upto (view_after_answers v calls) more j
-unfolding NoneTakes view_upto
+unfolding view_upto
 upto-asked v [] more j h = refl
 upto-asked v (call ∷ calls) more j h =
     let next : View = view_after_answer (view_after_events v (taken_events call.answer.events)) call.step call.answer.reply call.answer.cells in
@@ -326,25 +326,19 @@ upto-reads v (call ∷ reads) j are h = by (nat_lt j n) refl (λ k. upto-reads (
         ∙ ap (λ (ts : List Taken). view_after_events v (taken_events ts)) (sym (take-append-add E R (suc (j - n))))
         ∙ ap (λ (m : ℕ). view_after_events v (taken_events (take m (E ++ R)))) same
 
+accepted-takes : (d : Description) (past : List Step) (x : Step) → is_read x ≡ false → (accepted d past x).events ≡ []
+accepted-takes d past (Read client count) h = absurd (true≢false h)
+accepted-takes d past _ h = refl
+
+query-takes : (d : Description) (past : List Step) (x : Step) (given : Answer) → is_read x ≡ false → IsAnswer d past x given → given.events ≡ []
+query-takes d past x given h are = answered-as d past x given (λ a. a.events ≡ []) are (accepted-takes d past x h) (λ reply off. refl)
+
 -- a query takes nothing
 pub no_read-takes : (d : Description) (past : List Step) (x : Step) → is_read x ≡ false → (answer d past x).events ≡ []
-no_read-takes d past x h = by (refused d past x)
-  where
-    nothing : (y : Step) → is_read y ≡ false → (accepted d past y).events ≡ []
-    nothing (Read client count) k = absurd (true≢false k)
-    nothing _ k = refl
-
-    by : (o : Option Reply) → (answer_by o (accepted d past x)).events ≡ []
-    by None = nothing x h
-    by (Some reply) = refl
-
--- a query that was answered takes nothing
-query-takes : (d : Description) (past : List Step) (x : Step) (given : Answer) → is_read x ≡ false → IsAnswer d past x given → given.events ≡ []
-query-takes d past x given h (inl e) = ap (λ (a : Answer). a.events) e ∙ no_read-takes d past x h
-query-takes d past x given h (inr l) = ap (λ (a : Answer). a.events) l.2
+no_read-takes d past x h = query-takes d past x (answer d past x) h (inl refl)
 
 none-takes : (d : Description) (asked : List Call) → AreAnswered d asked → Each IsNoRead (steps_of asked) → NoneTakes asked
-unfolding AreAnswered NoneTakes
+unfolding AreAnswered
 none-takes d [] are no_reads = tt
 none-takes d (call ∷ asked) are no_reads = (query-takes d are.0 call.step call.answer no_reads.0 are.1, none-takes d asked are.2 no_reads.1)
 
@@ -354,14 +348,14 @@ accepted-accepts d past Open = refl
 accepted-accepts d past _ = refl
 
 good-push : (d : Description) (calls : List Call) (call : Call) (past : List Step) → IsAnswer d past call.step call.answer → is_accepted call.answer.reply ≡ true → AreAnswered d calls × AreAccepted calls → AreAnswered d (calls ++ call ∷ []) × AreAccepted (calls ++ call ∷ [])
-unfolding AreAnswered AreAccepted
+unfolding AreAnswered
 good-push d [] call past are is h = ((past, are, tt), (is, tt))
 good-push d (c ∷ calls) call past are is h =
     let rest : AreAnswered d (calls ++ call ∷ []) × AreAccepted (calls ++ call ∷ []) = good-push d calls call past are is (h.0.2, h.1.1) in
     ((h.0.0, h.0.1, rest.0), (h.1.0, rest.1))
 
 pub since-good : (d : Description) (past : List Step) (client : ℕ) → IsHistory d past → AreAnswered d (calls_since d past client) × AreAccepted (calls_since d past client)
-unfolding calls_since AreAnswered AreAccepted
+unfolding calls_since AreAnswered
 since-good d [] client h = (tt, tt)
 since-good d (x ∷ past) client h =
     let call : Call = record { step = x; answer = answer d past x } in
@@ -371,7 +365,7 @@ since-good d (x ∷ past) client h =
     (λ u. since-good d past client h.0)
 
 pub good-first : (d : Description) (calls more : List Call) → AreAnswered d (calls ++ more) × AreAccepted (calls ++ more) → AreAnswered d calls × AreAccepted calls
-unfolding AreAnswered AreAccepted
+unfolding AreAnswered
 good-first d [] more h = (tt, tt)
 good-first d (c ∷ calls) more h =
     let rest : AreAnswered d calls × AreAccepted calls = good-first d calls more (h.0.2, h.1.1) in
@@ -397,7 +391,6 @@ view_at-behind d past client j asked reads at h since steps are below is =
 
 -- what the client took since its start, where all queries came first
 pub taken-behind : (d : Description) (past : List Step) (client : ℕ) (asked reads : List Call) → IsHistory d past → calls_since d past client ≡ asked ++ reads → steps_of asked ≡ queries d client → taken_by_calls (calls_since d past client) ≡ taken_by_calls reads
-unfolding NoneTakes
 taken-behind d past client asked reads h since steps =
     ap (λ (cs : List Call). taken_by_calls cs) since ∙ flat_map-append (λ (c : Call). c.answer.events) asked reads
     ∙ ap (λ (ts : List Taken). ts ++ taken_by_calls reads) (none-taken asked (none-asked d past client asked reads h since steps))

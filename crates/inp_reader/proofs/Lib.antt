@@ -4,17 +4,14 @@ pub mod SaysInTurn
 pub mod Queues
 pub mod Runs
 pub mod Axes
-pub mod SaysSessions
 pub mod SynthesisedEvents
 pub mod Puts
-pub mod Parts
 pub mod Classes
 pub mod Slots
 pub mod Counts
 pub mod UnsetSlotAxes
 pub mod SynthesisedViews
 pub mod QueryAnswers
-pub mod LeftByCalls
 pub mod Calls
 pub mod Meets
 pub mod NextWalk

@@ -2,19 +2,32 @@
 use Rattle.std.proofs.Common.{◌≡◌, List, [], refl, sym, ap, subst, ◌∙◌, false, Option, Some, None, ℤ, ℕ, ◌*◌, length, take, drop, inl, inr, arith}
 use Rattle.std.proofs.lemmas.List.{take-append-le}
 use Rattle.inp_model.specs.declared.step.Step.{Step}
-use Rattle.inp_model.specs.declared.step.Step.TheVariants.{Open, SyncSlots}
+use Rattle.inp_model.specs.declared.step.Step.TheVariants.{SyncSlots}
 use Rattle.inp_model.specs.declared.reply.Reply.{Reply}
-use Rattle.inp_model.specs.declared.reply.Reply.TheVariants.{Cells}
+use Rattle.inp_model.specs.declared.reply.Reply.TheVariants.{Cells, Refused}
+use Rattle.inp_model.specs.declared.reply.Refusal.TheVariants.{NoMemory}
 use Rattle.inp_model.specs.Description.{Description}
 use Rattle.inp_model.specs.Evdev.{EvdevView, IsCall}
 use Rattle.inp_model.specs.Past.{past_at}
 use Rattle.inp_model.specs.Raw.{raw}
 use Rattle.inp_model.specs.Run.{place_of}
-use Rattle.inp_model.specs.Reply.{Answer, answer_by, accepted, refused, is_accepted, written, IsAnswer, rows}
+use Rattle.inp_model.specs.Reply.{Answer, alone, answer_by, accepted, refused, is_accepted, written, IsAnswer, rows}
 use Rattle.inp_model.proofs.Refused.{refused-not_accepted}
 use Rattle.inp_recon.specs.declared.view.View.{View}
 use Rattle.inp_recon.specs.View.{view_after_answer, slot_after_reply, cells_after_reply}
 use Rattle.inp_recon.proofs.ViewSteps.{length-rows}
+
+-- Any answer
+
+-- an answer is that to an accepted step, or a reply alone that refuses it
+pub answered-as : (d : Description) (past : List Step) (x : Step) (given : Answer) (P : Answer → Type 0) → IsAnswer d past x given
+    → P (accepted d past x) → ((reply : Reply) → is_accepted reply ≡ false → P (alone reply)) → P given
+answered-as d past x given P (inl e) accepts refuses = subst P (sym e) (by (refused d past x) refl)
+  where
+    by : (o : Option Reply) → refused d past x ≡ o → P (answer_by o (accepted d past x))
+    by None h = accepts
+    by (Some reply) h = refuses reply (refused-not_accepted d past x reply h)
+answered-as d past x given P (inr l) accepts refuses = subst P (sym l.2) (refuses (Refused (length past) NoMemory) refl)
 
 -- All values of all slots
 
@@ -28,16 +41,11 @@ not_accepted_cells : (reply : Reply) (front buffer cells : List ℤ) → is_acce
 not_accepted_cells (Cells at count slot) front buffer cells h = absurd cc
 not_accepted_cells _ front buffer cells h = refl
 
-told_by : (d : Description) (past : List Step) (client : ℕ) (cells own : List ℤ) (o : Option Reply) → refused d past (SyncSlots client) ≡ o → length own ≡ 14 * d.slots
-    → (let given : Answer = answer_by o (accepted d past (SyncSlots client)) in cells_after_reply given.reply (written given.cells cells) own ≡ cells_after_reply given.reply given.cells own)
-told_by d past client cells own None e fits = take-written (rows d (raw d past)) cells (length own) (length-rows d (raw d past) ∙ sym fits)
-told_by d past client cells own (Some reply) e fits = not_accepted_cells reply (written [] cells) [] own (refused-not_accepted d past (SyncSlots client) reply e)
-
 told_cells : (d : Description) (past : List Step) (client : ℕ) (given : Answer) (cells own : List ℤ) → IsAnswer d past (SyncSlots client) given → length own ≡ 14 * d.slots → cells_after_reply given.reply (written given.cells cells) own ≡ cells_after_reply given.reply given.cells own
-told_cells d past client given cells own (inl e) fits =
-    let P : Answer → Type 0 = λ a. cells_after_reply a.reply (written a.cells cells) own ≡ cells_after_reply a.reply a.cells own in
-    subst P (sym e) (told_by d past client cells own (refused d past (SyncSlots client)) refl fits)
-told_cells d past client given cells own (inr l) fits = let no : SyncSlots client ≡ Open = l.0 in absurd cc
+told_cells d past client given cells own are fits =
+    answered-as d past (SyncSlots client) given (λ a. cells_after_reply a.reply (written a.cells cells) own ≡ cells_after_reply a.reply a.cells own) are
+    (take-written (rows d (raw d past)) cells (length own) (length-rows d (raw d past) ∙ sym fits))
+    (λ reply off. not_accepted_cells reply (written [] cells) [] own off)
 
 -- a view is set by the answer alone, and not by what else is in the buffer
 answered : (d : Description) (past : List Step) (x : Step) (given : Answer) (view : View) (cells : List ℤ) → IsAnswer d past x given → length view.cells ≡ 14 * d.slots → view_after_answer view x given.reply (written given.cells cells) ≡ view_after_answer view x given.reply given.cells

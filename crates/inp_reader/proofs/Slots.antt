@@ -14,8 +14,7 @@ use Rattle.inp_recon.specs.View.{view_after_event, view_after_events, axes_after
 use Rattle.inp_reader.specs.Synthesis.{where_below, to_slot, in_slots, differs_at, axis_event, cell_event, cells_differ, tracking_id, is_replaced, lift, lifts, changes_in, is_changed, cell_changes}
 use Rattle.inp_reader.proofs.SynthesisedEvents.{where_below-skip, where_below-next, in_slots-more, last_slot, last_slot-more, map-filter_from, any-from}
 use Rattle.inp_recon.proofs.Each.{Each}
-use Rattle.inp_reader.proofs.Puts.{Each-where_below, mixed, mixed-all, puts, puts-below, EachPutChanges-below}
-use Rattle.inp_reader.proofs.Parts.{SetsPart, leads-puts, EachChanges-puts}
+use Rattle.inp_reader.proofs.Puts.{Each-where_below, mixed, mixed-all, puts, puts-below, EachPutChanges-below, SetsPart, leads-puts, EachChanges-puts}
 use Rattle.inp_reader.proofs.Classes.{LeadsTheView, LeadsTheView-behind, ints_differ, tells_ints}
 use Rattle.inp_recon.proofs.FaithfulReads.{slot_code}
 

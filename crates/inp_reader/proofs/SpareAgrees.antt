@@ -1,5 +1,5 @@
 -- A reader's view keeps what its device cannot have as in a new view, and two such views agree after all answers.
-use Rattle.std.proofs.Common.{◌≡◌, ◌≤◌, ℕ, nat_eq, nat_lt, ℤ, pos, Bool, true, false, ◌&&◌, not, List, [], ◌∷◌, length, Option, Some, None, refl, sym, ap, subst, ◌∙◌, if◌then◌else◌, inl, inr, arith}
+use Rattle.std.proofs.Common.{◌≡◌, ◌≤◌, ℕ, nat_eq, nat_lt, ℤ, pos, Bool, true, false, ◌&&◌, not, List, [], ◌∷◌, length, refl, sym, ap, subst, ◌∙◌, if◌then◌else◌, inl, inr, arith}
 use Rattle.std.specs.Prelude.{slice_index_or}
 use Rattle.std.specs.List.{range_with_len}
 use Rattle.std.proofs.lemmas.Bool.{true≢false, false≢true, eqb-true, ne_eqb, cond-false, cond_both, and_parts, cases_lt, cases_eq}
@@ -17,14 +17,14 @@ use Rattle.inp_model.specs.Raw.{raw}
 use Rattle.inp_model.specs.State.{key_down, turned_on}
 use Rattle.inp_model.specs.Description.{Description, has_kind, has_code, supports, is_multi_touch_code}
 use Rattle.inp_model.specs.Event.{is_repeat, is_set, is_multi_touch}
-use Rattle.inp_model.specs.Reply.{Answer, IsAnswer, answer_by, refused, accepted, is_accepted, code_on, bitmap_of, bits_answer}
+use Rattle.inp_model.specs.Reply.{Answer, IsAnswer, accepted, is_accepted, code_on, bitmap_of, bits_answer}
 use Rattle.inp_model.proofs.Descriptions.{get_or-replicate_same}
-use Rattle.inp_model.proofs.Refused.{refused-not_accepted}
 use Rattle.inp_recon.proofs.ToldBits.{told_flag}
 use Rattle.inp_recon.specs.declared.view.View.{View}
 use Rattle.inp_recon.specs.View.{bit_in, bits_in, flags_after_reply, key_count, code_count, with_value_at, with_flag, axes_after_event, slot_after_event, keys_after_answer, switches_after_answer, leds_after_answer, axes_after_answer, axes_after_reply, slot_after_answer, first_view, view_after_event, view_after_answer}
 use Rattle.inp_recon.proofs.Sizes.{IsSizedFor-first_view, IsSizedFor-after_event, IsSizedFor-after_answer}
 use Rattle.inp_recon.specs.Synchronised.{has_axis}
+use Rattle.inp_reader.proofs.QueryAnswers.{answered-as}
 use Rattle.inp_reader.specs.Spare.{IsSpare, is_event_of}
 use Rattle.inp_reader.proofs.UnsetSlotAxes.{other-stays, sets-plain, has_cells}
 
@@ -151,14 +151,10 @@ flags_refused count _ flags h = refl
 -- what is told is the bits, or a refusal
 told_bits : (d : Description) (past : List Step) (x : Step) (kind count code : ℕ) (given : Answer) (flags : List Bool) → accepted d past x ≡ bits_answer d past kind → count ≤ 768 → code_on d (raw d past) kind code ≡ false → IsAnswer d past x given → slice_index_or flags code false ≡ false
     → slice_index_or (flags_after_reply count given.reply flags) code false ≡ false
-told_bits d past x kind count code given flags gives few off are was = elim are [
-  | inl e ↦ subst (λ (a : Answer). slice_index_or (flags_after_reply count a.reply flags) code false ≡ false) (sym e) (by (refused d past x) refl)
-  | inr l ↦ subst (λ (a : Answer). slice_index_or (flags_after_reply count a.reply flags) code false ≡ false) (sym l.2) was
-]
-  where
-    by : (o : Option Reply) → refused d past x ≡ o → slice_index_or (flags_after_reply count (answer_by o (accepted d past x)).reply flags) code false ≡ false
-    by None none = subst (λ (a : Answer). slice_index_or (flags_after_reply count a.reply flags) code false ≡ false) (sym gives) (told-off count kind d past code few off)
-    by (Some reply) is = subst (λ (q : List Bool). slice_index_or q code false ≡ false) (sym (flags_refused count reply flags (refused-not_accepted d past x reply is))) was
+told_bits d past x kind count code given flags gives few off are was =
+    let P : Answer → Type 0 = λ a. slice_index_or (flags_after_reply count a.reply flags) code false ≡ false in
+    answered-as d past x given P are (subst P (sym gives) (told-off count kind d past code few off))
+    (λ reply off. subst (λ (q : List Bool). slice_index_or q code false ≡ false) (sym (flags_refused count reply flags off)) was)
 
 unfoldable pub IsWanted : Description → Step → Type 0
 IsWanted d (GetKeys client) = has_kind d EV_KEY ≡ true

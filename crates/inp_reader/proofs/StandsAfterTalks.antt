@@ -1,5 +1,5 @@
 -- Where a reader stands after the talks of `start` and `next`, by the pasts at which its calls were answered.
-use Rattle.std.proofs.Common.{◌≡◌, ◌<◌, ◌⊎◌, inl, inr, ℕ, nat_eq, Bool, true, false, ◌||◌, List, [], ◌∷◌, ◌++◌, length, refl, sym, ap, subst, ◌∙◌, arith, append-nil, append_assoc, if◌then◌else◌, Option, Some, None}
+use Rattle.std.proofs.Common.{◌≡◌, ◌<◌, ◌⊎◌, inl, inr, ℕ, nat_eq, Bool, true, false, ◌||◌, List, [], ◌∷◌, ◌++◌, refl, sym, ap, subst, ◌∙◌, arith, append-nil, append_assoc, if◌then◌else◌}
 use Rattle.std.specs.Prelude.{Result, Ok, Err}
 use Rattle.std.proofs.lemmas.Bool.{true≢false, false≢true, ne_eqb, eq-eqb, and_right, cond-false, cond-true, cond_both}
 use Rattle.std.proofs.lemmas.List.{map-append}
@@ -10,31 +10,30 @@ use Rattle.inp_model.specs.declared.step.Step.{Step}
 use Rattle.inp_model.specs.declared.step.Step.TheVariants.{Open, Read, Discard}
 use Rattle.inp_model.specs.declared.reply.Reply.{Reply}
 use Rattle.inp_model.specs.declared.reply.Reply.TheVariants.{Opened, Refused}
-use Rattle.inp_model.specs.declared.reply.Refusal.TheVariants.{NoMemory}
-use Rattle.inp_model.specs.Description.{Description, ring as ring_of}
+use Rattle.inp_model.specs.Description.{Description}
 use Rattle.inp_model.specs.Past.{opens, is_opening}
-use Rattle.inp_model.specs.Reply.{Answer, IsAnswer, answer, answer_by, accepted, refused, is_accepted, past_after}
+use Rattle.inp_model.specs.Reply.{Answer, IsAnswer, answer, accepted, refused, is_accepted, past_after}
 use Rattle.inp_model.specs.Run.{Call}
 use Rattle.inp_model.specs.Step.{is_open_step}
 use Rattle.inp_recon.specs.declared.view.View.{View}
 use Rattle.inp_recon.specs.View.{first_view, view_after_event, view_after_events, view_after_answer}
 use Rattle.inp_recon.proofs.Each.{Each}
 use Rattle.inp_recon.proofs.Folds.{view_after_events-append}
+use Rattle.inp_reader.proofs.QueryAnswers.{answered-as}
 use Rattle.inp_reader.specs.declared.mode.Mode.{Mode}
 use Rattle.inp_reader.specs.declared.phase.Phase.{Phase}
 use Rattle.inp_reader.specs.declared.phase.Phase.TheVariants.{Plain, Needed, Handing}
 use Rattle.inp_reader.specs.declared.next.Next.{Next}
 use Rattle.inp_reader.specs.declared.next.Next.TheVariants.{Success}
 use Rattle.inp_reader.specs.declared.started.Started.{Started}
-use Rattle.inp_reader.specs.Reader.{Reading, ask_each, queries, start_talk, next_talk, sync_talk, after_open, after_queries, start_stop_of, stop_of, as_plain, after_full_sync, after_failed_sync}
+use Rattle.inp_reader.specs.Reader.{Reading, ask_each, queries, start_talk, next_talk, sync_talk, after_queries, start_stop_of, stop_of, as_plain, after_full_sync, after_failed_sync}
 use Rattle.inp_recon.specs.Synchronised.{is_discard_of, is_start}
 use Rattle.inp_reader.specs.ReaderPlace.{is_use_of, calls_since, steps_of, view_after_answers, taken_by_calls, taken_events, is_read, AreReads, IsInStep, is_needed, has_opened}
 use Rattle.inp_reader.specs.Talk.{Talk, finish, LeadsTo, EndsWith}
-use Rattle.inp_model.proofs.Refused.{refused-not_accepted}
-use Rattle.inp_reader.proofs.Calls.{IsSplit, split-and_then, finished, AreAnswered, AreAccepted}
-use Rattle.inp_reader.proofs.Meets.{Meets, Any, Runs, ends-meet}
-use Rattle.inp_reader.proofs.NextWalk.{each-query, Renewed, NextRules, next-ends, stop-cases}
-use Rattle.inp_reader.proofs.PastsAtCalls.{AreQuiet, IsMet, AreMet, AreMet-split, AreMet-answered}
+use Rattle.inp_reader.proofs.Calls.{finished, AreAnswered, AreAccepted}
+use Rattle.inp_reader.proofs.Meets.{Meets, Any, Runs, ends-meet, meets-ends}
+use Rattle.inp_reader.proofs.NextWalk.{Queried, StartRules, start-meets, each-query, Renewed, NextRules, next-ends, stop-cases}
+use Rattle.inp_reader.proofs.PastsAtCalls.{AreQuiet, IsMet, AreMet, AreMet-answered}
 
 -- Steps since the client was opened
 
@@ -159,7 +158,7 @@ accepted_if true talk reply calls asked h = (refl, h)
 accepted_if false talk reply calls asked h = let e : (calls ≡ []) × (Err reply ≡ Ok asked) = finished (Err reply) (Ok asked) calls h in absurd (let k : Err reply ≡ Ok asked = e.1 in cc)
 
 none_asked : (d : Description) (client : ℕ) (past after : List Step) (view asked : View) (calls : List Call) → AreMet d client past after calls → calls ≡ [] → view ≡ asked → IsAsked d client past after [] view calls asked
-unfolding AreMet AreAccepted
+unfolding AreMet
 none_asked d client past after view asked [] m none same = record {
   since = ap (λ (p : List Step). calls_since d p client) m ∙ sym (append-nil (calls_since d past client));
   steps = refl;
@@ -169,7 +168,7 @@ none_asked d client past after view asked [] m none same = record {
 none_asked d client past after view asked (call ∷ calls) m none same = absurd cc
 
 asks : (d : Description) (client : ℕ) (past after : List Step) (xs : List Step) (view : View) (calls : List Call) (asked : View) → client < opens past → Each (Asks client) xs → AreMet d client past after calls → EndsWith (ask_each xs view) calls (Ok asked) → IsAsked d client past after xs view calls asked
-unfolding LeadsTo ask_each AreMet AreAccepted
+unfolding LeadsTo ask_each AreMet
 asks d client past after [] view calls asked h all m ends =
     let e : (calls ≡ []) × (Ok view ≡ Ok asked) = finished (Ok view) (Ok asked) calls ends in
     none_asked d client past after view asked calls m e.0 (let k : Ok view ≡ Ok asked = e.1 in cc)
@@ -284,12 +283,6 @@ run-met : (d : Description) (client : ℕ) (past after : List Step) (calls : Lis
 unfolding AreMet Runs
 run-met d client past after [] h = h
 run-met d client past after (call ∷ calls) h = (h.0, h.1, run-met d client h.0 after calls h.2)
-
--- no call was made
-nothing-met : (d : Description) (client : ℕ) (past after : List Step) (calls : List Call) → calls ≡ [] → AreMet d client past after calls → after ≡ past
-unfolding AreMet
-nothing-met d client past after [] none m = m
-nothing-met d client past after (call ∷ calls) none m = absurd cc
 
 in-step-plain : (d : Description) (past : List Step) (r : Reading) → IsInStep d past r → IsInStep d past (as_plain r)
 in-step-plain d past r i = in-step-moved d past past r Plain [] i refl
@@ -420,18 +413,10 @@ stands-after-next d mode past after r calls result s anew m ends =
 
 -- an Open that was accepted opens the next client
 pub opened-number : (d : Description) (past : List Step) (x : Step) (given : Answer) (at client ring : ℕ) → x ≡ Open → IsAnswer d past x given → given.reply ≡ Opened at client ring → client ≡ opens past
-opened-number d past x given at client ring opening (inl e) is = by_cases (refused d past Open) refl
-  where
-    by_cases : (o : Option Reply) → refused d past Open ≡ o → client ≡ opens past
-    by_cases None k =
-        let same : Opened at client ring ≡ Opened (length past) (opens past) (ring_of d) = sym is ∙ ap (λ (a : Answer). a.reply) e ∙ ap (λ (y : Step). (answer d past y).reply) opening ∙ ap (λ (o : Option Reply). (answer_by o (accepted d past Open)).reply) k in
-        cc
-    by_cases (Some reply) k =
-        let same : Opened at client ring ≡ reply = sym is ∙ ap (λ (a : Answer). a.reply) e ∙ ap (λ (y : Step). (answer d past y).reply) opening ∙ ap (λ (o : Option Reply). (answer_by o (accepted d past Open)).reply) k in
-        absurd (true≢false (ap is_accepted same ∙ refused-not_accepted d past Open reply k))
-opened-number d past x given at client ring opening (inr l) is =
-    let same : Opened at client ring ≡ Refused (length past) NoMemory = sym is ∙ ap (λ (a : Answer). a.reply) l.2 in
-    absurd cc
+opened-number d past x given at client ring opening are is =
+    answered-as d past Open given (λ a. a.reply ≡ Opened at client ring → client ≡ opens past)
+    (subst (λ (y : Step). IsAnswer d past y given) opening are) (λ same. cc)
+    (λ reply off same. absurd (true≢false (ap is_accepted (sym same) ∙ off))) is
 
 pub open-opens : (past : List Step) (client : ℕ) → client ≡ opens past → client < opens (Open ∷ past)
 unfolding opens
@@ -457,11 +442,6 @@ stands-queried d client ring past after r (Ok view) calls opened none anew m h =
 stands-queried d client ring past after r (Err reply) calls opened none anew m h =
     record { opened = opens-met d client past after calls opened m; in_step = λ needed. absurd (true≢false needed) }
 
-started-same : (d : Description) (past after : List Step) (x result : Started × Reading) → after ≡ past → x ≡ result → IsOpenInStep d past x.1 → IsOpenInStep d after result.1
-started-same d past after x result same e h =
-    let P : List Step → Type 0 = λ p. IsOpenInStep d p result.1 in
-    subst P (sym same) (subst (λ (o : Started × Reading). IsOpenInStep d past o.1) e h)
-
 pub client-of-queried : (client ring : ℕ) (r : Reading) (asked : Result View Reply) → (after_queries client ring r asked).1.client ≡ client
 client-of-queried client ring r (Ok view) = refl
 client-of-queried client ring r (Err reply) = refl
@@ -481,35 +461,44 @@ stands-stopped d past after r call reply opening m (inl s) = record {
 }
 stands-stopped d past after r call reply opening m (inr o) = absurd (true≢false (sym o ∙ not-opened reply))
 
-stands-after_open : (d : Description) (past mid after : List Step) (r : Reading) (call : Call) (reply : Reply) (calls : List Call) (result : Started × Reading) → call.answer.reply ≡ reply → call.step ≡ Open → ((client : ℕ) → IsMadeAnew d client r.view)
-    → IsMet d result.1.client past mid call → AreMet d result.1.client mid after calls → StoodOrOpened d past r result.0 → EndsWith (after_open d r reply) calls result → IsOpenInStep d after result.1
-unfolding StoodOrOpened
-stands-after_open d past mid after r call (Opened at client ring) calls result is opening anew met m stood h =
-    let next : Result View Reply → Talk (Started × Reading) = λ asked. finish (after_queries client ring r asked) in
-    let s : IsSplit (ask_each (queries d client) r.view) next calls result = split-and_then (ask_each (queries d client) r.view) next calls result h in
-    let e : (s.later ≡ []) × (after_queries client ring r s.between ≡ result) = finished (after_queries client ring r s.between) result s.later s.later_ends in
-    let same : result.1.client ≡ client = ap (λ (o : Started × Reading). o.1.client) (sym e.1) ∙ client-of-queried client ring r s.between in
-    let first_met : IsMet d client past mid call = subst (λ (n : ℕ). IsMet d n past mid call) same met in
-    let all : AreMet d client mid after (s.first ++ s.later) = subst (λ (cs : List Call). AreMet d client mid after cs) s.calls_are (subst (λ (n : ℕ). AreMet d n mid after calls) same m) in
-    let k : (end : List Step) × AreMet d client mid end s.first × AreMet d client end after s.later = AreMet-split d client mid after s.first s.later all in
-    let before : List Step = first_met.others ++ past in
-    let number : client ≡ opens before = opened-number d before call.step call.answer at client ring opening first_met.exact is in
-    let entered : mid ≡ Open ∷ before = first_met.entered ∙ accepted-past call.answer.reply call.step before (ap is_accepted is) ∙ ap (λ (x : Step). x ∷ before) opening in
-    let none : calls_since d mid client ≡ [] = ap (λ (p : List Step). calls_since d p client) entered ∙ open-step d before client number in
+-- once an Open was accepted and the queries ended
+stands-opened : (d : Description) (past mid after : List Step) (r : Reading) (a : Answer) (at client ring : ℕ)
+    (asked : Result View Reply) (calls : List Call) → IsMadeAnew d client r.view
+    → MetBy d client past Open a mid → a.reply ≡ Opened at client ring → AreMet d client mid after calls
+    → EndsWith (ask_each (queries d client) r.view) calls asked → IsOpenInStep d after (after_queries client ring r asked).1
+stands-opened d past mid after r a at client ring asked calls anew met is m ends =
+    let before : List Step = met.others ++ past in
+    let number : client ≡ opens before = opened-number d before Open a at client ring refl met.exact is in
+    let entered : mid ≡ Open ∷ before = met.entered ∙ accepted-past a.reply Open before (ap is_accepted is) in
+    let none : calls_since d mid client ≡ [] =
+    ap (λ (p : List Step). calls_since d p client) entered ∙ open-step d before client number in
     let opened : client < opens mid = subst (λ (p : List Step). client < opens p) (sym entered) (open-opens before client number) in
-    started-same d k.0 after (after_queries client ring r s.between) result (nothing-met d client k.0 after s.later e.0 k.2) e.1
-    (stands-queried d client ring mid k.0 r s.between s.first opened none (anew client) k.1 s.first_ends)
-stands-after_open d past mid after r call reply calls result is opening anew met m stood h =
-    let stopped : Started × Reading = (start_stop_of reply, r) in
-    let e : (calls ≡ []) × (stopped ≡ result) = finished stopped result calls h in
-    let same : result.1.client ≡ r.client = ap (λ (o : Started × Reading). o.1.client) (sym e.1) in
-    let before : IsOpenInStep d past r ⊎ (has_opened (start_stop_of reply) ≡ true) = subst (λ (n : Started). IsOpenInStep d past r ⊎ (has_opened n ≡ true)) (ap (λ (o : Started × Reading). o.0) (sym e.1)) stood in
-    started-same d mid after stopped result (nothing-met d result.1.client mid after calls e.0 m) e.1
-    (stands-stopped d past mid r call reply opening (subst (λ (n : ℕ). IsMet d n past mid call) same met) before)
+    stands-queried d client ring mid after r asked calls opened none anew m ends
+
+-- as the client that it has then, where it stood or the start opened one
+abbrev StandsOn : Description → ℕ → List Step → Reading → List Step → Started × Reading → Type 0
+StandsOn d client past r after o = o.1.client ≡ client → StoodOrOpened d past r o.0 → IsOpenInStep d after o.1
+
+start-rules : (d : Description) (client : ℕ) (past : List Step) (r : Reading) → ((n : ℕ) → IsMadeAnew d n r.view)
+    → StartRules Any (MetBy d client) (StandsOn d client past r) d r past
+unfolding StoodOrOpened
+start-rules d client past r anew = record {
+  asks_open = tt;
+  opened = λ t a at n ring m is.
+      ends-meet (MetBy d client) (Queried (StandsOn d client past r) n ring r) t (ask_each (queries d n) r.view)
+      (λ u calls asked run ends own stood.
+      let same : client ≡ n = sym own ∙ client-of-queried n ring r asked in
+      stands-opened d past t u r a at n ring asked calls (anew n) (subst (λ (k : ℕ). MetBy d k past Open a t) same m) is
+      (subst (λ (k : ℕ). AreMet d k t u calls) same (run-met d client t u calls run)) ends);
+  refused = λ t a m other own stood.
+      stands-stopped d past t r (record { step = Open; answer = a }) a.reply refl
+      (subst (λ (k : ℕ). MetBy d k past Open a t) (sym own) m) stood;
+}
 
 -- a reader stands after a start that opened a client, and after any start where it stood
 pub stands-after-start : (d : Description) (past after : List Step) (r : Reading) (calls : List Call) (result : Started × Reading) → ((client : ℕ) → IsMadeAnew d client r.view) → AreMet d result.1.client past after calls → StoodOrOpened d past r result.0 → EndsWith (start_talk d r) calls result → IsOpenInStep d after result.1
-unfolding start_talk LeadsTo AreMet
-stands-after-start d past after r [] result anew m stood h = absurd cc
-stands-after-start d past after r (call ∷ calls) result anew m stood h =
-    stands-after_open d past m.0 after r call call.answer.reply calls result refl h.0 anew m.1 m.2 stood h.1
+stands-after-start d past after r calls result anew m stood ends =
+    let client : ℕ = result.1.client in
+    meets-ends Any (MetBy d client) (StandsOn d client past r) past after (start_talk d r) calls result
+    (start-meets Any (MetBy d client) (StandsOn d client past r) d r past (start-rules d client past r anew))
+    (met-run d client past after calls m) ends refl stood

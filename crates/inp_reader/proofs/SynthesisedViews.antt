@@ -23,7 +23,7 @@ use Rattle.inp_reader.specs.declared.mode.Mode.{Mode}
 use Rattle.inp_reader.proofs.UnsetSlotAxes.{IsKeptView-after_event, IsKeptView-after_call}
 use Rattle.inp_reader.specs.Synthesis.{where_below, to_slot, with_report, is_replaced, lifts, is_changed, class_changes, cell_changes, slot_changes, synth}
 use Rattle.inp_reader.proofs.SynthesisedEvents.{last_slot}
-use Rattle.inp_reader.proofs.Parts.{leads-with_report, EachChanges-with_report}
+use Rattle.inp_reader.proofs.Puts.{leads-with_report, EachChanges-with_report}
 use Rattle.inp_reader.proofs.Classes.{LeadsTheView, LeadsTheView-behind, leads-classes}
 use Rattle.inp_reader.proofs.Slots.{with_slots, LeadsTheView-to_slot, LeadsTheView-cells, ended, length-ended, LeadsTheView-lifts}
 

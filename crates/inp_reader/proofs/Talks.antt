@@ -7,7 +7,7 @@ use Rattle.inp_model.specs.Reply.{is_accepted}
 use Rattle.inp_model.specs.Run.{Call}
 use Rattle.inp_recon.specs.declared.view.View.{View}
 use Rattle.inp_recon.specs.View.{view_after_answer}
-use Rattle.inp_reader.specs.Talk.{Talk, finish, ask, and_then, LeadsTo, EndsWith}
+use Rattle.inp_reader.specs.Talk.{Talk, finish, ask, and_then, LeadsTo}
 use Rattle.inp_reader.specs.Reader.{ask_each}
 use Rattle.inp_reader.specs.Says.{kept_call, calls_kept}
 
@@ -34,39 +34,22 @@ stopped_at reply = finish (Err reply)
 abbrev pub told : View → Talk (Result View Reply)
 told view = finish (Ok view)
 
-never_ok : (reply : Reply) (asked : View) (calls : List Call) → EndsWith (stopped_at reply) calls (Ok asked) → ⊥
-unfolding LeadsTo
-never_ok reply asked [] h = cc
-never_ok reply asked (call ∷ calls) h = h
+-- these steps follow a talk, unless it was stopped
+abbrev pub ask_on : List Step → Result View Reply → Talk (Result View Reply)
+ask_on ys (Ok view) = ask_each ys view
+ask_on ys (Err reply) = finish (Err reply)
 
-go_on_if : (accepted : Bool) (talk longer : Talk (Result View Reply)) (reply : Reply) (asked : View) (result : Result View Reply) (calls more : List Call) → (EndsWith talk calls (Ok asked) → EndsWith longer (calls ++ more) result)
-    → EndsWith (if accepted then talk else finish (Err reply)) calls (Ok asked) → EndsWith (if accepted then longer else finish (Err reply)) (calls ++ more) result
-go_on_if true talk longer reply asked result calls more go_on h = go_on h
-go_on_if false talk longer reply asked result calls more go_on h = absurd (never_ok reply asked calls h)
+ask_on-if : (b : Bool) (ys : List Step) (talk longer : Talk (Result View Reply)) (reply : Reply) → and_then talk (ask_on ys) ≡ longer
+    → and_then (if b then talk else finish (Err reply)) (ask_on ys) ≡ (if b then longer else finish (Err reply))
+ask_on-if true ys talk longer reply h = h
+ask_on-if false ys talk longer reply h = refl
 
-pub EndsWith-ask_each : (xs ys : List Step) (view asked : View) (result : Result View Reply) (calls more : List Call) → EndsWith (ask_each xs view) calls (Ok asked) → EndsWith (ask_each ys asked) more result → EndsWith (ask_each (xs ++ ys) view) (calls ++ more) result
-unfolding LeadsTo ask_each
-EndsWith-ask_each [] ys view asked result [] more h k = let e : asked ≡ view = cc in subst (λ v. LeadsTo (ask_each ys v) more (finish result)) e k
-EndsWith-ask_each [] ys view asked result (call ∷ calls) more h k = elim h [ ]
-EndsWith-ask_each (x ∷ xs) ys view asked result [] more h k = absurd cc
-EndsWith-ask_each (x ∷ xs) ys view asked result (call ∷ calls) more h k =
-    let next : View = view_after_answer view x call.answer.reply call.answer.cells in
-    (h.0, go_on_if (is_accepted call.answer.reply) (ask_each xs next) (ask_each (xs ++ ys) next) call.answer.reply asked result calls more (λ g. EndsWith-ask_each xs ys next asked result calls more g k) h.1)
-
-stop_if : (accepted : Bool) (talk longer : Talk (Result View Reply)) (reply stop : Reply) (calls : List Call) → (EndsWith talk calls (Err stop) → EndsWith longer calls (Err stop))
-    → EndsWith (if accepted then talk else finish (Err reply)) calls (Err stop) → EndsWith (if accepted then longer else finish (Err reply)) calls (Err stop)
-stop_if true talk longer reply stop calls go_on h = go_on h
-stop_if false talk longer reply stop calls go_on h = h
-
--- after a refusal nothing more is asked
-pub EndsWith-stop : (xs ys : List Step) (view : View) (stop : Reply) (calls : List Call) → EndsWith (ask_each xs view) calls (Err stop) → EndsWith (ask_each (xs ++ ys) view) calls (Err stop)
-unfolding LeadsTo ask_each
-EndsWith-stop [] ys view stop [] h = absurd cc
-EndsWith-stop [] ys view stop (call ∷ calls) h = elim h [ ]
-EndsWith-stop (x ∷ xs) ys view stop [] h = absurd cc
-EndsWith-stop (x ∷ xs) ys view stop (call ∷ calls) h =
-    let next : View = view_after_answer view x call.answer.reply call.answer.cells in
-    (h.0, stop_if (is_accepted call.answer.reply) (ask_each xs next) (ask_each (xs ++ ys) next) call.answer.reply stop calls (λ g. EndsWith-stop xs ys next stop calls g) h.1)
+pub ask_each-append : (xs ys : List Step) (view : View) → and_then (ask_each xs view) (ask_on ys) ≡ ask_each (xs ++ ys) view
+unfolding ask_each
+ask_each-append [] ys view = refl
+ask_each-append (x ∷ xs) ys view = λ i. ask x (λ a.
+    let next : View = view_after_answer view x a.reply a.cells in
+    ask_on-if (is_accepted a.reply) ys (ask_each xs next) (ask_each (xs ++ ys) next) a.reply (ask_each-append xs ys next) i)
 
 -- Calls
 

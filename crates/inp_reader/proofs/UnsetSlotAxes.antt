@@ -1,11 +1,11 @@
 -- The views that a reader keeps: no event and no answer sets an axis whose values belong to slots.
-use Rattle.std.proofs.Common.{◌≡◌, ◌≢◌, ℕ, ◌*◌, ◌≤◌, ℤ, pos, Bool, true, false, cond, not, ◌&&◌, leb, ltb, eqb, List, [], length, set, refl, sym, ap, ◌∙◌, arith, inl, inr, Option, Some, None, subst}
+use Rattle.std.proofs.Common.{◌≡◌, ◌≢◌, ℕ, ◌*◌, ◌≤◌, ℤ, pos, Bool, true, false, cond, not, ◌&&◌, leb, ltb, eqb, List, [], length, set, refl, sym, ap, ◌∙◌, arith}
 use Rattle.std.proofs.lemmas.List.{get_or-set_other, get_or-replicate}
 use Rattle.std.proofs.lemmas.Bool.{cond_both, and_parts, and_from, le-leb, not-true, true≢false}
 use Rattle.inp_model.specs.declared.event.TheConstants.{EV_ABS}
 use Rattle.inp_model.specs.declared.event.Event.{Event}
 use Rattle.inp_model.specs.declared.step.Step.{Step}
-use Rattle.inp_model.specs.declared.step.Step.TheVariants.{Open, GetAxis, SyncSlots}
+use Rattle.inp_model.specs.declared.step.Step.TheVariants.{GetAxis, SyncSlots}
 use Rattle.inp_model.specs.declared.reply.Reply.{Reply}
 use Rattle.inp_model.specs.declared.reply.Reply.TheVariants.{Axis, Cells}
 use Rattle.inp_model.specs.Description.{Description, is_multi_touch_code}
@@ -14,13 +14,13 @@ use Rattle.inp_model.specs.Evdev.{EvdevView, IsCall}
 use Rattle.inp_model.specs.Past.{past_at}
 use Rattle.inp_model.specs.Raw.{raw}
 use Rattle.inp_model.specs.Run.{Call, place_of}
-use Rattle.inp_model.specs.Reply.{Answer, IsAnswer, answer_by, accepted, refused, is_accepted}
+use Rattle.inp_model.specs.Reply.{Answer, IsAnswer, is_accepted}
 use Rattle.inp_recon.specs.declared.view.View.{View}
 use Rattle.inp_recon.specs.View.{first_view, view_after_event, view_after_answer, with_value_at, axes_after_reply, axes_after_answer, AreCells, HasCells}
 use Rattle.inp_recon.proofs.Sizes.{IsSizedFor-first_view, IsSizedFor-after_event, IsSizedFor-after_answer}
+use Rattle.inp_reader.proofs.QueryAnswers.{answered-as}
 use Rattle.inp_reader.specs.Synthesis.{value_at}
 use Rattle.inp_reader.specs.KeptViews.{IsKeptView}
-use Rattle.inp_model.proofs.Refused.{refused-not_accepted}
 use Rattle.inp_recon.proofs.ViewSteps.{length-rows}
 
 -- ---- one axis
@@ -85,13 +85,10 @@ refused_cells : (reply : Reply) (cells buffer : List ℤ) → is_accepted reply 
 refused_cells (Cells at count slot) cells buffer h = absurd (true≢false h)
 refused_cells _ cells buffer h = tt
 
-has_cells_by : (d : Description) (past : List Step) (client : ℕ) (cells : List ℤ) (o : Option Reply) → refused d past (SyncSlots client) ≡ o → length cells ≡ 14 * d.slots → (let given : Answer = answer_by o (accepted d past (SyncSlots client)) in AreCells given.reply cells given.cells)
-has_cells_by d past client cells None e fits = omega (arith, fits, length-rows d (raw d past))
-has_cells_by d past client cells (Some reply) e fits = refused_cells reply cells [] (refused-not_accepted d past (SyncSlots client) reply e)
-
 pub has_cells : (d : Description) (past : List Step) (x : Step) (given : Answer) (cells : List ℤ) → IsAnswer d past x given → length cells ≡ 14 * d.slots → HasCells x given.reply cells given.cells
-has_cells d past (SyncSlots client) given cells (inl e) fits = let P : Answer → Type 0 = λ a. AreCells a.reply cells a.cells in subst P (sym e) (has_cells_by d past client cells (refused d past (SyncSlots client)) refl fits)
-has_cells d past (SyncSlots client) given cells (inr l) fits = let no : SyncSlots client ≡ Open = l.0 in absurd cc
+has_cells d past (SyncSlots client) given cells are fits =
+    answered-as d past (SyncSlots client) given (λ a. AreCells a.reply cells a.cells) are (omega (arith, fits, length-rows d (raw d past)))
+    (λ reply off. refused_cells reply cells [] off)
 has_cells d past _ given cells h fits = tt
 
 pub IsKeptView-after_call : (d : Description) (before after : EvdevView) (v : View) (call : Call) → before.description ≡ d → IsCall before after call → IsKeptView d v → IsKeptView d (view_after_answer v call.step call.answer.reply call.answer.cells)

@@ -1,11 +1,9 @@
 -- The laws of startups and pictures.
 use Rattle.std.proofs.Common.{arith}
 use Rattle.inp_joy.proofs.CodeLists.{length-buttons, length-axes}
-use Rattle.inp_joy.proofs.Devices.{device-pictured}
+use Rattle.inp_joy.proofs.Pictures.{device-pictured, startup-pictured, length-startup}
 use Rattle.inp_joy.proofs.Events.{event-pictured}
-use Rattle.inp_joy.proofs.Pictures.{startup-pictured}
 use Rattle.inp_joy.proofs.Records.{record-back}
-use Rattle.inp_joy.proofs.Startups.{length-startup}
 use Rattle.inp_joy.proofs.laws.pictures.Goals as goal
 
 pub returns : goal.returns

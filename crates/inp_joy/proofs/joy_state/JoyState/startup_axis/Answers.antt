@@ -4,7 +4,7 @@ use Rattle.std.proofs.lemmas.Int.{to_z-of_z}
 use Rattle.inp_recon.specs.declared.view.View.{View}
 use Rattle.inp_joy.specs.JoyRecord.{within_16_bits, startup_axis}
 use Rattle.inp_joy.specs.Picture.{value_in}
-use Rattle.inp_joy.proofs.Startups.{record-found}
+use Rattle.inp_joy.proofs.Pictures.{record-found}
 use Rattle.inp_joy.proofs.joy_state.JoyState.startup_axis.Goals as goal
 
 pub returns-clause-found : goal.returns-clause-found

@@ -3,7 +3,7 @@ use Rattle.inp_joy.specs.JoyRecord.{startup_button}
 use Rattle.std.proofs.Common.{◌∙◌, ap}
 use Rattle.inp_recon.specs.declared.view.View.{View}
 use Rattle.inp_joy.specs.Picture.{is_down_in}
-use Rattle.inp_joy.proofs.Startups.{record-found}
+use Rattle.inp_joy.proofs.Pictures.{record-found}
 use Rattle.inp_joy.proofs.joy_state.JoyState.startup_button.Goals as goal
 
 pub returns-clause-found : goal.returns-clause-found

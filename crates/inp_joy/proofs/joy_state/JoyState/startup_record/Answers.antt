@@ -1,5 +1,5 @@
 use Rattle.std.proofs.Common.{◌∙◌, ap, arith, length}
-use Rattle.inp_joy.proofs.Startups.{next-button, next-axis, next-none}
+use Rattle.inp_joy.proofs.Pictures.{next-button, next-axis, next-none}
 use Rattle.inp_joy.proofs.joy_state.JoyState.startup_record.Goals as goal
 
 pub returns-then-self-buttons-clause-found : goal.returns-then-self-buttons-clause-found

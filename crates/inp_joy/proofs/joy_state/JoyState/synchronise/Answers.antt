@@ -1,9 +1,6 @@
-use Rattle.std.proofs.Common.{List, sym, ap, subst}
-use Rattle.inp_reader.specs.declared.call_made.CallMade.{CallMade}
-use Rattle.inp_reader.specs.Says.{Says}
+use Rattle.std.proofs.Common.{sym, ap}
 use Rattle.inp_joy.specs.declared.joy_state.JoyState.{JoyState}
-use Rattle.inp_joy.specs.Joy.{sync_turn, goes_on}
-use Rattle.inp_joy.specs.Kept.{kept_joying, ReaderCalls}
+use Rattle.inp_joy.specs.Kept.{kept_joying}
 use Rattle.inp_joy.proofs.ReaderCalls.{calls-weaker}
 use Rattle.inp_joy.proofs.Outcomes.{stop-less, sync-shows}
 use Rattle.inp_joy.proofs.TurnParts.{says-sync_stopped, says-sync_whole}
@@ -15,11 +12,9 @@ returns-in-Some-clause-says g c =
 
 pub returns-clause-says : goal.returns-clause-says
 returns-clause-says g c =
-    let a = g.E.Evdev.told c.args.dev.now in
-    let b = g.E.Evdev.told c.next-next.new.dev in
-    let d = c.args.self.now.reader.description in
-    subst (λ (ms : List CallMade). Says a b c.args.self.now.made ms (sync_turn d (kept_joying c.args.self.now)) (goes_on (kept_joying c.begin_startup.new.self))) (sym (ap (λ (s : JoyState). s.made) c.begin_startup.ensures.rest))
-    (says-sync_whole a b _ _ d (kept_joying c.args.self.now) (kept_joying c.begin_startup.new.self) c.next-next.result c.next-next.new.self.reader.reading c.next-next.ensures.says (sym c.in_default.ensures) c.begin_startup.ensures.joying)
+    rw (ap (λ (s : JoyState). s.made) c.begin_startup.ensures.rest)
+    (says-sync_whole _ _ _ _ c.args.self.now.reader.description (kept_joying c.args.self.now) (kept_joying c.begin_startup.new.self)
+    c.next-next.result c.next-next.new.self.reader.reading c.next-next.ensures.says (sym c.in_default.ensures) c.begin_startup.ensures.joying)
 
 pub returns-in-Some-clause-calls : goal.returns-in-Some-clause-calls
 returns-in-Some-clause-calls g c =
@@ -27,9 +22,7 @@ returns-in-Some-clause-calls g c =
 
 pub returns-clause-calls : goal.returns-clause-calls
 returns-clause-calls g c =
-    let a = g.E.Evdev.told c.args.dev.now in
-    let b = g.E.Evdev.told c.next-next.new.dev in
-    subst (λ (s : JoyState). ReaderCalls a b c.args.self.now.made s.made c.args.self.now.reader.description c.args.self.now.reader.reading s.reader.reading (Unit {0})) (sym c.begin_startup.ensures.rest) (calls-weaker a b _ _ _ _ _ _ (Unit {0}) (λ shown. tt) c.next-next.ensures.calls)
+    rw c.begin_startup.ensures.rest (calls-weaker _ _ _ _ _ _ _ _ (Unit {0}) (λ shown. tt) c.next-next.ensures.calls)
 
 pub returns-in-Some-clause-less : goal.returns-in-Some-clause-less
 returns-in-Some-clause-less g c = stop-less c.next-next.result c.in-Some.read _ _ c.in-Some.ensures

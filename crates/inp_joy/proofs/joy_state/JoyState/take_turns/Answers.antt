@@ -1,10 +1,7 @@
-use Rattle.std.proofs.Common.{refl, ◌≡◌, List, length, false, true, ◌∙◌, sym, ap, subst, arith}
+use Rattle.std.proofs.Common.{refl, ◌≡◌, List, length, false, ◌∙◌, sym, ap, subst, arith}
 use Rattle.inp_model.specs.Description.{Description}
 use Rattle.inp_reader.specs.declared.call_made.CallMade.{CallMade}
-use Rattle.inp_reader.specs.Says.{Says}
-use Rattle.inp_joy.specs.Joy.{turn_talk}
-use Rattle.inp_joy.specs.Kept.{kept_joying, IsJoyState, turn_of_end, is_end, ReaderCalls, TurnEndPictures}
-use Rattle.inp_joy.specs.Reads.{IsPictured}
+use Rattle.inp_joy.specs.Kept.{kept_joying, is_end, ReaderCalls}
 use Rattle.inp_joy.proofs.ReaderCalls.{calls-none, calls-then, calls-weaker}
 use Rattle.inp_joy.proofs.Outcomes.{less-then}
 use Rattle.inp_joy.proofs.ReadTurns.{passed-none, passed-more, passed-last, on-less, on-short, on-agains}
@@ -16,7 +13,7 @@ loop-outcome-init g c =
     let d = c.args.self.now.reader.description in
     let r = c.args.self.now.reader.reading in
     record {
-      passed = passed-none a d (kept_joying c.args.self.now) c.args.self.now.made c.requires.anew;
+      passed = passed-none _ d (kept_joying c.args.self.now) c.args.self.now.made c.requires.anew;
       calls = subst (λ (ms : List CallMade). ReaderCalls a a ms c.args.self.now.made d r r (Unit {0})) c.requires.anew (calls-none a c.args.self.now.made d r (Unit {0}) tt);
       agains = refl;
       less = omega arith;
@@ -28,49 +25,38 @@ loop-outcome-init g c =
 
 pub returns-then-is_end-clause-says : goal.returns-then-is_end-clause-says
 returns-then-is_end-clause-says g c =
-    let m = g.E.Evdev.told c.loop-outcome.dev in
-    let b = g.E.Evdev.told c.turn-outcome.new.dev in
-    let d = c.args.self.now.reader.description in
-    let here = kept_joying c.loop-outcome.self in
-    let next = kept_joying c.turn-outcome.new.self in
     let same = c.loop-outcome.invariant.state.description in
-    let says = subst (λ (e : Description). Says m b c.loop-outcome.self.made c.turn-outcome.new.self.made (turn_talk e here) (turn_of_end c.turn-outcome.result next)) same c.turn-outcome.ensures.says in
-    let end = subst (λ (e : Description). is_end e c.turn-outcome.result next (length c.turn-outcome.new.self.made) ≡ true) (c.turn-outcome.ensures.state.description ∙ same) (sym c.is_end.ensures ∙ c.if-is_end.true) in
-    passed-last _ m b d (kept_joying c.args.self.now) here next c.loop-outcome.self.made c.turn-outcome.new.self.made c.turn-outcome.result c.loop-outcome.invariant.passed says end
+    passed-last _ _ _ c.args.self.now.reader.description (kept_joying c.args.self.now) (kept_joying c.loop-outcome.self)
+    (kept_joying c.turn-outcome.new.self) c.loop-outcome.self.made c.turn-outcome.new.self.made c.turn-outcome.result
+    c.loop-outcome.invariant.passed (rw same at c.turn-outcome.ensures.says)
+    (rw (c.turn-outcome.ensures.state.description ∙ same) at (sym c.is_end.ensures ∙ c.if-is_end.true))
 
 pub returns-then-is_end-clause-calls : goal.returns-then-is_end-clause-calls
 returns-then-is_end-clause-calls g c =
-    let m = g.E.Evdev.told c.loop-outcome.dev in
-    let b = g.E.Evdev.told c.turn-outcome.new.dev in
-    let d = c.args.self.now.reader.description in
-    let next = kept_joying c.turn-outcome.new.self in
-    calls-then _ m b _ _ _ d _ _ _ _ _ c.loop-outcome.invariant.calls
-    (subst (λ (e : Description). ReaderCalls m b c.loop-outcome.self.made c.turn-outcome.new.self.made e c.loop-outcome.self.reader.reading c.turn-outcome.new.self.reader.reading (TurnEndPictures b e next c.turn-outcome.result)) c.loop-outcome.invariant.state.description c.turn-outcome.ensures.calls)
+    calls-then _ _ _ _ _ _ c.args.self.now.reader.description _ _ _ _ _ c.loop-outcome.invariant.calls
+    (rw c.loop-outcome.invariant.state.description at c.turn-outcome.ensures.calls)
 
 pub returns-then-is_end-clause-less : goal.returns-then-is_end-clause-less
 returns-then-is_end-clause-less g c = less-then c.turn-outcome.result _ _ _ c.turn-outcome.ensures.less c.loop-outcome.invariant.less
 
 pub loop-outcome-preserved : goal.loop-outcome-preserved
 loop-outcome-preserved g c =
-    let m = g.E.Evdev.told c.loop-outcome.dev in
-    let b = g.E.Evdev.told c.turn-outcome.new.dev in
     let d = c.args.self.now.reader.description in
-    let here = kept_joying c.loop-outcome.self in
     let next = kept_joying c.turn-outcome.new.self in
     let new = c.turn-outcome.new.self in
     let same = c.loop-outcome.invariant.state.description in
-    let says = subst (λ (e : Description). Says m b c.loop-outcome.self.made new.made (turn_talk e here) (turn_of_end c.turn-outcome.result next)) same c.turn-outcome.ensures.says in
-    let on = subst (λ (e : Description). is_end e c.turn-outcome.result next (length new.made) ≡ false) (c.turn-outcome.ensures.state.description ∙ same) (sym c.is_end.ensures ∙ c.if-is_end.false) in
+    let goes = sym c.is_end.ensures ∙ c.if-is_end.false in
+    let on = subst (λ (e : Description). is_end e c.turn-outcome.result next (length new.made) ≡ false) (c.turn-outcome.ensures.state.description ∙ same) goes in
     record {
-      passed = passed-more _ m b d (kept_joying c.args.self.now) here next c.loop-outcome.self.made new.made c.turn-outcome.result c.loop-outcome.invariant.passed says on;
+      passed = passed-more _ _ _ d (kept_joying c.args.self.now) (kept_joying c.loop-outcome.self) next c.loop-outcome.self.made
+          new.made c.turn-outcome.result c.loop-outcome.invariant.passed (rw same at c.turn-outcome.ensures.says) on;
       calls =
-          calls-weaker _ b _ _ d _ _ _ _ (λ shown. tt)
-          (calls-then _ m b _ _ _ d _ _ _ (TurnEndPictures b d next c.turn-outcome.result) (Unit {0}) c.loop-outcome.invariant.calls
-          (subst (λ (e : Description). ReaderCalls m b c.loop-outcome.self.made new.made e c.loop-outcome.self.reader.reading new.reader.reading (TurnEndPictures b e next c.turn-outcome.result)) same c.turn-outcome.ensures.calls));
+          calls-weaker _ _ _ _ d _ _ _ _ (λ shown. tt)
+          (calls-then _ _ _ _ _ _ d _ _ _ _ (Unit {0}) c.loop-outcome.invariant.calls (rw same at c.turn-outcome.ensures.calls));
       agains = c.turn-outcome.ensures.agains ∙ on-agains d c.turn-outcome.result next (length new.made) _ on ∙ c.loop-outcome.invariant.agains;
       less = omega (arith, on-less d c.turn-outcome.result next (length new.made) _ _ on c.turn-outcome.ensures.less, c.loop-outcome.invariant.less);
-      state = subst (λ (e : Description). IsJoyState e new) same c.turn-outcome.ensures.state;
-      pictured = subst (λ (e : Description). IsPictured e next) same c.turn-outcome.ensures.pictured;
+      state = rw same at c.turn-outcome.ensures.state;
+      pictured = rw same at c.turn-outcome.ensures.pictured;
       short = λ over. on-short d c.turn-outcome.result next (length new.made) on over;
       few = c.turn-outcome.ensures.few;
     }

@@ -5,7 +5,7 @@ use Rattle.inp_reader.specs.Session.{reading_of}
 use Rattle.inp_reader.specs.ReaderPlace.{Stands}
 use Rattle.inp_reader.proofs.TalksKeepSpare.{says-keeps_next}
 use Rattle.inp_reader.proofs.StandsByCalls.{next-stands, next-shows}
-use Rattle.inp_reader.proofs.LeftByCalls.{says-anew, says-left}
+use Rattle.inp_reader.proofs.Calls.{says-anew, says-left}
 use Rattle.inp_reader.proofs.AgainCounts.{says-agains}
 use Rattle.inp_reader.proofs.LessEffort.{says-less}
 use Rattle.inp_reader.proofs.reader.Reader.next.Goals as goal
