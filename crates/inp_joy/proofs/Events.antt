@@ -3,7 +3,7 @@ use Rattle.std.proofs.Common.{◌≡◌, ℕ, ◌<◌, ◌≤◌, ℤ, pos, Bool
 use Rattle.std.specs.Prelude.{Option, slice_index_or}
 use Rattle.std.proofs.lemmas.Bool.Decides.{nat_tests, Decides-int_eq}
 use Rattle.std.proofs.lemmas.List.{get_or-set_same, get_or-set_other, length-map, set-get_or}
-use Rattle.std.proofs.lemmas.Bool.{cond_both, and_parts}
+use Rattle.std.proofs.lemmas.Bool.{cond_both, cond-false, and_parts}
 use Rattle.inp_model.specs.declared.event.Event.{Event}
 use Rattle.inp_model.specs.declared.event.TheConstants.{EV_SYN, EV_KEY, EV_ABS, SYN_REPORT}
 use Rattle.inp_model.specs.declared.taken.Taken.{Taken}
@@ -12,13 +12,13 @@ use Rattle.inp_model.specs.Event.{is_report, is_repeat, is_set, is_multi_touch}
 use Rattle.inp_recon.specs.declared.view.View.{View}
 use Rattle.inp_recon.specs.View.{keys_after_event, axes_after_event, with_flag, with_value_at, view_after_event}
 use Rattle.inp_joy.specs.declared.joy_record.JoyRecord.{JoyRecord}
+use Rattle.inp_reader.proofs.UnsetSlotAxes.{other-after_event}
 use Rattle.inp_joy.specs.Codes.{buttons, axes, number_among}
 use Rattle.inp_joy.specs.JoyRecord.{within_16_bits, button_record, axis_record}
 use Rattle.inp_joy.specs.Joy.{last_value, record_of_key, record_of_axis, joy_record_of}
 use Rattle.inp_joy.specs.Picture.{PictureView, picture_after, picture_after_if, up_to_64, picture_by, picture_of_view}
-use Rattle.inp_joy.proofs.CodeLists.{single}
+use Rattle.inp_joy.proofs.Numbers.{single, occurs, buttons-once, buttons-within, axes-once, axes-within, map-same, IsSetAt, number-set, number-none, fill-set}
 use Rattle.inp_joy.proofs.Pictures.{button-tells}
-use Rattle.inp_joy.proofs.Numbers.{occurs, buttons-once, buttons-within, axes-once, axes-within, map-same, IsSetAt, number-set, number-none, fill-set}
 
 -- One place of a list
 
@@ -45,9 +45,6 @@ key-other keys e c h =
     cond_both (nat_eq e.kind EV_KEY && not (is_repeat e)) _ _ (λ x. slice_index_or x c false ≡ slice_index_or keys c false)
     (λ _. at-other 768 keys e.code c (is_set e) false h) (λ _. refl)
 
-keys-kept : (keys : List Bool) (e : Event) (b : Bool) → nat_eq e.kind EV_KEY && not (is_repeat e) ≡ b → b ≡ false → keys_after_event keys e ≡ keys
-keys-kept keys e b is off = ap (λ (x : Bool). cond x (with_flag 768 keys e) keys) (is ∙ off)
-
 keys-set : (keys : List Bool) (e : Event) → nat_eq e.kind EV_KEY ≡ true → is_repeat e ≡ false → keys_after_event keys e ≡ with_flag 768 keys e
 keys-set keys e is once =
     ap (λ (x : Bool). cond (x && not (is_repeat e)) (with_flag 768 keys e) keys) is ∙ ap (λ (x : Bool). cond (true && not x) (with_flag 768 keys e) keys) once
@@ -55,12 +52,7 @@ keys-set keys e is once =
 -- Axes
 
 axis-other : (values : List ℤ) (e : Event) (c : ℕ) → nat_eq c e.code ≡ false → slice_index_or (axes_after_event values e) c (pos 0) ≡ slice_index_or values c (pos 0)
-axis-other values e c h =
-    cond_both (nat_eq e.kind EV_ABS && not (is_multi_touch e)) _ _ (λ x. slice_index_or x c (pos 0) ≡ slice_index_or values c (pos 0))
-    (λ _. at-other 64 values e.code c e.value (pos 0) h) (λ _. refl)
-
-axes-kept : (values : List ℤ) (e : Event) → nat_eq e.kind EV_ABS ≡ false → axes_after_event values e ≡ values
-axes-kept values e off = ap (λ (x : Bool). cond (x && not (is_multi_touch e)) (with_value_at 64 values e.code e.value) values) off
+axis-other values e c h = other-after_event values c e (λ _ _. differ-from c e.code h)
 
 within : (code : ℕ) → (code < 47) ⊎ ((62 ≤ code) × (code < 64)) → code < 64
 within code (inl h) = omega (arith, h)
@@ -139,10 +131,13 @@ abbrev of_view_after : Description → View → Event → PictureView
 of_view_after d v e = seen (down_by d (keys_after_event v.keys e)) (values_by d (axes_after_event v.axes e))
 
 keys-stay : (d : Description) (v : View) (e : Event) → nat_eq e.kind EV_KEY && not (is_repeat e) ≡ false → down_by d v.keys ≡ down_by d (keys_after_event v.keys e)
-keys-stay d v e off = ap (λ (ks : List Bool). down_by d ks) (sym (keys-kept v.keys e false off refl))
+keys-stay d v e off =
+    ap (λ (ks : List Bool). down_by d ks) (sym (cond-false _ (with_flag 768 v.keys e) v.keys off))
 
 axes-stay : (d : Description) (v : View) (e : Event) → nat_eq e.kind EV_ABS ≡ false → values_by d v.axes ≡ values_by d (axes_after_event v.axes e)
-axes-stay d v e off = ap (λ (zs : List ℤ). values_by d zs) (sym (axes-kept v.axes e off))
+axes-stay d v e off =
+    let still = ap (λ (b : Bool). b && not (is_multi_touch e)) off in
+    ap (λ (zs : List ℤ). values_by d zs) (sym (cond-false _ (with_value_at 64 v.axes e.code e.value) v.axes still))
 
 no_key : (e : Event) → nat_eq e.kind EV_KEY ≡ false → nat_eq e.kind EV_KEY && not (is_repeat e) ≡ false
 no_key e off = ap (λ (b : Bool). b && not (is_repeat e)) off
@@ -153,7 +148,8 @@ unfolding picture_after
 after-key d v taken None long is off at =
     same-parts _ _ _ _ (down-none d v.keys taken.event (number-none taken.event.code (buttons d) at)) (axes-stay d v taken.event off)
 after-key d v taken (Some number) long is off at =
-    cond_both (is_repeat taken.event) None (Some (button_record number taken)) (λ (o : Option JoyRecord). picture_after_if (of_view d v) o ≡ of_view_after d v taken.event)
+    cond_both (is_repeat taken.event) None (Some (button_record number taken))
+    (λ (o : Option JoyRecord). picture_after_if (of_view d v) o ≡ of_view_after d v taken.event)
     (λ again.
     let still : nat_eq taken.event.kind EV_KEY && not (is_repeat taken.event) ≡ false = ap (λ (b : Bool). b && not (is_repeat taken.event)) is ∙ ap (λ (b : Bool). true && not b) again in
     same-parts _ _ _ _ (keys-stay d v taken.event still) (axes-stay d v taken.event off))
@@ -168,8 +164,11 @@ after-axis d v taken (Some number) long is off at =
     let value : ℤ = within_16_bits taken.event.value in
     let moved : Moved d v.axes taken.event number = values-set d v.axes taken.event number long is at in
     let keys = keys-stay d v taken.event (no_key taken.event off) in
-    cond_both (int_eq value (last_value (of_view d v) number)) None (Some (axis_record number taken)) (λ (o : Option JoyRecord). picture_after_if (of_view d v) o ≡ of_view_after d v taken.event)
-    (λ same. same-parts _ _ _ _ keys (moved.same_is ((Decides-int_eq value (last_value (of_view d v) number)).0 same))) (λ other. same-parts _ _ _ _ keys moved.set_is)
+    cond_both (int_eq value (last_value (of_view d v) number)) None (Some (axis_record number taken))
+    (λ (o : Option JoyRecord). picture_after_if (of_view d v) o ≡ of_view_after d v taken.event)
+    (λ same. same-parts _ _ _ _ keys
+    (moved.same_is ((Decides-int_eq value (last_value (of_view d v) number)).0 same)))
+    (λ other. same-parts _ _ _ _ keys moved.set_is)
 
 -- any event
 after-kind : (d : Description) (v : View) (taken : Taken) (key abs : Bool) → length v.keys ≡ 768 → length v.axes ≡ 64 → nat_eq taken.event.kind EV_KEY ≡ key → nat_eq taken.event.kind EV_ABS ≡ abs

@@ -1,11 +1,9 @@
 pub mod Lists
-pub mod CodeLists
 pub mod Pictures
 pub mod Numbers
 pub mod Events
 pub mod Nexts
 pub mod ReaderCalls
-pub mod TurnParts
 pub mod TurnEnds
 pub mod Outcomes
 pub mod ReadTurns

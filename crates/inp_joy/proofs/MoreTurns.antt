@@ -1,5 +1,5 @@
 -- Where so many turns are enough for a read, more of them change nothing, whatever is answered.
-use Rattle.std.proofs.Common.{ℕ, zero, suc, ◌≤◌, Bool, true, false, if◌then◌else◌, List, Some, None, sym, subst, arith}
+use Rattle.std.proofs.Common.{ℕ, zero, suc, ◌≤◌, true, false, if◌then◌else◌, List, Some, None, sym, subst, arith}
 use Rattle.std.specs.Prelude.{Option}
 use Rattle.inp_model.specs.Description.{Description}
 use Rattle.inp_model.specs.Run.{Call}
@@ -25,8 +25,6 @@ turns-longer d (suc n) (suc m) k j calls a le h =
     by_turn : (count : ℕ) (turn : JoyTurn) (later : List Call) → ((count : ℕ) (here : Joying) → EndsWith (turns d n count here) later (Some a) → EndsWith (turns d m count here) later (Some a))
         → EndsWith (after_turn d (turns d n) count turn) later (Some a) → EndsWith (after_turn d (turns d m) count turn) later (Some a)
     by_turn count (gives answer) later go_on e = e
-    by_turn count (goes_on here) later go_on e = by_flag (is_long d here count) e
-      where
-        by_flag : (b : Bool) → EndsWith (if b then finish (Some (stop_with More here)) else turns d n count here) later (Some a) → EndsWith (if b then finish (Some (stop_with More here)) else turns d m count here) later (Some a)
-        by_flag true e = e
-        by_flag false e = go_on count here e
+    by_turn count (goes_on here) later go_on e =
+        (elim (is_long d here count) as (λ b. EndsWith (if b then finish (Some (stop_with More here)) else turns d n count here) later (Some a) → EndsWith (if b then finish (Some (stop_with More here)) else turns d m count here) later (Some a))
+        [ true ↦ λ k. k | false ↦ λ k. go_on count here k ]) e

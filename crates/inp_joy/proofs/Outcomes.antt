@@ -38,7 +38,8 @@ stop-shows told r _ = tt
 
 -- a stopped synchronisation is no frame
 pub sync-shows : (told : EvdevView) (r : ReaderView) (next : Next) (read : JoyRead) → Some read ≡ joy_read_of next → TurnEndShows told r (Stops read)
-sync-shows told r next read h = subst (λ (o : Option JoyRead). IsShown told r o) (sym h) (stop-shows told r next)
+sync-shows told r next read h =
+    subst (λ (o : Option JoyRead). IsShown told r o) (sym h) (stop-shows told r next)
 
 record_or_on-shows : (told : EvdevView) (r : ReaderView) (j : Joying) (o : Option JoyRecord) → TurnEndShows told r (Stops (read_of (record_or_on j o)))
 record_or_on-shows told r j None = tt

@@ -1,4 +1,5 @@
--- The records of a startup lead a blank picture to the view that they are made from, and where that is the device's state
+-- The records of a startup lead a blank picture to the view that they are made from, and where that is the
+-- device's state
 -- the picture is the device's.
 use Rattle.std.proofs.Common.{◌≡◌, ℕ, suc, ◌+◌, ◌-◌, ◌<◌, ◌≤◌, ℤ, pos, Bool, true, false, not, int_eq, List, [], ◌∷◌, ◌++◌, length, map, drop, replicate, set, Some, refl, sym, ap, ◌∙◌, arith, append_assoc, append-nil, length-append, None, zero, ◌&&◌, ◌⊎◌, inl, inr}
 use Rattle.std.specs.List.{slice_get, range_with_len, filter}
@@ -14,7 +15,7 @@ use Rattle.inp_joy.specs.Codes.{buttons, axes, startup_len, codes_among}
 use Rattle.inp_joy.specs.JoyRecord.{within_16_bits, startup_button, startup_axis}
 use Rattle.inp_joy.specs.Joy.{map_numbered, startup, startup_buttons, startup_axes}
 use Rattle.inp_joy.specs.Picture.{PictureView, blank_picture, picture_after, picture_after_all, up_to_64, picture_by, is_down_in, value_in, picture_of_view, picture_of_device}
-use Rattle.inp_joy.proofs.CodeLists.{length-buttons, length-axes, single, axes-are}
+use Rattle.inp_joy.proofs.Numbers.{length-buttons, length-axes, single, axes-are}
 use Rattle.std.specs.Option.{option_map}
 use Rattle.inp_joy.proofs.Lists.{slice_get-left, slice_get-right, map_numbered-get, length-map_numbered}
 use Rattle.std.proofs.lemmas.Bool.{cond_both}
@@ -26,11 +27,16 @@ use Rattle.inp_recon.specs.Synchronised.{has_axis}
 
 -- One record
 
-pub record-found : {X : Type 0} (made : ℕ → X → JoyRecord) (f : ℕ → X) (codes all : List ℕ) (number code : ℕ) (x : X) (r : JoyRecord) → codes ≡ all → slice_get codes number ≡ Some code → x ≡ f code → r ≡ made number x → slice_get (map_numbered made 0 (map f all)) number ≡ Some r
+pub record-found : {X : Type 0} (made : ℕ → X → JoyRecord) (f : ℕ → X) (codes all : List ℕ) (number code : ℕ)
+    (x : X) (r : JoyRecord) → codes ≡ all → slice_get codes number ≡ Some code → x ≡ f code
+        → r ≡ made number x → slice_get (map_numbered made 0 (map f all)) number ≡ Some r
 record-found made f codes all number code x r are at is told =
     let e : 0 + number ≡ number = omega arith in
-    map_numbered-get made 0 number (map f all) (f code) (slice_get-map f all number ∙ ap (λ (cs : List ℕ). option_map f (slice_get cs number)) (sym are) ∙ ap (λ o. option_map f o) at)
-    ∙ ap (λ (n : ℕ). Some (made n (f code))) e ∙ ap (λ y. Some (made number y)) (sym is) ∙ ap (λ (s : JoyRecord). Some s) (sym told)
+    map_numbered-get made 0 number (map f all) (f code)
+    (slice_get-map f all number ∙ ap (λ (cs : List ℕ). option_map f (slice_get cs number)) (sym are)
+    ∙ ap (λ o. option_map f o) at)
+    ∙ ap (λ (n : ℕ). Some (made n (f code))) e ∙ ap (λ y. Some (made number y)) (sym is)
+    ∙ ap (λ (s : JoyRecord). Some s) (sym told)
 
 length-startup_buttons : (d : Description) (v : View) → length (startup_buttons d v) ≡ length (buttons d)
 length-startup_buttons d v = length-map_numbered startup_button 0 (map (is_down_in v) (buttons d)) ∙ length-map (buttons d) (is_down_in v)
@@ -97,13 +103,18 @@ axis_next done x down h = ap (λ (zs : List ℤ). let q : PictureView = record {
 -- Records of items one after another fill up one part of a picture, where one record sets the next place.
 
 parts-fold : {X : Type 0} (filler : X) (made : ℕ → X → JoyRecord) (with_part : List X → PictureView)
-    → ((done : List X) (x : X) → length done < 64 → picture_after (with_part (up_to_64 filler done)) (made (length done) x) ≡ with_part (up_to_64 filler (done ++ x ∷ [])))
-    → (done xs : List X) → length done + length xs ≤ 64 → picture_after_all (with_part (up_to_64 filler done)) (map_numbered made (length done) xs) ≡ with_part (up_to_64 filler (done ++ xs))
-parts-fold filler made with_part one done [] h = ap (λ xs. with_part (up_to_64 filler xs)) (sym (append-nil done))
+    → ((done : List X) (x : X) → length done < 64 → picture_after (with_part (up_to_64 filler done))
+        (made (length done) x) ≡ with_part (up_to_64 filler (done ++ x ∷ [])))
+    → (done xs : List X) → length done + length xs ≤ 64
+    → picture_after_all (with_part (up_to_64 filler done)) (map_numbered made (length done) xs)
+    ≡ with_part (up_to_64 filler (done ++ xs))
+parts-fold filler made with_part one done [] h =
+    ap (λ xs. with_part (up_to_64 filler xs)) (sym (append-nil done))
 parts-fold filler made with_part one done (x ∷ xs) h =
     let long : length done + 1 ≡ length (done ++ x ∷ []) = omega (arith, length-append done (x ∷ [])) in
     ap (λ (p : PictureView). picture_after_all p (map_numbered made (length done + 1) xs)) (one done x (omega (arith, h)))
-    ∙ ap (λ (n : ℕ). picture_after_all (with_part (up_to_64 filler (done ++ x ∷ []))) (map_numbered made n xs)) long
+    ∙ ap (λ (n : ℕ). picture_after_all (with_part (up_to_64 filler (done ++ x ∷ [])))
+    (map_numbered made n xs)) long
     ∙ parts-fold filler made with_part one (done ++ x ∷ []) xs (omega (arith, h, length-append done (x ∷ [])))
     ∙ ap (λ ys. with_part (up_to_64 filler ys)) (append_assoc done (x ∷ []) xs)
 
@@ -116,8 +127,13 @@ startup-pictured d v =
     let zs : List ℤ = map (λ code. within_16_bits (value_in v code)) (axes d) in
     let mid : PictureView = record { buttons = up_to_64 false bs; axes = up_to_64 (pos 0) [] } in
     after_all-append blank_picture (startup_buttons d v) (startup_axes d v)
-    ∙ ap (λ (p : PictureView). picture_after_all p (startup_axes d v)) (parts-fold false startup_button (λ down. record { buttons = down; axes = replicate 64 (pos 0) }) (λ done x h. button_next done x (replicate 64 (pos 0)) h) [] bs (omega (arith, length-map (buttons d) (is_down_in v), length-buttons d)))
-    ∙ parts-fold (pos 0) startup_axis (λ values. record { buttons = up_to_64 false bs; axes = values }) (λ done x h. axis_next done x (up_to_64 false bs) h) [] zs (omega (arith, length-map (axes d) (λ code. within_16_bits (value_in v code)), length-axes d))
+    ∙ ap (λ (p : PictureView). picture_after_all p (startup_axes d v))
+    (parts-fold false startup_button (λ down. record { buttons = down; axes = replicate 64 (pos 0) })
+    (λ done x h. button_next done x (replicate 64 (pos 0)) h) [] bs
+    (omega (arith, length-map (buttons d) (is_down_in v), length-buttons d)))
+    ∙ parts-fold (pos 0) startup_axis (λ values. record { buttons = up_to_64 false bs; axes = values })
+    (λ done x h. axis_next done x (up_to_64 false bs) h) [] zs
+    (omega (arith, length-map (axes d) (λ code. within_16_bits (value_in v code)), length-axes d))
 
 -- a record of a startup more
 pub startup-more : (p end : PictureView) (records : List JoyRecord) (handed : ℕ) (r : JoyRecord) → slice_get records handed ≡ Some r → picture_after_all p (drop handed records) ≡ end → picture_after_all (picture_after p r) (drop (handed + 1) records) ≡ end
@@ -170,11 +186,14 @@ unfolding codes_among
 map-among d kind f g first zero same = refl
 map-among d kind f g first (suc n) same =
     let rest : List ℕ = filter (supports d kind) (range_with_len (first + 1) n) in
-    let others : map f rest ≡ map g rest = map-among d kind f g (first + 1) n (λ c h k. same c (omega (arith, h)) (omega (arith, k))) in
+    let others : map f rest ≡ map g rest =
+    map-among d kind f g (first + 1) n (λ c h k. same c (omega (arith, h)) (omega (arith, k))) in
     cond_both (supports d kind first) (first ∷ rest) rest (λ (xs : List ℕ). map f xs ≡ map g xs)
-    (λ is. ap (λ y. y ∷ map f rest) (same first (omega arith) (omega arith) is) ∙ ap (λ ys. g first ∷ ys) others) (λ _. others)
+    (λ is. ap (λ y. y ∷ map f rest) (same first (omega arith) (omega arith) is)
+    ∙ ap (λ ys. g first ∷ ys) others) (λ _. others)
 
-has-own : (d : Description) (c : ℕ) → (c < 47) ⊎ ((62 ≤ c) × (c < 64)) → supports d EV_ABS c ≡ true → has_axis d c ≡ true
+has-own : (d : Description) (c : ℕ) → (c < 47) ⊎ ((62 ≤ c) × (c < 64)) → supports d EV_ABS c ≡ true
+    → has_axis d c ≡ true
 has-own d c place is = ap (λ (b : Bool). b && not (is_multi_touch_code c)) is ∙ ap not (single c place)
 
 map-axes : {X : Type 0} (d : Description) (f g : ℕ → X) → ((c : ℕ) → has_axis d c ≡ true → f c ≡ g c) → map f (axes d) ≡ map g (axes d)

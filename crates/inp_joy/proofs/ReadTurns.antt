@@ -138,7 +138,8 @@ passed-last before between after d start here next made new outcome s h end = re
 -- What a turn that goes on leaves
 
 pub on-less : (d : Description) (outcome : TurnEnd) (j : Joying) (n after before : ℕ) → is_end d outcome j n ≡ false → IsTurnEndLess outcome after before → after < before
-on-less d outcome j n after before on h = subst (λ (o : TurnEnd). IsTurnEndLess o after before) (only-on d outcome j n on) h
+on-less d outcome j n after before on h =
+    subst (λ (o : TurnEnd). IsTurnEndLess o after before) (only-on d outcome j n on) h
 
 pub on-short : (d : Description) (outcome : TurnEnd) (j : Joying) (n : ℕ) → is_end d outcome j n ≡ false → is_startup_over d j ≡ true → n < 64
 on-short d (Hands r) j n on over = absurd (true≢false on)

@@ -64,21 +64,22 @@ fit-append [] ys h l k r is = l k r is
 fit-append (x ∷ xs) ys h l zero r is = h zero r is
 fit-append (x ∷ xs) ys h l (suc k) r is = fit-append xs ys (λ m s e. h (suc m) s e) l k r is
 
-buttons-fit : (n : ℕ) (downs : List Bool) → AllFit (map_numbered startup_button n downs)
-buttons-fit n [] k r is = absurd cc
-buttons-fit n (down ∷ downs) zero r is = let same : startup_button n down ≡ r = cc in subst (λ (s : JoyRecord). FitsBytes s) same (record { time = omega arith; value = bit-fits down })
-buttons-fit n (down ∷ downs) (suc k) r is = buttons-fit (n + 1) downs k r is
-
-axes-fit : (n : ℕ) (value : ℕ → ℤ) (codes : List ℕ) → AllFit (map_numbered startup_axis n (map (λ code. within_16_bits (value code)) codes))
-axes-fit n value [] k r is = absurd cc
-axes-fit n value (code ∷ codes) zero r is = let same : startup_axis n (within_16_bits (value code)) ≡ r = cc in subst (λ (s : JoyRecord). FitsBytes s) same (record { time = omega arith; value = within_16_bits-fits (value code) })
-axes-fit n value (code ∷ codes) (suc k) r is = axes-fit (n + 1) value codes k r is
+numbered-fit : {X : Type 0} (made : ℕ → X → JoyRecord) (f : ℕ → X)
+    → ((n code : ℕ) → FitsBytes (made n (f code))) → (n : ℕ) (codes : List ℕ)
+    → AllFit (map_numbered made n (map f codes))
+numbered-fit made f fits n [] k r is = absurd cc
+numbered-fit made f fits n (code ∷ codes) zero r is =
+    let same : made n (f code) ≡ r = cc in subst (λ (s : JoyRecord). FitsBytes s) same (fits n code)
+numbered-fit made f fits n (code ∷ codes) (suc k) r is = numbered-fit made f fits (n + 1) codes k r is
 
 pub startup-fits : (d : Description) (v : View) → AllFit (startup d v)
 unfolding startup
 startup-fits d v =
     fit-append (map_numbered startup_button 0 (map (is_down_in v) (buttons d))) (map_numbered startup_axis 0 (map (λ code. within_16_bits (value_in v code)) (axes d)))
-    (buttons-fit 0 (map (is_down_in v) (buttons d))) (axes-fit 0 (value_in v) (axes d))
+    (numbered-fit startup_button (is_down_in v)
+    (λ n code. record { time = omega arith; value = bit-fits (is_down_in v code) }) 0 (buttons d))
+    (numbered-fit startup_axis (λ code. within_16_bits (value_in v code))
+    (λ n code. record { time = omega arith; value = within_16_bits-fits (value_in v code) }) 0 (axes d))
 
 abbrev pub FitsIf : Option JoyRecord → Type 0
 FitsIf None = Unit {0}
@@ -100,12 +101,13 @@ axis-fits p (Some number) taken =
     (λ _. tt) (λ _. record { time = milliseconds-below taken.time; value = within_16_bits-fits taken.event.value })
 
 pub event-fits : (d : Description) (p : PictureView) (taken : Taken) → FitsIf (joy_record_of d p taken)
-event-fits d p taken = by_flags (nat_eq taken.event.kind EV_KEY) (nat_eq taken.event.kind EV_ABS)
-  where
-    by_flags : (key axis : Bool) → FitsIf (if key then record_of_key (number_among taken.event.code (buttons d)) taken else if axis then record_of_axis p (number_among taken.event.code (axes d)) taken else None)
-    by_flags true axis = key-fits (number_among taken.event.code (buttons d)) taken
-    by_flags false true = axis-fits p (number_among taken.event.code (axes d)) taken
-    by_flags false false = tt
+event-fits d p taken =
+    let axis : Option JoyRecord = record_of_axis p (number_among taken.event.code (axes d)) taken in
+    cond_both (nat_eq taken.event.kind EV_KEY) _
+    (if nat_eq taken.event.kind EV_ABS then axis else None) FitsIf
+    (λ _. key-fits (number_among taken.event.code (buttons d)) taken)
+    (λ _. cond_both (nat_eq taken.event.kind EV_ABS) axis None FitsIf
+    (λ _. axis-fits p (number_among taken.event.code (axes d)) taken) (λ _. tt))
 
 -- Answers
 

@@ -94,7 +94,9 @@ sync-pictured d j _ r h = (needed-pictured d (with_reading j r) h, tt)
 
 sync_turn-pictured : (d : Description) (j : Joying) (calls : List Call) (t : JoyTurn) → is_needed j.reading.phase ≡ true → Synchronises d j calls t → IsTurnPictured d t
 sync_turn-pictured d j calls t needed s =
-    turn-same d (joying_after_sync j (s.next, s.reading)) t s.comes_to (sync-pictured d j s.next s.reading (next-synced d j.reading calls (s.next, s.reading) needed s.talk_ends))
+    turn-same d (joying_after_sync j (s.next, s.reading)) t s.comes_to
+    (sync-pictured d j s.next s.reading
+    (next-synced d j.reading calls (s.next, s.reading) needed s.talk_ends))
 
 -- an event
 event-gives : (d : Description) (j : Joying) (o : Option JoyRecord) → startup_len d ≤ j.handed → picture_after_if j.picture o ≡ picture_of_view d j.reading.view → IsTurnPictured d (record_or_on j o)
@@ -133,10 +135,13 @@ turn-pictured d j calls t sized pictured none h = by (case-of d j None calls t (
     by : TurnCase d j calls t → IsTurnPictured d t
     by (of_startup r at no_call is) = absurd (let both : None ≡ Some r = none ∙ at in cc)
     by (of_sync needed s) = sync_turn-pictured d j calls t needed s
-    by (of_loss first second taken r plain whole ends s) = sync_turn-pictured d (with_reading j r) second t (lost-needed d j.reading r first taken plain ends) s
+    by (of_loss first second taken r plain whole ends s) =
+        sync_turn-pictured d (with_reading j r) second t (lost-needed d j.reading r first taken plain ends) s
     by (of_next next r plain ends is) =
         turn-same d (joying_after_next d (with_reading j r) next) t is
-        (next-pictured d j next r sized over (startup-over j.picture (picture_of_view d j.reading.view) d j.reading.view j.handed over (pictured plain)) (next-taken d j.reading calls (next, r) plain ends))
+        (next-pictured d j next r sized over
+        (startup-over j.picture (picture_of_view d j.reading.view) d j.reading.view j.handed over
+        (pictured plain)) (next-taken d j.reading calls (next, r) plain ends))
 
 -- as an outcome
 pub outcome-pictured : (d : Description) (k : Joying) (outcome : TurnEnd) → IsTurnPictured d (turn_of_end outcome k) → IsPictured d k
@@ -169,7 +174,9 @@ stop-none j here k (Some read) h = absurd (gives-goes (stop_with read j) k h)
 
 sync_turn-accepted : (d : Description) (j k : Joying) (calls : List Call) → Synchronises d j calls (goes_on k) → AreAccepted calls
 sync_turn-accepted d j k calls s =
-    next-accepted d Synchronising j.reading calls (s.next, s.reading) (stop-none (with_reading j s.reading) (with_startup s.reading) k (joy_read_of s.next) s.comes_to) s.talk_ends
+    next-accepted d Synchronising j.reading calls (s.next, s.reading)
+    (stop-none (with_reading j s.reading) (with_startup s.reading) k
+    (joy_read_of s.next) s.comes_to) s.talk_ends
 
 next-none : (d : Description) (j k : Joying) (next : Next) → joying_after_next d j next ≡ goes_on k → joy_read_of next ≡ None
 next-none d j k (Success taken) h = refl
@@ -183,8 +190,11 @@ turn-accepted d j k calls h = by (turn-case d j calls (goes_on k) h)
     by (of_sync needed s) = sync_turn-accepted d j k calls s
     by (of_loss first second taken r plain whole ends s) =
         subst (λ (cs : List Call). AreAccepted cs) (sym whole)
-        (Each-append (λ (call : Call). is_accepted call.answer.reply ≡ true) first second (next-accepted d Normal j.reading first (Dropped taken, r) refl ends) (sync_turn-accepted d (with_reading j r) k second s))
-    by (of_next next r plain ends is) = next-accepted d Normal j.reading calls (next, r) (next-none d (with_reading j r) k next is) ends
+        (Each-append (λ (call : Call). is_accepted call.answer.reply ≡ true) first second
+        (next-accepted d Normal j.reading first (Dropped taken, r) refl ends)
+        (sync_turn-accepted d (with_reading j r) k second s))
+    by (of_next next r plain ends is) =
+        next-accepted d Normal j.reading calls (next, r) (next-none d (with_reading j r) k next is) ends
 
 -- A new joystick client
 

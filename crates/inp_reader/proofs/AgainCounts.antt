@@ -109,7 +109,8 @@ counts-asks d n Q whole stopped = record {
 
 again_stopped : (reply : Reply) (n : ℕ) → is_again reply ≡ false → n ≡ agains_after_next (stop_of reply) n
 again_stopped reply n h =
-    stop-cases (λ next. n ≡ agains_after_next next n) reply (λ at ends is. absurd (true≢false (sym (ap is_again is) ∙ h)))
+    stop-cases (λ next. n ≡ agains_after_next next n) reply
+    (λ at ends is. absurd (true≢false (sym (ap is_again is) ∙ h)))
     refl refl (λ at. refl)
 
 again_stop : (reply : Reply) (n : ℕ) → agains_after reply n ≡ agains_after_next (stop_of reply) n

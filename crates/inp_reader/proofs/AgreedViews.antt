@@ -90,7 +90,8 @@ tells-accepted d past _ = tt
 
 tells : (d : Description) (past : List Step) (x : Step) (given : Answer) → IsAnswer d past x given → is_accepted given.reply ≡ true → Tells x given.reply
 tells d past x given are =
-    answered-as d past x given (λ a. is_accepted a.reply ≡ true → Tells x a.reply) are (λ is. tells-accepted d past x)
+    answered-as d past x given (λ a. is_accepted a.reply ≡ true → Tells x a.reply) are
+    (λ is. tells-accepted d past x)
     (λ reply off is. absurd (true≢false (sym is ∙ off)))
 
 -- One answer
@@ -143,18 +144,21 @@ set-in-both v w index code value long_v long_w h = elim (cases_lt index code_cou
   | inr past ↦
       (let at : List ℤ → ℤ = λ xs. slice_index_or xs code (pos 0) in
       let is : nat_lt index code_count ≡ false = le-ltb index code_count past in
-      ap at (cond-false (nat_lt index code_count) (set v index value) v is) ∙ h (λ e lt. omega (arith, past, lt))
+      ap at (cond-false (nat_lt index code_count) (set v index value) v is)
+      ∙ h (λ e lt. omega (arith, past, lt))
       ∙ sym (ap at (cond-false (nat_lt index code_count) (set w index value) w is)))
 ]
 
 value-agrees : (v w : List ℤ) (index code : ℕ) (value : ℤ) (rest : Bool) → length v ≡ code_count → length w ≡ code_count → is_multi_touch_code index ≡ false
     → ((nat_eq index code && (nat_lt index code_count && not (is_multi_touch_code index)) || rest) ≡ false → slice_index_or v code (pos 0) ≡ slice_index_or w code (pos 0)) → rest ≡ false
     → slice_index_or (with_value_at code_count v index value) code (pos 0) ≡ slice_index_or (with_value_at code_count w index value) code (pos 0)
-value-agrees v w index code value rest long_v long_w own h none = set-in-both v w index code value long_v long_w (λ spare.
+value-agrees v w index code value rest long_v long_w own h none =
+    set-in-both v w index code value long_v long_w (λ spare.
     let asked : Bool = nat_eq index code && (nat_lt index code_count && not (is_multi_touch_code index)) in
     h (ap (λ (b : Bool). b || rest) (false_from_ne_true asked (λ t.
     let p = and_parts (nat_eq index code) _ t in
-    spare (sym (eqb-true index code p.0)) (ltb-true index code_count (and_parts (nat_lt index code_count) _ p.1).0))) ∙ none))
+    spare (sym (eqb-true index code p.0))
+    (ltb-true index code_count (and_parts (nat_lt index code_count) _ p.1).0))) ∙ none))
 
 axis-told : (index code : ℕ) (value : ℤ) (rest touch : Bool) (v w : List ℤ) → is_multi_touch_code index ≡ touch → length v ≡ code_count → length w ≡ code_count
     → ((nat_eq index code && (nat_lt index code_count && not (is_multi_touch_code index)) || rest) ≡ false → slice_index_or v code (pos 0) ≡ slice_index_or w code (pos 0)) → rest ≡ false
@@ -218,7 +222,9 @@ agree-whole v w a = λ i. record {
   keys = a.keys refl refl i;
   switches = a.switches refl refl i;
   leds = a.leds refl refl i;
-  axes = ext_get_or (pos 0) v.axes w.axes (a.left_long ∙ sym a.right_long) (λ code within. a.axes code refl refl) i;
+  axes =
+      ext_get_or (pos 0) v.axes w.axes (a.left_long ∙ sym a.right_long)
+      (λ code within. a.axes code refl refl) i;
   slot = a.slot refl refl i;
   cells = a.cells refl refl i;
 }
@@ -229,7 +235,8 @@ asked-if : (p : Step → Bool) (wanted : Bool) (x : Step) → p x ≡ true → l
 asked-if p true x h = ap (λ (b : Bool). b || false) h
 asked-if p false x h = refl
 
-none-of : (p : Step → Bool) (xs ys : List Step) → list_any p (xs ++ ys) ≡ false → (list_any p xs ≡ false) × (list_any p ys ≡ false)
+none-of : (p : Step → Bool) (xs ys : List Step) → list_any p (xs ++ ys) ≡ false
+    → (list_any p xs ≡ false) × (list_any p ys ≡ false)
 none-of p xs ys h = or_parts (list_any p xs) (list_any p ys) (sym (list_any-append p xs ys) ∙ h)
 
 -- what the parts of all queries ask for

@@ -1,4 +1,5 @@
--- Calls one after another: how they are split, where they stand, how each was answered, what they leave, and who else used
+-- Calls one after another: how they are split, where they stand, how each was answered, what they leave, and
+-- who else used
 -- their client.
 use Rattle.std.proofs.Common.{◌≡◌, ◌≤◌, ◌⊎◌, inl, inr, ℕ, true, List, [], ◌∷◌, ◌++◌, refl, sym, ap, subst, ◌∙◌, arith, ◌<◌, length, length-append, Some, append_assoc, if◌then◌else◌}
 use Rattle.std.specs.List.{All, Contains, slice_get}

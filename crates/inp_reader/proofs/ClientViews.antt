@@ -93,13 +93,18 @@ taken_at_start d [] client = []
 taken_at_start d (x ∷ past) client = if is_start past client x then took d past client else taken_at_start d past client
 
 -- What a step makes of all that is since a client's start: a start begins anew, and a use is one call more.
-since-step : (d : Description) (past : List Step) (client : ℕ) (x : Step) (P : View → List Entry → List Call → Type 0)
+since-step : (d : Description) (past : List Step) (client : ℕ) (x : Step)
+    (P : View → List Entry → List Call → Type 0)
     → (is_start past client x ≡ true → P (client_view d past client) (took d past client) [])
-    → (is_use_of client x ≡ true → P (view_at_start d past client) (taken_at_start d past client) (calls_since d past client ++ record { step = x; answer = answer d past x } ∷ []))
-    → (is_use_of client x ≡ false → P (view_at_start d past client) (taken_at_start d past client) (calls_since d past client))
-    → P (view_at_start d (x ∷ past) client) (taken_at_start d (x ∷ past) client) (calls_since d (x ∷ past) client)
+    → (is_use_of client x ≡ true → P (view_at_start d past client) (taken_at_start d past client)
+        (calls_since d past client ++ record { step = x; answer = answer d past x } ∷ []))
+    → (is_use_of client x ≡ false → P (view_at_start d past client) (taken_at_start d past client)
+        (calls_since d past client))
+    → P (view_at_start d (x ∷ past) client) (taken_at_start d (x ∷ past) client)
+        (calls_since d (x ∷ past) client)
 unfolding calls_since view_at_start taken_at_start
-since-step d past client x P starts used idle = by (is_start past client x) (is_use_of client x) starts used idle
+since-step d past client x P starts used idle =
+    by (is_start past client x) (is_use_of client x) starts used idle
   where
     V : View
     V = view_at_start d past client
@@ -113,8 +118,10 @@ since-step d past client x P starts used idle = by (is_start past client x) (is_
     more : List Call
     more = C ++ record { step = x; answer = answer d past x } ∷ []
 
-    by : (s u : Bool) → (s ≡ true → P (client_view d past client) (took d past client) []) → (u ≡ true → P V T more) → (u ≡ false → P V T C)
-        → P (if s then client_view d past client else V) (if s then took d past client else T) (if s then [] else if u then more else C)
+    by : (s u : Bool) → (s ≡ true → P (client_view d past client) (took d past client) [])
+        → (u ≡ true → P V T more) → (u ≡ false → P V T C)
+        → P (if s then client_view d past client else V) (if s then took d past client else T)
+            (if s then [] else if u then more else C)
     by true u starts used idle = starts refl
     by false true starts used idle = used refl
     by false false starts used idle = idle refl
@@ -143,8 +150,10 @@ unfolding client_view_with calls_since view_at_start fold_calls
 client_view-since d [] client h = refl
 client_view-since d (x ∷ past) client h =
     let call : Call = record { step = x; answer = answer d past x } in
-    let rest : client_view d past client ≡ fold_calls (view_at_start d past client) (calls_since d past client) = client_view-since d past client h.0 in
-    since-step d past client x (λ v taken calls. view_after_step d past client x (client_view d past client) ≡ fold_calls v calls)
+    let rest : client_view d past client ≡ fold_calls (view_at_start d past client)
+    (calls_since d past client) = client_view-since d past client h.0 in
+    since-step d past client x
+    (λ v taken calls. view_after_step d past client x (client_view d past client) ≡ fold_calls v calls)
     (λ s. (start-idle d past client x (client_view d past client) s).0)
     (λ u. used-view d past client x (client_view d past client) h.1 u
     ∙ ap (λ (w : View). view_after_answer (view_after_events w (taken_events call.answer.events)) x call.answer.reply call.answer.cells) rest
@@ -171,12 +180,15 @@ took-since d (x ∷ past) client h =
     let E : List Entry = taken_by d past client x in
     let B : List Taken = map taken_of (taken_at_start d past client) in
     let C : List Call = calls_since d past client in
-    since-step d past client x (λ v taken calls. map taken_of (T ++ E) ≡ map taken_of taken ++ taken_by_calls calls)
+    since-step d past client x
+    (λ v taken calls. map taken_of (T ++ E) ≡ map taken_of taken ++ taken_by_calls calls)
     (λ s. ap (λ (es : List Entry). map taken_of (T ++ es)) (start-idle d past client x (first_view d) s).1 ∙ ap (λ (es : List Entry). map taken_of es) (append-nil T) ∙ sym (append-nil (map taken_of T)))
-    (λ u. map-append taken_of T E ∙ ap (λ (ts : List Taken). ts ++ map taken_of E) (took-since d past client h.0)
+    (λ u. map-append taken_of T E
+    ∙ ap (λ (ts : List Taken). ts ++ map taken_of E) (took-since d past client h.0)
     ∙ append_assoc B (taken_by_calls C) (map taken_of E)
     ∙ ap (λ (ts : List Taken). B ++ (taken_by_calls C ++ ts)) (used-taken d past client x h.1 u)
-    ∙ ap (λ (ts : List Taken). B ++ ts) (sym (taken_by_calls-push C (record { step = x; answer = answer d past x }))))
+    ∙ ap (λ (ts : List Taken). B ++ ts)
+    (sym (taken_by_calls-push C (record { step = x; answer = answer d past x }))))
     (λ u. ap (λ (es : List Entry). map taken_of (T ++ es)) (idle-taken d past client x u) ∙ ap (λ (es : List Entry). map taken_of es) (append-nil T) ∙ took-since d past client h.0)
 
 pub length-took : (d : Description) (past : List Step) (client : ℕ) → IsHistory d past → length (took d past client) ≡ length (taken_at_start d past client) + length (taken_by_calls (calls_since d past client))
@@ -202,8 +214,11 @@ upto-before v (c ∷ calls) call j h =
     let next : View = view_after_answer (view_after_events v (taken_events c.answer.events)) c.step c.answer.reply c.answer.cells in
     let here : View = view_after_events v (taken_events (take (suc j) c.answer.events)) in
     elim (cases_lt j n) [
-      | inl below ↦ cond-true (nat_lt j n) here (view_upto next (calls ++ call ∷ []) (j - n)) (lt-ltb j n below) ∙ sym (cond-true (nat_lt j n) here (view_upto next calls (j - n)) (lt-ltb j n below))
-      | inr above ↦ ap (λ (w : View). if nat_lt j n then here else w) (upto-before next calls call (j - n) (omega (arith, h, above, length-append c.answer.events (taken_by_calls calls))))
+      | inl below ↦ cond-true (nat_lt j n) here (view_upto next (calls ++ call ∷ []) (j - n))
+      (lt-ltb j n below) ∙ sym (cond-true (nat_lt j n) here (view_upto next calls (j - n)) (lt-ltb j n below))
+      | inr above ↦ ap (λ (w : View). if nat_lt j n then here else w)
+      (upto-before next calls call (j - n)
+      (omega (arith, h, above, length-append c.answer.events (taken_by_calls calls))))
     ]
 
 upto-last : (v : View) (calls : List Call) (call : Call) (j : ℕ) → length (taken_by_calls calls) ≤ j → j < length (taken_by_calls calls) + length call.answer.events
@@ -252,8 +267,11 @@ view_at-since d (x ∷ past) client j at h k is =
     let C : List Call = calls_since d past client in
     let v : View = view_at_start d past client in
     let n : ℕ = suc (length B + j) - length (took d past client) in
-    let long : length (took d past client) ≡ length B + length (taken_by_calls C) = length-took d past client h.0 in
-    since-step d past client x (λ w taken calls. j < length (taken_by_calls calls) → slice_get (read_entries d (x ∷ past) client) (length taken + j) ≡ Some at → view_at d client at ≡ view_upto w calls j)
+    let long : length (took d past client) ≡ length B + length (taken_by_calls C) =
+    length-took d past client h.0 in
+    since-step d past client x
+    (λ w taken calls. j < length (taken_by_calls calls) → slice_get (read_entries d (x ∷ past) client)
+    (length taken + j) ≡ Some at → view_at d client at ≡ view_upto w calls j)
     (λ s below found. absurd (omega (arith, below)))
     (λ u below found. elim (cases_lt j (length (taken_by_calls C))) [
       | inl before ↦ view_at-since d past client j at h.0 before (sym (entry-before (eaten d) d past client (length B + j) x (omega (arith, long, before))) ∙ found) ∙ sym (upto-before v C call j before)
@@ -331,7 +349,8 @@ accepted-takes d past (Read client count) h = absurd (true≢false h)
 accepted-takes d past _ h = refl
 
 query-takes : (d : Description) (past : List Step) (x : Step) (given : Answer) → is_read x ≡ false → IsAnswer d past x given → given.events ≡ []
-query-takes d past x given h are = answered-as d past x given (λ a. a.events ≡ []) are (accepted-takes d past x h) (λ reply off. refl)
+query-takes d past x given h are =
+    answered-as d past x given (λ a. a.events ≡ []) are (accepted-takes d past x h) (λ reply off. refl)
 
 -- a query takes nothing
 pub no_read-takes : (d : Description) (past : List Step) (x : Step) → is_read x ≡ false → (answer d past x).events ≡ []
@@ -340,7 +359,8 @@ no_read-takes d past x h = query-takes d past x (answer d past x) h (inl refl)
 none-takes : (d : Description) (asked : List Call) → AreAnswered d asked → Each IsNoRead (steps_of asked) → NoneTakes asked
 unfolding AreAnswered
 none-takes d [] are no_reads = tt
-none-takes d (call ∷ asked) are no_reads = (query-takes d are.0 call.step call.answer no_reads.0 are.1, none-takes d asked are.2 no_reads.1)
+none-takes d (call ∷ asked) are no_reads =
+    (query-takes d are.0 call.step call.answer no_reads.0 are.1, none-takes d asked are.2 no_reads.1)
 
 -- each call since the start was accepted, and answered as the one-thread device answers it
 pub accepted-accepts : (d : Description) (past : List Step) (x : Step) → is_accepted (accepted d past x).reply ≡ true
@@ -374,7 +394,9 @@ good-first d (c ∷ calls) more h =
 -- the calls of a start's queries took nothing
 none-asked : (d : Description) (past : List Step) (client : ℕ) (asked reads : List Call) → IsHistory d past → calls_since d past client ≡ asked ++ reads → steps_of asked ≡ queries d client → NoneTakes asked
 none-asked d past client asked reads h since steps =
-    none-takes d asked (good-first d asked reads (subst (λ (cs : List Call). AreAnswered d cs × AreAccepted cs) since (since-good d past client h))).0
+    none-takes d asked
+    (good-first d asked reads
+    (subst (λ (cs : List Call). AreAnswered d cs × AreAccepted cs) since (since-good d past client h))).0
     (subst (λ (xs : List Step). Each IsNoRead xs) (sym steps) (no_read-queries d client))
 
 -- The view at event j of what came behind the queries, which are all of a start.
@@ -386,14 +408,17 @@ view_at-behind d past client j asked reads at h since steps are below is =
     let within : j < length (taken_by_calls (calls_since d past client)) = omega (arith, below, ap (λ (ts : List Taken). length ts) all, length-append (taken_by_calls asked) (taken_by_calls reads)) in
     view_at-since d past client j at h within is
     ∙ ap (λ (cs : List Call). view_upto (view_at_start d past client) cs j) since
-    ∙ upto-asked (view_at_start d past client) asked reads j (none-asked d past client asked reads h since steps)
+    ∙ upto-asked (view_at_start d past client) asked reads j
+    (none-asked d past client asked reads h since steps)
     ∙ upto-reads (view_after_answers (view_at_start d past client) asked) reads j are below
 
 -- what the client took since its start, where all queries came first
 pub taken-behind : (d : Description) (past : List Step) (client : ℕ) (asked reads : List Call) → IsHistory d past → calls_since d past client ≡ asked ++ reads → steps_of asked ≡ queries d client → taken_by_calls (calls_since d past client) ≡ taken_by_calls reads
 taken-behind d past client asked reads h since steps =
-    ap (λ (cs : List Call). taken_by_calls cs) since ∙ flat_map-append (λ (c : Call). c.answer.events) asked reads
-    ∙ ap (λ (ts : List Taken). ts ++ taken_by_calls reads) (none-taken asked (none-asked d past client asked reads h since steps))
+    ap (λ (cs : List Call). taken_by_calls cs) since
+    ∙ flat_map-append (λ (c : Call). c.answer.events) asked reads
+    ∙ ap (λ (ts : List Taken). ts ++ taken_by_calls reads)
+    (none-taken asked (none-asked d past client asked reads h since steps))
   where
     none-taken : (calls : List Call) → NoneTakes calls → taken_by_calls calls ≡ []
     none-taken [] k = refl
@@ -404,4 +429,5 @@ unfolding view_at_start
 sized-at-start d [] client = IsSizedFor-first_view d
 sized-at-start d (x ∷ past) client =
     since-step d past client x (λ v taken calls. IsSizedFor d.slots v)
-    (λ s. client_view-sized d past client) (λ u. sized-at-start d past client) (λ u. sized-at-start d past client)
+    (λ s. client_view-sized d past client) (λ u. sized-at-start d past client)
+    (λ u. sized-at-start d past client)

@@ -18,8 +18,7 @@ use Rattle.inp_recon.proofs.Sizes.{IsSizedFor-after_events}
 use Rattle.inp_reader.specs.Synthesis.{where_below, with_report, to_slot, in_slots, bit_event, bit_changes, bits_differ_at, value_at, differs_at, axis_event, axis_changes, class_changes, is_replaced, lift, lifts, changes_in, is_changed, cell_changes, slot_changes, synth}
 use Rattle.inp_reader.specs.Laws.{AreOfOneDevice}
 use Rattle.inp_reader.proofs.SynthesisedEvents.{report, where_below-more}
-use Rattle.inp_reader.proofs.Classes.{tells_ints}
-use Rattle.inp_reader.proofs.Slots.{slots-of, changes_in-places}
+use Rattle.inp_reader.proofs.Classes.{tells_ints, slots-of, changes_in-places}
 use Rattle.std.specs.Prelude.{slice_index_or}
 use Rattle.inp_bits.specs.Bits.{bits_differ}
 use Rattle.inp_model.specs.Description.{Description, supports, is_multi_touch_code}
@@ -30,15 +29,23 @@ use Rattle.inp_reader.specs.Spare.{IsSpare}
 -- ---- how many numbers pass a test
 
 -- the numbers below a greater bound are those below the first, and more
-where_below-add : (n more : ℕ) (test : ℕ → Bool) → where_below (n + more) test ≡ where_below n test ++ filter test (range_with_len n more)
-where_below-add n more test = ap (λ (xs : List ℕ). filter test xs) (range-append 0 n more) ∙ filter-append test (range_with_len 0 n) (range_with_len (0 + n) more) ∙ ap (λ (k : ℕ). where_below n test ++ filter test (range_with_len k more)) (zero-add n)
+where_below-add : (n more : ℕ) (test : ℕ → Bool)
+    → where_below (n + more) test ≡ where_below n test ++ filter test (range_with_len n more)
+where_below-add n more test =
+    ap (λ (xs : List ℕ). filter test xs) (range-append 0 n more)
+    ∙ filter-append test (range_with_len 0 n) (range_with_len (0 + n) more)
+    ∙ ap (λ (k : ℕ). where_below n test ++ filter test (range_with_len k more)) (zero-add n)
 
 length-passing : (test : ℕ → Bool) (first n : ℕ) → length (filter test (range_with_len first n)) ≤ n
-length-passing test first n = omega (arith, length-filter test (range_with_len first n), count_by-le-length test (range_with_len first n), length-range_with_len first n)
+length-passing test first n =
+    omega (arith, length-filter test (range_with_len first n), count_by-le-length test
+    (range_with_len first n), length-range_with_len first n)
 
 -- so many more numbers
 length-where_below_add : (n more : ℕ) (test : ℕ → Bool) → length (where_below (n + more) test) ≤ length (where_below n test) + more
-length-where_below_add n more test = omega (arith, ap length (where_below-add n more test), length-append (where_below n test) (filter test (range_with_len n more)), length-passing test n more)
+length-where_below_add n more test =
+    omega (arith, ap length (where_below-add n more test), length-append (where_below n test)
+    (filter test (range_with_len n more)), length-passing test n more)
 
 length-where_below : (n : ℕ) (test : ℕ → Bool) → length (where_below n test) ≤ n
 length-where_below n test = length-passing test 0 n
@@ -47,7 +54,9 @@ length-where_below n test = length-passing test 0 n
 pub length-where_below_least : (n m : ℕ) (test : ℕ → Bool) → n ≤ m → length (where_below n test) ≤ length (where_below m test)
 length-where_below_least n m test le =
     let e : n + (m - n) ≡ m = omega (arith, le) in
-    omega (arith, ap (λ (k : ℕ). length (where_below k test)) e, ap length (where_below-add n (m - n) test), length-append (where_below n test) (filter test (range_with_len n (m - n))))
+    omega (arith, ap (λ (k : ℕ). length (where_below k test)) e, ap length
+    (where_below-add n (m - n) test), length-append (where_below n test)
+    (filter test (range_with_len n (m - n))))
 
 -- fewer pass a test that only those pass that pass another one
 pub length-where_below_fewer : (n : ℕ) (a b : ℕ → Bool) → ((k : ℕ) → k < n → a k ≡ true → b k ≡ true) → length (where_below n a) ≤ length (where_below n b)
@@ -107,7 +116,9 @@ length-axis_changes old new h = length-axis_changes_by 47 15 2 old new (λ k l m
 -- ---- slots
 
 length-to_slot : (from to : ℤ) → length (to_slot from to) ≤ 1
-length-to_slot from to = cond_both (int_eq from to) [] (slot_event to ∷ []) (λ (es : List Event). length es ≤ 1) (λ _. omega arith) (λ _. omega arith)
+length-to_slot from to =
+    cond_both (int_eq from to) [] (slot_event to ∷ []) (λ (es : List Event). length es ≤ 1) (λ _. omega arith)
+    (λ _. omega arith)
 
 length-in_slots : (most : ℕ) (f : ℕ → List Event) (slots : List ℕ) (current : ℤ) → ((k : ℕ) → length (f k) ≤ most) → length (in_slots f slots current) ≤ (most + 1) * length slots
 length-in_slots most f [] current h = omega arith
@@ -151,7 +162,8 @@ length-with_report_most [] = omega arith
 length-with_report_most (e ∷ es) = omega (arith, length-append (e ∷ es) (report ∷ []))
 
 -- where so many axes change
-length-class_changes : (most : ℕ) (old new : View) → length (axis_changes old.axes new.axes) ≤ most → length (class_changes old new) ≤ 896 + most
+length-class_changes : (most : ℕ) (old new : View) → length (axis_changes old.axes new.axes) ≤ most
+    → length (class_changes old new) ≤ 896 + most
 length-class_changes most old new few =
     omega (arith, length-classes old new, length-bit_changes EV_KEY 768 old.keys new.keys, length-bit_changes EV_LED 64 old.leds new.leds, length-bit_changes EV_SW 64 old.switches new.switches, few)
 
@@ -173,7 +185,10 @@ unfolding synth
 length-synth slots old new h =
     let mid : View = view_after_events old (lifts old new) in
     let sized : IsSizedFor slots mid = IsSizedFor-after_events slots old (lifts old new) h.old_sized in
-    length-groups slots 945 (lifts old new) (class_changes old new) (slot_changes mid new) (length-lifts slots old new h.old_sized.cells) (length-class_changes 49 old new (length-axis_changes old.axes new.axes h.axes)) (length-slot_changes slots mid new sized.cells)
+    length-groups slots 945 (lifts old new) (class_changes old new) (slot_changes mid new)
+    (length-lifts slots old new h.old_sized.cells)
+    (length-class_changes 49 old new (length-axis_changes old.axes new.axes h.axes))
+    (length-slot_changes slots mid new sized.cells)
 
 -- the same where nothing is known of the axes whose values belong to slots
 pub length-synth_sized : (slots : ℕ) (old new : View) → IsSizedFor slots old → length (synth old new) ≤ 963 + 17 * slots
@@ -181,7 +196,12 @@ unfolding synth
 length-synth_sized slots old new h =
     let mid : View = view_after_events old (lifts old new) in
     let sized : IsSizedFor slots mid = IsSizedFor-after_events slots old (lifts old new) h in
-    length-groups slots 960 (lifts old new) (class_changes old new) (slot_changes mid new) (length-lifts slots old new h.cells) (length-class_changes 64 old new (omega (arith, length-map (where_below 64 (differs_at old.axes new.axes)) (λ code. axis_event new.axes code code), length-where_below 64 (differs_at old.axes new.axes)))) (length-slot_changes slots mid new sized.cells)
+    length-groups slots 960 (lifts old new) (class_changes old new) (slot_changes mid new)
+    (length-lifts slots old new h.cells)
+    (length-class_changes 64 old new
+    (omega (arith, length-map (where_below 64 (differs_at old.axes new.axes))
+    (λ code. axis_event new.axes code code), length-where_below 64 (differs_at old.axes new.axes))))
+    (length-slot_changes slots mid new sized.cells)
 
 -- ---- of a device, as many as it has codes
 

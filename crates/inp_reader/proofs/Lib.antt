@@ -7,7 +7,6 @@ pub mod Axes
 pub mod SynthesisedEvents
 pub mod Puts
 pub mod Classes
-pub mod Slots
 pub mod Counts
 pub mod UnsetSlotAxes
 pub mod SynthesisedViews
@@ -22,7 +21,6 @@ pub mod Supported
 pub mod SpareAgrees
 pub mod AgreedViews
 pub mod TalksKeepSpare
-pub mod RefusedStarts
 pub mod StandsByCalls
 pub mod ClientViews
 pub mod ReadCounts

@@ -1,4 +1,5 @@
--- Values of one list that are put into another one, index by index, and the part of a view that events set so.
+-- Values of one list that are put into another one, index by index, and the part of a view that events set
+-- so.
 use Rattle.std.proofs.Common.{◌≡◌, ℕ, zero, suc, ◌+◌, ◌<◌, ◌≤◌, Bool, true, false, cond, List, [], ◌∷◌, ◌++◌, length, take, drop, get_or, set, refl, sym, ap, ◌∙◌, subst, arith, append-nil, append_assoc, add-one, length-append, length-drop, map}
 use Rattle.std.proofs.lemmas.List.{drop_more, take_more, set_at, get_or_at, length-take-le, drop_all, take_all, get_or-set_same, length-set}
 use Rattle.inp_recon.proofs.Each.{Each, Each-append}

@@ -20,14 +20,16 @@ use Rattle.inp_recon.proofs.ViewSteps.{length-rows}
 -- Any answer
 
 -- an answer is that to an accepted step, or a reply alone that refuses it
-pub answered-as : (d : Description) (past : List Step) (x : Step) (given : Answer) (P : Answer → Type 0) → IsAnswer d past x given
+pub answered-as : (d : Description) (past : List Step) (x : Step) (given : Answer) (P : Answer → Type 0)
+    → IsAnswer d past x given
     → P (accepted d past x) → ((reply : Reply) → is_accepted reply ≡ false → P (alone reply)) → P given
 answered-as d past x given P (inl e) accepts refuses = subst P (sym e) (by (refused d past x) refl)
   where
     by : (o : Option Reply) → refused d past x ≡ o → P (answer_by o (accepted d past x))
     by None h = accepts
     by (Some reply) h = refuses reply (refused-not_accepted d past x reply h)
-answered-as d past x given P (inr l) accepts refuses = subst P (sym l.2) (refuses (Refused (length past) NoMemory) refl)
+answered-as d past x given P (inr l) accepts refuses =
+    subst P (sym l.2) (refuses (Refused (length past) NoMemory) refl)
 
 -- All values of all slots
 
@@ -43,7 +45,8 @@ not_accepted_cells _ front buffer cells h = refl
 
 told_cells : (d : Description) (past : List Step) (client : ℕ) (given : Answer) (cells own : List ℤ) → IsAnswer d past (SyncSlots client) given → length own ≡ 14 * d.slots → cells_after_reply given.reply (written given.cells cells) own ≡ cells_after_reply given.reply given.cells own
 told_cells d past client given cells own are fits =
-    answered-as d past (SyncSlots client) given (λ a. cells_after_reply a.reply (written a.cells cells) own ≡ cells_after_reply a.reply a.cells own) are
+    answered-as d past (SyncSlots client) given
+    (λ a. cells_after_reply a.reply (written a.cells cells) own ≡ cells_after_reply a.reply a.cells own) are
     (take-written (rows d (raw d past)) cells (length own) (length-rows d (raw d past) ∙ sym fits))
     (λ reply off. not_accepted_cells reply (written [] cells) [] own off)
 

@@ -1,4 +1,5 @@
--- The first events of a queue that are handed out in one go, what is left behind them, and what the reader is then.
+-- The first events of a queue that are handed out in one go, what is left behind them, and what the reader is
+-- then.
 use Rattle.std.proofs.Common.{◌≡◌, ℕ, zero, suc, ◌+◌, ◌-◌, ◌<◌, ◌≤◌, List, [], ◌∷◌, ◌++◌, length, map, take, drop, get_or, Bool, true, false, ◌||◌, if◌then◌else◌, refl, sym, ap, subst, ◌∙◌, arith, append-nil, append_assoc, length-append, add-one}
 use Rattle.std.proofs.Math.Bool.{or-false}
 use Rattle.std.proofs.Math.Seq.{drop-cons, drop-length}
@@ -197,5 +198,8 @@ stands-run d past most r s =
     record {
       history = s.history;
       opened = s.opened;
-      in_step = λ e. in-step-handed d past r run (drop (length run) r.queue) (if has_loss run then Needed else r.phase) (s.in_step (not_lost (has_loss run) r.phase e)) (sym (queue-run most r));
+      in_step =
+          λ e. in-step-handed d past r run (drop (length run) r.queue)
+          (if has_loss run then Needed else r.phase) (s.in_step (not_lost (has_loss run) r.phase e))
+          (sym (queue-run most r));
     }

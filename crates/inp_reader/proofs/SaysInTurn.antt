@@ -46,18 +46,23 @@ says-then before between after old mid new talk next a b s t = record {
 -- steps that are accepted, and then others
 pub says-each : (before between after : EvdevView) (old mid new : List CallMade) (xs ys : List Step) (view asked : View) (result : Result View Reply) → Says before between old mid (ask_each xs view) (Ok asked) → Says between after mid new (ask_each ys asked) result → Says before after old new (ask_each (xs ++ ys) view) result
 says-each before between after old mid new xs ys view asked result s t =
-    subst (λ (talk : Talk (Result View Reply)). Says before after old new talk result) (ask_each-append xs ys view)
+    subst (λ (talk : Talk (Result View Reply)). Says before after old new talk result)
+    (ask_each-append xs ys view)
     (says-then before between after old mid new (ask_each xs view) (ask_on ys) (Ok asked) result s t)
 
 -- steps of which one is refused: the others are not asked for
 pub says-stop : (before after : EvdevView) (old new : List CallMade) (xs ys : List Step) (view : View) (stop : Reply) → Says before after old new (ask_each xs view) (Err stop) → Says before after old new (ask_each (xs ++ ys) view) (Err stop)
 says-stop before after old new xs ys view stop s =
-    subst (λ (talk : Talk (Result View Reply)). Says before after old new talk (Err stop)) (ask_each-append xs ys view)
-    (says-then before after after old new new (ask_each xs view) (ask_on ys) (Err stop) (Err stop) s (says-nothing after new (finish (Err stop)) (Err stop) refl))
+    subst (λ (talk : Talk (Result View Reply)). Says before after old new talk (Err stop))
+    (ask_each-append xs ys view)
+    (says-then before after after old new new (ask_each xs view) (ask_on ys) (Err stop) (Err stop) s
+    (says-nothing after new (finish (Err stop)) (Err stop) refl))
 
 -- one call, after which nothing more is asked
-says-one : {A : Type 0} (before after : EvdevView) (old new : List CallMade) (x : Step) (answer : Answer) (rest : Answer → Talk A) (result : A)
-    → IsCall before after (record { step = x; answer = answer }) → new ≡ old ++ kept_call x answer.reply → rest answer ≡ finish result
+says-one : {A : Type 0} (before after : EvdevView) (old new : List CallMade) (x : Step) (answer : Answer)
+    (rest : Answer → Talk A) (result : A)
+    → IsCall before after (record { step = x; answer = answer }) → new ≡ old ++ kept_call x answer.reply
+    → rest answer ≡ finish result
     → Says before after old new (ask x rest) result
 unfolding LeadsTo AreCalls
 says-one before after old new x answer rest result call kept ended = record {
@@ -191,8 +196,10 @@ says-queued told old new r result h kept handed =
 -- Synchronising
 
 -- and what follows it
-pub says-synchronised : (before between after : EvdevView) (old mid new : List CallMade) (talk : Talk (Result View Reply))
-    (rest : Talk (Next × Reading)) (mode : Mode) (r : Reading) (asked : Result View Reply) (result : Next × Reading)
+pub says-synchronised : (before between after : EvdevView) (old mid new : List CallMade)
+    (talk : Talk (Result View Reply))
+    (rest : Talk (Next × Reading)) (mode : Mode) (r : Reading) (asked : Result View Reply)
+        (result : Next × Reading)
     → Says before between old mid talk asked → rest ≡ talk_after_sync mode r asked → Says between after mid new rest result
     → Says before after old new (and_then talk (talk_after_sync mode r)) result
 says-synchronised before between after old mid new talk rest mode r asked result h is k =
@@ -202,10 +209,12 @@ says-synchronised before between after old mid new talk rest mode r asked result
 -- Starting
 
 -- the queries of a start
-pub says-begun : (before after : EvdevView) (old new : List CallMade) (xs : List Step) (client ring : ℕ) (r : Reading)
+pub says-begun : (before after : EvdevView) (old new : List CallMade) (xs : List Step) (client ring : ℕ)
+    (r : Reading)
     (asked : Result View Reply) (result : Started × Reading)
     → Says before after old new (ask_each xs r.view) asked → after_queries client ring r asked ≡ result
-    → Says before after old new (and_then (ask_each xs r.view) (λ o. finish (after_queries client ring r o))) result
+    → Says before after old new
+        (and_then (ask_each xs r.view) (λ o. finish (after_queries client ring r o))) result
 says-begun before after old new xs client ring r asked result h is =
     let next : Result View Reply → Talk (Started × Reading) = λ o. finish (after_queries client ring r o) in
     says-then before after after old new new (ask_each xs r.view) next asked result h

@@ -40,7 +40,8 @@ use Rattle.inp_recon.proofs.ViewSteps.{length-rows}
 -- which event was handed out last
 
 -- all that it read, by what it handed out
-read-so-far : (d : Description) (past : List Step) (r : Reading) (t : Taken) (h : IsHandedOut d past r t) → taken_by_calls h.in_step.reads ≡ (h.before ++ t ∷ []) ++ r.queue
+read-so-far : (d : Description) (past : List Step) (r : Reading) (t : Taken) (h : IsHandedOut d past r t)
+    → taken_by_calls h.in_step.reads ≡ (h.before ++ t ∷ []) ++ r.queue
 read-so-far d past r t h = h.in_step.taken ∙ ap (λ (ts : List Taken). ts ++ r.queue) h.handed
 
 index-is : (d : Description) (past : List Step) (r : Reading) (t : Taken) (h : IsHandedOut d past r t) → IsHistory d past → index_handed_out d past r ≡ length (taken_at_start d past r.client) + length h.before
@@ -61,17 +62,23 @@ pub handed-is-taken : (d : Description) (past : List Step) (r : Reading) (t : Ta
 handed-is-taken d past r t h history =
     let B : List Taken = map taken_of (taken_at_start d past r.client) in
     let all : map taken_of (took d past r.client) ≡ B ++ ((h.before ++ t ∷ []) ++ r.queue) =
-    took-since d past r.client history ∙ ap (λ (ts : List Taken). B ++ ts) (taken-behind d past r.client h.in_step.asked h.in_step.reads history h.in_step.calls h.in_step.queries ∙ read-so-far d past r t h) in
+    took-since d past r.client history
+    ∙ ap (λ (ts : List Taken). B ++ ts)
+    (taken-behind d past r.client h.in_step.asked h.in_step.reads history h.in_step.calls h.in_step.queries
+    ∙ read-so-far d past r t h) in
     ap (λ (ts : List Taken). slice_get ts (index_handed_out d past r)) all
     ∙ at-it B h.before r.queue t (index_handed_out d past r) (index-is d past r t h history ∙ ap (λ (n : ℕ). n + length h.before) (sym (length-map (taken_at_start d past r.client) taken_of)))
 
 -- the client's view then: the same answers and events, from the view at its start
 view-then : (d : Description) (past : List Step) (r : Reading) (t : Taken) (at : ReadEntry) (h : IsHandedOut d past r t) → IsHistory d past → slice_get (read_entries d past r.client) (index_handed_out d past r) ≡ Some at
-    → view_at d r.client at ≡ view_after_events (view_after_answers (view_at_start d past r.client) h.in_step.asked) (taken_events h.in_step.handed)
+    → view_at d r.client at
+    ≡ view_after_events (view_after_answers (view_at_start d past r.client) h.in_step.asked)
+    (taken_events h.in_step.handed)
 view-then d past r t at h history is =
     let i : IsInStep d past r = h.in_step in
     let j : ℕ = length h.before in
-    let front : length i.handed ≡ suc j = ap (λ (ts : List Taken). length ts) h.handed ∙ length-append h.before (t ∷ []) ∙ omega arith in
+    let front : length i.handed ≡ suc j =
+    ap (λ (ts : List Taken). length ts) h.handed ∙ length-append h.before (t ∷ []) ∙ omega arith in
     let below : j < length (taken_by_calls i.reads) = omega (arith, front, ap (λ (ts : List Taken). length ts) i.taken, length-append i.handed r.queue) in
     let first : take (suc j) (taken_by_calls i.reads) ≡ i.handed = ap (λ (ts : List Taken). take (suc j) ts) i.taken ∙ take_at i.handed r.queue (suc j) front in
     view_at-behind d past r.client j i.asked i.reads at history i.calls i.queries i.reads_only below
@@ -108,13 +115,17 @@ agree-event which v w e a = record {
   leds = λ is h. ap (λ (xs : List Bool). bits_after_event EV_LED xs e) (a.leds is h);
   axes = λ code is h. elim (cases_Bool (nat_eq e.kind EV_ABS && not (is_multi_touch e))) [
     | inl sets ↦
-        (ap (λ (xs : List ℤ). slice_index_or xs code (pos 0)) (cond-true _ (with_value_at 64 v.axes e.code e.value) v.axes sets)
+        (ap (λ (xs : List ℤ). slice_index_or xs code (pos 0))
+        (cond-true _ (with_value_at 64 v.axes e.code e.value) v.axes sets)
         ∙ set-in-both v.axes w.axes e.code code e.value a.left_long a.right_long (λ other. a.axes code is h)
-        ∙ sym (ap (λ (xs : List ℤ). slice_index_or xs code (pos 0)) (cond-true _ (with_value_at 64 w.axes e.code e.value) w.axes sets)))
+        ∙ sym (ap (λ (xs : List ℤ). slice_index_or xs code (pos 0))
+        (cond-true _ (with_value_at 64 w.axes e.code e.value) w.axes sets)))
     | inr stays ↦
-        (ap (λ (xs : List ℤ). slice_index_or xs code (pos 0)) (cond-false _ (with_value_at 64 v.axes e.code e.value) v.axes stays)
+        (ap (λ (xs : List ℤ). slice_index_or xs code (pos 0))
+        (cond-false _ (with_value_at 64 v.axes e.code e.value) v.axes stays)
         ∙ a.axes code is h
-        ∙ sym (ap (λ (xs : List ℤ). slice_index_or xs code (pos 0)) (cond-false _ (with_value_at 64 w.axes e.code e.value) w.axes stays)))
+        ∙ sym (ap (λ (xs : List ℤ). slice_index_or xs code (pos 0))
+        (cond-false _ (with_value_at 64 w.axes e.code e.value) w.axes stays)))
   ];
   slot = λ is h. ap (λ (s : ℤ). slot_after_event s e) (a.slot is h);
   cells = λ is h. ap (λ (xs : List ℤ). cells_after_event xs v.slot e) (a.cells is h) ∙ ap (λ (s : ℤ). cells_after_event w.cells s e) (a.slot is h);

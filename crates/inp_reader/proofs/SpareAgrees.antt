@@ -11,22 +11,22 @@ use Rattle.inp_model.specs.declared.multi_touch.TheConstants.{ABS_MT_SLOT}
 use Rattle.inp_model.specs.declared.step.Step.{Step}
 use Rattle.inp_model.specs.declared.step.Step.TheVariants.{GetKeys, GetSwitches, GetLeds, GetAxis, SyncSlots}
 use Rattle.inp_model.specs.declared.reply.Reply.{Reply}
-use Rattle.inp_model.specs.declared.reply.Reply.TheVariants.{Axis, Bits}
+use Rattle.inp_model.specs.declared.reply.Reply.TheVariants.{Bits}
 use Rattle.inp_model.specs.RawItem.{RawItem, Occurred, Described}
 use Rattle.inp_model.specs.Raw.{raw}
 use Rattle.inp_model.specs.State.{key_down, turned_on}
 use Rattle.inp_model.specs.Description.{Description, has_kind, has_code, supports, is_multi_touch_code}
-use Rattle.inp_model.specs.Event.{is_repeat, is_set, is_multi_touch}
+use Rattle.inp_model.specs.Event.{is_repeat, is_set}
 use Rattle.inp_model.specs.Reply.{Answer, IsAnswer, accepted, is_accepted, code_on, bitmap_of, bits_answer}
 use Rattle.inp_model.proofs.Descriptions.{get_or-replicate_same}
 use Rattle.inp_recon.proofs.ToldBits.{told_flag}
 use Rattle.inp_recon.specs.declared.view.View.{View}
-use Rattle.inp_recon.specs.View.{bit_in, bits_in, flags_after_reply, key_count, code_count, with_value_at, with_flag, axes_after_event, slot_after_event, keys_after_answer, switches_after_answer, leds_after_answer, axes_after_answer, axes_after_reply, slot_after_answer, first_view, view_after_event, view_after_answer}
+use Rattle.inp_recon.specs.View.{bit_in, bits_in, flags_after_reply, key_count, code_count, with_flag, axes_after_event, slot_after_event, keys_after_answer, switches_after_answer, leds_after_answer, axes_after_answer, slot_after_answer, first_view, view_after_event, view_after_answer}
 use Rattle.inp_recon.proofs.Sizes.{IsSizedFor-first_view, IsSizedFor-after_event, IsSizedFor-after_answer}
 use Rattle.inp_recon.specs.Synchronised.{has_axis}
 use Rattle.inp_reader.proofs.QueryAnswers.{answered-as}
 use Rattle.inp_reader.specs.Spare.{IsSpare, is_event_of}
-use Rattle.inp_reader.proofs.UnsetSlotAxes.{other-stays, sets-plain, has_cells}
+use Rattle.inp_reader.proofs.UnsetSlotAxes.{other-after_reply, other-after_event, has_cells}
 
 -- An event of the device
 
@@ -83,14 +83,9 @@ apart : (d : Description) (code other : ℕ) → has_axis d code ≡ false → h
 apart d code other h k e = true≢false (sym k ∙ ap (λ (n : ℕ). has_axis d n) (sym e) ∙ h)
 
 axis-after_event : (d : Description) (axes : List ℤ) (e : Event) (code : ℕ) → is_event_of d e ≡ true → has_axis d code ≡ false → slice_index_or (axes_after_event axes e) code (pos 0) ≡ slice_index_or axes code (pos 0)
-axis-after_event d axes e code is none =
-    cond_both (nat_eq e.kind EV_ABS && not (is_multi_touch e)) (with_value_at code_count axes e.code e.value) axes
-    (λ (xs : List ℤ). slice_index_or xs code (pos 0) ≡ slice_index_or axes code (pos 0))
-    (λ t.
-    let own = sets-plain e t in
-    let there : is_event_of d (record e { kind = EV_ABS }) ≡ true = of-kind d e EV_ABS (eqb-true e.kind EV_ABS own.0) is in
-    other-stays axes code e.code e.value (apart d code e.code none (axis-supported d e.code e.value there own.1)))
-    (λ _. refl)
+axis-after_event d axes e code is none = other-after_event axes code e (λ abs own.
+    let there : is_event_of d (record e { kind = EV_ABS }) ≡ true = of-kind d e EV_ABS (eqb-true e.kind EV_ABS abs) is in
+    apart d code e.code none (axis-supported d e.code e.value there own))
 
 slot-after_event : (d : Description) (slot : ℤ) (e : Event) → is_event_of d e ≡ true → d.slots ≡ 0 → slot_after_event slot e ≡ slot
 slot-after_event d slot e is none =
@@ -152,9 +147,11 @@ flags_refused count _ flags h = refl
 told_bits : (d : Description) (past : List Step) (x : Step) (kind count code : ℕ) (given : Answer) (flags : List Bool) → accepted d past x ≡ bits_answer d past kind → count ≤ 768 → code_on d (raw d past) kind code ≡ false → IsAnswer d past x given → slice_index_or flags code false ≡ false
     → slice_index_or (flags_after_reply count given.reply flags) code false ≡ false
 told_bits d past x kind count code given flags gives few off are was =
-    let P : Answer → Type 0 = λ a. slice_index_or (flags_after_reply count a.reply flags) code false ≡ false in
+    let P : Answer → Type 0 =
+    λ a. slice_index_or (flags_after_reply count a.reply flags) code false ≡ false in
     answered-as d past x given P are (subst P (sym gives) (told-off count kind d past code few off))
-    (λ reply off. subst (λ (q : List Bool). slice_index_or q code false ≡ false) (sym (flags_refused count reply flags off)) was)
+    (λ reply off. subst (λ (q : List Bool). slice_index_or q code false ≡ false)
+    (sym (flags_refused count reply flags off)) was)
 
 unfoldable pub IsWanted : Description → Step → Type 0
 IsWanted d (GetKeys client) = has_kind d EV_KEY ≡ true
@@ -166,35 +163,43 @@ IsWanted d _ = Unit {0}
 
 -- flags of a kind stay as they are where the device has not the kind, and a code off that it has not
 abbrev StaysOff : Description → ℕ → List Bool → List Bool → Type 0
-StaysOff d kind flags new = (has_kind d kind ≡ false → new ≡ flags) × ((code : ℕ) → supports d kind code ≡ false → slice_index_or flags code false ≡ false → slice_index_or new code false ≡ false)
+StaysOff d kind flags new =
+    (has_kind d kind ≡ false → new ≡ flags) ×
+    ((code : ℕ) → supports d kind code ≡ false → slice_index_or flags code false
+        ≡ false → slice_index_or new code false ≡ false)
 
-keys-answer : (d : Description) (past : List Step) (x : Step) (given : Answer) (keys : List Bool) → IsWanted d x → IsAnswer d past x given → StaysOff d EV_KEY keys (keys_after_answer x given.reply keys)
+keys-answer : (d : Description) (past : List Step) (x : Step) (given : Answer) (keys : List Bool)
+    → IsWanted d x → IsAnswer d past x given → StaysOff d EV_KEY keys (keys_after_answer x given.reply keys)
 unfolding IsWanted
 keys-answer d past (GetKeys client) given keys wanted are =
-    (λ none. absurd (true≢false (sym wanted ∙ none)), λ code none was. told_bits d past (GetKeys client) EV_KEY key_count code given keys refl (omega arith) (never_down d (raw d past) code none) are was)
+    (λ none. absurd (true≢false (sym wanted ∙ none)), λ code none was. told_bits d past
+    (GetKeys client) EV_KEY key_count code given keys refl (omega arith)
+    (never_down d (raw d past) code none) are was)
 keys-answer d past _ given keys wanted are = (λ none. refl, λ code none was. was)
 
-switches-answer : (d : Description) (past : List Step) (x : Step) (given : Answer) (flags : List Bool) → IsWanted d x → IsAnswer d past x given → StaysOff d EV_SW flags (switches_after_answer x given.reply flags)
+switches-answer : (d : Description) (past : List Step) (x : Step) (given : Answer) (flags : List Bool)
+    → IsWanted d x → IsAnswer d past x given
+    → StaysOff d EV_SW flags (switches_after_answer x given.reply flags)
 unfolding IsWanted
 switches-answer d past (GetSwitches client) given flags wanted are =
-    (λ none. absurd (true≢false (sym wanted ∙ none)), λ code none was. told_bits d past (GetSwitches client) EV_SW code_count code given flags refl (omega arith) (never_on d (raw d past) EV_SW code none) are was)
+    (λ none. absurd (true≢false (sym wanted ∙ none)), λ code none was. told_bits d past
+    (GetSwitches client) EV_SW code_count code given flags refl (omega arith)
+    (never_on d (raw d past) EV_SW code none) are was)
 switches-answer d past _ given flags wanted are = (λ none. refl, λ code none was. was)
 
-leds-answer : (d : Description) (past : List Step) (x : Step) (given : Answer) (flags : List Bool) → IsWanted d x → IsAnswer d past x given → StaysOff d EV_LED flags (leds_after_answer x given.reply flags)
+leds-answer : (d : Description) (past : List Step) (x : Step) (given : Answer) (flags : List Bool)
+    → IsWanted d x → IsAnswer d past x given → StaysOff d EV_LED flags (leds_after_answer x given.reply flags)
 unfolding IsWanted
 leds-answer d past (GetLeds client) given flags wanted are =
-    (λ none. absurd (true≢false (sym wanted ∙ none)), λ code none was. told_bits d past (GetLeds client) EV_LED code_count code given flags refl (omega arith) (never_on d (raw d past) EV_LED code none) are was)
+    (λ none. absurd (true≢false (sym wanted ∙ none)), λ code none was. told_bits d past
+    (GetLeds client) EV_LED code_count code given flags refl (omega arith)
+    (never_on d (raw d past) EV_LED code none) are was)
 leds-answer d past _ given flags wanted are = (λ none. refl, λ code none was. was)
-
-axis-after_reply : (axes : List ℤ) (index code : ℕ) (reply : Reply) → (code ≡ index → ⊥) → slice_index_or (axes_after_reply index reply axes) code (pos 0) ≡ slice_index_or axes code (pos 0)
-axis-after_reply axes index code (Axis at info) h =
-    cond_both (is_multi_touch_code index) _ _ (λ x. slice_index_or x code (pos 0) ≡ slice_index_or axes code (pos 0))
-    (λ _. refl) (λ _. other-stays axes code index info.value h)
-axis-after_reply axes index code _ h = refl
 
 spare-axes : (d : Description) (x : Step) (reply : Reply) (axes : List ℤ) (code : ℕ) → IsWanted d x → has_axis d code ≡ false → slice_index_or (axes_after_answer x reply axes) code (pos 0) ≡ slice_index_or axes code (pos 0)
 unfolding IsWanted
-spare-axes d (GetAxis client index) reply axes code wanted none = axis-after_reply axes index code reply (apart d code index none wanted)
+spare-axes d (GetAxis client index) reply axes code wanted none =
+    other-after_reply axes code index reply (λ _. apart d code index none wanted)
 spare-axes d _ reply axes code wanted none = refl
 
 spare-slot : (d : Description) (x : Step) (reply : Reply) (slot : ℤ) → IsWanted d x → d.slots ≡ 0 → slot_after_answer x reply slot ≡ slot

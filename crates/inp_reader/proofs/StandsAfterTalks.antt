@@ -203,10 +203,15 @@ AreReads-append : (reads more : List Call) → AreReads reads → AreReads more 
 AreReads-append [] more h k = k
 AreReads-append (read ∷ reads) more h k = (h.0, AreReads-append reads more h.1 k)
 
--- A reader that was in step is so after more reads, where this run of what it had and read is handed out and the rest is queued.
-pub in-step-on : (d : Description) (past after : List Step) (r : Reading) (more : List Call) (run rest : List Taken) (phase : Phase) (left : List Event)
-    → IsInStep d past r → AreReads more → calls_since d after r.client ≡ calls_since d past r.client ++ more → r.queue ++ taken_by_calls more ≡ run ++ rest
-    → IsInStep d after (record { client = r.client; queue = rest; view = view_after_events r.view (taken_events run); phase = phase; left = left })
+-- A reader that was in step is so after more reads, where this run of what it had and read is handed out and
+-- the rest is queued.
+pub in-step-on : (d : Description) (past after : List Step) (r : Reading) (more : List Call)
+    (run rest : List Taken) (phase : Phase) (left : List Event)
+    → IsInStep d past r → AreReads more → calls_since d after r.client ≡ calls_since d past r.client ++ more
+    → r.queue ++ taken_by_calls more ≡ run ++ rest
+    → IsInStep d after
+        (record { client = r.client; queue = rest; view = view_after_events r.view
+        (taken_events run); phase = phase; left = left })
 in-step-on d past after r more run rest phase left i are since q =
     let begun : View = view_after_answers (first_view d) i.asked in
     record {
@@ -217,21 +222,30 @@ in-step-on d past after r more run rest phase left i are since q =
       queries = i.queries;
       reads_only = AreReads-append i.reads more i.reads_only are;
       taken =
-          flat_map-append (λ (c : Call). c.answer.events) i.reads more ∙ ap (λ (ts : List Taken). ts ++ taken_by_calls more) i.taken
+          flat_map-append (λ (c : Call). c.answer.events) i.reads more
+          ∙ ap (λ (ts : List Taken). ts ++ taken_by_calls more) i.taken
           ∙ append_assoc i.handed r.queue (taken_by_calls more) ∙ ap (λ (ts : List Taken). i.handed ++ ts) q ∙ sym (append_assoc i.handed run rest);
       view =
           ap (λ (v : View). view_after_events v (taken_events run)) i.view
           ∙ sym (view_after_events-append begun (taken_events i.handed) (taken_events run))
-          ∙ ap (λ (es : List Event). view_after_events begun es) (sym (map-append (λ (t : Taken). t.event) i.handed run));
+          ∙ ap (λ (es : List Event). view_after_events begun es)
+          (sym (map-append (λ (t : Taken). t.event) i.handed run));
     }
 
 -- the first events of the queue are handed out
-pub in-step-handed : (d : Description) (past : List Step) (r : Reading) (run rest : List Taken) (phase : Phase) → IsInStep d past r → r.queue ≡ run ++ rest → IsInStep d past (record r { queue = rest; view = view_after_events r.view (taken_events run); phase = phase })
-in-step-handed d past r run rest phase i q = in-step-on d past past r [] run rest phase r.left i tt (sym (append-nil (calls_since d past r.client))) (append-nil r.queue ∙ q)
+pub in-step-handed : (d : Description) (past : List Step) (r : Reading) (run rest : List Taken)
+    (phase : Phase) → IsInStep d past r → r.queue ≡ run ++ rest
+        → IsInStep d past
+            (record r { queue = rest; view = view_after_events r.view (taken_events run); phase = phase })
+in-step-handed d past r run rest phase i q =
+    in-step-on d past past r [] run rest phase r.left i tt (sym (append-nil (calls_since d past r.client)))
+    (append-nil r.queue ∙ q)
 
 handed : (d : Description) (past : List Step) (r : Reading) (taken : Taken) (rest : List Taken) → IsInStep d past r → r.queue ≡ taken ∷ rest → IsHandedOut d past (record r { queue = rest; view = view_after_event r.view taken.event }) taken
 unfolding view_after_events in-step-handed in-step-on
-handed d past r taken rest i q = record { in_step = in-step-handed d past r (taken ∷ []) rest r.phase i q; before = i.handed; handed = refl }
+handed d past r taken rest i q =
+    record { in_step = in-step-handed d past r
+    (taken ∷ []) rest r.phase i q; before = i.handed; handed = refl }
 
 -- what is known of the event that `next` answers
 abbrev pub HandsOut : Description → List Step → Next → Reading → Type 0
@@ -253,7 +267,9 @@ in-step-moved : (d : Description) (past after : List Step) (r : Reading) (phase 
     → IsInStep d past r → calls_since d after r.client ≡ calls_since d past r.client
     → IsInStep d after (record r { phase = phase; left = left })
 unfolding view_after_events
-in-step-moved d past after r phase left i same = in-step-on d past after r [] [] r.queue phase left i tt (same ∙ sym (append-nil (calls_since d past r.client))) (append-nil r.queue)
+in-step-moved d past after r phase left i same =
+    in-step-on d past after r [] [] r.queue phase left i tt
+    (same ∙ sym (append-nil (calls_since d past r.client))) (append-nil r.queue)
 
 -- the same reader, at a past since which nothing was read or asked for
 pub in-step-kept : (d : Description) (past after : List Step) (r : Reading) → IsInStep d past r → calls_since d after r.client ≡ calls_since d past r.client → IsInStep d after r
@@ -263,7 +279,8 @@ in-step-kept d past after r i same = in-step-moved d past after r r.phase r.left
 in-step-read : (d : Description) (past after : List Step) (r : Reading) (call : Call) → IsInStep d past r → r.queue ≡ [] → is_read call.step ≡ true → calls_since d after r.client ≡ calls_since d past r.client ++ call ∷ [] → IsInStep d after (record r { queue = call.answer.events })
 unfolding view_after_events
 in-step-read d past after r call i empty read since =
-    in-step-on d past after r (call ∷ []) [] call.answer.events r.phase r.left i (read, tt) since (ap (λ (ts : List Taken). ts ++ (call.answer.events ++ [])) empty ∙ append-nil call.answer.events)
+    in-step-on d past after r (call ∷ []) [] call.answer.events r.phase r.left i (read, tt) since
+    (ap (λ (ts : List Taken). ts ++ (call.answer.events ++ [])) empty ∙ append-nil call.answer.events)
 
 -- a stop is no event
 stop-hands : (d : Description) (past : List Step) (reply : Reply) (r : Reading) → HandsOut d past (stop_of reply) r
@@ -465,7 +482,8 @@ stands-stopped d past after r call reply opening m (inr o) = absurd (true≢fals
 stands-opened : (d : Description) (past mid after : List Step) (r : Reading) (a : Answer) (at client ring : ℕ)
     (asked : Result View Reply) (calls : List Call) → IsMadeAnew d client r.view
     → MetBy d client past Open a mid → a.reply ≡ Opened at client ring → AreMet d client mid after calls
-    → EndsWith (ask_each (queries d client) r.view) calls asked → IsOpenInStep d after (after_queries client ring r asked).1
+    → EndsWith (ask_each (queries d client) r.view) calls asked
+    → IsOpenInStep d after (after_queries client ring r asked).1
 stands-opened d past mid after r a at client ring asked calls anew met is m ends =
     let before : List Step = met.others ++ past in
     let number : client ≡ opens before = opened-number d before Open a at client ring refl met.exact is in
@@ -479,16 +497,19 @@ stands-opened d past mid after r a at client ring asked calls anew met is m ends
 abbrev StandsOn : Description → ℕ → List Step → Reading → List Step → Started × Reading → Type 0
 StandsOn d client past r after o = o.1.client ≡ client → StoodOrOpened d past r o.0 → IsOpenInStep d after o.1
 
-start-rules : (d : Description) (client : ℕ) (past : List Step) (r : Reading) → ((n : ℕ) → IsMadeAnew d n r.view)
+start-rules : (d : Description) (client : ℕ) (past : List Step) (r : Reading)
+    → ((n : ℕ) → IsMadeAnew d n r.view)
     → StartRules Any (MetBy d client) (StandsOn d client past r) d r past
 unfolding StoodOrOpened
 start-rules d client past r anew = record {
   asks_open = tt;
   opened = λ t a at n ring m is.
-      ends-meet (MetBy d client) (Queried (StandsOn d client past r) n ring r) t (ask_each (queries d n) r.view)
+      ends-meet (MetBy d client) (Queried (StandsOn d client past r) n ring r) t
+      (ask_each (queries d n) r.view)
       (λ u calls asked run ends own stood.
       let same : client ≡ n = sym own ∙ client-of-queried n ring r asked in
-      stands-opened d past t u r a at n ring asked calls (anew n) (subst (λ (k : ℕ). MetBy d k past Open a t) same m) is
+      stands-opened d past t u r a at n ring asked calls (anew n)
+      (subst (λ (k : ℕ). MetBy d k past Open a t) same m) is
       (subst (λ (k : ℕ). AreMet d k t u calls) same (run-met d client t u calls run)) ends);
   refused = λ t a m other own stood.
       stands-stopped d past t r (record { step = Open; answer = a }) a.reply refl

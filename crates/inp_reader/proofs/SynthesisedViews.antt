@@ -1,4 +1,5 @@
--- The views that a reader keeps, and the synthesised events: they lead from the view that it had to the one that it has, and
+-- The views that a reader keeps, and the synthesised events: they lead from the view that it had to the one
+-- that it has, and
 -- each but a report changes the view.
 use Rattle.std.proofs.Common.{◌≡◌, List, [], ◌∷◌, refl, sym, ap, ◌∙◌, subst, ℕ, ◌*◌, ℤ, ◌++◌, length}
 use Rattle.inp_model.specs.declared.event.Event.{Event}
@@ -24,8 +25,7 @@ use Rattle.inp_reader.proofs.UnsetSlotAxes.{IsKeptView-after_event, IsKeptView-a
 use Rattle.inp_reader.specs.Synthesis.{where_below, to_slot, with_report, is_replaced, lifts, is_changed, class_changes, cell_changes, slot_changes, synth}
 use Rattle.inp_reader.proofs.SynthesisedEvents.{last_slot}
 use Rattle.inp_reader.proofs.Puts.{leads-with_report, EachChanges-with_report}
-use Rattle.inp_reader.proofs.Classes.{LeadsTheView, LeadsTheView-behind, leads-classes}
-use Rattle.inp_reader.proofs.Slots.{with_slots, LeadsTheView-to_slot, LeadsTheView-cells, ended, length-ended, LeadsTheView-lifts}
+use Rattle.inp_reader.proofs.Classes.{LeadsTheView, LeadsTheView-behind, leads-classes, with_slots, LeadsTheView-to_slot, LeadsTheView-cells, ended, length-ended, LeadsTheView-lifts}
 
 LeadsTheView-with_report : (v w : View) (es : List Event) → LeadsTheView v w es → LeadsTheView v w (with_report es)
 LeadsTheView-with_report v w es h = record { to = leads-with_report v es ∙ h.to; changes = EachChanges-with_report v es h.changes }

@@ -39,17 +39,21 @@ abbrev pub ask_on : List Step → Result View Reply → Talk (Result View Reply)
 ask_on ys (Ok view) = ask_each ys view
 ask_on ys (Err reply) = finish (Err reply)
 
-ask_on-if : (b : Bool) (ys : List Step) (talk longer : Talk (Result View Reply)) (reply : Reply) → and_then talk (ask_on ys) ≡ longer
-    → and_then (if b then talk else finish (Err reply)) (ask_on ys) ≡ (if b then longer else finish (Err reply))
+ask_on-if : (b : Bool) (ys : List Step) (talk longer : Talk (Result View Reply)) (reply : Reply)
+    → and_then talk (ask_on ys) ≡ longer
+    → and_then (if b then talk else finish (Err reply)) (ask_on ys)
+    ≡ (if b then longer else finish (Err reply))
 ask_on-if true ys talk longer reply h = h
 ask_on-if false ys talk longer reply h = refl
 
-pub ask_each-append : (xs ys : List Step) (view : View) → and_then (ask_each xs view) (ask_on ys) ≡ ask_each (xs ++ ys) view
+pub ask_each-append : (xs ys : List Step) (view : View)
+    → and_then (ask_each xs view) (ask_on ys) ≡ ask_each (xs ++ ys) view
 unfolding ask_each
 ask_each-append [] ys view = refl
 ask_each-append (x ∷ xs) ys view = λ i. ask x (λ a.
     let next : View = view_after_answer view x a.reply a.cells in
-    ask_on-if (is_accepted a.reply) ys (ask_each xs next) (ask_each (xs ++ ys) next) a.reply (ask_each-append xs ys next) i)
+    ask_on-if (is_accepted a.reply) ys (ask_each xs next) (ask_each (xs ++ ys) next) a.reply
+    (ask_each-append xs ys next) i)
 
 -- Calls
 

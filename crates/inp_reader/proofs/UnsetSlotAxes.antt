@@ -16,7 +16,7 @@ use Rattle.inp_model.specs.Raw.{raw}
 use Rattle.inp_model.specs.Run.{Call, place_of}
 use Rattle.inp_model.specs.Reply.{Answer, IsAnswer, is_accepted}
 use Rattle.inp_recon.specs.declared.view.View.{View}
-use Rattle.inp_recon.specs.View.{first_view, view_after_event, view_after_answer, with_value_at, axes_after_reply, axes_after_answer, AreCells, HasCells}
+use Rattle.inp_recon.specs.View.{first_view, view_after_event, view_after_answer, with_value_at, axes_after_event, axes_after_reply, axes_after_answer, AreCells, HasCells}
 use Rattle.inp_recon.proofs.Sizes.{IsSizedFor-first_view, IsSizedFor-after_event, IsSizedFor-after_answer}
 use Rattle.inp_reader.proofs.QueryAnswers.{answered-as}
 use Rattle.inp_reader.specs.Synthesis.{value_at}
@@ -38,21 +38,32 @@ apart : (code other : ℕ) → is_multi_touch_code code ≡ true → is_multi_to
 apart code other h m e = true≢false (sym h ∙ ap is_multi_touch_code e ∙ m)
 
 -- an event that sets an axis sets one that is no slot's
-pub sets-plain : (e : Event) → (eqb e.kind EV_ABS && not (is_multi_touch e)) ≡ true
+sets-plain : (e : Event) → (eqb e.kind EV_ABS && not (is_multi_touch e)) ≡ true
     → (eqb e.kind EV_ABS ≡ true) × (is_multi_touch_code e.code ≡ false)
 sets-plain e t =
     let both = and_parts (eqb e.kind EV_ABS) (not (is_multi_touch e)) t in
-    (both.0, ap (λ (b : Bool). b && is_multi_touch_code e.code) (sym both.0) ∙ not-true (is_multi_touch e) both.1)
+    (both.0, ap (λ (b : Bool). b && is_multi_touch_code e.code) (sym both.0)
+    ∙ not-true (is_multi_touch e) both.1)
 
 -- after an answer
-axis-reply : (axes : List ℤ) (code asked : ℕ) (reply : Reply) → is_multi_touch_code code ≡ true → value_at (axes_after_reply asked reply axes) code ≡ value_at axes code
-axis-reply axes code asked (Axis at info) h =
+-- nor does an answer or an event on another one change it
+pub other-after_reply : (axes : List ℤ) (code asked : ℕ) (reply : Reply)
+    → (is_multi_touch_code asked ≡ false → code ≢ asked) → value_at (axes_after_reply asked reply axes) code ≡ value_at axes code
+other-after_reply axes code asked (Axis at info) h =
     cond_both (is_multi_touch_code asked) _ _ (λ (xs : List ℤ). value_at xs code ≡ value_at axes code)
-    (λ _. refl) (λ m. other-stays axes code asked info.value (apart code asked h m))
-axis-reply axes code asked _ h = refl
+    (λ _. refl) (λ m. other-stays axes code asked info.value (h m))
+other-after_reply axes code asked _ h = refl
+
+pub other-after_event : (axes : List ℤ) (code : ℕ) (e : Event)
+    → (eqb e.kind EV_ABS ≡ true → is_multi_touch_code e.code ≡ false → code ≢ e.code)
+    → value_at (axes_after_event axes e) code ≡ value_at axes code
+other-after_event axes code e h =
+    cond_both (eqb e.kind EV_ABS && not (is_multi_touch e)) (with_value_at 64 axes e.code e.value) axes
+    (λ (xs : List ℤ). value_at xs code ≡ value_at axes code)
+    (λ t. let own = sets-plain e t in other-stays axes code e.code e.value (h own.0 own.1)) (λ _. refl)
 
 axis-answer : (axes : List ℤ) (code : ℕ) (x : Step) (reply : Reply) → is_multi_touch_code code ≡ true → value_at (axes_after_answer x reply axes) code ≡ value_at axes code
-axis-answer axes code (GetAxis client asked) reply h = axis-reply axes code asked reply h
+axis-answer axes code (GetAxis client asked) reply h = other-after_reply axes code asked reply (apart code asked h)
 axis-answer axes code _ reply h = refl
 
 -- ---- a view
@@ -66,10 +77,7 @@ unfolding view_after_event
 IsKeptView-after_event d v e h = record {
   sized = IsSizedFor-after_event d.slots v e h.sized;
   axes = λ code from to.
-      cond_both (eqb e.kind EV_ABS && not (is_multi_touch e)) (with_value_at 64 v.axes e.code e.value) v.axes
-      (λ (xs : List ℤ). value_at xs code ≡ value_at v.axes code)
-      (λ t. other-stays v.axes code e.code e.value (apart code e.code (multi_touch code from to) (sets-plain e t).1)) (λ _. refl)
-      ∙ h.axes code from to;
+      other-after_event v.axes code e (λ _ own. apart code e.code (multi_touch code from to) own) ∙ h.axes code from to;
 }
 
 IsKeptView-after_answer : (d : Description) (v : View) (x : Step) (reply : Reply) (buffer : List ℤ) → HasCells x reply v.cells buffer → IsKeptView d v → IsKeptView d (view_after_answer v x reply buffer)
@@ -87,7 +95,8 @@ refused_cells _ cells buffer h = tt
 
 pub has_cells : (d : Description) (past : List Step) (x : Step) (given : Answer) (cells : List ℤ) → IsAnswer d past x given → length cells ≡ 14 * d.slots → HasCells x given.reply cells given.cells
 has_cells d past (SyncSlots client) given cells are fits =
-    answered-as d past (SyncSlots client) given (λ a. AreCells a.reply cells a.cells) are (omega (arith, fits, length-rows d (raw d past)))
+    answered-as d past (SyncSlots client) given (λ a. AreCells a.reply cells a.cells) are
+    (omega (arith, fits, length-rows d (raw d past)))
     (λ reply off. refused_cells reply cells [] off)
 has_cells d past _ given cells h fits = tt
 

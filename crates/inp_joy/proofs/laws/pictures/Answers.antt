@@ -1,6 +1,6 @@
 -- The laws of startups and pictures.
 use Rattle.std.proofs.Common.{arith}
-use Rattle.inp_joy.proofs.CodeLists.{length-buttons, length-axes}
+use Rattle.inp_joy.proofs.Numbers.{length-buttons, length-axes}
 use Rattle.inp_joy.proofs.Pictures.{device-pictured, startup-pictured, length-startup}
 use Rattle.inp_joy.proofs.Events.{event-pictured}
 use Rattle.inp_joy.proofs.Records.{record-back}

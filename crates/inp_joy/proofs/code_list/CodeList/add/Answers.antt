@@ -1,5 +1,5 @@
 use Rattle.std.proofs.Common.{sym, ◌∙◌, arith, length-append, ◌∷◌, ◌++◌, [], ap, length}
-use Rattle.inp_joy.proofs.CodeLists.{cut-few, cut-full}
+use Rattle.inp_joy.proofs.Numbers.{cut-few, cut-full}
 use Rattle.inp_joy.proofs.code_list.CodeList.add.Goals as goal
 
 pub returns-then-len-lt-CODES_MAX : goal.returns-then-len-lt-CODES_MAX

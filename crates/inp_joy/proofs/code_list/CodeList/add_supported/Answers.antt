@@ -1,5 +1,5 @@
 use Rattle.std.proofs.Common.{◌≤◌, List, ℕ, length, sym, subst, ◌∙◌}
-use Rattle.inp_joy.proofs.CodeLists.{codes-none, codes-more, codes-skip}
+use Rattle.inp_joy.proofs.Numbers.{codes-none, codes-more, codes-skip}
 use Rattle.inp_joy.proofs.code_list.CodeList.add_supported.Goals as goal
 use Rattle.inp_joy.proofs.code_list.CodeList.add_supported.Goals.{then-supports, else-supports}
 

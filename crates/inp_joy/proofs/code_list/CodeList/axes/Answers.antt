@@ -1,6 +1,6 @@
 use Rattle.std.proofs.Common.{List, ℕ, ◌++◌, ◌∙◌, ap, take}
 use Rattle.inp_joy.specs.Codes.{codes_among}
-use Rattle.inp_joy.proofs.CodeLists.{axes-made}
+use Rattle.inp_joy.proofs.Numbers.{axes-made}
 use Rattle.inp_joy.proofs.code_list.CodeList.axes.Goals as goal
 
 pub returns : goal.returns

@@ -1,6 +1,6 @@
 use Rattle.std.proofs.Common.{List, ℕ, ◌++◌, ◌∙◌, ap, take}
 use Rattle.inp_joy.specs.Codes.{codes_among}
-use Rattle.inp_joy.proofs.CodeLists.{buttons-made}
+use Rattle.inp_joy.proofs.Numbers.{buttons-made}
 use Rattle.inp_joy.proofs.code_list.CodeList.buttons.Goals as goal
 
 pub returns : goal.returns

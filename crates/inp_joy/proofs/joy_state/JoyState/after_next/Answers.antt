@@ -3,7 +3,7 @@ use Rattle.std.specs.Prelude.{Option}
 use Rattle.inp_joy.specs.declared.joy_read.JoyRead.{JoyRead}
 use Rattle.inp_joy.specs.Joy.{stop_or_on}
 use Rattle.inp_joy.specs.Kept.{kept_joying}
-use Rattle.inp_joy.proofs.TurnParts.{stopped-other}
+use Rattle.inp_joy.proofs.TurnCases.{stopped-other}
 use Rattle.inp_joy.proofs.joy_state.JoyState.after_next.Goals as goal
 
 pub returns-in-Some : goal.returns-in-Some

@@ -2,7 +2,7 @@ use Rattle.std.proofs.Common.{◌≤◌, ◌+◌, refl, sym, subst, arith}
 use Rattle.inp_joy.specs.declared.joy_state.JoyState.{JoyState}
 use Rattle.inp_joy.specs.Codes.{startup_len}
 use Rattle.inp_joy.specs.Kept.{IsJoyState}
-use Rattle.inp_joy.proofs.CodeLists.{length-buttons, length-axes}
+use Rattle.inp_joy.proofs.Numbers.{length-buttons, length-axes}
 use Rattle.inp_joy.proofs.Pictures.{left-within}
 use Rattle.inp_joy.proofs.joy_state.JoyState.hand_startup.Goals as goal
 

@@ -5,7 +5,7 @@ use Rattle.inp_joy.specs.declared.joy_state.JoyState.{JoyState}
 use Rattle.inp_joy.specs.Joy.{with_reading}
 use Rattle.inp_joy.specs.Kept.{kept_joying, IsJoyState}
 use Rattle.inp_joy.proofs.Nexts.{start-left}
-use Rattle.inp_joy.proofs.TurnParts.{says-started}
+use Rattle.inp_joy.proofs.TurnCases.{says-started}
 use Rattle.inp_joy.proofs.TurnEnds.{start-pictured}
 use Rattle.inp_joy.proofs.joy_state.JoyState.start.Goals as goal
 
@@ -17,7 +17,8 @@ after_start-requires g c = record {
     axes = c.requires.state.axes;
     handed = c.requires.state.handed;
     view =
-        start-kept c.args.self.now.reader.description c.args.self.now.reader.reading _ _ _ _ (c.start-started.result, c.start-started.new.self.reading)
+        start-kept c.args.self.now.reader.description c.args.self.now.reader.reading _ _ _ _
+        (c.start-started.result, c.start-started.new.self.reading)
         c.requires.description c.requires.state.view c.start-started.ensures.says;
   });
 }
@@ -29,7 +30,8 @@ returns-clause-says g c =
     let k = with_reading j c.start-started.new.self.reading in
     let made = ap (λ (s : JoyState). s.made) c.after_start.ensures.rest ∙ c.add_all.ensures.added ∙ ap (λ (ms : List CallMade). ms ++ c.made.result.now) c.clear.ensures.none ∙ c.made.ensures.made in
     rw made
-    (says-started _ _ [] _ d j k (kept_joying c.after_start.new.self) c.start-started.result c.start-started.new.self.reading
+    (says-started _ _ [] _ d j k
+    (kept_joying c.after_start.new.self) c.start-started.result c.start-started.new.self.reading
     c.start-started.ensures.says refl (rw c.start-started.ensures.reader at c.after_start.ensures.joying))
 
 pub returns-clause-state : goal.returns-clause-state
@@ -49,6 +51,7 @@ returns-clause-pictured g c =
     let d = c.args.self.now.reader.description in
     let r = c.start-started.new.self.reading in
     let says = c.start-started.ensures.says in
-    start-pictured d (kept_joying c.args.self.now) (kept_joying c.after_start.new.self) r c.start-started.result
+    start-pictured d (kept_joying c.args.self.now)
+    (kept_joying c.after_start.new.self) r c.start-started.result
     (start-left d c.args.self.now.reader.reading says.calls (c.start-started.result, r) says.talk_ends)
     (rw c.start-started.ensures.reader at c.after_start.ensures.joying) c.requires.pictured

@@ -9,5 +9,7 @@ use Rattle.inp_joy.proofs.joy_state.JoyState.startup_axis.Goals as goal
 
 pub returns-clause-found : goal.returns-clause-found
 returns-clause-found c =
-    record-found startup_axis (λ code. within_16_bits (value_in c.args.self.now.reader.reading.view code)) c.args.self.now.axes (axes c.args.self.now.reader.description) c.args.number c.get-code.result c.cut_axis_of.result c.startup_axis.result c.requires.state.axes c.get-code.ensures.code
+    record-found startup_axis
+    (λ code. within_16_bits (value_in c.args.self.now.reader.reading.view code)) c.args.self.now.axes
+    (axes c.args.self.now.reader.description) c.args.number c.get-code.result c.cut_axis_of.result c.startup_axis.result c.requires.state.axes c.get-code.ensures.code
     (c.cut_axis_of.ensures ∙ ap (λ (v : View). within_16_bits (value_in v c.get-code.result)) c.view.ensures.view) (c.startup_axis.ensures ∙ ap (λ (z : ℤ). startup_axis c.args.number z) (grind (arith, to_z-of_z)))

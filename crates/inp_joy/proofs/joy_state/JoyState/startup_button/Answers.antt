@@ -8,5 +8,6 @@ use Rattle.inp_joy.proofs.joy_state.JoyState.startup_button.Goals as goal
 
 pub returns-clause-found : goal.returns-clause-found
 returns-clause-found c =
-    record-found startup_button (is_down_in c.args.self.now.reader.reading.view) c.args.self.now.buttons (buttons c.args.self.now.reader.description) c.args.number c.get-code.result c.is_down.result c.startup_button.result c.requires.state.buttons c.get-code.ensures.code
+    record-found startup_button (is_down_in c.args.self.now.reader.reading.view) c.args.self.now.buttons
+    (buttons c.args.self.now.reader.description) c.args.number c.get-code.result c.is_down.result c.startup_button.result c.requires.state.buttons c.get-code.ensures.code
     (c.is_down.ensures ∙ ap (λ (v : View). is_down_in v c.get-code.result) c.view.ensures.view) c.startup_button.ensures

@@ -3,7 +3,7 @@ use Rattle.inp_joy.specs.declared.joy_state.JoyState.{JoyState}
 use Rattle.inp_joy.specs.Kept.{kept_joying}
 use Rattle.inp_joy.proofs.ReaderCalls.{calls-weaker}
 use Rattle.inp_joy.proofs.Outcomes.{stop-less, sync-shows}
-use Rattle.inp_joy.proofs.TurnParts.{says-sync_stopped, says-sync_whole}
+use Rattle.inp_joy.proofs.TurnCases.{says-sync_stopped, says-sync_whole}
 use Rattle.inp_joy.proofs.joy_state.JoyState.synchronise.Goals as goal
 
 pub returns-in-Some-clause-says : goal.returns-in-Some-clause-says
@@ -13,8 +13,10 @@ returns-in-Some-clause-says g c =
 pub returns-clause-says : goal.returns-clause-says
 returns-clause-says g c =
     rw (ap (λ (s : JoyState). s.made) c.begin_startup.ensures.rest)
-    (says-sync_whole _ _ _ _ c.args.self.now.reader.description (kept_joying c.args.self.now) (kept_joying c.begin_startup.new.self)
-    c.next-next.result c.next-next.new.self.reader.reading c.next-next.ensures.says (sym c.in_default.ensures) c.begin_startup.ensures.joying)
+    (says-sync_whole _ _ _ _ c.args.self.now.reader.description (kept_joying c.args.self.now)
+    (kept_joying c.begin_startup.new.self)
+    c.next-next.result c.next-next.new.self.reader.reading c.next-next.ensures.says
+    (sym c.in_default.ensures) c.begin_startup.ensures.joying)
 
 pub returns-in-Some-clause-calls : goal.returns-in-Some-clause-calls
 returns-in-Some-clause-calls g c =
@@ -22,7 +24,8 @@ returns-in-Some-clause-calls g c =
 
 pub returns-clause-calls : goal.returns-clause-calls
 returns-clause-calls g c =
-    rw c.begin_startup.ensures.rest (calls-weaker _ _ _ _ _ _ _ _ (Unit {0}) (λ shown. tt) c.next-next.ensures.calls)
+    rw c.begin_startup.ensures.rest
+    (calls-weaker _ _ _ _ _ _ _ _ (Unit {0}) (λ shown. tt) c.next-next.ensures.calls)
 
 pub returns-in-Some-clause-less : goal.returns-in-Some-clause-less
 returns-in-Some-clause-less g c = stop-less c.next-next.result c.in-Some.read _ _ c.in-Some.ensures

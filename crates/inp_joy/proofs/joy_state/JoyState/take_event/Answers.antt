@@ -4,7 +4,7 @@ use Rattle.inp_joy.specs.Kept.{kept_joying}
 use Rattle.inp_joy.proofs.ReaderCalls.{calls-then, calls-weaker}
 use Rattle.inp_joy.proofs.Outcomes.{next-less, less-then, next-shows}
 use Rattle.inp_joy.proofs.Nexts.{lost-needed}
-use Rattle.inp_joy.proofs.TurnParts.{says-event_lost, says-event}
+use Rattle.inp_joy.proofs.TurnCases.{says-event_lost, says-event}
 use Rattle.inp_joy.proofs.joy_state.JoyState.take_event.Goals as goal
 
 pub synchronise-requires-clause-needed : goal.synchronise-requires-clause-needed
@@ -14,8 +14,10 @@ synchronise-requires-clause-needed g c =
 pub returns-in-Dropped-clause-says : goal.returns-in-Dropped-clause-says
 returns-in-Dropped-clause-says g c =
     let k = kept_joying c.next-next.new.self in
-    says-event_lost _ _ _ _ _ _ c.args.self.now.reader.description (kept_joying c.args.self.now) k c.in-Dropped.event
-    c.next-next.new.self.reader.reading _ c.in-Dropped.ensures.says (ap (λ (s : JoyState). kept_joying s) c.in-Dropped.ensures.rest)
+    says-event_lost _ _ _ _ _ _ c.args.self.now.reader.description
+    (kept_joying c.args.self.now) k c.in-Dropped.event
+    c.next-next.new.self.reader.reading _ c.in-Dropped.ensures.says
+    (ap (λ (s : JoyState). kept_joying s) c.in-Dropped.ensures.rest)
     (rw c.in-Dropped.ensures.state.description at c.synchronise.ensures.says)
 
 pub returns-in-Dropped-clause-calls : goal.returns-in-Dropped-clause-calls
@@ -28,17 +30,23 @@ returns-in_default-clause-says g c =
     let d = c.args.self.now.reader.description in
     let mid = c.next-next.new.self in
     rw (ap (λ (s : JoyState). s.made) c.after_next.ensures.rest)
-    (says-event _ _ _ _ d (kept_joying c.args.self.now) (kept_joying mid) c.next-next.result mid.reader.reading _
-    c.next-next.ensures.says c.in_default.not-Dropped (ap (λ (s : JoyState). kept_joying s) c.next-next.ensures.rest)
+    (says-event _ _ _ _ d (kept_joying c.args.self.now)
+    (kept_joying mid) c.next-next.result mid.reader.reading _
+    c.next-next.ensures.says c.in_default.not-Dropped
+    (ap (λ (s : JoyState). kept_joying s) c.next-next.ensures.rest)
     (rw c.next-next.ensures.state.description at c.after_next.ensures.turn))
 
 pub returns-in_default-clause-calls : goal.returns-in_default-clause-calls
 returns-in_default-clause-calls g c =
     let mid = c.next-next.new.self in
     let after = kept_joying c.after_next.new.self in
-    let shows = next-shows (g.E.Evdev.told c.next-next.new.dev) mid.reader mid.reader.description (kept_joying mid) after c.next-next.result c.after_next.result in
-    rw (ap (λ (s : JoyState). s.made) c.after_next.ensures.rest, ap (λ (s : JoyState). s.reader) c.after_next.ensures.rest)
-    (calls-weaker _ _ _ _ _ _ _ _ _ (λ shown. shows c.after_next.ensures.turn shown) c.next-next.ensures.calls)
+    let shows =
+    next-shows (g.E.Evdev.told c.next-next.new.dev) mid.reader mid.reader.description
+    (kept_joying mid) after c.next-next.result c.after_next.result in
+    rw (ap (λ (s : JoyState). s.made) c.after_next.ensures.rest, ap
+    (λ (s : JoyState). s.reader) c.after_next.ensures.rest)
+    (calls-weaker _ _ _ _ _ _ _ _ _
+    (λ shown. shows c.after_next.ensures.turn shown) c.next-next.ensures.calls)
 
 pub returns-in-Dropped-clause-less : goal.returns-in-Dropped-clause-less
 returns-in-Dropped-clause-less g c =

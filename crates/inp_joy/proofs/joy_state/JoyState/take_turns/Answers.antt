@@ -26,7 +26,8 @@ loop-outcome-init g c =
 pub returns-then-is_end-clause-says : goal.returns-then-is_end-clause-says
 returns-then-is_end-clause-says g c =
     let same = c.loop-outcome.invariant.state.description in
-    passed-last _ _ _ c.args.self.now.reader.description (kept_joying c.args.self.now) (kept_joying c.loop-outcome.self)
+    passed-last _ _ _ c.args.self.now.reader.description (kept_joying c.args.self.now)
+    (kept_joying c.loop-outcome.self)
     (kept_joying c.turn-outcome.new.self) c.loop-outcome.self.made c.turn-outcome.new.self.made c.turn-outcome.result
     c.loop-outcome.invariant.passed (rw same at c.turn-outcome.ensures.says)
     (rw (c.turn-outcome.ensures.state.description ∙ same) at (sym c.is_end.ensures ∙ c.if-is_end.true))
@@ -48,11 +49,15 @@ loop-outcome-preserved g c =
     let goes = sym c.is_end.ensures ∙ c.if-is_end.false in
     let on = subst (λ (e : Description). is_end e c.turn-outcome.result next (length new.made) ≡ false) (c.turn-outcome.ensures.state.description ∙ same) goes in
     record {
-      passed = passed-more _ _ _ d (kept_joying c.args.self.now) (kept_joying c.loop-outcome.self) next c.loop-outcome.self.made
-          new.made c.turn-outcome.result c.loop-outcome.invariant.passed (rw same at c.turn-outcome.ensures.says) on;
+      passed =
+          passed-more _ _ _ d (kept_joying c.args.self.now)
+          (kept_joying c.loop-outcome.self) next c.loop-outcome.self.made
+          new.made c.turn-outcome.result c.loop-outcome.invariant.passed
+          (rw same at c.turn-outcome.ensures.says) on;
       calls =
           calls-weaker _ _ _ _ d _ _ _ _ (λ shown. tt)
-          (calls-then _ _ _ _ _ _ d _ _ _ _ (Unit {0}) c.loop-outcome.invariant.calls (rw same at c.turn-outcome.ensures.calls));
+          (calls-then _ _ _ _ _ _ d _ _ _ _ (Unit {0}) c.loop-outcome.invariant.calls
+          (rw same at c.turn-outcome.ensures.calls));
       agains = c.turn-outcome.ensures.agains ∙ on-agains d c.turn-outcome.result next (length new.made) _ on ∙ c.loop-outcome.invariant.agains;
       less = omega (arith, on-less d c.turn-outcome.result next (length new.made) _ _ on c.turn-outcome.ensures.less, c.loop-outcome.invariant.less);
       state = rw same at c.turn-outcome.ensures.state;

@@ -6,7 +6,7 @@ use Rattle.inp_joy.proofs.ReaderCalls.{calls-none, calls-weaker}
 use Rattle.inp_joy.proofs.Outcomes.{hand_out_record-pictures, shows-pictures, startup-less}
 
 use Rattle.inp_joy.proofs.TurnEnds.{over-none, startup_over, record-pictured, turn-pictured, outcome-pictured, IsTurnPictured}
-use Rattle.inp_joy.proofs.TurnParts.{says-turn, says-startup}
+use Rattle.inp_joy.proofs.TurnCases.{says-turn, says-startup}
 use Rattle.inp_joy.proofs.joy_state.JoyState.turn.Goals as goal
 
 pub go_on-requires-clause-few : goal.go_on-requires-clause-few

@@ -4,9 +4,8 @@ use Rattle.inp_reader.specs.Reader.{ReaderView}
 use Rattle.inp_reader.specs.Session.{reading_of}
 use Rattle.inp_reader.specs.ReaderPlace.{Stands}
 use Rattle.inp_reader.specs.FailedStart.{client_opened, after_refused_query}
-use Rattle.inp_reader.proofs.RefusedStarts.{says-open_refused, says-query_refused}
+use Rattle.inp_reader.proofs.StandsByCalls.{says-open_refused, says-query_refused, start-opens, start-stands}
 use Rattle.inp_reader.proofs.TalksKeepSpare.{says-keeps_start}
-use Rattle.inp_reader.proofs.StandsByCalls.{start-opens, start-stands}
 use Rattle.inp_reader.proofs.Calls.{says-anew, says-left}
 use Rattle.inp_reader.proofs.AgainCounts.{says-no_agains}
 use Rattle.inp_reader.proofs.reader.Reader.start.Goals as goal

@@ -4,7 +4,7 @@ use Rattle.inp_reader.specs.Reader.{queries, sync_talk}
 use Rattle.inp_reader.proofs.SaysInTurn.{says-view}
 use Rattle.inp_reader.specs.Session.{reading_of}
 use Rattle.inp_reader.specs.Spare.{IsSpare}
-use Rattle.inp_reader.proofs.Slots.{slots-of}
+use Rattle.inp_reader.proofs.Classes.{slots-of}
 use Rattle.inp_reader.proofs.Counts.{classes_few}
 use Rattle.inp_reader.proofs.TalksKeepSpare.{spare-synced}
 use Rattle.inp_reader.proofs.session.Session.synchronise.Goals as goal
