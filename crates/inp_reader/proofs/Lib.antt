@@ -1,6 +1,7 @@
 pub mod Computation
 pub mod Talks
 pub mod SaysInTurn
+pub mod SaysSessions
 pub mod Queues
 pub mod Runs
 pub mod Axes

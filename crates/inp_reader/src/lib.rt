@@ -39,7 +39,7 @@
 //!   where its client could follow the device up to there.
 //!
 //! For the crates above there are lemmas of two calls, one after the other: what both leave (`leaves_made-then`,
-//! `proofs/LeftByCalls.antt`), and that nobody else used the client (`proofs/UseAlone.antt`).
+//! `proofs/Calls.antt`), and that nobody else used the client (`alone-then` there).
 //!
 //! A reader takes all its memory when it is made; only the open of a start may meet want of memory. A `start` makes at
 //! most 64 calls, and a `next` at most 55, one but for a synchronisation.

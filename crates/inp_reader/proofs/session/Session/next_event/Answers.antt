@@ -1,7 +1,7 @@
 use Rattle.std.proofs.Common.{ap, subst, IsTrue, Bool}
 use Rattle.inp_reader.specs.declared.asker.Asker.{Asker}
 use Rattle.inp_reader.specs.Session.{reading_of}
-use Rattle.inp_reader.proofs.SaysInTurn.{says-queued}
+use Rattle.inp_reader.proofs.SaysSessions.{says-queued}
 use Rattle.inp_reader.proofs.session.Session.next_event.Goals as goal
 
 pub returns-else-is_empty-clause-says : goal.returns-else-is_empty-clause-says

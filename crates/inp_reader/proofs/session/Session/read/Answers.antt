@@ -2,7 +2,7 @@ use Rattle.std.proofs.Common.{sym, ap, ◌∙◌}
 use Rattle.inp_reader.specs.declared.asker.Asker.{Asker}
 use Rattle.inp_reader.specs.Session.{reading_of}
 use Rattle.inp_reader.proofs.ReadCounts.{some-queued}
-use Rattle.inp_reader.proofs.SaysInTurn.{says-took, says-read_nothing}
+use Rattle.inp_reader.proofs.SaysSessions.{says-took, says-read_nothing}
 use Rattle.inp_reader.proofs.session.Session.read.Goals as goal
 
 pub hand_out-requires : goal.hand_out-requires
