@@ -29,7 +29,7 @@ use Rattle.inp_recon.specs.Synchronised.{has_axis}
 
 pub record-found : {X : Type 0} (made : ℕ → X → JoyRecord) (f : ℕ → X) (codes all : List ℕ) (number code : ℕ)
     (x : X) (r : JoyRecord) → codes ≡ all → slice_get codes number ≡ Some code → x ≡ f code
-        → r ≡ made number x → slice_get (map_numbered made 0 (map f all)) number ≡ Some r
+    → r ≡ made number x → slice_get (map_numbered made 0 (map f all)) number ≡ Some r
 record-found made f codes all number code x r are at is told =
     let e : 0 + number ≡ number = omega arith in
     map_numbered-get made 0 number (map f all) (f code)
@@ -104,7 +104,7 @@ axis_next done x down h = ap (λ (zs : List ℤ). let q : PictureView = record {
 
 parts-fold : {X : Type 0} (filler : X) (made : ℕ → X → JoyRecord) (with_part : List X → PictureView)
     → ((done : List X) (x : X) → length done < 64 → picture_after (with_part (up_to_64 filler done))
-        (made (length done) x) ≡ with_part (up_to_64 filler (done ++ x ∷ [])))
+    (made (length done) x) ≡ with_part (up_to_64 filler (done ++ x ∷ [])))
     → (done xs : List X) → length done + length xs ≤ 64
     → picture_after_all (with_part (up_to_64 filler done)) (map_numbered made (length done) xs)
     ≡ with_part (up_to_64 filler (done ++ xs))

@@ -371,8 +371,8 @@ ended-later (suc n) test cells m h =
     let step : contact (ended (where_below (n + 1) test) cells) ≡ contact (ended (where_below n test) cells) =
     elim (cases_Bool (test n)) [
       | inl t ↦ ap contact (ended-next n test cells t)
-      ∙ get_or-set_other (ended (where_below n test) cells) (14 * n + 9) (14 * m + 9) (negsuc 0) (pos 0)
-      (λ e. omega (arith, h, e))
+          ∙ get_or-set_other (ended (where_below n test) cells) (14 * n + 9) (14 * m + 9) (negsuc 0) (pos 0)
+          (λ e. omega (arith, h, e))
       | inr t ↦ ap (λ (ss : List ℕ). contact (ended ss cells)) (where_below-skip test n t)
     ] in
     ap (λ (k : ℕ). contact (ended (where_below k test) cells)) (sym (add-one n)) ∙ step

@@ -97,11 +97,11 @@ since-step : (d : Description) (past : List Step) (client : ℕ) (x : Step)
     (P : View → List Entry → List Call → Type 0)
     → (is_start past client x ≡ true → P (client_view d past client) (took d past client) [])
     → (is_use_of client x ≡ true → P (view_at_start d past client) (taken_at_start d past client)
-        (calls_since d past client ++ record { step = x; answer = answer d past x } ∷ []))
+    (calls_since d past client ++ record { step = x; answer = answer d past x } ∷ []))
     → (is_use_of client x ≡ false → P (view_at_start d past client) (taken_at_start d past client)
-        (calls_since d past client))
+    (calls_since d past client))
     → P (view_at_start d (x ∷ past) client) (taken_at_start d (x ∷ past) client)
-        (calls_since d (x ∷ past) client)
+    (calls_since d (x ∷ past) client)
 unfolding calls_since view_at_start taken_at_start
 since-step d past client x P starts used idle =
     by (is_start past client x) (is_use_of client x) starts used idle
@@ -121,7 +121,7 @@ since-step d past client x P starts used idle =
     by : (s u : Bool) → (s ≡ true → P (client_view d past client) (took d past client) [])
         → (u ≡ true → P V T more) → (u ≡ false → P V T C)
         → P (if s then client_view d past client else V) (if s then took d past client else T)
-            (if s then [] else if u then more else C)
+        (if s then [] else if u then more else C)
     by true u starts used idle = starts refl
     by false true starts used idle = used refl
     by false false starts used idle = idle refl
@@ -215,10 +215,10 @@ upto-before v (c ∷ calls) call j h =
     let here : View = view_after_events v (taken_events (take (suc j) c.answer.events)) in
     elim (cases_lt j n) [
       | inl below ↦ cond-true (nat_lt j n) here (view_upto next (calls ++ call ∷ []) (j - n))
-      (lt-ltb j n below) ∙ sym (cond-true (nat_lt j n) here (view_upto next calls (j - n)) (lt-ltb j n below))
+          (lt-ltb j n below) ∙ sym (cond-true (nat_lt j n) here (view_upto next calls (j - n)) (lt-ltb j n below))
       | inr above ↦ ap (λ (w : View). if nat_lt j n then here else w)
-      (upto-before next calls call (j - n)
-      (omega (arith, h, above, length-append c.answer.events (taken_by_calls calls))))
+          (upto-before next calls call (j - n)
+          (omega (arith, h, above, length-append c.answer.events (taken_by_calls calls))))
     ]
 
 upto-last : (v : View) (calls : List Call) (call : Call) (j : ℕ) → length (taken_by_calls calls) ≤ j → j < length (taken_by_calls calls) + length call.answer.events

@@ -38,14 +38,24 @@ where_below-add n more test =
 
 length-passing : (test : ℕ → Bool) (first n : ℕ) → length (filter test (range_with_len first n)) ≤ n
 length-passing test first n =
-    omega (arith, length-filter test (range_with_len first n), count_by-le-length test
-    (range_with_len first n), length-range_with_len first n)
+    omega (
+      arith,
+      length-filter test (range_with_len first n),
+      count_by-le-length test
+          (range_with_len first n),
+      length-range_with_len first n,
+    )
 
 -- so many more numbers
 length-where_below_add : (n more : ℕ) (test : ℕ → Bool) → length (where_below (n + more) test) ≤ length (where_below n test) + more
 length-where_below_add n more test =
-    omega (arith, ap length (where_below-add n more test), length-append (where_below n test)
-    (filter test (range_with_len n more)), length-passing test n more)
+    omega (
+      arith,
+      ap length (where_below-add n more test),
+      length-append (where_below n test)
+          (filter test (range_with_len n more)),
+      length-passing test n more,
+    )
 
 length-where_below : (n : ℕ) (test : ℕ → Bool) → length (where_below n test) ≤ n
 length-where_below n test = length-passing test 0 n
@@ -54,9 +64,14 @@ length-where_below n test = length-passing test 0 n
 pub length-where_below_least : (n m : ℕ) (test : ℕ → Bool) → n ≤ m → length (where_below n test) ≤ length (where_below m test)
 length-where_below_least n m test le =
     let e : n + (m - n) ≡ m = omega (arith, le) in
-    omega (arith, ap (λ (k : ℕ). length (where_below k test)) e, ap length
-    (where_below-add n (m - n) test), length-append (where_below n test)
-    (filter test (range_with_len n (m - n))))
+    omega (
+      arith,
+      ap (λ (k : ℕ). length (where_below k test)) e,
+      ap length
+          (where_below-add n (m - n) test),
+      length-append (where_below n test)
+          (filter test (range_with_len n (m - n))),
+    )
 
 -- fewer pass a test that only those pass that pass another one
 pub length-where_below_fewer : (n : ℕ) (a b : ℕ → Bool) → ((k : ℕ) → k < n → a k ≡ true → b k ≡ true) → length (where_below n a) ≤ length (where_below n b)
@@ -199,8 +214,12 @@ length-synth_sized slots old new h =
     length-groups slots 960 (lifts old new) (class_changes old new) (slot_changes mid new)
     (length-lifts slots old new h.cells)
     (length-class_changes 64 old new
-    (omega (arith, length-map (where_below 64 (differs_at old.axes new.axes))
-    (λ code. axis_event new.axes code code), length-where_below 64 (differs_at old.axes new.axes))))
+    (omega (
+      arith,
+      length-map (where_below 64 (differs_at old.axes new.axes))
+          (λ code. axis_event new.axes code code),
+      length-where_below 64 (differs_at old.axes new.axes),
+    )))
     (length-slot_changes slots mid new sized.cells)
 
 -- ---- of a device, as many as it has codes

@@ -91,7 +91,7 @@ says-queued told old new r result h kept handed =
 pub says-synchronised : (before between after : EvdevView) (old mid new : List CallMade)
     (talk : Talk (Result View Reply))
     (rest : Talk (Next × Reading)) (mode : Mode) (r : Reading) (asked : Result View Reply)
-        (result : Next × Reading)
+    (result : Next × Reading)
     → Says before between old mid talk asked → rest ≡ talk_after_sync mode r asked → Says between after mid new rest result
     → Says before after old new (and_then talk (talk_after_sync mode r)) result
 says-synchronised before between after old mid new talk rest mode r asked result h is k =
@@ -106,7 +106,7 @@ pub says-begun : (before after : EvdevView) (old new : List CallMade) (xs : List
     (asked : Result View Reply) (result : Started × Reading)
     → Says before after old new (ask_each xs r.view) asked → after_queries client ring r asked ≡ result
     → Says before after old new
-        (and_then (ask_each xs r.view) (λ o. finish (after_queries client ring r o))) result
+    (and_then (ask_each xs r.view) (λ o. finish (after_queries client ring r o))) result
 says-begun before after old new xs client ring r asked result h is =
     let next : Result View Reply → Talk (Started × Reading) = λ o. finish (after_queries client ring r o) in
     says-then before after after old new new (ask_each xs r.view) next asked result h

@@ -166,34 +166,40 @@ abbrev StaysOff : Description → ℕ → List Bool → List Bool → Type 0
 StaysOff d kind flags new =
     (has_kind d kind ≡ false → new ≡ flags) ×
     ((code : ℕ) → supports d kind code ≡ false → slice_index_or flags code false
-        ≡ false → slice_index_or new code false ≡ false)
+    ≡ false → slice_index_or new code false ≡ false)
 
 keys-answer : (d : Description) (past : List Step) (x : Step) (given : Answer) (keys : List Bool)
     → IsWanted d x → IsAnswer d past x given → StaysOff d EV_KEY keys (keys_after_answer x given.reply keys)
 unfolding IsWanted
-keys-answer d past (GetKeys client) given keys wanted are =
-    (λ none. absurd (true≢false (sym wanted ∙ none)), λ code none was. told_bits d past
-    (GetKeys client) EV_KEY key_count code given keys refl (omega arith)
-    (never_down d (raw d past) code none) are was)
+keys-answer d past (GetKeys client) given keys wanted are = (
+  λ none. absurd (true≢false (sym wanted ∙ none)),
+  λ code none was. told_bits d past
+      (GetKeys client) EV_KEY key_count code given keys refl (omega arith)
+      (never_down d (raw d past) code none) are was,
+)
 keys-answer d past _ given keys wanted are = (λ none. refl, λ code none was. was)
 
 switches-answer : (d : Description) (past : List Step) (x : Step) (given : Answer) (flags : List Bool)
     → IsWanted d x → IsAnswer d past x given
     → StaysOff d EV_SW flags (switches_after_answer x given.reply flags)
 unfolding IsWanted
-switches-answer d past (GetSwitches client) given flags wanted are =
-    (λ none. absurd (true≢false (sym wanted ∙ none)), λ code none was. told_bits d past
-    (GetSwitches client) EV_SW code_count code given flags refl (omega arith)
-    (never_on d (raw d past) EV_SW code none) are was)
+switches-answer d past (GetSwitches client) given flags wanted are = (
+  λ none. absurd (true≢false (sym wanted ∙ none)),
+  λ code none was. told_bits d past
+      (GetSwitches client) EV_SW code_count code given flags refl (omega arith)
+      (never_on d (raw d past) EV_SW code none) are was,
+)
 switches-answer d past _ given flags wanted are = (λ none. refl, λ code none was. was)
 
 leds-answer : (d : Description) (past : List Step) (x : Step) (given : Answer) (flags : List Bool)
     → IsWanted d x → IsAnswer d past x given → StaysOff d EV_LED flags (leds_after_answer x given.reply flags)
 unfolding IsWanted
-leds-answer d past (GetLeds client) given flags wanted are =
-    (λ none. absurd (true≢false (sym wanted ∙ none)), λ code none was. told_bits d past
-    (GetLeds client) EV_LED code_count code given flags refl (omega arith)
-    (never_on d (raw d past) EV_LED code none) are was)
+leds-answer d past (GetLeds client) given flags wanted are = (
+  λ none. absurd (true≢false (sym wanted ∙ none)),
+  λ code none was. told_bits d past
+      (GetLeds client) EV_LED code_count code given flags refl (omega arith)
+      (never_on d (raw d past) EV_LED code none) are was,
+)
 leds-answer d past _ given flags wanted are = (λ none. refl, λ code none was. was)
 
 spare-axes : (d : Description) (x : Step) (reply : Reply) (axes : List ℤ) (code : ℕ) → IsWanted d x → has_axis d code ≡ false → slice_index_or (axes_after_answer x reply axes) code (pos 0) ≡ slice_index_or axes code (pos 0)

@@ -210,8 +210,14 @@ pub in-step-on : (d : Description) (past after : List Step) (r : Reading) (more 
     → IsInStep d past r → AreReads more → calls_since d after r.client ≡ calls_since d past r.client ++ more
     → r.queue ++ taken_by_calls more ≡ run ++ rest
     → IsInStep d after
-        (record { client = r.client; queue = rest; view = view_after_events r.view
-        (taken_events run); phase = phase; left = left })
+    (record {
+      client = r.client;
+      queue = rest;
+      view = view_after_events r.view
+          (taken_events run);
+      phase = phase;
+      left = left;
+    })
 in-step-on d past after r more run rest phase left i are since q =
     let begun : View = view_after_answers (first_view d) i.asked in
     record {
@@ -235,8 +241,8 @@ in-step-on d past after r more run rest phase left i are since q =
 -- the first events of the queue are handed out
 pub in-step-handed : (d : Description) (past : List Step) (r : Reading) (run rest : List Taken)
     (phase : Phase) → IsInStep d past r → r.queue ≡ run ++ rest
-        → IsInStep d past
-            (record r { queue = rest; view = view_after_events r.view (taken_events run); phase = phase })
+    → IsInStep d past
+    (record r { queue = rest; view = view_after_events r.view (taken_events run); phase = phase })
 in-step-handed d past r run rest phase i q =
     in-step-on d past past r [] run rest phase r.left i tt (sym (append-nil (calls_since d past r.client)))
     (append-nil r.queue ∙ q)
@@ -244,8 +250,12 @@ in-step-handed d past r run rest phase i q =
 handed : (d : Description) (past : List Step) (r : Reading) (taken : Taken) (rest : List Taken) → IsInStep d past r → r.queue ≡ taken ∷ rest → IsHandedOut d past (record r { queue = rest; view = view_after_event r.view taken.event }) taken
 unfolding view_after_events in-step-handed in-step-on
 handed d past r taken rest i q =
-    record { in_step = in-step-handed d past r
-    (taken ∷ []) rest r.phase i q; before = i.handed; handed = refl }
+    record {
+      in_step = in-step-handed d past r
+          (taken ∷ []) rest r.phase i q;
+      before = i.handed;
+      handed = refl;
+    }
 
 -- what is known of the event that `next` answers
 abbrev pub HandsOut : Description → List Step → Next → Reading → Type 0

@@ -41,9 +41,11 @@ apart code other h m e = true≢false (sym h ∙ ap is_multi_touch_code e ∙ m)
 sets-plain : (e : Event) → (eqb e.kind EV_ABS && not (is_multi_touch e)) ≡ true
     → (eqb e.kind EV_ABS ≡ true) × (is_multi_touch_code e.code ≡ false)
 sets-plain e t =
-    let both = and_parts (eqb e.kind EV_ABS) (not (is_multi_touch e)) t in
-    (both.0, ap (λ (b : Bool). b && is_multi_touch_code e.code) (sym both.0)
-    ∙ not-true (is_multi_touch e) both.1)
+    let both = and_parts (eqb e.kind EV_ABS) (not (is_multi_touch e)) t in (
+      both.0,
+      ap (λ (b : Bool). b && is_multi_touch_code e.code) (sym both.0)
+          ∙ not-true (is_multi_touch e) both.1,
+    )
 
 -- after an answer
 -- nor does an answer or an event on another one change it

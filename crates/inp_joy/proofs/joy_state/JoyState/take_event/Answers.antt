@@ -43,8 +43,10 @@ returns-in_default-clause-calls g c =
     let shows =
     next-shows (g.E.Evdev.told c.next-next.new.dev) mid.reader mid.reader.description
     (kept_joying mid) after c.next-next.result c.after_next.result in
-    rw (ap (λ (s : JoyState). s.made) c.after_next.ensures.rest, ap
-    (λ (s : JoyState). s.reader) c.after_next.ensures.rest)
+    rw (
+      ap (λ (s : JoyState). s.made) c.after_next.ensures.rest,
+      ap (λ (s : JoyState). s.reader) c.after_next.ensures.rest,
+    )
     (calls-weaker _ _ _ _ _ _ _ _ _
     (λ shown. shows c.after_next.ensures.turn shown) c.next-next.ensures.calls)
 
