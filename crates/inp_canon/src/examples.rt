@@ -3,6 +3,7 @@ ghost use Rattle.inp_canon.specs.Examples.{WritesAKeyboard, WritesARequestedDevi
 
 /// What the definitions of this crate make of a few records, worked out by hand. It does nothing: its contract is the
 /// point.
+#[tactic(auto, unfolding(crate::proofs::Computation::computing))]
 pub fn examples()
     ensures keyboard { WritesAKeyboard }
     ensures requested { WritesARequestedDevice }

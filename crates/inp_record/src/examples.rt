@@ -3,6 +3,7 @@ ghost use Rattle.inp_record.specs.Examples.{RefusesOtherBytes, RefusesHeaders, R
 
 /// What short records mean, and which line of others is refused and why, worked out by hand: each cause at the lines that
 /// can have it, and of two causes that one line has the one that comes first. It does nothing: its contract is the point.
+#[tactic(auto, unfolding(crate::proofs::Computation::record_computing, crate::specs::Stream::stamps_from))]
 pub fn examples()
     ensures other_bytes { RefusesOtherBytes }
     ensures headers { RefusesHeaders }
