@@ -3,6 +3,7 @@ ghost use Rattle.inp_args.specs.Examples.{PlaysFiles, PlaysOnThreads, PlaysOddWo
 
 /// What some words ask for by the definitions of this crate, worked out by hand. It does nothing: its contract is the
 /// point.
+#[tactic(auto, unfolding(crate::proofs::Computation::computing))]
 pub fn examples()
     ensures files { PlaysFiles }
     ensures threads { PlaysOnThreads }

@@ -1,5 +1,5 @@
 -- Items, written and read again, alone and line by line.
-use Rattle.std.proofs.Common.{◌≡◌, ℕ, Bool, true, false, ◌&&◌, not, if◌then◌else◌, nat_eq, List, [], ◌∷◌, length, codes, decimal, Option, Some, Ok, Err, refl, ap, ◌∙◌, suc, ◌++◌, map, None, Result, sym, subst}
+use Rattle.std.proofs.Common.{◌≡◌, ℕ, Bool, true, false, ◌&&◌, not, if◌then◌else◌, nat_eq, List, [], ◌∷◌, length, codes, decimal, Option, Some, Ok, Err, refl, ap, ◌∙◌, suc, ◌++◌, map, Result, sym, subst}
 use Rattle.std.specs.Prelude.{option_and_then, is_some, slice_get}
 use Rattle.std.specs.List.{list_all}
 use Rattle.std.proofs.lemmas.Bool.{cond-false, not-false}
@@ -10,7 +10,7 @@ use Rattle.inp_record.specs.canon.Words.{Words, lines_text}
 use Rattle.inp_record.specs.canon.Device.{fuzz_words, axis_words, filter_words, info_words as info_text}
 use Rattle.inp_record.specs.canon.Text.{device_word, name_of_actor}
 use Rattle.inp_actors.specs.declared.actor_text.ActorText.{ActorText}
-use Rattle.inp_record.specs.declared.cause.Cause.TheVariants.{BadHeader, OutOfPlace, BadCommand, Twice, TooMany, Caps}
+use Rattle.inp_record.specs.declared.cause.Cause.TheVariants.{BadHeader, OutOfPlace}
 use Rattle.inp_record.specs.declared.item.Item.{Item}
 use Rattle.inp_record.specs.declared.item.Item.TheVariants.{Header, Device, Axis, Filter, Actor, Action}
 use Rattle.inp_record.specs.Keyword.{keyword_rows, filter_rows, keyword_of, has_words}
@@ -19,10 +19,9 @@ use Rattle.inp_record.specs.Field.{version_word}
 use Rattle.inp_record.specs.Line.{line_row}
 use Rattle.inp_record.specs.Words.{word, is_header, is_action, plain_item, action_with, or_bad_word, item_of}
 use Rattle.inp_record.specs.declared.context.Context.{Context}
-use Rattle.inp_record.specs.Meaning.{placed, item_of_words, is_later_command, is_twice, is_too_many, has_too_many_slots, builder_refusal, unless_refused, checked, behind, behind_words, behind_line, then_lines, behind_lines}
+use Rattle.inp_record.specs.Meaning.{placed, item_of_words, unless_refused, behind, behind_words, behind_line, then_lines, behind_lines}
 use Rattle.inp_record.specs.Spelling.{item_words}
 use Rattle.inp_caps.specs.declared.caps_refused.CapsRefused.{CapsRefused}
-use Rattle.inp_caps.specs.declared.caps_refused.CapsRefused.TheVariants.{BadSlots}
 use Rattle.inp_texts.specs.Line.{lines_of as text_lines}
 use Rattle.inp_record.specs.declared.cause.Cause.{Cause}
 use Rattle.inp_record.specs.Past.{Past, after, context_of}

@@ -1,6 +1,6 @@
 -- What a past of accepted lines keeps.
-use Rattle.std.proofs.Common.{◌≡◌, ◌≤◌, ◌+◌, ℕ, suc, Bool, true, false, ◌&&◌, not, if◌then◌else◌, nat_eq, bytes_eq, List, [], ◌∷◌, length, Option, Some, None, is_some, Result, Ok, Err, refl, sym, ap, ◌∙◌, subst, arith, inl, inr}
-use Rattle.std.specs.Prelude.{codes, option_and_then}
+use Rattle.std.proofs.Common.{◌≡◌, ◌≤◌, ◌+◌, ℕ, suc, Bool, true, false, ◌&&◌, not, nat_eq, bytes_eq, List, [], ◌∷◌, length, Option, Some, is_some, Result, Ok, Err, refl, sym, ap, ◌∙◌, subst, arith, inl, inr}
+use Rattle.std.specs.Prelude.{codes}
 use Rattle.std.proofs.lemmas.Bool.{and_parts, false_from_ne_true, not-false}
 use Rattle.std.proofs.lemmas.Bool.Decides.{nat_tests}
 use Rattle.std.proofs.lemmas.Slice.Eq.{bytes_eq-Decides}
@@ -8,9 +8,9 @@ use Rattle.inp_model.specs.declared.filter.Filter.TheVariants as filters
 use Rattle.inp_actors.specs.declared.actor_text.ActorText.{ActorText}
 use Rattle.inp_actors.specs.declared.role.Role.TheVariants as roles
 use Rattle.inp_actors.specs.Record.{RecordView}
-use Rattle.inp_texts.specs.Line.{is_comment, is_text, words_of, lines_of as text_lines}
+use Rattle.inp_texts.specs.Line.{words_of, lines_of as text_lines}
 use Rattle.inp_record.specs.declared.cause.Cause.{Cause}
-use Rattle.inp_record.specs.declared.cause.Cause.TheVariants.{NotText, BadHeader, OutOfPlace}
+use Rattle.inp_record.specs.declared.cause.Cause.TheVariants.{BadHeader, OutOfPlace}
 use Rattle.inp_record.specs.declared.refused.Refused.{Refused}
 use Rattle.inp_record.specs.declared.context.Context.{Context}
 use Rattle.inp_record.specs.declared.item.Item.{Item}
@@ -19,11 +19,11 @@ use Rattle.inp_record.specs.declared.keyword.Keyword as keyword
 use Rattle.inp_record.specs.declared.keyword.Keyword.TheVariants as keywords
 use Rattle.inp_record.specs.Keyword.{keyword_of, keyword_rows, has_words}
 use Rattle.inp_record.specs.Place.{is_first_place, is_out_of_place}
-use Rattle.inp_record.specs.Words.{word, is_header, item_of, plain_item, or_bad_word}
+use Rattle.inp_record.specs.Words.{word, is_header, item_of, plain_item}
 use Rattle.inp_record.specs.Field.{version_word}
 use Rattle.inp_record.specs.Line.{line_row}
 use Rattle.inp_record.specs.Past.{Past, after, context_of}
-use Rattle.inp_record.specs.Meaning.{checked, placed, item_of_words, behind, behind_words, behind_line, then_lines, behind_lines, record_of_past, as_record, meaning}
+use Rattle.inp_record.specs.Meaning.{checked, placed, item_of_words, behind, behind_words, behind_line, behind_lines, record_of_past, as_record, meaning}
 use Rattle.inp_record.proofs.Inversions.{IsPlaced, checked_is, words_are, or_bad_is, line_means, lines_mean}
 use Rattle.inp_record.proofs.Options.{push_get, and_then_is, unrefused}
 use Rattle.inp_record.proofs.Keywords.{is_later_keyword, keyword_is_later}

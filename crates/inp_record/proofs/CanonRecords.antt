@@ -16,7 +16,7 @@ use Rattle.inp_record.specs.declared.context.TheConstants.{SLOTS_OF_VERSION_1}
 use Rattle.inp_record.specs.declared.item.Item.{Item}
 use Rattle.inp_record.specs.declared.item.Item.TheVariants.{Header, Device, Slots, Code, Filter, Actor, Action}
 use Rattle.inp_record.specs.declared.place.Place.{Place}
-use Rattle.inp_record.specs.declared.place.Place.TheVariants.{Start, Describing, Acting}
+use Rattle.inp_record.specs.declared.place.Place.TheVariants.{Describing, Acting}
 use Rattle.inp_record.specs.Place.{is_first_place, is_describing, is_naming, is_acting, is_out_of_place}
 use Rattle.inp_record.specs.Past.{Past, no_given, with_latest, devices_of, first_context, describing, after, context_of}
 use Rattle.inp_record.specs.Meaning.{has_too_many_slots}

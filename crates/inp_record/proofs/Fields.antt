@@ -15,7 +15,7 @@ use Rattle.inp_record.proofs.PlainLines.{IsPlainWord, is_plain}
 use Rattle.inp_record.proofs.WordsAgain.{decimal_read, decimal_plain, signed_read, signed_plain, bits_read, bits_plain, kind_read, kind_plain, code_read, code_plain, clock_plain, is_plain-name, is_plain-word}
 use Rattle.inp_record.proofs.WordsSaid.{number_most, signed_fits, kind_fits, code_fits}
 use Rattle.inp_model.specs.declared.clock.Clock as clock
-use Rattle.inp_model.specs.declared.clock.Clock.TheVariants.{Realtime, Monotonic, Boottime}
+use Rattle.inp_model.specs.declared.clock.Clock.TheVariants.{Realtime}
 use Rattle.inp_record.specs.Field.{Field, Number, Positive, Bits, Signed, Kind, Code, CodeOf, Clock, Name, File, Version, OtherClock, Never, clock_rows, other_clock_rows, other_clock, version_word, name_word, ValueOf, field_word, field_text, kind_behind, unless_zero, Makes, made}
 use Rattle.inp_record.proofs.Options.{and_then_is}
 use Rattle.inp_record.proofs.FieldFits.{is_sound, FitsField, Values, FitsFields, of_values, written}

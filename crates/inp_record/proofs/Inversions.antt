@@ -1,5 +1,5 @@
 -- What it takes for a line to have a meaning.
-use Rattle.std.proofs.Common.{◌≡◌, ◌≤◌, ◌<◌, ℕ, suc, ◌∷◌, ◌⊎◌, inl, inr, Bool, true, false, ◌&&◌, not, if◌then◌else◌, List, length, Option, Some, None, ◌+◌, ◌-◌, Result, Ok, Err, refl, sym, ap, ◌∙◌, subst, arith}
+use Rattle.std.proofs.Common.{◌≡◌, ◌≤◌, ◌<◌, ℕ, suc, ◌∷◌, ◌⊎◌, inl, inr, true, false, ◌&&◌, not, List, length, Option, Some, None, ◌+◌, ◌-◌, Result, Ok, Err, refl, sym, ◌∙◌, subst, arith}
 use Rattle.std.specs.List.{range_with_len}
 use Rattle.std.proofs.lemmas.Bool.{not-false}
 use Rattle.inp_caps.specs.declared.caps_refused.CapsRefused.{CapsRefused}

@@ -1,5 +1,5 @@
 -- The numbers of action lines, line by line.
-use Rattle.std.proofs.Common.{◌≡◌, ℕ, zero, suc, ◌+◌, ◌-◌, ◌<◌, Bool, true, false, not, if◌then◌else◌, cond, nat_eq, codes, List, [], ◌∷◌, length, drop, filter, Some, None, Result, Ok, Err, refl, sym, ap, ◌∙◌, add-one, arith, length-append, inl, inr}
+use Rattle.std.proofs.Common.{◌≡◌, ℕ, zero, suc, ◌+◌, ◌-◌, ◌<◌, Bool, true, false, if◌then◌else◌, cond, nat_eq, codes, List, [], ◌∷◌, length, drop, filter, Some, None, Result, Ok, Err, refl, sym, ap, ◌∙◌, add-one, arith, length-append, inl, inr}
 use Rattle.std.specs.Prelude.{slice_get}
 use Rattle.std.specs.List.{slice_split, onto_first}
 use Rattle.std.proofs.lemmas.Option.{slice_get-get_or}
@@ -7,17 +7,16 @@ use Rattle.std.proofs.lemmas.Bool.Decides.{nat_tests}
 use Rattle.inp_actors.specs.declared.actor_text.ActorText.{ActorText}
 use Rattle.inp_actors.specs.declared.line.Line.{Line}
 use Rattle.inp_actors.specs.Record.{RecordView}
-use Rattle.inp_texts.specs.Line.{lines_of as text_lines, words_of, is_blank, is_comment, is_text, is_word}
+use Rattle.inp_texts.specs.Line.{lines_of as text_lines, words_of, is_blank, is_comment, is_word}
 use Rattle.inp_record.specs.declared.cause.Cause.{Cause}
-use Rattle.inp_record.specs.declared.cause.Cause.TheVariants.{NotText}
 use Rattle.inp_record.specs.declared.refused.Refused.{Refused}
 use Rattle.inp_record.specs.declared.context.Context.{Context}
 use Rattle.inp_record.specs.declared.item.Item as item
 use Rattle.inp_record.specs.declared.item.Item.TheVariants.{Action}
 use Rattle.inp_record.specs.declared.keyword.Keyword as keyword
-use Rattle.inp_record.specs.Words.{word, has_word, is_action, or_bad_word, action_item, plain_item, item_of}
+use Rattle.inp_record.specs.Words.{word, has_word, is_action, item_of}
 use Rattle.inp_record.specs.Past.{Past, after, context_of}
-use Rattle.inp_record.specs.Meaning.{checked, item_of_words, behind, behind_words, behind_line, then_lines, behind_lines, record_of_past, as_record, meaning}
+use Rattle.inp_record.specs.Meaning.{checked, item_of_words, behind, behind_words, behind_line, behind_lines, record_of_past, as_record, meaning}
 use Rattle.inp_record.specs.LineNumber.{is_action_line, action_numbers}
 use Rattle.inp_record.proofs.Inversions.{checked_is, words_are, act_is, read_as, line_means, lines_mean}
 use Rattle.inp_record.proofs.Sayable.{keyword_for, is_action_item, acts}

@@ -20,7 +20,7 @@ use Rattle.inp_record.specs.declared.verb.Verb as verb
 use Rattle.inp_record.specs.declared.item.Item as item
 use Rattle.inp_record.specs.declared.item.Item.TheVariants as items
 use Rattle.inp_record.specs.Verb.{verb_of}
-use Rattle.inp_record.specs.Words.{word, has_micros, plain_item, command_of, actor_from, action_by, action_with, action_item, or_bad_word, is_action, item_of}
+use Rattle.inp_record.specs.Words.{word, has_micros, command_of, actor_from, action_by, action_with, action_item, item_of}
 use Rattle.inp_record.proofs.Inversions.{of_row, action_of_is, act_is, read_as}
 use Rattle.inp_record.proofs.Texts.{words_all}
 use Rattle.inp_record.proofs.Rows.{verb_found}

@@ -18,7 +18,7 @@ use Rattle.inp_texts.specs.Number.{digit_of, is_digit, value_of, is_hexadecimal,
 use Rattle.inp_texts.specs.Code.{or_number, kind_word, code_of_kind, code_word}
 use Rattle.inp_texts.proofs.Numerals.{numeral_is}
 use Rattle.inp_model.specs.declared.clock.Clock as clock
-use Rattle.inp_model.specs.declared.clock.Clock.TheVariants.{Realtime, Monotonic, Boottime}
+use Rattle.inp_model.specs.declared.clock.Clock.TheVariants.{Realtime}
 use Rattle.inp_record.proofs.PlainLines.{all_weaker, is_visible, IsPlainWord, is_plain}
 
 -- digits in a base

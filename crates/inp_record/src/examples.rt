@@ -5,6 +5,7 @@ ghost use Rattle.inp_record.specs.canon.Examples.{WritesAKeyboard, WritesAReques
 /// What short records mean, and which line of others is refused and why, worked out by hand. It has each cause at the
 /// lines that can have it, and of two causes that one line has the one that comes first. It does nothing: its contract
 /// is the point.
+#[tactic(auto, unfolding(crate::proofs::Computation::record_computing, crate::specs::Stream::stamps_from))]
 pub fn examples()
     ensures other_bytes { RefusesOtherBytes }
     ensures headers { RefusesHeaders }
@@ -27,6 +28,7 @@ pub fn examples()
 
 /// The canonical text of a few records, worked out by hand. It does nothing: its contract is the
 /// point.
+#[tactic(auto, unfolding(crate::proofs::Computation::text_computing))]
 pub fn text_examples()
     ensures keyboard { WritesAKeyboard }
     ensures requested { WritesARequestedDevice }

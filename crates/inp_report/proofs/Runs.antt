@@ -21,7 +21,9 @@ module _ (r : RecordView) (runs items : List Run) (actors : List ActorText) (dev
 
   -- the run is one of its device
   pub run_of : AreRunsOf r runs → IsRunOf actors index device run
-  run_of of = subst (λ (as : List ActorText). IsRunOf as index device run) (sym actors_are) (of.each index device run its_device its_run)
+  run_of of =
+      subst (λ (them : List ActorText). IsRunOf them index device run) (sym actors_are)
+      (of.each index device run its_device its_run)
 
   -- its text is one more
   pub run_more : (tells : List ActorText → DeviceText × Run → List ℕ) (before text new : List ℕ)
@@ -29,4 +31,4 @@ module _ (r : RecordView) (runs items : List Run) (actors : List ActorText) (dev
       → new ≡ before ++ flat_map (tells r.actors) (take (index + 1) (zip r.devices runs))
   run_more tells before text new so_far more =
       zipped_more (tells r.actors) r.devices runs before text new index device run its_device its_run so_far
-      (subst (λ (as : List ActorText). new ≡ text ++ tells as (device, run)) actors_are more)
+      (subst (λ (them : List ActorText). new ≡ text ++ tells them (device, run)) actors_are more)

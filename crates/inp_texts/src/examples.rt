@@ -3,6 +3,7 @@ ghost use Rattle.inp_texts.specs.Examples.{CutsLines, CutsWords, ReadsNumbers, R
 
 /// What the definitions of this crate say of words and lines that were worked out by hand. It does nothing: its contract
 /// is the point.
+#[tactic(auto, unfolding(crate::proofs::Computation::words_computing))]
 pub fn examples()
     ensures lines { CutsLines }
     ensures words { CutsWords }

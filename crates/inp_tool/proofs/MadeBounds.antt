@@ -4,7 +4,6 @@ use Rattle.std.specs.Prelude.{◌&&◌, codes, nat_le, filter, slice_get, flat_m
 use Rattle.std.specs.List.{enumerate_from, range_with_len}
 use Rattle.std.proofs.lemmas.Bool.{ne_eqb, cond_both, and_parts, leb-true}
 use Rattle.std.proofs.lemmas.Option.{option_and_then_some, cond_some}
-use Rattle.std.proofs.lemmas.Bool.Decides.{nat_tests}
 use Rattle.inp_args.specs.declared.request.Request.TheVariants.{Make}
 use Rattle.inp_args.specs.Command.{is_taken, is_given, found_text}
 use Rattle.inp_args.specs.Number.{number_of}
@@ -18,7 +17,7 @@ use Rattle.inp_actors.specs.Record.{RecordView}
 use Rattle.inp_make.specs.Generated.{pad, fast, mid, slow, line, frame_moment, injected, finger_events, touches, frame_events, follows, frame_lines, open_lines, lines, generated}
 use Rattle.inp_reader.specs.Reader.{queries, axes_among}
 use Rattle.inp_actors.specs.declared.role.Role.{Role}
-use Rattle.inp_actors.specs.declared.role.Role.TheVariants.{Source, Client, Tap, Joy, Owner}
+use Rattle.inp_actors.specs.declared.role.Role.TheVariants.{Owner}
 use Rattle.inp_script.specs.declared.end.ended.Ended.{Ended}
 use Rattle.inp_script.specs.declared.end.ended.Ended.TheVariants.{Job as JobEnded, Joy as JoyEnded, Owner as OwnerEnded}
 use Rattle.inp_script.specs.declared.run.DeviceEnds.{DeviceEnds}

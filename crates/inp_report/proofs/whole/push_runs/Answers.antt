@@ -17,7 +17,7 @@ loop-index-preserved c =
     run_more c.args.rec.now c.args.runs.now _ _ _ c.loop-index.index _ _
     c.actors.ensures.actors c.devices.ensures.devices c.as_slice-run-items.ensures.items
     c.get-device.ensures.item c.loop-index-test.true c.run-item.is
-    (λ (as : List ActorText). run_text as c.args.history) _ _ _
+    (λ (them : List ActorText). run_text them c.args.history) _ _ _
     c.loop-index.invariant c.in_ok-push_run.ensures.pushed
 
 pub returns : goal.returns
