@@ -1,17 +1,9 @@
 -- What a source and a joystick do at a command, by the command.
 use Rattle.std.proofs.Common.{◌≡◌, ℕ, zero, suc, List, [], ◌∷◌, refl, ap, ◌∙◌, true, Some, None}
 use Rattle.std.specs.List.{slice_get}
-use Rattle.inp_model.specs.declared.stamped.Stamped.{Stamped}
+use Rattle.inp_script.proofs.Words.{Stamped, Description, Command, Joy, Job, joystick_talk, is_command_of, stream_of, first_of, NO_CLIENT, step_of, stream_numbered, source_talk, call_talk, call_if, stream_talk}
 use Rattle.inp_model.specs.declared.step.Step.TheVariants.{Close as ToClose}
-use Rattle.inp_model.specs.Description.{Description}
-use Rattle.inp_actors.specs.declared.command.Command.{Command}
 use Rattle.inp_actors.specs.declared.command.Command.TheVariants.{Stream, Stream16, Open, Close, Read}
-use Rattle.inp_actors.specs.declared.role.Role.TheVariants.{Joy}
-use Rattle.inp_actors.specs.Command.{is_command_of, stream_of, first_of}
-use Rattle.inp_reader.specs.declared.reader.TheConstants.{NO_CLIENT}
-use Rattle.inp_script.specs.Job.{Job}
-use Rattle.inp_script.specs.Joystick.{joystick_talk}
-use Rattle.inp_script.specs.Line.{step_of, stream_numbered, source_talk, call_talk, call_if, stream_talk}
 
 -- the stream of a number that is there
 pub stream_numbered-slice_get : (streams : List (List Stamped)) (index : ℕ) (stream : List Stamped) → slice_get streams index ≡ Some stream → stream_numbered streams index ≡ stream

@@ -1,9 +1,7 @@
 -- What came of jobs, where one more comes behind the others.
 use Rattle.std.proofs.Common.{◌≡◌, List, [], ◌∷◌, ◌++◌, refl, ap}
-use Rattle.inp_script.specs.declared.end.ended.Ended.{Ended}
+use Rattle.inp_script.proofs.Words.{Ended, jobs_among, joys_among, owners_among, JobView, JoyJobView, OwnerView}
 use Rattle.inp_script.specs.declared.end.ended.Ended.TheVariants.{Job as JobEnded, Joy as JoyEnded, Owner as OwnerEnded}
-use Rattle.inp_script.specs.Ended.{jobs_among, joys_among, owners_among}
-use Rattle.inp_script.specs.Job.{JobView, JoyJobView, OwnerView}
 
 pub jobs_among-append : (ends more : List Ended) → jobs_among (ends ++ more) ≡ jobs_among ends ++ jobs_among more
 jobs_among-append [] more = refl

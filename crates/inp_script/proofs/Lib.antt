@@ -1,3 +1,4 @@
+pub mod Words
 pub mod Computation
 pub mod TalkCalls
 pub mod IdleTurns

@@ -2,31 +2,8 @@
 use Rattle.std.proofs.Common.{◌≡◌, ℕ, zero, suc, ◌+◌, ◌<◌, ◌≤◌, true, false, List, [], ◌∷◌, ◌++◌, length, refl, sym, ap, subst, ◌∙◌, arith, Option, Some, None}
 use Rattle.std.specs.Prelude.{is_some}
 use Rattle.std.specs.List.{slice_get, range_with_len}
-use Rattle.inp_model.specs.declared.stamped.Stamped.{Stamped}
-use Rattle.inp_model.specs.declared.step.Step.TheVariants.{End}
-use Rattle.inp_model.specs.declared.reply.Reply.{Reply}
-use Rattle.inp_model.specs.Evdev.{EvdevView}
-use Rattle.inp_actors.specs.declared.actor_text.ActorText.{ActorText}
-use Rattle.inp_actors.specs.declared.command.Command.{Command}
-use Rattle.inp_actors.specs.declared.command.Command.TheVariants.{Stream, Stream16}
-use Rattle.inp_actors.specs.declared.line.Line.{Line}
-use Rattle.inp_actors.specs.declared.role.Role.{Role}
-use Rattle.inp_actors.specs.declared.role.Role.TheVariants.{Source as SourceRole}
-use Rattle.inp_actors.specs.Command.{is_command_of, is_in_range, stream_of}
-use Rattle.inp_model.specs.Injection.{AreInTime}
-use Rattle.inp_actors.specs.Record.{RecordView, IsRecord, streams_of}
-use Rattle.inp_reader.specs.Reader.{Reading}
-use Rattle.inp_reader.specs.Talk.{Talk, finish}
-use Rattle.inp_script.specs.declared.notes.Notes.{Notes}
-use Rattle.inp_script.specs.declared.stop.Stop.{Stop}
-use Rattle.inp_script.specs.declared.waiting.Waiting.{Waiting}
-use Rattle.inp_script.specs.declared.role.state.RoleState.{RoleState}
+use Rattle.inp_script.proofs.Words.{Stamped, Reply, EvdevView, ActorText, Command, Line, Role, Source as SourceRole, AreInTime, Reading, Talk, finish, Notes, Stop, Waiting, RoleState, Job, Stick, ActorView, no_stick, role_of, stick_of, End, is_command_of, is_in_range, stream_of, RecordView, IsRecord, streams_of, job_with, IsStepMade, IsNoted, Stream, Stream16, Holds, Begins, DoesCommand, DoesLine, BeginsLine, IsCommandFor, HasStream, command_talk, unless_stopped, line_talk, inject_talk, stream_numbered, stream_talk, end_talk, call_talk}
 use Rattle.inp_script.specs.declared.role.state.RoleState.TheVariants.{Source, Tap, Client, Joy, Owner}
-use Rattle.inp_script.specs.DoneLine.{Holds, Begins, DoesCommand, DoesLine, BeginsLine, IsCommandFor, HasStream, command_talk, unless_stopped, line_talk, inject_talk}
-use Rattle.inp_script.specs.Job.{Job, Stick, ActorView, no_stick}
-use Rattle.inp_script.specs.Line.{stream_numbered, stream_talk, end_talk, call_talk}
-use Rattle.inp_script.specs.Notes.{job_with, IsStepMade, IsNoted}
-use Rattle.inp_script.specs.RoleState.{role_of, stick_of}
 use Rattle.inp_script.proofs.TalkCalls.{holds-nothing, holds-same, begins-same}
 use Rattle.inp_script.proofs.Streams.{holds-noted, begins-call_if}
 
@@ -133,10 +110,7 @@ injects-begun before after events old h = begins-same before after (stream_talk 
 -- a source keeps nothing of a joystick
 pub source-stick : (state : RoleState) → role_of state ≡ SourceRole → no_stick ≡ stick_of state
 source-stick (Source caps view) h = refl
-source-stick (Tap caps tap) h = absurd cc
-source-stick (Client reader) h = absurd cc
-source-stick (Joy joy) h = absurd cc
-source-stick (Owner caps owner) h = absurd cc
+source-stick _ h = absurd cc
 
 -- The end of a source
 

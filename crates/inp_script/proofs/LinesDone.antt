@@ -2,18 +2,8 @@
 use Rattle.std.proofs.Common.{◌≡◌, ℕ, List, ap, subst, ◌∙◌, true, false, Some}
 use Rattle.std.specs.Prelude.{is_some, Option}
 use Rattle.std.specs.List.{slice_get}
-use Rattle.inp_model.specs.Evdev.{EvdevView}
-use Rattle.inp_model.specs.Run.{Call}
-use Rattle.inp_actors.specs.declared.line.Line.{Line}
-use Rattle.inp_actors.specs.declared.role.Role.TheVariants.{Source}
-use Rattle.inp_actors.specs.Command.{is_command_of}
-use Rattle.inp_actors.specs.Record.{RecordView, IsRecord}
-use Rattle.inp_script.specs.declared.waiting.Waiting.{Waiting}
-use Rattle.inp_script.specs.DoneLine.{DoesCommand, DoesLine, HasActor, Holds, IsCommandFor, IsLineOf}
+use Rattle.inp_script.proofs.Words.{EvdevView, Call, Line, Source, is_command_of, RecordView, IsRecord, Waiting, ActorView, Job, end_talk, DoesCommand, DoesLine, HasActor, Holds, IsCommandFor, IsLineOf, CountsTurns, GainsPlaces, StaysLegal}
 use Rattle.inp_script.specs.Fold.{StaysFolded}
-use Rattle.inp_script.specs.Job.{ActorView, Job}
-use Rattle.inp_script.specs.Legal.{CountsTurns, GainsPlaces, StaysLegal}
-use Rattle.inp_script.specs.Line.{end_talk}
 use Rattle.inp_script.proofs.Gains.{gains-places, stays-legal, line-tells, end-tells}
 use Rattle.inp_script.proofs.IdleTurns.{counts-turns}
 use Rattle.inp_script.proofs.LineFolds.{line-folds, end-folds}

@@ -1,6 +1,5 @@
 use Rattle.std.proofs.Common.{◌∙◌, ◌∷◌, [], List, ◌++◌, ap, sym, append_assoc}
-use Rattle.inp_script.specs.Ended.{jobs_among, joys_among, owners_among}
-use Rattle.inp_script.specs.Job.{JobView, JoyJobView, OwnerView}
+use Rattle.inp_script.proofs.Words.{jobs_among, joys_among, owners_among, JobView, JoyJobView, OwnerView}
 use Rattle.inp_script.proofs.Endings.{jobs_among-append, joys_among-append, owners_among-append}
 use Rattle.inp_script.proofs.run.sort_ends.Goals as goal
 

@@ -1,7 +1,6 @@
 use Rattle.std.proofs.Common.{sym, subst, arith}
 use Rattle.std.proofs.lemmas.Bool.Decides.{nat_tests}
-use Rattle.inp_model.specs.Injection.{AreInTime}
-use Rattle.inp_script.specs.Notes.{AreNoted}
+use Rattle.inp_script.proofs.Words.{AreInTime, AreNoted}
 use Rattle.inp_script.proofs.Batches.{take-in_time, drop-in_time, no_more}
 use Rattle.inp_script.proofs.Streams.{injected-none, injected-more, injected-refused, injected-so_far, injected-begun, injected-all}
 use Rattle.inp_script.proofs.role.source.inject_stream.Goals as goal
