@@ -143,7 +143,8 @@ idles-line d role command wait = record {
   joys = λ e s j n none i.
       meets-weaker Any AgainBy (OfJob NotIdle) (OfJob IdlesOf) s (joystick_talk d n command j)
       (joystick-meets AgainBy NotIdle d command (joy-stops AgainBy d command) n s j (none-not_idle j.stop none))
-      (λ t o. elim o as (λ p. OfJob NotIdle t p → OfJob IdlesOf t p) [ None ↦ λ h. h | Some k ↦ not_idle t k.stop ]);
+      (λ t o. elim o as (λ p. OfJob NotIdle t p → OfJob IdlesOf t p)
+      [ None ↦ λ h. h | Some k ↦ not_idle t k.stop ]);
 }
 
 line-idles : (role : Role) (d : Description) (streams : List (List Stamped)) (wait : Option Waiting) (n : ℕ) (command : Command) (j k : Job) (calls : List Call) → j.stop ≡ None → EndsWith (line_talk role d streams wait n command j) calls (Some k) → Idles (again_count calls) k.stop
@@ -154,4 +155,5 @@ line-idles role d streams wait n command j k calls none h =
 pub counts-turns : (a b : EvdevView) (actor : ActorView) (r : RecordView) (wait : Option Waiting) (number : ℕ) (new : Job) → DoesLine a b actor r wait number new → CountsTurns a b actor.job new
 counts-turns a b actor r wait number new does turns at none idle =
     let most : turns ≤ again_count does.holds.calls = line-idles actor.role actor.description r.streams wait does.rounds does.line.command actor.job new does.holds.calls none does.holds.talk_ends turns at idle in
-    elim (calls-counted a b does.holds.calls does.holds.are_calls).counts [ inl x ↦ inl (omega (arith, x, most)) | inr x ↦ inr x ]
+    elim (calls-counted a b does.holds.calls does.holds.are_calls).counts
+    [ inl x ↦ inl (omega (arith, x, most)) | inr x ↦ inr x ]

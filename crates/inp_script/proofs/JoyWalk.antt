@@ -38,15 +38,19 @@ pub turns-meet : {S : Type 0} (R : S → Step → Answer → S → Type 0) (I : 
     → Meets Any R (λ (t : S) (o : Option JoyAnswer × List Sight). AfterTurns I j t o.0 o.1) s
     (noted (turns d most 0 (joying_of j)) j.sight)
 turns-meet R I d s j most each =
-    noted-ends-meet R (λ t o. AfterTurns I j t o.0 o.1) s j.sight (turns d most 0 (joying_of j)) (λ t calls o run.
+    noted-ends-meet R (λ t o. AfterTurns I j t o.0 o.1) s j.sight (turns d most 0 (joying_of j))
+    (λ t calls o run.
     elim o as (λ p. EndsWith (turns d most 0 (joying_of j)) calls p → AfterTurns I j t p (j.sight ++ noted_sight calls)) [
       | None ↦ λ ends. tt
       | Some answer ↦ each t calls answer run
     ])
 
 -- a start, by what its client's reader leaves
-pub start_joystick-meets : {S : Type 0} (R : S → Step → Answer → S → Type 0) (I : S → Job → Type 0) (d : Description) (s : S) (j : Job)
-    → Meets Any (NotedBy R) (λ (u : S × List Sight) (o : Started × Reading). I u.0 (joystick_started j (joy_started d (joying_of j) o) u.1)) (s, j.sight) (start_talk d j.reading)
+pub start_joystick-meets : {S : Type 0} (R : S → Step → Answer → S → Type 0) (I : S → Job → Type 0)
+    (d : Description) (s : S) (j : Job)
+    → Meets Any (NotedBy R)
+    (λ (u : S × List Sight) (o : Started × Reading). I u.0 (joystick_started j (joy_started d (joying_of j) o) u.1))
+    (s, j.sight) (start_talk d j.reading)
     → Meets Any R (OfJob I) s (start_joystick d j)
 unfolding start_joystick joy_start
 start_joystick-meets {S} R I d s j h =
@@ -54,7 +58,9 @@ start_joystick-meets {S} R I d s j h =
     let joy : Started × Reading → Talk (Started × Joying) = λ o. finish (joy_started d (joying_of j) o) in
     let Q : S → (Started × Joying) × List Sight → Type 0 = λ t o. I t (joystick_started j o.0 o.1) in
     meets-then Any R Q (OfJob I) s (noted (and_then start joy) j.sight) (λ o. finish (after_joy_start j o))
-    (meets-noted R Q s j.sight (and_then start joy) (meets-then Any (NotedBy R) _ (λ (u : S × List Sight) (o : Started × Joying). Q u.0 (o, u.1)) (s, j.sight) start joy h (λ u o k. k)))
+    (meets-noted R Q s j.sight (and_then start joy)
+    (meets-then Any (NotedBy R) _ (λ (u : S × List Sight) (o : Started × Joying). Q u.0 (o, u.1))
+    (s, j.sight) start joy h (λ u o k. k)))
     (λ t o k. cond_both (start_lacks_memory o.0.0) _ _ (OfJob I t) (λ _. tt) (λ _. k))
 
 -- a joystick's command that is a call, and no more

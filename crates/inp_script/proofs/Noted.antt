@@ -10,7 +10,8 @@ use Rattle.inp_script.proofs.TalkCalls.{holds-nothing, holds-then, begins-then}
 -- the entries of a call that is kept, and of one that is not
 map-kept : (x : Step) (reply : Reply) → map made_sight (kept_call x reply) ≡ call_sight x reply
 map-kept x reply =
-    elim (is_again reply) as (λ b. map made_sight (if b then [] else record { step = x; reply = reply } ∷ []) ≡ (if b then [] else Called x reply ∷ [])) [ true ↦ refl | false ↦ refl ]
+    elim (is_again reply) as (λ b. map made_sight (if b then [] else record { step = x; reply = reply } ∷ [])
+    ≡ (if b then [] else Called x reply ∷ [])) [ true ↦ refl | false ↦ refl ]
 
 sight-more : (sight : List Sight) (x : Step) (reply : Reply) (calls : List Call) → (sight ++ call_sight x reply) ++ map made_sight (calls_kept calls) ≡ sight ++ map made_sight (kept_call x reply ++ calls_kept calls)
 sight-more sight x reply calls =

@@ -41,7 +41,8 @@ advanced-round before after d wait skips here turn h = record {
 -- the first calls of a round are those of so many rounds
 pub begun-round : (before after : EvdevView) (d : Description) (wait : Option Waiting) (skips : Bool) (here : Going) → Begins before after (next_round d wait skips here) → (n : ℕ) × Begins before after (rounds d wait skips n here)
 unfolding rounds
-begun-round before after d wait skips here h = (1, begins-first before after (next_round d wait skips here) (on_turn (rounds d wait skips 0)) h)
+begun-round before after d wait skips here h =
+    (1, begins-first before after (next_round d wait skips here) (on_turn (rounds d wait skips 0)) h)
 
 pub passed-more : (before between after : EvdevView) (d : Description) (wait : Option Waiting) (skips : Bool) (start here next : Going) → Passed before between d wait skips start here → IsAdvanced between after d wait skips here (goes_on next) → Passed before after d wait skips start next
 passed-more before between after d wait skips start here next s h = record {

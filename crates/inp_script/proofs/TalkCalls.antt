@@ -56,7 +56,8 @@ begins-first before after talk next s = record { calls = s.calls; rest = and_the
 
 -- all those of such a talk
 pub begins-then : {A B : Type 0} (before after : EvdevView) (talk : Talk A) (next : A → Talk B) (a : A) → Holds before after talk a → Begins before after (and_then talk next)
-begins-then before after talk next a s = begins-first before after talk next (holds-begins before after talk a s)
+begins-then before after talk next a s = begins-first before after talk next
+    (holds-begins before after talk a s)
 
 pub begins-same : {A : Type 0} (before after : EvdevView) (talk same : Talk A) → talk ≡ same → Begins before after talk → Begins before after same
 begins-same {A = A} before after talk same h s = subst (λ (t : Talk A). Begins before after t) h s
