@@ -4,7 +4,7 @@ use Rattle.std.specs.Prelude.{min}
 use Rattle.std.specs.List.{slice_get}
 use Rattle.inp_script.proofs.Words.{Description, EvdevView, Command, Line, Role, RecordView, RoleState, Waiting, ActorView, role_of, is_command_of, is_owner, feedback_room, BeginsLine, DoesLine, IsCommandFor, Owner as OwnerRole, FEEDBACK_MAX, Feeding}
 use Rattle.inp_actors.specs.declared.command.Command.TheVariants.{Feedback}
-use Rattle.inp_script.specs.declared.role.state.RoleState.TheVariants.{Source, Tap, Client, Joy, Owner}
+use Rattle.inp_script.specs.declared.role.state.RoleState.TheVariants.{Owner}
 use Rattle.inp_script.specs.declared.role.owner.Owner as owner
 use Rattle.inp_script.specs.ActorLine.{Acts, BeginsToAct}
 use Rattle.inp_script.specs.Owner.{Owning, FeedsLine, MayHaveFed}

@@ -1,11 +1,14 @@
 -- The lines of a record: what a record keeps of them, and what an actor does at one that it stops before, or not.
-use Rattle.std.proofs.Common.{◌≡◌, ℕ, zero, suc, ◌+◌, ◌<◌, ◌≤◌, true, false, List, [], ◌∷◌, ◌++◌, length, refl, sym, ap, subst, ◌∙◌, arith, Option, Some, None}
+use Rattle.std.proofs.Common.{◌≡◌, ℕ, zero, suc, ◌<◌, true, false, List, [], ◌∷◌, length, refl, sym, ap, subst, ◌∙◌, arith, Option, Some, None}
 use Rattle.std.specs.Prelude.{is_some}
 use Rattle.std.specs.List.{Contains, slice_get, range_with_len}
 use Rattle.std.proofs.lemmas.List.Elements.{Contains-append_left, Contains-append_right, Contains-push}
 use Rattle.std.proofs.lemmas.List.FromFn.{get_or-range_with_len, length-range_with_len}
-use Rattle.inp_script.proofs.Words.{Stamped, Reply, EvdevView, ActorText, Command, Line, Role, Source as SourceRole, AreInTime, Reading, Talk, finish, Notes, Stop, Waiting, RoleState, Job, Stick, ActorView, no_stick, role_of, stick_of, End, is_command_of, is_in_range, stream_of, RecordView, IsRecord, streams_of, job_with, IsStepMade, IsNoted, Stream, Stream16, Holds, Begins, DoesCommand, DoesLine, BeginsLine, IsCommandFor, HasStream, command_talk, unless_stopped, line_talk, inject_talk, stream_numbered, stream_talk, end_talk, call_talk}
-use Rattle.inp_script.specs.declared.role.state.RoleState.TheVariants.{Source, Tap, Client, Joy, Owner}
+use Rattle.inp_script.proofs.Words.{Stamped, Reply, EvdevView, ActorText, Command, Line, Role, Source as SourceRole, AreInTime, Reading, Talk, finish, Notes, Stop, Waiting, RoleState, Job, Stick, ActorView, no_stick, role_of, stick_of, End, is_command_of, is_in_range, stream_of, RecordView, IsRecord, streams_of, job_with, IsStepMade, IsNoted, Stream, Stream16, Holds, Begins, DoesCommand, DoesLine, BeginsLine, IsCommandFor, HasStream, command_talk, unless_stopped, line_talk, inject_talk, stream_numbered, stream_talk, end_talk, call_talk, Description, Joy, joystick_talk, first_of, NO_CLIENT, step_of, source_talk, call_if}
+use Rattle.inp_model.specs.declared.step.Step.TheVariants.{Close as ToClose}
+use Rattle.inp_actors.specs.declared.command.Command.TheVariants.{Open, Close, Read}
+use Rattle.inp_script.specs.declared.role.state.RoleState.TheVariants.{Source}
+use Rattle.std.proofs.lemmas.Option.{same_Some, slice_get_within}
 use Rattle.inp_script.proofs.TalkCalls.{holds-nothing, holds-same, begins-same}
 use Rattle.inp_script.proofs.Streams.{holds-noted, begins-call_if}
 
@@ -51,6 +54,35 @@ is_command_for r number line text role is has_line has_text same = record {
       in_numbers (length r.streams) i (subst (λ (all : List ℕ). Contains all i) is.numbered
       (named r.lines number line i has_line has)));
 }
+
+-- What a source and a joystick do at a command, by the command
+
+-- the stream of a number that is there
+pub stream_numbered-slice_get : (streams : List (List Stamped)) (index : ℕ) (stream : List Stamped) → slice_get streams index ≡ Some stream → stream_numbered streams index ≡ stream
+stream_numbered-slice_get streams index stream h =
+    same_Some _ stream (sym (slice_get-stream_numbered streams index (slice_get_within streams index stream h)) ∙ h)
+
+pub source_talk-single : (streams : List (List Stamped)) (command : Command) (j : Job) → first_of (stream_of command) ≡ None → source_talk streams command j ≡ call_if j (step_of NO_CLIENT command)
+source_talk-single streams (Stream file index) j h = absurd (cc h)
+source_talk-single streams (Stream16 file index) j h = absurd (cc h)
+source_talk-single streams _ j h = refl
+
+stream_is : (streams : List (List Stamped)) (at index : ℕ) (stream : List Stamped) (j : Job) → Some at ≡ Some index → slice_get streams index ≡ Some stream → stream_talk (stream_numbered streams at) j ≡ stream_talk stream j
+stream_is streams at index stream j e is =
+    let same : at ≡ index = cc e in
+    ap (λ (s : List Stamped). stream_talk s j) (ap (stream_numbered streams) same ∙ stream_numbered-slice_get streams index stream is)
+
+pub source_talk-stream : (streams : List (List Stamped)) (command : Command) (index : ℕ) (stream : List Stamped) (j : Job) → first_of (stream_of command) ≡ Some index → slice_get streams index ≡ Some stream → source_talk streams command j ≡ stream_talk stream j
+source_talk-stream streams (Stream file at) index stream j e is = stream_is streams at index stream j e is
+source_talk-stream streams (Stream16 file at) index stream j e is = stream_is streams at index stream j e is
+source_talk-stream streams _ index stream j e is = absurd (cc e)
+
+-- a joystick that neither opens nor reads closes
+pub joystick_talk-close : (d : Description) (n : ℕ) (command : Command) (j : Job) → is_command_of Joy command ≡ true → (command ≡ Open → ⊥) → ((count : ℕ) → command ≡ Read count → ⊥) → call_talk j (ToClose j.reading.client) ≡ joystick_talk d n command j
+joystick_talk-close d n Close j of_role no_open no_read = refl
+joystick_talk-close d n Open j of_role no_open no_read = absurd (no_open refl)
+joystick_talk-close d n (Read count) j of_role no_open no_read = absurd (no_read count refl)
+joystick_talk-close d n command j of_role no_open no_read = absurd cc
 
 -- What an actor does at a line
 
