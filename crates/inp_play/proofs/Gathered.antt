@@ -1,30 +1,16 @@
 -- What came of the devices, gathered actor by actor.
-use Rattle.std.proofs.Common.{◌≡◌, ◌≢◌, ℕ, zero, suc, ◌+◌, ◌<◌, Bool, true, false, if◌then◌else◌, List, [], ◌∷◌, ◌++◌, length, reverse, get_or, Some, refl, sym, ap, ◌∙◌, arith, append-nil}
-use Rattle.std.specs.Prelude.{nat_eq, map, slice_get, slice_set, option_map}
+use Rattle.std.proofs.Common.{◌≡◌, ◌≢◌, ℕ, zero, suc, ◌+◌, ◌<◌, Bool, true, false, if◌then◌else◌, List, [], ◌∷◌, ◌++◌, length, reverse, get_or, ne_eqb, Some, refl, sym, ap, ◌∙◌, arith, append-nil}
+use Rattle.std.specs.Prelude.{map, slice_get, slice_set, option_map}
 use Rattle.std.specs.List.{enumerate_from}
-use Rattle.std.proofs.lemmas.Bool.{eq-eqb, eqb-true}
+use Rattle.std.proofs.lemmas.Bool.{eq-eqb}
 use Rattle.std.proofs.lemmas.List.{length-map, map-append}
 use Rattle.std.proofs.lemmas.List.Elements.{filter-append}
 use Rattle.std.proofs.lemmas.List.FromFn.{length-enumerate_from}
 use Rattle.std.proofs.lemmas.Option.{slice_get-map, slice_get_read, slice_get_within}
-use Rattle.inp_model.specs.declared.step.Step.{Step}
-use Rattle.inp_actors.specs.declared.actor_text.ActorText.{ActorText}
-use Rattle.inp_actors.specs.declared.role.Role.{Role}
-use Rattle.inp_actors.specs.declared.role.Role.TheVariants.{Source, Client, Tap, Joy, Owner}
-use Rattle.inp_actors.specs.Record.{RecordView, IsRecord}
-use Rattle.inp_feedback.specs.UEntry.{steps_in}
-use Rattle.inp_uinput.specs.UdevView.{UdevView}
-use Rattle.inp_script.specs.declared.end.ended.Ended.{Ended}
-use Rattle.inp_script.specs.declared.run.DeviceEnds.{DeviceEnds}
-use Rattle.inp_script.specs.DoneLine.{HasActor}
-use Rattle.inp_script.specs.Ended.{ended_as, ended_of}
-use Rattle.inp_script.specs.Job.{ActorView}
-use Rattle.inp_script.specs.Runs.{is_on_device}
-use Rattle.inp_runs.specs.Play.{Stage, jobs_on, run_of, runs_of}
+use Rattle.inp_script.proofs.Words.{Step, ActorText, RecordView, IsRecord, steps_in, HasActor, ActorView, ended_of, is_on_device}
+use Rattle.inp_play.proofs.Words.{UdevView, pasts_of, stage_with, HasDevices, HasActors, Stage, jobs_on, run_of, runs_of, first_ends, with_end, HasEndMore, Ended, DeviceEnds}
 use Rattle.inp_runs.proofs.order.Promised.{there-is}
-use Rattle.inp_play.specs.GatheredRuns.{first_ends, with_end, HasEndMore}
-use Rattle.inp_play.specs.Player.{pasts_of, stage_with, HasDevices, HasActors}
-use Rattle.inp_play.proofs.FirstPlayer.{slice_get-numbered}
+use Rattle.inp_runs.proofs.Lists.{slice_get-numbered}
 use Rattle.inp_play.proofs.PlayerLines.{same_item, length-devices}
 
 -- before the first actor
@@ -55,11 +41,7 @@ ends_same r devices ys a device past h =
 
 -- a device of another number
 other_device : (r : RecordView) (a : ActorView) (text : ActorText) (device : ℕ) → slice_get r.actors a.actor ≡ Some text → text.device ≢ device → is_on r device a ≡ false
-other_device r a text device there other = ap (is_on_device device) there ∙ by_flag (nat_eq text.device device) refl
-  where
-    by_flag : (b : Bool) → nat_eq text.device device ≡ b → nat_eq text.device device ≡ false
-    by_flag true e = absurd (other (eqb-true text.device device e))
-    by_flag false e = e
+other_device r a text device there other = ap (is_on_device device) there ∙ ne_eqb text.device device other
 
 own_device : (r : RecordView) (a : ActorView) (text : ActorText) (device : ℕ) → slice_get r.actors a.actor ≡ Some text → text.device ≡ device → is_on r device a ≡ true
 own_device r a text device there same = ap (is_on_device device) there ∙ eq-eqb text.device device same
