@@ -91,8 +91,7 @@ line-talk role e d streams rounds command j new past after calls same none ends 
     ∙ exact-talk d past after (line_talk role d streams None rounds command j) calls (Some new) there exactly
 
 line-short : (r : RecordView) (d : Description) (rounds m k : ℕ) (stage now : Stage) (line : Line) → IsShort d m stage → IsBound d line.command k → m + k < d.log_limit → after_line r rounds stage line ≡ Some now → IsShort d (m + k) now
-line-short r d rounds m k stage now line s bound room h =
-    of_line (line-done r rounds stage now line (λ room text a past is. absurd (let both : None ≡ Some room = sym bound.no_feedback ∙ is in cc)) h)
+line-short r d rounds m k stage now line s bound room h = of_line (line-done r rounds stage now line (λ room text a past is. absurd (let both : None ≡ Some room = sym bound.no_feedback ∙ is in cc)) h)
   where
     of_line : IsLinePlayed r rounds stage now line → IsShort d (m + k) now
     of_line u =
