@@ -43,9 +43,6 @@ ends_same r devices ys a device past h =
 other_device : (r : RecordView) (a : ActorView) (text : ActorText) (device : ℕ) → slice_get r.actors a.actor ≡ Some text → text.device ≢ device → is_on r device a ≡ false
 other_device r a text device there other = ap (is_on_device device) there ∙ ne_eqb text.device device other
 
-own_device : (r : RecordView) (a : ActorView) (text : ActorText) (device : ℕ) → slice_get r.actors a.actor ≡ Some text → text.device ≡ device → is_on r device a ≡ true
-own_device r a text device there same = ap (is_on_device device) there ∙ eq-eqb text.device device same
-
 all_same : (r : RecordView) (devices : List UdevView) (ys : List ActorView) (a : ActorView) (text : ActorText) (n : ℕ) (pasts : List (List Step)) → slice_get r.actors a.actor ≡ Some text → text.device < n → map (run_of r (stage_with devices ys)) (enumerate_from n pasts) ≡ map (run_of r (stage_with devices (ys ++ a ∷ []))) (enumerate_from n pasts)
 all_same r devices ys a text n [] there below = refl
 all_same r devices ys a text n (past ∷ pasts) there below =
@@ -64,7 +61,7 @@ all_more r devices ys a text n (past ∷ pasts) zero past' there place found =
     let below : text.device < n + 1 = omega (arith, place) in
     let rest : List DeviceEnds = map (run_of r (stage_with devices ys)) (enumerate_from (n + 1) pasts) in
     ap (λ (p : List Step). with_end (run_of r (stage_with devices ys) (text.device, p)) (ended_of a) ∷ rest) (sym same)
-    ∙ ap (λ (first : DeviceEnds). first ∷ rest) (ends_more r devices ys a text.device past (own_device r a text text.device there refl))
+    ∙ ap (λ (first : DeviceEnds). first ∷ rest) (ends_more r devices ys a text.device past (ap (is_on_device text.device) there ∙ eq-eqb text.device text.device refl))
     ∙ ap (λ (k : ℕ). run_of r (stage_with devices (ys ++ a ∷ [])) (k, past) ∷ rest) here
     ∙ ap (λ (all : List DeviceEnds). run_of r (stage_with devices (ys ++ a ∷ [])) (n, past) ∷ all) (all_same r devices ys a text (n + 1) pasts there below)
 all_more r devices ys a text n (past ∷ pasts) (suc i) past' there place found =
@@ -113,9 +110,6 @@ one_more_end r devices ys a old new text next there before more =
     more (run_of r s (text.device, past)) there_before
     ∙ ap (λ (gathered : List DeviceEnds). slice_set gathered text.device (with_end (run_of r s (text.device, past)) (ended_of a))) before
     ∙ all_more r devices ys a text 0 (pasts_of devices) text.device past there zero_more found
-
-pub next-actor : (r : RecordView) (devices : List UdevView) (a : ActorView) → IsNext r devices a → a.actor < length r.actors
-next-actor r devices a next = slice_get_within r.actors a.actor next.text next.is_text
 
 pub next-device : (r : RecordView) (devices : List UdevView) (ys : List ActorView) (a : ActorView) (gathered : List DeviceEnds) (text : ActorText) → IsNext r devices a → slice_get r.actors a.actor ≡ Some text → gathered ≡ runs_of r (stage_with devices ys) → text.device < length gathered
 next-device r devices ys a gathered text next there before =

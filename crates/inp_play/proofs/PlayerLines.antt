@@ -18,7 +18,7 @@ use Rattle.inp_uinput.specs.UdevView.{UdevView, device_of, owned_view}
 use Rattle.inp_uinput.specs.OwnedFeeds.{IsFeedbackOf}
 use Rattle.inp_uinput.proofs.Tied.{untied-calls, tied-calls}
 use Rattle.inp_script.specs.ActorLine.{ActsLine}
-use Rattle.inp_script.specs.Owner.{Owning, after_feedback, IsFed, FeedsUnless, FeedsLine}
+use Rattle.inp_script.specs.Owner.{Owning, after_feedback, FeedsUnless, FeedsLine}
 use Rattle.inp_play.proofs.Words.{Stage, feedback_calls_after, after_talk, unless_owner_stopped, by_command, after_line, after_lines, after_line_of, stage_with, pasts_of, feedback_calls_of, HasDevices, HasActors, inject_line, Stop}
 use Rattle.inp_runs.proofs.order.Alone.{device-alone}
 use Rattle.inp_runs.proofs.Lists.{map-set_same, slice_get-set}
@@ -161,25 +161,8 @@ calls_kept d kept room =
       | false ↦ refl
     ]
 
--- A feedback call with room for so many events, but for no more than ever wait, is one with room for so many.
-record IsCallOf (device after : UdevView) (count : ℕ) (old new : Owning) : Type 0 where
-  noted : new ≡ after_feedback (fed device.description device.kept count) (taken_by_feedback device.description device.kept count) old
-  kept : after.kept ≡ kept_after_feedback device.description device.kept count
-
-call_of : (device after : UdevView) (count : ℕ) (old new : Owning) → IsFed IsFeedbackOf device after (min count FEEDBACK_MAX) old new → IsCallOf device after count old new
-call_of device after count old new h =
-    let d : Description = device.description in
-    let kept : List UEntry = device.kept in
-    let f : IsFeedbackOf device after (min count FEEDBACK_MAX) h.answer h.events = h.fed in
-    record {
-      noted =
-          h.noted
-          ∙ ap (λ (answer : Fed). after_feedback answer h.events old) (f.answered ∙ room-enough d kept count)
-          ∙ ap (λ (events : List Event). after_feedback (fed d kept count) events old) (f.taken ∙ room-enough-taken d kept count);
-      kept = ap (λ (u : UdevView). u.kept) f.kept ∙ room-enough-kept d kept count;
-    }
-
--- what a line of an owner leaves, by whether it had stopped
+-- What a line of an owner leaves, by whether it had stopped. A call with room for so many events, but for no more than ever
+-- wait, is one with room for so many.
 feed_leaves : (devices : List UdevView) (actors : List ActorView) (i number : ℕ) (a : ActorView) (device after : UdevView) (count : ℕ) (new : Owning) (stop : Option Stop) → slice_get devices i ≡ Some device → slice_get actors number ≡ Some a → a.actor ≡ number → device.description ≡ a.description
     → FeedsUnless IsFeedbackOf stop device after (min count FEEDBACK_MAX) a.owning new
     → unless_owner_stopped stop (stage_with devices actors) i a count (steps_in device.kept) (calls_in device.kept) ≡ stage_with (slice_set devices i after) (slice_set actors number (record a { owning = new }))
@@ -187,16 +170,21 @@ feed_leaves devices actors i number a device after count new None is_device is_a
     let s : Stage = stage_with devices actors in
     let d : Description = device.description in
     let kept : List UEntry = device.kept in
-    let call : IsCallOf device after count a.owning new = call_of device after count a.owning new h in
-    let steps : steps_in after.kept ≡ steps_in kept = ap steps_in call.kept ∙ steps_kept d kept count in
-    let calls : feedback_calls_after (fed d kept count) (calls_in kept) ≡ calls_in after.kept = sym (ap calls_in call.kept ∙ calls_kept d kept count) in
+    let f : IsFeedbackOf device after (min count FEEDBACK_MAX) h.answer h.events = h.fed in
+    let noted : new ≡ after_feedback (fed d kept count) (taken_by_feedback d kept count) a.owning =
+    h.noted
+    ∙ ap (λ (answer : Fed). after_feedback answer h.events a.owning) (f.answered ∙ room-enough d kept count)
+    ∙ ap (λ (events : List Event). after_feedback (fed d kept count) events a.owning) (f.taken ∙ room-enough-taken d kept count) in
+    let left_is : after.kept ≡ kept_after_feedback d kept count = ap (λ (u : UdevView). u.kept) f.kept ∙ room-enough-kept d kept count in
+    let steps : steps_in after.kept ≡ steps_in kept = ap steps_in left_is ∙ steps_kept d kept count in
+    let calls : feedback_calls_after (fed d kept count) (calls_in kept) ≡ calls_in after.kept = sym (ap calls_in left_is ∙ calls_kept d kept count) in
     let told : Description → List UEntry → Owning = λ e es. after_feedback (fed e es count) (taken_by_feedback e es count) a.owning in
     let left : Description → List UEntry → Stage =
     λ e es. record s { calls = slice_set s.calls i (feedback_calls_after (fed e es count) (calls_in kept)); actors = slice_set s.actors a.actor (record a { owning = told e es }) } in
     ap (λ (es : List UEntry). left a.description es) (kept-woven kept)
     ∙ ap (λ (e : Description). left e kept) (sym description)
     ∙ ap (λ (cs : List FeedbackCall). record s { calls = slice_set s.calls i cs; actors = slice_set s.actors a.actor (record a { owning = told d kept }) }) calls
-    ∙ ap (λ (w : Owning). record s { calls = slice_set s.calls i (calls_in after.kept); actors = slice_set s.actors a.actor (record a { owning = w }) }) (sym call.noted)
+    ∙ ap (λ (w : Owning). record s { calls = slice_set s.calls i (calls_in after.kept); actors = slice_set s.actors a.actor (record a { owning = w }) }) (sym noted)
     ∙ ap (λ (k : ℕ). record s { calls = slice_set s.calls i (calls_in after.kept); actors = slice_set s.actors k (record a { owning = new }) }) place
     ∙ ap (λ (cs : List (List FeedbackCall)). record s { calls = cs; actors = slice_set s.actors number (record a { owning = new }) }) (sym (map-set (λ (v : UdevView). calls_in v.kept) devices i after))
     ∙ ap (λ (ps : List (List Step)). record { pasts = ps; calls = feedback_calls_of (slice_set devices i after); actors = slice_set s.actors number (record a { owning = new }) })
