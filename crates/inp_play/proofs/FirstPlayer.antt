@@ -1,42 +1,19 @@
 -- The devices and the actors of a record before its first line.
-use Rattle.std.proofs.Common.{◌≡◌, ℕ, zero, suc, ◌+◌, ◌<◌, List, [], ◌∷◌, ◌++◌, length, take, Some, refl, sym, ap, subst, ◌∙◌, arith}
+use Rattle.std.proofs.Common.{◌≡◌, ℕ, ◌+◌, ◌<◌, List, [], ◌∷◌, ◌++◌, length, take, Some, refl, sym, ap, subst, ◌∙◌, arith}
 use Rattle.std.specs.Prelude.{map, slice_get, option_map}
 use Rattle.std.specs.List.{enumerate_from}
-use Rattle.std.proofs.lemmas.List.{length-map}
+use Rattle.std.proofs.lemmas.List.{length-map, take_more}
+use Rattle.std.proofs.lemmas.Simd.{map-map}
 use Rattle.std.proofs.lemmas.List.FromFn.{length-enumerate_from}
-use Rattle.std.proofs.lemmas.Option.{slice_get-map, slice_get_within}
-use Rattle.inp_model.specs.declared.step.Step.{Step}
-use Rattle.inp_model.specs.Description.{Description}
-use Rattle.inp_actors.specs.declared.actor_text.ActorText.{ActorText}
-use Rattle.inp_actors.specs.declared.device_text.DeviceText.{DeviceText}
-use Rattle.inp_actors.specs.Record.{RecordView, IsRecord}
+use Rattle.std.proofs.lemmas.Option.{slice_get-map, slice_get_within, get_or_from_slice_get}
+use Rattle.inp_script.proofs.Words.{steps_in, Step, Description, ActorText, DeviceText, RecordView, IsRecord, HasActor, ActorView, first_job}
 use Rattle.inp_feedback.specs.declared.feedback_call.FeedbackCall.{FeedbackCall}
-use Rattle.inp_script.specs.DoneLine.{HasActor}
-use Rattle.inp_script.specs.Job.{ActorView, first_job}
+use Rattle.inp_feedback.specs.Kept.{calls_in}
+use Rattle.inp_runs.proofs.Lists.{slice_get-numbered}
 use Rattle.inp_script.specs.Owner.{first_owning}
-use Rattle.inp_uinput.specs.UdevView.{UdevView}
-use Rattle.inp_runs.specs.Play.{description_at, first_actor, first_stage}
+use Rattle.inp_play.proofs.Words.{UdevView, description_at, first_actor, first_stage, feedback_calls_of, stage_with, first_device, first_actors, HasDevices, HasActors}
 use Rattle.inp_runs.proofs.order.Promised.{there-is, description_is}
-use Rattle.inp_play.specs.Player.{pasts_of, feedback_calls_of, stage_with, first_device, first_actors, HasDevices, HasActors}
 use Rattle.inp_play.proofs.PlayerLines.{same_item}
-
--- Lists
-
-pub take-next : {A : Type 0} (xs : List A) (i : ℕ) (x : A) → slice_get xs i ≡ Some x → take (i + 1) xs ≡ take i xs ++ x ∷ []
-take-next [] i x h = absurd cc
-take-next {A = A} (y ∷ xs) zero x h =
-    let same : y ≡ x = cc in
-    ap (λ (z : A). z ∷ []) same
-take-next {A = A} (y ∷ xs) (suc i) x h =
-    let more : suc i + 1 ≡ suc (i + 1) = omega arith in
-    ap (λ (n : ℕ). take n (y ∷ xs)) more ∙ ap (λ (zs : List A). y ∷ zs) (take-next xs i x h)
-
-pub slice_get-numbered : {A : Type 0} (n : ℕ) (xs : List A) (i : ℕ) → slice_get (enumerate_from n xs) i ≡ option_map (λ x. (n + i, x)) (slice_get xs i)
-slice_get-numbered n [] i = refl
-slice_get-numbered {A = A} n (x ∷ xs) zero = let same : n ≡ n + 0 = omega arith in ap (λ (k : ℕ). Some (k, x)) same
-slice_get-numbered {A = A} n (x ∷ xs) (suc i) =
-    let same : n + 1 + i ≡ n + suc i = omega arith in
-    slice_get-numbered (n + 1) xs i ∙ ap (λ (k : ℕ). option_map (λ (y : A). (k, y)) (slice_get xs i)) same
 
 -- Actors
 
@@ -59,15 +36,17 @@ first_at r i text h =
     ∙ ap (option_map (first_actor r)) (slice_get-numbered 0 r.actors i ∙ ap (option_map (λ (t : ActorText). (0 + i, t))) h)
     ∙ ap (λ (n : ℕ). Some (first_actor r (n, text))) zero_more
 
+pub length-first_actors : (r : RecordView) → length (first_actors r) ≡ length r.actors
+length-first_actors r = length-map (enumerate_from 0 r.actors) (first_actor r) ∙ length-enumerate_from 0 r.actors
+
 pub one_more_actor : (r : RecordView) (i : ℕ) (a : ActorView) (actors : List ActorView) → i < length r.actors → HasActor r a → a.actor ≡ i → a.job ≡ first_job a.role a.description → a.owning ≡ first_owning → actors ≡ take i (first_actors r) → actors ++ a ∷ [] ≡ take (i + 1) (first_actors r)
 one_more_actor r i a actors within has number job owning before =
     let t : (text : ActorText) × (slice_get r.actors i ≡ Some text) = there-is r.actors i within in
     ap (λ (xs : List ActorView). xs ++ a ∷ []) before
     ∙ ap (λ (b : ActorView). take i (first_actors r) ++ b ∷ []) (made_first r i t.0 a has number job owning t.1)
-    ∙ sym (take-next (first_actors r) i (first_actor r (i, t.0)) (first_at r i t.0 t.1))
-
-pub length-first_actors : (r : RecordView) → length (first_actors r) ≡ length r.actors
-length-first_actors r = length-map (enumerate_from 0 r.actors) (first_actor r) ∙ length-enumerate_from 0 r.actors
+    ∙ ap (λ (b : ActorView). take i (first_actors r) ++ b ∷ [])
+    (sym (get_or_from_slice_get (first_actors r) i (first_actor r (i, t.0)) a (first_at r i t.0 t.1)))
+    ∙ sym (take_more (first_actors r) i a (omega (arith, within, length-first_actors r)))
 
 pub first_has_actors : (r : RecordView) → IsRecord r → HasActors r (first_actors r)
 first_has_actors r keeps = record {
@@ -83,21 +62,11 @@ first_has_actors r keeps = record {
 -- Devices
 
 pub first_has_devices : (r : RecordView) → HasDevices r (map first_device r.devices)
-first_has_devices r = by_list r.devices
-  where
-    by_list : (ds : List DeviceText) → map (λ (device : UdevView). device.description) (map first_device ds) ≡ map (λ (text : DeviceText). text.caps) ds
-    by_list [] = refl
-    by_list (d ∷ ds) = ap (λ (xs : List Description). d.caps ∷ xs) (by_list ds)
+first_has_devices r = map-map (λ (device : UdevView). device.description) first_device r.devices
 
 pub first_stage_with : (r : RecordView) → stage_with (map first_device r.devices) (first_actors r) ≡ first_stage r
 first_stage_with r =
-    ap (λ (pasts : List (List Step)). record { pasts = pasts; calls = feedback_calls_of (map first_device r.devices); actors = first_actors r }) (by_list r.devices)
-    ∙ ap (λ (calls : List (List FeedbackCall)). record { pasts = map (λ text. []) r.devices; calls = calls; actors = first_actors r }) (no_calls r.devices)
-  where
-    by_list : (ds : List DeviceText) → pasts_of (map first_device ds) ≡ map (λ (text : DeviceText). []) ds
-    by_list [] = refl
-    by_list (d ∷ ds) = ap (λ (xs : List (List Step)). [] ∷ xs) (by_list ds)
-
-    no_calls : (ds : List DeviceText) → feedback_calls_of (map first_device ds) ≡ map (λ (text : DeviceText). []) ds
-    no_calls [] = refl
-    no_calls (d ∷ ds) = ap (λ (xs : List (List FeedbackCall)). [] ∷ xs) (no_calls ds)
+    ap (λ (pasts : List (List Step)). record { pasts = pasts; calls = feedback_calls_of (map first_device r.devices); actors = first_actors r })
+    (map-map (λ (d : UdevView). steps_in d.kept) first_device r.devices)
+    ∙ ap (λ (calls : List (List FeedbackCall)). record { pasts = map (λ text. []) r.devices; calls = calls; actors = first_actors r })
+    (map-map (λ (d : UdevView). calls_in d.kept) first_device r.devices)

@@ -1,37 +1,19 @@
 -- How many steps a `follow` that does not wait adds to the history of its device.
-use Rattle.std.proofs.Common.{◌≡◌, ◌≤◌, ◌<◌, ℕ, zero, suc, ◌+◌, ◌-◌, ◌*◌, Bool, true, false, if◌then◌else◌, nat_eq, List, [], ◌∷◌, length, refl, sym, ap, subst, ◌∙◌, arith, ◌⊎◌, inl, inr, Option, Some, None}
+use Rattle.std.proofs.Common.{◌≡◌, ◌≤◌, ◌<◌, ℕ, zero, suc, ◌+◌, ◌-◌, ◌*◌, Bool, true, false, nat_eq, List, [], ◌∷◌, length, refl, sym, ap, subst, ◌∙◌, arith, ◌⊎◌, inl, inr, Option, Some, None}
 use Rattle.std.specs.Prelude.{Result, Ok, Err}
 use Rattle.std.proofs.lemmas.Bool.{cond_both, cond-true, cond-false}
-use Rattle.inp_model.specs.declared.event.Event.{Event}
-use Rattle.inp_model.specs.declared.taken.Taken.{Taken}
-use Rattle.inp_model.specs.declared.step.Step.{Step}
+use Rattle.inp_script.proofs.Words.{Taken, Step, Reply, View, Mode, Phase, Next, Reading, queries, start_talk, next_talk, stop_of, lacks_memory, Description, ring, Answer, answer, past_after, is_accepted, Job, call_if, tap_call_if, Event, Plain, Needed, Talk, finish, ask, talk_with, Going, turn_after, after_next, mode_of, next_round, hand_talk, start_job, start_joystick}
+use Rattle.inp_play.proofs.Words.{Sight}
 use Rattle.inp_model.specs.declared.step.Step.TheVariants.{Open, Read, Discard}
-use Rattle.inp_model.specs.declared.reply.Reply.{Reply}
-use Rattle.inp_model.specs.Description.{Description, ring}
 use Rattle.inp_model.specs.Queue.{event_of, visible, queue}
-use Rattle.inp_model.specs.Reply.{Answer, answer, refused, past_after, is_accepted}
 use Rattle.inp_model.proofs.Allowed.{allowed}
 use Rattle.inp_runs.proofs.losses.Causes.{queue-room}
-use Rattle.inp_joy.specs.Joy.{Joying, joy_start, joy_started}
-use Rattle.inp_recon.specs.declared.view.View.{View}
-use Rattle.inp_reader.specs.declared.mode.Mode.{Mode}
-use Rattle.inp_reader.specs.declared.phase.Phase.{Phase}
-use Rattle.inp_reader.specs.declared.phase.Phase.TheVariants.{Plain, Needed}
-use Rattle.inp_reader.specs.declared.started.Started.{Started}
-use Rattle.inp_reader.specs.declared.next.Next.{Next}
-use Rattle.inp_reader.specs.declared.next.Next.TheVariants.{Success, Dropped, Sync, Again, Synced, NoDevice, Closed, Full}
-use Rattle.inp_reader.specs.Reader.{Reading, queries, start_talk, next_talk, stop_of}
+use Rattle.inp_reader.specs.declared.next.Next.TheVariants.{Success, Dropped, Sync, Synced}
 use Rattle.inp_reader.specs.ReaderPlace.{is_needed}
-use Rattle.inp_reader.specs.Talk.{Talk, finish, ask, and_then, talk_with}
-use Rattle.inp_reader.proofs.Meets.{Meets, Any, meets-then, meets-weaker}
+use Rattle.inp_reader.proofs.Meets.{Meets, Any, meets-weaker}
 use Rattle.inp_reader.proofs.NextWalk.{AskRules, Queried, start-meets, asked-meets, sync-by_parts, Renewed, NextRules, next-meets, stop-cases}
-use Rattle.inp_script.specs.declared.sight.Sight.{Sight}
-use Rattle.inp_script.specs.Client.{Going, turn_after, after_next, mode_of, next_round, hand_talk, start_job}
-use Rattle.inp_script.specs.Job.{Job, joying_of, with_joying}
-use Rattle.inp_script.specs.Joystick.{after_joy_start, start_joystick}
-use Rattle.inp_script.specs.Line.{call_if, tap_call_if, after_tap_call}
-use Rattle.inp_script.specs.Sight.{noted, start_lacks_memory, stop_after_start, lacks_memory}
-use Rattle.inp_script.proofs.LineWalk.{NotedBy, meets-noted, note-meets, OfJob, OfTurn, start_job-meets, round-meets, rounds-meets}
+use Rattle.inp_script.proofs.JoyWalk.{start_joystick-meets}
+use Rattle.inp_script.proofs.LineWalk.{NotedBy, note-meets, OfJob, OfTurn, start_job-meets, round-meets, rounds-meets}
 use Rattle.inp_script.proofs.Replies.{answer_has}
 use Rattle.inp_play.proofs.OwnQueues.{IsQuiet, visible-le, read-leaves, discard-leaves}
 
@@ -94,14 +76,11 @@ read-found : (d : Description) (past : List Step) (client count : ℕ) → is_ac
 read-found d past client count h none =
     answer_has (λ a. is_accepted a.reply ≡ true → ⊥) d past (Read client count)
     (λ refusal is e. let k : false ≡ true = sym is.accepted ∙ e in cc)
-    (λ unrefused e. found unrefused)
+    (λ unrefused e.
+    let some : nat_eq (visible event_of (queue d past client)) 0 ≡ false = (allowed d past (Read client count) unrefused).found in
+    let never : false ≡ true = sym some ∙ ap (λ (n : ℕ). nat_eq n 0) none in
+    cc)
     h
-  where
-    found : refused d past (Read client count) ≡ None → ⊥
-    found unrefused =
-        let some : nat_eq (visible event_of (queue d past client)) 0 ≡ false = (allowed d past (Read client count) unrefused).found in
-        let e : false ≡ true = sym some ∙ ap (λ (n : ℕ). nat_eq n 0) none in
-        cc
 
 -- What a follow has left to do
 
@@ -121,7 +100,7 @@ abbrev IsLeft : Description → ℕ → List Step → Reading → ℕ → Type 0
 IsLeft d most past r k = IsAhead d most past r.client k ⊎ IsSpent d past r
 
 -- The line goes on with less left to do.
-record GoesOn (d : Description) (most bound : ℕ) (r : Reading) (past : List Step) : Type 0 where
+record GoesOn (d : Description) (most bound : ℕ) (past : List Step) (r : Reading) : Type 0 where
   left : ℕ
   is_left : IsLeft d most past r left
   within : length past + left ≤ bound
@@ -131,15 +110,12 @@ abbrev is_last : Next → Bool
 is_last (Success taken) = false
 is_last (Dropped taken) = false
 is_last (Sync event) = false
-is_last (Again at ends) = true
 is_last Synced = false
-is_last NoDevice = true
-is_last Closed = true
-is_last (Full at) = true
+is_last _ = true
 
 -- what comes of a round, where the history is to stay within a bound
 abbrev IsRound : Description → ℕ → ℕ → List Step → Next × Reading → Type 0
-IsRound d most bound past o = ((is_last o.0 ≡ true) × (length past ≤ bound)) ⊎ GoesOn d most bound o.1 past
+IsRound d most bound past o = ((is_last o.0 ≡ true) × (length past ≤ bound)) ⊎ GoesOn d most bound past o.1
 
 last-stop : (reply : Reply) → is_last (stop_of reply) ≡ true
 last-stop reply = stop-cases (λ next. is_last next ≡ true) reply (λ at ends is. refl) refl refl (λ at. refl)
@@ -157,19 +133,19 @@ fewer d most past client k ahead some = by_reads ahead.reads ahead.enough ahead.
 
 -- A round
 
-abbrev HasLeft : Description → ℕ → ℕ → List Step → Reading → Type 0
-HasLeft d most bound past r = GoesOn d most bound r past
-
-within : (d : Description) (most bound : ℕ) (past : List Step) (r : Reading) → GoesOn d most bound r past → length past ≤ bound
+within : (d : Description) (most bound : ℕ) (past : List Step) (r : Reading) → GoesOn d most bound past r → length past ≤ bound
 within d most bound past r i = omega (arith, i.within)
 
 -- nothing else was known of the reader
-with_left : (d : Description) (most bound : ℕ) (past : List Step) (r : Reading) (phase : Phase) (events : List Event) → is_needed phase ≡ false → GoesOn d most bound r past → GoesOn d most bound (record r { phase = phase; left = events }) past
-with_left d most bound past r phase events unneeded i = record { left = i.left; is_left = by i.is_left; within = i.within }
-  where
-    by : IsLeft d most past r i.left → IsLeft d most past (record r { phase = phase; left = events }) i.left
-    by (inl ahead) = inl ahead
-    by (inr spent) = inr (record { empty = spent.empty; unneeded = unneeded; none = spent.none })
+with_left : (d : Description) (most bound : ℕ) (past : List Step) (r : Reading) (phase : Phase) (events : List Event) → is_needed phase ≡ false → GoesOn d most bound past r → GoesOn d most bound past (record r { phase = phase; left = events })
+with_left d most bound past r phase events unneeded i = record {
+  left = i.left;
+  is_left = elim i.is_left [
+    | inl ahead ↦ inl ahead
+    | inr spent ↦ inr (record { empty = spent.empty; unneeded = unneeded; none = spent.none })
+  ];
+  within = i.within;
+}
 
 -- a reader that has events at hand is to read on
 ahead-of : (d : Description) (most k : ℕ) (past : List Step) (r : Reading) (taken : Taken) (rest : List Taken) → r.queue ≡ taken ∷ rest → IsLeft d most past r k → IsAhead d most past r.client k
@@ -181,20 +157,19 @@ ahead-needed : (d : Description) (most k : ℕ) (past : List Step) (r : Reading)
 ahead-needed d most k past r needed (inl ahead) = ahead
 ahead-needed d most k past r needed (inr spent) = absurd (let never : false ≡ true = sym spent.unneeded ∙ ap is_needed needed in cc)
 
-after-read : (d : Description) (most bound : ℕ) (s t : List Step) (r : Reading) (a : Answer) → Exact d s (Read r.client 64) a t → is_accepted a.reply ≡ true → GoesOn d most bound r s → GoesOn d most bound (record r { queue = a.events }) t
-after-read d most bound s t r a by is i = of i.is_left
-  where
-    some : IsNone d s r.client → ⊥
-    some = read-found d s r.client 64 (subst (λ (b : Answer). is_accepted b.reply ≡ true) by.0 is)
+after-read : (d : Description) (most bound : ℕ) (s t : List Step) (r : Reading) (a : Answer) → Exact d s (Read r.client 64) a t → is_accepted a.reply ≡ true → GoesOn d most bound s r → GoesOn d most bound t (record r { queue = a.events })
+after-read d most bound s t r a by is i =
+    let some : IsNone d s r.client → ⊥ = read-found d s r.client 64
+    (subst (λ (b : Answer). is_accepted b.reply ≡ true) by.0 is) in
+    elim i.is_left [
+      | inl ahead ↦
+          (let less = fewer d most s r.client i.left ahead some in
+          subst (λ (p : List Step). GoesOn d most bound p (record r { queue = a.events })) (sym (entered d s t (Read r.client 64) a by is))
+          (record { left = i.left - 1; is_left = inl less.1; within = omega (arith, less.0, i.within) }))
+      | inr spent ↦ absurd (some spent.none)
+    ]
 
-    of : IsLeft d most s r i.left → GoesOn d most bound (record r { queue = a.events }) t
-    of (inl ahead) =
-        let less = fewer d most s r.client i.left ahead some in
-        subst (λ (p : List Step). GoesOn d most bound (record r { queue = a.events }) p) (sym (entered d s t (Read r.client 64) a by is))
-        (record { left = i.left - 1; is_left = inl less.1; within = omega (arith, less.0, i.within) })
-    of (inr spent) = absurd (some spent.none)
-
-follow-rules : (d : Description) (most bound : ℕ) (mode : Mode) → HasQueries d most → NextRules Any (Exact d) (HasLeft d most bound) (IsRound d most bound) d mode
+follow-rules : (d : Description) (most bound : ℕ) (mode : Mode) → HasQueries d most → NextRules Any (Exact d) (GoesOn d most bound) (IsRound d most bound) d mode
 follow-rules d most bound mode has = record {
   asks_read = λ s r i. tt;
   reads = λ s t r a i plain none by is. after-read d most bound s t r a by is i;
@@ -205,7 +180,7 @@ follow-rules d most bound mode has = record {
   empty = λ s r i plain q. inl (refl, within d most bound s r i);
   idles = λ s r i plain is. inr i;
   syncs = λ s r i needed.
-      let Q : List Step → Result View Reply → Type 0 = Renewed (HasLeft d most bound) (IsRound d most bound) r in
+      let Q : List Step → Result View Reply → Type 0 = Renewed (GoesOn d most bound) (IsRound d most bound) r in
       let ahead = ahead-needed d most i.left s r needed i.is_left in
       let room : length s + suc most ≤ bound = omega (arith, ahead.within, i.within) in
       let asks : AskRules Any (Exact d) (QuietSoFar d r.client bound) Q =
@@ -233,12 +208,12 @@ Within bound past j = length past ≤ bound
 
 -- a line without a number, in its midst
 abbrev InMidst : Description → ℕ → ℕ → List Step → Going → Type 0
-InMidst d most bound past g = (g.left ≡ None) × GoesOn d most bound g.job.reading past
+InMidst d most bound past g = (g.left ≡ None) × GoesOn d most bound past g.job.reading
 
 follow-turn : (d : Description) (most bound agains : ℕ) (past : List Step) (next : Next) (j : Job) → IsRound d most bound past (next, j.reading) → OfTurn (Within bound) (InMidst d most bound) past (turn_after None None agains next j)
 follow-turn d most bound agains past next j round = by next (on round) (last round)
   where
-    on : IsRound d most bound past (next, j.reading) → is_last next ≡ false → GoesOn d most bound j.reading past
+    on : IsRound d most bound past (next, j.reading) → is_last next ≡ false → GoesOn d most bound past j.reading
     on (inl ends) e = absurd (let never : false ≡ true = sym e ∙ ends.0 in cc)
     on (inr goes) e = goes
 
@@ -246,7 +221,7 @@ follow-turn d most bound agains past next j round = by next (on round) (last rou
     last (inl ends) = ends.1
     last (inr goes) = within d most bound past j.reading goes
 
-    by : (n : Next) → (is_last n ≡ false → GoesOn d most bound j.reading past) → length past ≤ bound → OfTurn (Within bound) (InMidst d most bound) past (turn_after None None agains n j)
+    by : (n : Next) → (is_last n ≡ false → GoesOn d most bound past j.reading) → length past ≤ bound → OfTurn (Within bound) (InMidst d most bound) past (turn_after None None agains n j)
     by (Success taken) goes ends = (refl, goes refl)
     by (Dropped taken) goes ends = (refl, goes refl)
     by (Sync event) goes ends = (refl, goes refl)
@@ -259,7 +234,7 @@ follow-round d most bound has s g i =
     round-meets (Exact d) (Within bound) (InMidst d most bound) d s None false g
     (meets-weaker Any (NotedBy (Exact d)) (λ (u : List Step × List Sight) (o : Next × Reading). IsRound d most bound u.0 o) (λ (u : List Step × List Sight) (o : Next × Reading). OfTurn (Within bound) (InMidst d most bound) u.0 (after_next None g (o, u.1)))
     (s, g.job.sight) talk
-    (note-meets (Exact d) (IsRound d most bound) s g.job.sight talk (next-meets Any (Exact d) (HasLeft d most bound) (IsRound d most bound) d _ (follow-rules d most bound _ has) s g.job.reading i.1))
+    (note-meets (Exact d) (IsRound d most bound) s g.job.sight talk (next-meets Any (Exact d) (GoesOn d most bound) (IsRound d most bound) d _ (follow-rules d most bound _ has) s g.job.reading i.1))
     (λ u o k.
     let j : Job = record g.job { reading = o.1; sight = u.1 } in
     subst (λ (left : Option ℕ). OfTurn (Within bound) (InMidst d most bound) u.0 (turn_after None left g.agains o.0 j)) (sym i.0) (follow-turn d most bound g.agains u.0 o.0 j k)))
@@ -302,26 +277,18 @@ start-talk d most r past h = start-meets Any (Exact d) (Short (length past + suc
   refused = λ t a by other. omega (arith, one_more d past t Open a by);
 })
 
-unless-longer : (b : Bool) (bound : ℕ) (past : List Step) (j : Job) → length past ≤ bound → OfJob (Within bound) past (if b then None else Some j)
-unless-longer true bound past j h = tt
-unless-longer false bound past j h = h
-
 pub start-length : (d : Description) (most : ℕ) (j : Job) (past : List Step) → HasQueries d most → Grows d (length past + suc most) past (start_job d j)
 start-length d most j past h =
     start_job-meets (Exact d) (Within (length past + suc most)) d past j
-    (note-meets (Exact d) (Short (length past + suc most)) past j.sight (start_talk d j.reading) (start-talk d most j.reading past h))
+    (note-meets (Exact d) (Short (length past + suc most)) past j.sight (start_talk d j.reading)
+    (start-talk d most j.reading past h))
 
 -- and a joystick's start does the same
 pub joy_start-length : (d : Description) (most : ℕ) (j : Job) (past : List Step) → HasQueries d most → Grows d (length past + suc most) past (start_joystick d j)
-unfolding start_joystick joy_start
 joy_start-length d most j past h =
-    let bound : ℕ = length past + suc most in
-    let start : Talk (Started × Reading) = start_talk d j.reading in
-    let joy : Started × Reading → Talk (Started × Joying) = λ o. finish (joy_started d (joying_of j) o) in
-    meets-then Any (Exact d) (Short bound) (OfJob (Within bound)) past (noted (and_then start joy) j.sight) (λ o. finish (after_joy_start j o))
-    (meets-noted (Exact d) (Short bound) past j.sight (and_then start joy)
-    (note-meets (Exact d) (Short bound) past j.sight (and_then start joy) (meets-then Any (Exact d) (Short bound) (Short bound) past start joy (start-talk d most j.reading past h) (λ s o k. k))))
-    (λ s o k. unless-longer (start_lacks_memory o.0.0) bound s (record (with_joying j o.0.1) { sight = o.1; stop = stop_after_start o.0.0 }) k)
+    start_joystick-meets (Exact d) (Within (length past + suc most)) d past j
+    (note-meets (Exact d) (Short (length past + suc most)) past j.sight (start_talk d j.reading)
+    (start-talk d most j.reading past h))
 
 pub call-length : (d : Description) (o : Option Step) (j : Job) (past : List Step) (k : ℕ) → 1 ≤ k → Grows d (length past + k) past (call_if j o)
 call-length d None j past k some = omega arith
@@ -329,4 +296,8 @@ call-length d (Some x) j past k some = (tt, λ t a by. omega (arith, some, one_m
 
 pub tap_call-length : (d : Description) (o : Option Step) (j : Job) (past : List Step) (k : ℕ) → 1 ≤ k → Grows d (length past + k) past (tap_call_if j o)
 tap_call-length d None j past k some = omega arith
-tap_call-length d (Some x) j past k some = (tt, λ t a by. unless-longer (lacks_memory a.reply) (length past + k) t (after_tap_call j x a) (omega (arith, some, one_more d past t x a by)))
+tap_call-length d (Some x) j past k some = (
+  tt,
+  λ t a by. cond_both (lacks_memory a.reply) _ _ (OfJob (Within (length past + k)) t) (λ _. tt)
+      (λ _. omega (arith, some, one_more d past t x a by)),
+)

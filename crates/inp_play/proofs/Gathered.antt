@@ -1,30 +1,16 @@
 -- What came of the devices, gathered actor by actor.
-use Rattle.std.proofs.Common.{◌≡◌, ◌≢◌, ℕ, zero, suc, ◌+◌, ◌<◌, Bool, true, false, if◌then◌else◌, List, [], ◌∷◌, ◌++◌, length, reverse, get_or, Some, refl, sym, ap, ◌∙◌, arith, append-nil}
-use Rattle.std.specs.Prelude.{nat_eq, map, slice_get, slice_set, option_map}
+use Rattle.std.proofs.Common.{◌≡◌, ◌≢◌, ℕ, zero, suc, ◌+◌, ◌<◌, Bool, true, false, if◌then◌else◌, List, [], ◌∷◌, ◌++◌, length, reverse, get_or, ne_eqb, Some, refl, sym, ap, ◌∙◌, arith, append-nil}
+use Rattle.std.specs.Prelude.{map, slice_get, slice_set, option_map}
 use Rattle.std.specs.List.{enumerate_from}
-use Rattle.std.proofs.lemmas.Bool.{eq-eqb, eqb-true}
+use Rattle.std.proofs.lemmas.Bool.{eq-eqb}
 use Rattle.std.proofs.lemmas.List.{length-map, map-append}
 use Rattle.std.proofs.lemmas.List.Elements.{filter-append}
 use Rattle.std.proofs.lemmas.List.FromFn.{length-enumerate_from}
 use Rattle.std.proofs.lemmas.Option.{slice_get-map, slice_get_read, slice_get_within}
-use Rattle.inp_model.specs.declared.step.Step.{Step}
-use Rattle.inp_actors.specs.declared.actor_text.ActorText.{ActorText}
-use Rattle.inp_actors.specs.declared.role.Role.{Role}
-use Rattle.inp_actors.specs.declared.role.Role.TheVariants.{Source, Client, Tap, Joy, Owner}
-use Rattle.inp_actors.specs.Record.{RecordView, IsRecord}
-use Rattle.inp_feedback.specs.UEntry.{steps_in}
-use Rattle.inp_uinput.specs.UdevView.{UdevView}
-use Rattle.inp_script.specs.declared.end.ended.Ended.{Ended}
-use Rattle.inp_script.specs.declared.run.DeviceEnds.{DeviceEnds}
-use Rattle.inp_script.specs.DoneLine.{HasActor}
-use Rattle.inp_script.specs.Ended.{ended_as, ended_of}
-use Rattle.inp_script.specs.Job.{ActorView}
-use Rattle.inp_script.specs.Runs.{is_on_device}
-use Rattle.inp_runs.specs.Play.{Stage, jobs_on, run_of, runs_of}
+use Rattle.inp_script.proofs.Words.{Step, ActorText, RecordView, IsRecord, steps_in, HasActor, ActorView, ended_of, is_on_device}
+use Rattle.inp_play.proofs.Words.{UdevView, pasts_of, stage_with, HasDevices, HasActors, Stage, jobs_on, run_of, runs_of, first_ends, with_end, HasEndMore, Ended, DeviceEnds}
 use Rattle.inp_runs.proofs.order.Promised.{there-is}
-use Rattle.inp_play.specs.GatheredRuns.{first_ends, with_end, HasEndMore}
-use Rattle.inp_play.specs.Player.{pasts_of, stage_with, HasDevices, HasActors}
-use Rattle.inp_play.proofs.FirstPlayer.{slice_get-numbered}
+use Rattle.inp_runs.proofs.Lists.{slice_get-numbered}
 use Rattle.inp_play.proofs.PlayerLines.{same_item, length-devices}
 
 -- before the first actor
@@ -55,14 +41,7 @@ ends_same r devices ys a device past h =
 
 -- a device of another number
 other_device : (r : RecordView) (a : ActorView) (text : ActorText) (device : ℕ) → slice_get r.actors a.actor ≡ Some text → text.device ≢ device → is_on r device a ≡ false
-other_device r a text device there other = ap (is_on_device device) there ∙ by_flag (nat_eq text.device device) refl
-  where
-    by_flag : (b : Bool) → nat_eq text.device device ≡ b → nat_eq text.device device ≡ false
-    by_flag true e = absurd (other (eqb-true text.device device e))
-    by_flag false e = e
-
-own_device : (r : RecordView) (a : ActorView) (text : ActorText) (device : ℕ) → slice_get r.actors a.actor ≡ Some text → text.device ≡ device → is_on r device a ≡ true
-own_device r a text device there same = ap (is_on_device device) there ∙ eq-eqb text.device device same
+other_device r a text device there other = ap (is_on_device device) there ∙ ne_eqb text.device device other
 
 all_same : (r : RecordView) (devices : List UdevView) (ys : List ActorView) (a : ActorView) (text : ActorText) (n : ℕ) (pasts : List (List Step)) → slice_get r.actors a.actor ≡ Some text → text.device < n → map (run_of r (stage_with devices ys)) (enumerate_from n pasts) ≡ map (run_of r (stage_with devices (ys ++ a ∷ []))) (enumerate_from n pasts)
 all_same r devices ys a text n [] there below = refl
@@ -82,7 +61,7 @@ all_more r devices ys a text n (past ∷ pasts) zero past' there place found =
     let below : text.device < n + 1 = omega (arith, place) in
     let rest : List DeviceEnds = map (run_of r (stage_with devices ys)) (enumerate_from (n + 1) pasts) in
     ap (λ (p : List Step). with_end (run_of r (stage_with devices ys) (text.device, p)) (ended_of a) ∷ rest) (sym same)
-    ∙ ap (λ (first : DeviceEnds). first ∷ rest) (ends_more r devices ys a text.device past (own_device r a text text.device there refl))
+    ∙ ap (λ (first : DeviceEnds). first ∷ rest) (ends_more r devices ys a text.device past (ap (is_on_device text.device) there ∙ eq-eqb text.device text.device refl))
     ∙ ap (λ (k : ℕ). run_of r (stage_with devices (ys ++ a ∷ [])) (k, past) ∷ rest) here
     ∙ ap (λ (all : List DeviceEnds). run_of r (stage_with devices (ys ++ a ∷ [])) (n, past) ∷ all) (all_same r devices ys a text (n + 1) pasts there below)
 all_more r devices ys a text n (past ∷ pasts) (suc i) past' there place found =
@@ -131,9 +110,6 @@ one_more_end r devices ys a old new text next there before more =
     more (run_of r s (text.device, past)) there_before
     ∙ ap (λ (gathered : List DeviceEnds). slice_set gathered text.device (with_end (run_of r s (text.device, past)) (ended_of a))) before
     ∙ all_more r devices ys a text 0 (pasts_of devices) text.device past there zero_more found
-
-pub next-actor : (r : RecordView) (devices : List UdevView) (a : ActorView) → IsNext r devices a → a.actor < length r.actors
-next-actor r devices a next = slice_get_within r.actors a.actor next.text next.is_text
 
 pub next-device : (r : RecordView) (devices : List UdevView) (ys : List ActorView) (a : ActorView) (gathered : List DeviceEnds) (text : ActorText) → IsNext r devices a → slice_get r.actors a.actor ≡ Some text → gathered ≡ runs_of r (stage_with devices ys) → text.device < length gathered
 next-device r devices ys a gathered text next there before =

@@ -1,24 +1,11 @@
 -- How long the histories are that lines make, and that no job stops as full while they are shorter than their limit.
 use Rattle.std.proofs.Common.{◌≡◌, ◌≤◌, ◌<◌, ℕ, zero, suc, ◌+◌, ◌*◌, List, [], ◌∷◌, ◌++◌, length, refl, sym, ap, subst, ◌∙◌, arith, ◌⊎◌, inl, inr, Option, Some, None}
-use Rattle.std.specs.Prelude.{slice_get, slice_set, option_and_then}
+use Rattle.std.specs.Prelude.{slice_get, slice_set}
+use Rattle.inp_play.proofs.PlayerSteps.{after_lines-append}
 use Rattle.std.proofs.lemmas.Option.{option_and_then_some}
-use Rattle.inp_model.specs.declared.stamped.Stamped.{Stamped}
-use Rattle.inp_model.specs.declared.step.Step.{Step}
-use Rattle.inp_model.specs.Description.{Description, ring}
-use Rattle.inp_model.specs.Run.{Call}
-use Rattle.inp_actors.specs.declared.command.Command.{Command}
+use Rattle.inp_script.proofs.Words.{Stamped, Step, Call, Command, Line, Role, RecordView, Job, ActorView, step_of, Description, ring, feedback_room, Source, Client, Tap, Joy, Owner, NO_CLIENT, Talk, EndsWith, talk_with, command_talk, unless_stopped, line_talk}
+use Rattle.inp_play.proofs.Words.{Stop}
 use Rattle.inp_actors.specs.declared.command.Command.TheVariants.{Event, Open, Follow}
-use Rattle.inp_actors.specs.declared.line.Line.{Line}
-use Rattle.inp_actors.specs.declared.role.Role.{Role}
-use Rattle.inp_actors.specs.declared.role.Role.TheVariants.{Source, Client, Tap, Joy, Owner}
-use Rattle.inp_actors.specs.Command.{feedback_room}
-use Rattle.inp_actors.specs.Record.{RecordView}
-use Rattle.inp_reader.specs.declared.reader.TheConstants.{NO_CLIENT}
-use Rattle.inp_reader.specs.Talk.{Talk, EndsWith, talk_with}
-use Rattle.inp_script.specs.declared.stop.Stop.{Stop}
-use Rattle.inp_script.specs.DoneLine.{command_talk, unless_stopped, line_talk}
-use Rattle.inp_script.specs.Job.{Job, ActorView}
-use Rattle.inp_script.specs.Line.{step_of}
 use Rattle.inp_runs.specs.Play.{Stage, after_line, after_lines}
 use Rattle.inp_runs.proofs.order.Calls.{AreExact, exact-talk}
 use Rattle.inp_script.proofs.LineWalk.{OfJob}
@@ -120,17 +107,15 @@ line-short r d rounds m k stage now line s bound room h = of_line (line-done r r
         let stays : NoStop (talk_with d u.past talk).0 = stays-with NoStop d u.past talk (bound.stays a.role r.streams rounds a.job kept.1) (omega (arith, grows, before, room)) in
         let stopless : u.job.stop ≡ None = subst (λ (t : Option Job × List Step). NoStop t.0) did stays in
         record {
-          pasts = λ i past is. of_past i past within (set_either stage.pasts u.text.device i u.after past (ap (λ (ps : List (List Step)). slice_get ps i) (sym u.pasts) ∙ is));
-          actors = λ i b is. of_actor i b u (kept.0, stopless) (set_either stage.actors a.actor i (record a { job = u.job; owning = u.owning }) b (ap (λ (xs : List ActorView). slice_get xs i) (sym u.actors) ∙ is));
+          pasts = λ i past is. elim (set_either stage.pasts u.text.device i u.after past (ap (λ (ps : List (List Step)). slice_get ps i) (sym u.pasts) ∙ is)) [
+            | inl new ↦ omega (arith, within, ap length new)
+            | inr old ↦ omega (arith, s.pasts i past old)
+          ];
+          actors = λ i b is. elim (set_either stage.actors a.actor i (record a { job = u.job; owning = u.owning }) b (ap (λ (xs : List ActorView). slice_get xs i) (sym u.actors) ∙ is)) [
+            | inl new ↦ subst (λ (x : ActorView). (x.description ≡ d) × (x.job.stop ≡ None)) (sym new) (kept.0, stopless)
+            | inr old ↦ s.actors i b old
+          ];
         }
-      where
-        of_past : (i : ℕ) (past : List Step) → length u.after ≤ m + k → (past ≡ u.after) ⊎ (slice_get stage.pasts i ≡ Some past) → length past ≤ m + k
-        of_past i past within (inl new) = omega (arith, within, ap length new)
-        of_past i past within (inr old) = omega (arith, s.pasts i past old)
-
-        of_actor : (i : ℕ) (b : ActorView) (v : IsLinePlayed r rounds stage now line) → (v.actor.description ≡ d) × (v.job.stop ≡ None) → (b ≡ record v.actor { job = v.job; owning = v.owning }) ⊎ (slice_get stage.actors i ≡ Some b) → (b.description ≡ d) × (b.job.stop ≡ None)
-        of_actor i b v fine (inl new) = subst (λ (x : ActorView). (x.description ≡ d) × (x.job.stop ≡ None)) (sym new) fine
-        of_actor i b v fine (inr old) = s.actors i b old
 
 -- These lines add at most so many steps to a history, and stop no job while it is shorter than its limit.
 abbrev pub Adds : RecordView → Description → ℕ → List Line → Type 0
@@ -153,26 +138,9 @@ pub adds-more : (r : RecordView) (d : Description) (n k : ℕ) (lines : List Lin
 adds-more r d n k lines more adds = λ rounds m stage last s room h.
     longer d (m + n) (m + k) last (omega (arith, more)) (adds rounds m stage last s (omega (arith, more, room)) h)
 
--- lines behind others
-record BothDone (r : RecordView) (rounds : ℕ) (stage last : Stage) (xs ys : List Line) : Type 0 where
-  between : Stage
-  first : after_lines r rounds stage xs ≡ Some between
-  second : after_lines r rounds between ys ≡ Some last
-
-both_done : (r : RecordView) (rounds : ℕ) (stage last : Stage) (xs ys : List Line) → after_lines r rounds stage (xs ++ ys) ≡ Some last → BothDone r rounds stage last xs ys
-unfolding after_lines
-both_done r rounds stage last [] ys h = record { between = stage; first = refl; second = h }
-both_done r rounds stage last (line ∷ xs) ys h =
-    option_and_then_some _ (after_line r rounds stage line) last h (λ now is_now rest.
-    let more = both_done r rounds now last xs ys rest in
-    record {
-      between = more.between;
-      first = ap (option_and_then (λ (s : Stage). after_lines r rounds s xs)) is_now ∙ more.first;
-      second = more.second;
-    })
-
 pub adds-append : (r : RecordView) (d : Description) (n k : ℕ) (xs ys : List Line) → Adds r d n xs → Adds r d k ys → Adds r d (n + k) (xs ++ ys)
 adds-append r d n k xs ys one two = λ rounds m stage last s room h.
-    let both = both_done r rounds stage last xs ys h in
+    option_and_then_some _ (after_lines r rounds stage xs) last
+    (sym (after_lines-append r rounds stage xs ys) ∙ h) (λ between first second.
     longer d ((m + n) + k) (m + (n + k)) last (omega arith)
-    (two rounds (m + n) both.between last (one rounds m stage both.between s (omega (arith, room)) both.first) (omega (arith, room)) both.second)
+    (two rounds (m + n) between last (one rounds m stage between s (omega (arith, room)) first) (omega (arith, room)) second))

@@ -1,3 +1,4 @@
+pub mod Words
 pub mod OwnQueues
 pub mod Follows
 pub mod Limits

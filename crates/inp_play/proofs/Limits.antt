@@ -1,33 +1,18 @@
 -- A line stops no job as full on a device whose history stays shorter than its limit.
-use Rattle.std.proofs.Common.{◌≡◌, ◌≤◌, ◌<◌, ℕ, Bool, true, false, if◌then◌else◌, List, [], ◌∷◌, length, refl, arith, Option, Some, None}
+use Rattle.std.proofs.Common.{◌≡◌, ◌≤◌, ◌<◌, ℕ, Bool, true, false, List, [], ◌∷◌, length, refl, arith, Option, None}
 use Rattle.std.proofs.lemmas.Bool.Decides.{nat_tests}
 use Rattle.std.proofs.lemmas.Bool.{cond_both}
-use Rattle.inp_model.specs.declared.step.Step.{Step}
+use Rattle.inp_script.proofs.Words.{Step, Reply, Description, View, Mode, Started, Next, stop_after, stop_after_start, Answer, Case, answer, answer_by, accepted, first_reply, refusals, is_full, past_after, is_accepted, Reading, queries, start_stop_of, start_talk, stop_of, next_talk, Job, call_if, tap_call_if, Refused as StepRefused, Talk, finish, ask, talk_with, Going, start_job, handed as handed_out, one_less, is_done, with_sight, turn_after, after_next, mode_of, next_round, hand_talk, start_joystick}
+use Rattle.inp_play.proofs.Words.{Sight}
 use Rattle.inp_model.specs.declared.step.Step.TheVariants.{Open}
-use Rattle.inp_model.specs.declared.reply.Reply.{Reply}
-use Rattle.inp_model.specs.declared.reply.Reply.TheVariants.{Refused as StepRefused}
 use Rattle.inp_model.specs.declared.reply.Refusal.TheVariants.{NoDevice as Revoked, LogFull}
-use Rattle.inp_model.specs.Description.{Description}
 use Rattle.inp_model.specs.Left.{eaten}
-use Rattle.inp_model.specs.Reply.{Answer, Case, answer, answer_by, accepted, first_reply, refusals, is_full, past_after, is_accepted}
-use Rattle.inp_joy.specs.Joy.{Joying, joy_start, joy_started}
-use Rattle.inp_recon.specs.declared.view.View.{View}
-use Rattle.inp_reader.specs.declared.mode.Mode.{Mode}
-use Rattle.inp_reader.specs.declared.started.Started.{Started}
-use Rattle.inp_reader.specs.declared.next.Next.{Next}
 use Rattle.inp_reader.specs.declared.next.Next.TheVariants.{Success, Dropped, Sync, Full}
-use Rattle.inp_reader.specs.Reader.{Reading, queries, start_stop_of, start_talk, stop_of, next_talk}
-use Rattle.inp_reader.specs.Talk.{Talk, finish, ask, and_then, talk_with}
-use Rattle.inp_script.specs.declared.sight.Sight.{Sight}
 use Rattle.inp_script.specs.declared.sight.Sight.TheVariants.{Took, Made}
-use Rattle.inp_script.specs.Client.{Going, start_job, handed as handed_out, one_less, is_done, with_sight, turn_after, after_next, mode_of, next_round, hand_talk}
-use Rattle.inp_script.specs.Job.{Job, joying_of, with_joying}
-use Rattle.inp_script.specs.Joystick.{after_joy_start, start_joystick}
-use Rattle.inp_script.specs.Line.{call_if, tap_call_if}
-use Rattle.inp_script.specs.Sight.{noted, stop_after, stop_after_start, start_lacks_memory}
-use Rattle.inp_reader.proofs.Meets.{Meets, Any, meets-then, meets-weaker}
+use Rattle.inp_reader.proofs.Meets.{Meets, Any, meets-weaker}
 use Rattle.inp_reader.proofs.NextWalk.{Queried, start-meets, asked-meets, sync-meets, Renewed, NextRules, next-meets}
-use Rattle.inp_script.proofs.LineWalk.{NotedBy, meets-noted, note-meets, OfJob, OfTurn, OfGoing, start_job-meets, round-meets, rounds-meets, call_if-meets, tap-meets}
+use Rattle.inp_script.proofs.JoyWalk.{start_joystick-meets}
+use Rattle.inp_script.proofs.LineWalk.{NotedBy, note-meets, OfJob, OfTurn, OfGoing, start_job-meets, round-meets, rounds-meets, call_if-meets, tap-meets}
 
 -- refused since the history is as long as it may be
 abbrev pub is_log_full : Reply → Bool
@@ -41,24 +26,19 @@ AreOther (case ∷ cases) = (case.holds ≡ true → is_log_full case.reply ≡ 
 
 by_cases : (cases : List Case) (given : Answer) → AreOther cases → is_log_full given.reply ≡ false → is_log_full (answer_by (first_reply cases) given).reply ≡ false
 by_cases [] given others h = h
-by_cases (case ∷ cases) given others h = by_flag case.holds others.0 (by_cases cases given others.1 h)
-  where
-    by_flag : (b : Bool) → (b ≡ true → is_log_full case.reply ≡ false) → is_log_full (answer_by (first_reply cases) given).reply ≡ false → is_log_full (answer_by (if b then Some case.reply else first_reply cases) given).reply ≡ false
-    by_flag true other more = other refl
-    by_flag false other more = more
+by_cases (case ∷ cases) given others h =
+    cond_both case.holds _ _ (λ (o : Option Reply). is_log_full (answer_by o given).reply ≡ false) others.0
+    (λ _. by_cases cases given others.1 h)
 
 room_when_accepted : (d : Description) (past : List Step) (x : Step) → is_log_full (accepted d past x).reply ≡ false
 room_when_accepted d past Open = refl
 room_when_accepted d past _ = refl
 
-not_full : (d : Description) (past : List Step) (reply : Reply) → length past < d.log_limit → is_full d past ≡ true → is_log_full reply ≡ false
-not_full d past reply room h = absurd (grind (arith, nat_tests, h, room))
-
 -- a history that is shorter than its limit refuses no step as full
 answer-room : (d : Description) (past : List Step) (x : Step) → length past < d.log_limit → is_log_full (answer d past x).reply ≡ false
 answer-room d past x room =
     by_cases (refusals (eaten d) d past x) (accepted d past x)
-    (λ e. refl, (λ e. refl, (λ e. refl, (λ e. refl, (λ e. refl, (λ e. refl, (λ e. refl, (λ e. refl, (λ e. refl, (λ e. not_full d past (StepRefused (length past) LogFull) room e, tt))))))))))
+    (λ e. refl, (λ e. refl, (λ e. refl, (λ e. refl, (λ e. refl, (λ e. refl, (λ e. refl, (λ e. refl, (λ e. refl, (λ e. absurd (let full : is_full d past ≡ true = e in grind (arith, nat_tests, full, room)), tt))))))))))
     (room_when_accepted d past x)
 
 -- Talks
@@ -74,11 +54,11 @@ Stays {A} P talk = Meets Any NotFull (λ (s : Unit {0}) (a : A). P a) tt talk
 talk-grows : {A : Type 0} (d : Description) (past : List Step) (talk : Talk A) → length past ≤ length (talk_with d past talk).1
 unfolding talk_with
 talk-grows d past (finish a) = omega arith
-talk-grows d past (ask x rest) = by_flag (is_accepted (answer d past x).reply) (λ more. talk-grows d more (rest (answer d past x)))
-  where
-    by_flag : (b : Bool) → ((more : List Step) → length more ≤ length (talk_with d more (rest (answer d past x))).1) → length past ≤ length (talk_with d (if b then x ∷ past else past) (rest (answer d past x))).1
-    by_flag true grows = omega (arith, grows (x ∷ past))
-    by_flag false grows = grows past
+talk-grows d past (ask x rest) =
+    cond_both (is_accepted (answer d past x).reply) _ _
+    (λ (more : List Step). length past ≤ length (talk_with d more (rest (answer d past x))).1)
+    (λ _. omega (arith, talk-grows d (x ∷ past) (rest (answer d past x))))
+    (λ _. talk-grows d past (rest (answer d past x)))
 
 pub stays-with : {A : Type 0} (P : A → Type 0) (d : Description) (past : List Step) (talk : Talk A) → Stays P talk → length (talk_with d past talk).1 < d.log_limit → P (talk_with d past talk).0
 unfolding talk_with
@@ -118,25 +98,14 @@ IsGoing s j = j.stop ≡ None
 abbrev pub NoStop : Option Job → Type 0
 NoStop o = OfJob IsGoing tt o
 
-unless-stop : (b : Bool) (j : Job) → j.stop ≡ None → NoStop (if b then None else Some j)
-unless-stop true j h = tt
-unless-stop false j h = h
-
 -- a client's start stops no job, and neither does a joystick's
 pub stays-start : (d : Description) (j : Job) → Stays NoStop (start_job d j)
 stays-start d j = start_job-meets NotFull IsGoing d tt j (note-meets NotFull HasNoStop tt j.sight (start_talk d j.reading) (starts d j.reading))
 
 pub stays-joy_start : (d : Description) (j : Job) → Stays NoStop (start_joystick d j)
-unfolding start_joystick joy_start
 stays-joy_start d j =
-    let start : Talk (Started × Reading) = start_talk d j.reading in
-    let joy : Started × Reading → Talk (Started × Joying) = λ o. finish (joy_started d (joying_of j) o) in
-    let J : Unit {0} → Started × Joying → Type 0 = λ s o. stop_after_start o.0 ≡ None in
-    let N : Unit {0} → (Started × Joying) × List Sight → Type 0 = λ s o. stop_after_start o.0.0 ≡ None in
-    meets-then Any NotFull N (λ (s : Unit {0}) (o : Option Job). NoStop o) tt (noted (and_then start joy) j.sight) (λ o. finish (after_joy_start j o))
-    (meets-noted NotFull N tt j.sight (and_then start joy)
-    (note-meets NotFull J tt j.sight (and_then start joy) (meets-then Any NotFull HasNoStop J tt start joy (starts d j.reading) (λ s o h. h))))
-    (λ s o h. unless-stop (start_lacks_memory o.0.0) (record (with_joying j o.0.1) { sight = o.1; stop = stop_after_start o.0.0 }) h)
+    start_joystick-meets NotFull IsGoing d tt j
+    (note-meets NotFull HasNoStop tt j.sight (start_talk d j.reading) (starts d j.reading))
 
 -- Being handed events
 

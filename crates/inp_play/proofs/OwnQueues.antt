@@ -1,11 +1,7 @@
 -- How many events a client's own calls leave visible in its queue.
-use Rattle.std.proofs.Common.{◌≡◌, ◌≤◌, ℕ, zero, suc, ◌-◌, Bool, true, false, ◌&&◌, if◌then◌else◌, nat_eq, min, List, [], ◌∷◌, ◌++◌, length, map, drop, refl, ap, ◌∙◌, Option, Some, None, arith}
+use Rattle.std.proofs.Common.{eq-eqb, ◌≡◌, ◌≤◌, ℕ, zero, suc, ◌-◌, Bool, true, false, ◌&&◌, if◌then◌else◌, nat_eq, min, List, [], ◌∷◌, ◌++◌, length, map, drop, refl, ap, ◌∙◌, Option, Some, None, arith}
 use Rattle.std.proofs.lemmas.Bool.Decides.{nat_tests}
-use Rattle.inp_model.specs.declared.event.Event.{Event}
-use Rattle.inp_model.specs.declared.step.Step.{Step}
-use Rattle.inp_model.specs.declared.step.Step.TheVariants.{Read, Discard, GetKeys, SyncSlots}
-use Rattle.inp_model.specs.Description.{Description, ring}
-use Rattle.inp_model.specs.Event.{is_report}
+use Rattle.inp_script.proofs.Words.{Step, Description, ring, Event, Read, Discard, GetKeys, SyncSlots, is_report}
 use Rattle.inp_model.specs.Step.{Query, client_of, is_open_step, is_same, is_part_of, query_of}
 use Rattle.inp_model.specs.Past.{opens, is_call_of}
 use Rattle.inp_model.specs.RawItem.{Cut}
@@ -33,16 +29,13 @@ visible-drop : (n : ℕ) (q : List Entry) → n ≤ visible event_of q → visib
 visible-drop zero q h = omega arith
 visible-drop (suc n) [] h = omega (arith, h)
 visible-drop (suc n) (x ∷ q) h =
-    visible-drop n q (less (is_report (event_of x)) (visible event_of q) n h)
-    ∙ step (is_report (event_of x)) (visible event_of q) n h
+    let first = behind_it (is_report (event_of x)) (visible event_of q) n h in
+    visible-drop n q first.0 ∙ first.1
   where
-    less : (report : Bool) (behind n : ℕ) → suc n ≤ with_first report behind → n ≤ behind
-    less true behind n h = grind (arith, nat_tests)
-    less false behind n h = grind (arith, nat_tests)
-
-    step : (report : Bool) (behind n : ℕ) → suc n ≤ with_first report behind → behind - n ≡ with_first report behind - suc n
-    step true behind n h = grind (arith, nat_tests)
-    step false behind n h = grind (arith, nat_tests)
+    behind_it : (report : Bool) (behind n : ℕ) → suc n ≤ with_first report behind
+        → (n ≤ behind) × (behind - n ≡ with_first report behind - suc n)
+    behind_it true behind n h = (grind (arith, nat_tests), grind (arith, nat_tests))
+    behind_it false behind n h = (grind (arith, nat_tests), grind (arith, nat_tests))
 
 -- where no event is visible there is no report
 none_behind : (report : Bool) (behind : ℕ) → with_first report behind ≡ 0 → (report ≡ false) × (behind ≡ 0)
@@ -66,9 +59,6 @@ flush_for-none (Some query) q h = ap (visible event_of) (flush-walk event_of (is
 
 -- Own calls
 
-same_client : (client : ℕ) → nat_eq client client ≡ true
-same_client client = grind (arith, nat_tests)
-
 -- the queue behind a client's own call that ends no frame
 own_left : (d : Description) (past : List Step) (client : ℕ) (x : Step) → client_of x ≡ Some client → is_open_step x ≡ false → cuts_of_step d past x ≡ [] → queue d (x ∷ past) client ≡ left_by_call d past x (queue d past client)
 unfolding queue_with
@@ -76,49 +66,36 @@ own_left d past client x named unopened none =
     let q : List Entry = queue d past client in
     let called : is_call_of past client x ≡ true =
     ap (λ (b : Bool). if b && nat_eq (opens past) client then true else is_same (client_of x) client) unopened
-    ∙ ap (λ (o : Option ℕ). is_same o client) named ∙ same_client client in
+    ∙ ap (λ (o : Option ℕ). is_same o client) named ∙ eq-eqb client client refl in
     ap (λ (b : Bool). put_all event_of entry_dropped_at (ring d) (if b then left_by_call d past x q else q) (entries d client (frames_of_step d past x))) called
     ∙ ap (λ (cs : List Cut). put_all event_of entry_dropped_at (ring d) (left_by_call d past x q) (entries d client (map (frame_of past x) cs))) none
 
-no_cuts-read : (d : Description) (past : List Step) (client count : ℕ) → cuts_of_step d past (Read client count) ≡ []
-unfolding raw_of_step cuts
-no_cuts-read d past client count = refl
-
-no_cuts-discard : (d : Description) (past : List Step) (client : ℕ) → cuts_of_step d past (Discard client) ≡ []
-unfolding raw_of_step cuts
-no_cuts-discard d past client = refl
-
-no_cuts-keys : (d : Description) (past : List Step) (client : ℕ) → cuts_of_step d past (GetKeys client) ≡ []
-unfolding raw_of_step cuts
-no_cuts-keys d past client = refl
-
-no_cuts-slots : (d : Description) (past : List Step) (client : ℕ) → cuts_of_step d past (SyncSlots client) ≡ []
-unfolding raw_of_step cuts
-no_cuts-slots d past client = refl
-
 pub read-leaves : (d : Description) (past : List Step) (client count : ℕ) → visible event_of (queue d (Read client count ∷ past) client) ≡ visible event_of (queue d past client) - min count (visible event_of (queue d past client))
+unfolding raw_of_step cuts
 read-leaves d past client count =
     let q : List Entry = queue d past client in
-    ap (visible event_of) (own_left d past client (Read client count) refl refl (no_cuts-read d past client count))
+    ap (visible event_of) (own_left d past client (Read client count) refl refl refl)
     ∙ visible-drop (min count (visible event_of q)) q (omega arith)
 
 pub discard-leaves : (d : Description) (past : List Step) (client : ℕ) → visible event_of (queue d (Discard client ∷ past) client) ≡ 0
+unfolding raw_of_step cuts
 discard-leaves d past client =
     let q : List Entry = queue d past client in
     let left : visible event_of (drop (visible event_of q) q) ≡ visible event_of q - visible event_of q = visible-drop (visible event_of q) q (omega arith) in
-    ap (visible event_of) (own_left d past client (Discard client) refl refl (no_cuts-discard d past client))
+    ap (visible event_of) (own_left d past client (Discard client) refl refl refl)
     ∙ omega (arith, left)
 
 -- the step leaves nothing visible to the client where nothing was
 abbrev pub IsQuiet : Description → ℕ → Step → Type 0
 IsQuiet d client x = (past : List Step) → visible event_of (queue d past client) ≡ 0 → visible event_of (queue d (x ∷ past) client) ≡ 0
 
+quiet-query : (d : Description) (client : ℕ) (x : Step) → ((past : List Step) → queue d (x ∷ past) client ≡ flush_for event_of (query_of x) (queue d past client)) → IsQuiet d client x
+quiet-query d client x left = λ past h. ap (visible event_of) (left past) ∙ flush_for-none (query_of x) (queue d past client) h
+
 pub quiet-keys : (d : Description) (client : ℕ) → IsQuiet d client (GetKeys client)
-quiet-keys d client = λ past h.
-    ap (visible event_of) (own_left d past client (GetKeys client) refl refl (no_cuts-keys d past client))
-    ∙ flush_for-none (query_of (GetKeys client)) (queue d past client) h
+unfolding raw_of_step cuts
+quiet-keys d client = quiet-query d client (GetKeys client) (λ past. own_left d past client (GetKeys client) refl refl refl)
 
 pub quiet-slots : (d : Description) (client : ℕ) → IsQuiet d client (SyncSlots client)
-quiet-slots d client = λ past h.
-    ap (visible event_of) (own_left d past client (SyncSlots client) refl refl (no_cuts-slots d past client))
-    ∙ flush_for-none (query_of (SyncSlots client)) (queue d past client) h
+unfolding raw_of_step cuts
+quiet-slots d client = quiet-query d client (SyncSlots client) (λ past. own_left d past client (SyncSlots client) refl refl refl)

@@ -1,30 +1,15 @@
 -- A line that an actor does on its device is one of a play.
-use Rattle.std.proofs.Common.{◌≡◌, ℕ, zero, suc, ◌⊎◌, inl, inr, Bool, true, false, if◌then◌else◌, min, List, [], ◌∷◌, length, Option, Some, None, refl, sym, ap, subst, ◌∙◌, length-set, get_or}
-use Rattle.std.specs.Prelude.{map, slice_get, slice_set, option_map, option_and_then}
+use Rattle.std.proofs.Common.{◌≡◌, ℕ, inl, inr, true, false, if◌then◌else◌, min, List, ◌∷◌, length, Option, Some, None, refl, sym, ap, subst, ◌∙◌, length-set, get_or}
+use Rattle.std.specs.Prelude.{map, slice_get, slice_set, option_map}
 use Rattle.std.proofs.lemmas.List.{map-set, length-map}
-use Rattle.std.proofs.lemmas.Option.{slice_get-map, slice_get_read}
+use Rattle.std.proofs.lemmas.Option.{slice_get-map, slice_get_read, same_Some}
 use Rattle.std.proofs.lemmas.Bool.{cond_both}
-use Rattle.inp_model.specs.declared.event.Event.{Event}
-use Rattle.inp_model.specs.declared.stamped.Stamped.{Stamped}
-use Rattle.inp_model.specs.declared.step.Step.{Step}
-use Rattle.inp_model.specs.Description.{Description}
+use Rattle.inp_script.proofs.Words.{Stamped, Step, Description, ActorText, DeviceText, Line, Command, Role, Source, RecordView, IsRecord, UEntry, steps_in, Job, ActorView, is_command_of, is_owner, feedback_room, Event, Fed, FEEDBACK_MAX, Talk, talk_with, HasActor, Holds, IsLineOf, unless_stopped, line_talk, inject_talk, stream_talk}
 use Rattle.inp_model.proofs.Leaves.{description-kept}
-use Rattle.inp_actors.specs.declared.actor_text.ActorText.{ActorText}
-use Rattle.inp_actors.specs.declared.device_text.DeviceText.{DeviceText}
-use Rattle.inp_actors.specs.declared.line.Line.{Line}
-use Rattle.inp_actors.specs.declared.command.Command.{Command}
 use Rattle.inp_actors.specs.declared.command.Command.TheVariants.{Feedback as ToFeed}
-use Rattle.inp_actors.specs.declared.role.Role.{Role}
-use Rattle.inp_actors.specs.declared.role.Role.TheVariants.{Source}
-use Rattle.inp_actors.specs.Command.{is_command_of, is_owner, feedback_room}
-use Rattle.inp_actors.specs.Record.{RecordView, IsRecord}
-use Rattle.inp_feedback.specs.declared.u_entry.UEntry.{UEntry}
 use Rattle.inp_feedback.specs.declared.u_entry.UEntry.TheVariants.{Feedback}
 use Rattle.inp_feedback.specs.declared.feedback_call.FeedbackCall.{FeedbackCall}
-use Rattle.inp_feedback.specs.declared.fed.Fed.{Fed}
 use Rattle.inp_feedback.specs.declared.fed.Fed.TheVariants.{Took, Full}
-use Rattle.inp_feedback.specs.declared.fed.TheConstants.{FEEDBACK_MAX}
-use Rattle.inp_feedback.specs.UEntry.{steps_in}
 use Rattle.inp_feedback.specs.Feedback.{is_full_of_feedback, taken_by_feedback, fed, kept_after_feedback}
 use Rattle.inp_feedback.specs.Kept.{calls_in}
 use Rattle.inp_feedback.proofs.Few.{room-enough, room-enough-taken, room-enough-kept}
@@ -32,36 +17,19 @@ use Rattle.inp_feedback.proofs.Woven.{kept-woven}
 use Rattle.inp_uinput.specs.UdevView.{UdevView, device_of, owned_view}
 use Rattle.inp_uinput.specs.OwnedFeeds.{IsFeedbackOf}
 use Rattle.inp_uinput.proofs.Tied.{untied-calls, tied-calls}
-use Rattle.inp_reader.specs.Talk.{Talk, talk_with}
 use Rattle.inp_script.specs.ActorLine.{ActsLine}
-use Rattle.inp_script.specs.DoneLine.{HasActor, Holds, IsLineOf, unless_stopped, line_talk, inject_talk}
-use Rattle.inp_script.specs.declared.stop.Stop.{Stop}
-use Rattle.inp_script.specs.Job.{Job, ActorView}
-use Rattle.inp_script.specs.Line.{stream_talk}
-use Rattle.inp_script.specs.Owner.{Owning, after_feedback, IsFed, FeedsUnless, FeedsLine}
-use Rattle.inp_runs.specs.Play.{Stage, feedback_calls_after, after_talk, unless_owner_stopped, by_command, after_line, after_lines, after_line_of}
-use Rattle.inp_play.specs.Player.{stage_with, pasts_of, feedback_calls_of, HasDevices, HasActors}
+use Rattle.inp_script.specs.Owner.{Owning, after_feedback, FeedsUnless, FeedsLine}
+use Rattle.inp_play.proofs.Words.{Stage, feedback_calls_after, after_talk, unless_owner_stopped, by_command, after_line, after_lines, after_line_of, stage_with, pasts_of, feedback_calls_of, HasDevices, HasActors, inject_line, Stop}
 use Rattle.inp_runs.proofs.order.Alone.{device-alone}
+use Rattle.inp_runs.proofs.Lists.{map-set_same, slice_get-set}
 use Rattle.inp_runs.proofs.order.LineDone.{set_same}
-use Rattle.inp_runs.specs.EventLines.{inject_line}
-use Rattle.inp_play.proofs.RunLines.{injects-lines}
+use Rattle.inp_play.proofs.RunLines.{line-finds, injects-lines}
 use Rattle.inp_runs.proofs.memory.Memory.{GivesUp, gives_up-line, gives_up-stream}
 
 -- Lists
 
-some_one : {A : Type 0} (x y : A) → Some x ≡ Some y → x ≡ y
-some_one x y e = cc
-
 pub same_item : {A : Type 0} (xs : List A) (i : ℕ) (x y : A) → slice_get xs i ≡ Some x → slice_get xs i ≡ Some y → x ≡ y
-same_item xs i x y h k = some_one x y (sym h ∙ k)
-
--- an item of a list in which one was written is that one or was there before
-pub set_or_before : {A : Type 0} (xs : List A) (i k : ℕ) (y z : A) → slice_get (slice_set xs i y) k ≡ Some z → ((k ≡ i) × (z ≡ y)) ⊎ (slice_get xs k ≡ Some z)
-set_or_before [] i k y z h = inr h
-set_or_before (x ∷ xs) zero zero y z h = inl (refl, some_one z y (sym h))
-set_or_before (x ∷ xs) zero (suc k) y z h = inr h
-set_or_before (x ∷ xs) (suc i) zero y z h = inr h
-set_or_before (x ∷ xs) (suc i) (suc k) y z h = elim (set_or_before xs i k y z h) [ inl e ↦ inl (ap suc e.0, e.1) | inr e ↦ inr e ]
+same_item xs i x y h k = same_Some x y (sym h ∙ k)
 
 -- What a line finds
 
@@ -105,7 +73,7 @@ found-description r devices actors number line text a device f =
     let there : slice_get r.devices text.device ≡ Some e.1.device = ap (λ (t : ActorText). slice_get r.devices t.device) (sym (own_text r devices actors number line text a device f)) ∙ e.1.is_device in
     let mine : slice_get (map (λ (d : UdevView). d.description) devices) text.device ≡ Some device.description = slice_get-map (λ (d : UdevView). d.description) devices text.device ∙ ap (option_map (λ (d : UdevView). d.description)) f.is_device in
     let its : slice_get (map (λ (t : DeviceText). t.caps) r.devices) text.device ≡ Some e.1.device.caps = slice_get-map (λ (t : DeviceText). t.caps) r.devices text.device ∙ ap (option_map (λ (t : DeviceText). t.caps)) there in
-    some_one device.description e.1.device.caps (sym mine ∙ ap (λ (ds : List Description). slice_get ds text.device) f.has_devices ∙ its) ∙ e.1.description
+    same_Some device.description e.1.device.caps (sym mine ∙ ap (λ (ds : List Description). slice_get ds text.device) f.has_devices ∙ its) ∙ e.1.description
 
 pub found-same_role : (r : RecordView) (devices : List UdevView) (actors : List ActorView) (number : ℕ) (line : Line) (text : ActorText) (a : ActorView) (device : UdevView) → IsFound r devices actors number line text a device → text.role ≡ a.role
 found-same_role r devices actors number line text a device f =
@@ -125,31 +93,8 @@ calls_at r devices actors number line text a device f = slice_get-map (λ (d : U
 
 stage_after : (r : RecordView) (n : ℕ) (devices : List UdevView) (actors : List ActorView) (number : ℕ) (line : Line) (text : ActorText) (a : ActorView) (device : UdevView) → IsFound r devices actors number line text a device
     → after_line r n (stage_with devices actors) line ≡ after_line_of r n (stage_with devices actors) line text.device a (steps_in device.kept)
-unfolding after_line
 stage_after r n devices actors number line text a device f =
-    let s : Stage = stage_with devices actors in
-    let there : slice_get (pasts_of devices) text.device ≡ Some (steps_in device.kept) = past_at r devices actors number line text a device f in
-    let by_past : ActorText → ActorView → List Step → Option Stage = λ t b past. after_line_of r n s line t.device b past in
-    let by_actor : ActorText → ActorView → Option Stage = λ t b. option_and_then (by_past t b) (slice_get s.pasts t.device) in
-    let by_text : ActorText → Option Stage = λ t. option_and_then (by_actor t) (slice_get s.actors line.actor) in
-    ap (option_and_then by_text) f.is_text
-    ∙ ap (option_and_then (by_actor text)) f.is_actor
-    ∙ ap (option_and_then (by_past text a)) there
-
--- a device whose steps, or whose feedback calls, are as before
-pasts_same : (devices : List UdevView) (i : ℕ) (device after : UdevView) → slice_get devices i ≡ Some device → steps_in after.kept ≡ steps_in device.kept → pasts_of (slice_set devices i after) ≡ pasts_of devices
-pasts_same devices i device after there same =
-    let f : UdevView → List Step = λ d. steps_in d.kept in
-    map-set f devices i after
-    ∙ ap (slice_set (map f devices) i) same
-    ∙ set_same (map f devices) i (f device) (slice_get-map f devices i ∙ ap (option_map f) there)
-
-calls_same : (devices : List UdevView) (i : ℕ) (device after : UdevView) → slice_get devices i ≡ Some device → calls_in after.kept ≡ calls_in device.kept → feedback_calls_of (slice_set devices i after) ≡ feedback_calls_of devices
-calls_same devices i device after there same =
-    let f : UdevView → List FeedbackCall = λ d. calls_in d.kept in
-    map-set f devices i after
-    ∙ ap (slice_set (map f devices) i) same
-    ∙ set_same (map f devices) i (f device) (slice_get-map f devices i ∙ ap (option_map f) there)
+    line-finds r n (stage_with devices actors) line text a (steps_in device.kept) f.is_text f.is_actor (past_at r devices actors number line text a device f)
 
 -- A line of calls of an evdev
 
@@ -166,7 +111,9 @@ talk_does r devices actors number line text a device after talk new f gives_up h
     let its : talk_with a.description past talk ≡ (Some new, now) =
     ap (λ (d : Description). talk_with d past talk) (sym (found-description r devices actors number line text a device f)) ∙ done in
     let place : a.actor ≡ line.actor = (f.has_actors.each line.actor a f.is_actor).0 in
-    let calls : feedback_calls_of (slice_set devices text.device after) ≡ s.calls = calls_same devices text.device device after f.is_device (tied-calls device after holds.calls holds.are_calls) in
+    let calls : feedback_calls_of (slice_set devices text.device after) ≡ s.calls = map-set_same
+    (λ (d : UdevView). calls_in d.kept) devices text.device device after f.is_device
+    (tied-calls device after holds.calls holds.are_calls) in
     ap (after_talk s text.device a) its
     ∙ ap (λ (i : ℕ). Some (record { pasts = slice_set s.pasts text.device now; calls = s.calls; actors = slice_set s.actors i (record a { job = new }) })) place
     ∙ ap (λ (pasts : List (List Step)). Some (record { pasts = pasts; calls = s.calls; actors = slice_set s.actors line.actor (record a { job = new }) })) (sym (map-set (λ (d : UdevView). steps_in d.kept) devices text.device after))
@@ -187,11 +134,9 @@ line_does r devices actors number line text a device after n new keeps f no_room
 -- Lines that inject events of one source
 
 gives_up-inject : (events : List Stamped) (j : Job) → GivesUp (inject_talk events j)
-gives_up-inject events j = by j.stop
-  where
-    by : (stop : Option Stop) → GivesUp (unless_stopped stop j (stream_talk events j))
-    by None = gives_up-stream events j
-    by (Some stop) = tt
+gives_up-inject events j =
+    elim j.stop as (λ stop. GivesUp (unless_stopped stop j (stream_talk events j)))
+    [ None ↦ gives_up-stream events j | Some stop ↦ tt ]
 
 pub inject_does : (r : RecordView) (devices : List UdevView) (actors : List ActorView) (number : ℕ) (line : Line) (text : ActorText) (a : ActorView) (device after : UdevView) (events : List Stamped) (new : Job) → IsFound r devices actors number line text a device → a.role ≡ Source
     → Holds (owned_view device) (owned_view after) (inject_talk events a.job) (Some new)
@@ -206,42 +151,18 @@ inject_does r devices actors number line text a device after events new f source
 -- what it leaves of a device is what the device keeps of its steps, and of its calls
 steps_kept : (d : Description) (kept : List UEntry) (room : ℕ) → steps_in (kept_after_feedback d kept room) ≡ steps_in kept
 steps_kept d kept room = cond_both (is_full_of_feedback d kept) _ _ (λ x. steps_in x ≡ steps_in kept) (λ _. refl) (λ _. refl)
-  where
-    count : ℕ
-    count = length (taken_by_feedback d kept room)
 
 calls_kept : (d : Description) (kept : List UEntry) (room : ℕ) → calls_in (kept_after_feedback d kept room) ≡ feedback_calls_after (fed d kept room) (calls_in kept)
-calls_kept d kept room = by_flag (is_full_of_feedback d kept)
-  where
-    at : ℕ
-    at = length (steps_in kept)
+calls_kept d kept room =
+    let at : ℕ = length (steps_in kept) in
+    let count : ℕ = length (taken_by_feedback d kept room) in
+    elim (is_full_of_feedback d kept) as (λ b. calls_in (if b then kept else Feedback count ∷ kept) ≡ feedback_calls_after (if b then Full at else Took at count) (calls_in kept)) [
+      | true ↦ refl
+      | false ↦ refl
+    ]
 
-    count : ℕ
-    count = length (taken_by_feedback d kept room)
-
-    by_flag : (b : Bool) → calls_in (if b then kept else Feedback count ∷ kept) ≡ feedback_calls_after (if b then Full at else Took at count) (calls_in kept)
-    by_flag true = refl
-    by_flag false = refl
-
--- A feedback call with room for so many events, but for no more than ever wait, is one with room for so many.
-record IsCallOf (device after : UdevView) (count : ℕ) (old new : Owning) : Type 0 where
-  noted : new ≡ after_feedback (fed device.description device.kept count) (taken_by_feedback device.description device.kept count) old
-  kept : after.kept ≡ kept_after_feedback device.description device.kept count
-
-call_of : (device after : UdevView) (count : ℕ) (old new : Owning) → IsFed IsFeedbackOf device after (min count FEEDBACK_MAX) old new → IsCallOf device after count old new
-call_of device after count old new h =
-    let d : Description = device.description in
-    let kept : List UEntry = device.kept in
-    let f : IsFeedbackOf device after (min count FEEDBACK_MAX) h.answer h.events = h.fed in
-    record {
-      noted =
-          h.noted
-          ∙ ap (λ (answer : Fed). after_feedback answer h.events old) (f.answered ∙ room-enough d kept count)
-          ∙ ap (λ (events : List Event). after_feedback (fed d kept count) events old) (f.taken ∙ room-enough-taken d kept count);
-      kept = ap (λ (u : UdevView). u.kept) f.kept ∙ room-enough-kept d kept count;
-    }
-
--- what a line of an owner leaves, by whether it had stopped
+-- What a line of an owner leaves, by whether it had stopped. A call with room for so many events, but for no more than ever
+-- wait, is one with room for so many.
 feed_leaves : (devices : List UdevView) (actors : List ActorView) (i number : ℕ) (a : ActorView) (device after : UdevView) (count : ℕ) (new : Owning) (stop : Option Stop) → slice_get devices i ≡ Some device → slice_get actors number ≡ Some a → a.actor ≡ number → device.description ≡ a.description
     → FeedsUnless IsFeedbackOf stop device after (min count FEEDBACK_MAX) a.owning new
     → unless_owner_stopped stop (stage_with devices actors) i a count (steps_in device.kept) (calls_in device.kept) ≡ stage_with (slice_set devices i after) (slice_set actors number (record a { owning = new }))
@@ -249,19 +170,25 @@ feed_leaves devices actors i number a device after count new None is_device is_a
     let s : Stage = stage_with devices actors in
     let d : Description = device.description in
     let kept : List UEntry = device.kept in
-    let call : IsCallOf device after count a.owning new = call_of device after count a.owning new h in
-    let steps : steps_in after.kept ≡ steps_in kept = ap steps_in call.kept ∙ steps_kept d kept count in
-    let calls : feedback_calls_after (fed d kept count) (calls_in kept) ≡ calls_in after.kept = sym (ap calls_in call.kept ∙ calls_kept d kept count) in
+    let f : IsFeedbackOf device after (min count FEEDBACK_MAX) h.answer h.events = h.fed in
+    let noted : new ≡ after_feedback (fed d kept count) (taken_by_feedback d kept count) a.owning =
+    h.noted
+    ∙ ap (λ (answer : Fed). after_feedback answer h.events a.owning) (f.answered ∙ room-enough d kept count)
+    ∙ ap (λ (events : List Event). after_feedback (fed d kept count) events a.owning) (f.taken ∙ room-enough-taken d kept count) in
+    let left_is : after.kept ≡ kept_after_feedback d kept count = ap (λ (u : UdevView). u.kept) f.kept ∙ room-enough-kept d kept count in
+    let steps : steps_in after.kept ≡ steps_in kept = ap steps_in left_is ∙ steps_kept d kept count in
+    let calls : feedback_calls_after (fed d kept count) (calls_in kept) ≡ calls_in after.kept = sym (ap calls_in left_is ∙ calls_kept d kept count) in
     let told : Description → List UEntry → Owning = λ e es. after_feedback (fed e es count) (taken_by_feedback e es count) a.owning in
     let left : Description → List UEntry → Stage =
     λ e es. record s { calls = slice_set s.calls i (feedback_calls_after (fed e es count) (calls_in kept)); actors = slice_set s.actors a.actor (record a { owning = told e es }) } in
     ap (λ (es : List UEntry). left a.description es) (kept-woven kept)
     ∙ ap (λ (e : Description). left e kept) (sym description)
     ∙ ap (λ (cs : List FeedbackCall). record s { calls = slice_set s.calls i cs; actors = slice_set s.actors a.actor (record a { owning = told d kept }) }) calls
-    ∙ ap (λ (w : Owning). record s { calls = slice_set s.calls i (calls_in after.kept); actors = slice_set s.actors a.actor (record a { owning = w }) }) (sym call.noted)
+    ∙ ap (λ (w : Owning). record s { calls = slice_set s.calls i (calls_in after.kept); actors = slice_set s.actors a.actor (record a { owning = w }) }) (sym noted)
     ∙ ap (λ (k : ℕ). record s { calls = slice_set s.calls i (calls_in after.kept); actors = slice_set s.actors k (record a { owning = new }) }) place
     ∙ ap (λ (cs : List (List FeedbackCall)). record s { calls = cs; actors = slice_set s.actors number (record a { owning = new }) }) (sym (map-set (λ (v : UdevView). calls_in v.kept) devices i after))
-    ∙ ap (λ (ps : List (List Step)). record { pasts = ps; calls = feedback_calls_of (slice_set devices i after); actors = slice_set s.actors number (record a { owning = new }) }) (sym (pasts_same devices i device after is_device steps))
+    ∙ ap (λ (ps : List (List Step)). record { pasts = ps; calls = feedback_calls_of (slice_set devices i after); actors = slice_set s.actors number (record a { owning = new }) })
+    (sym (map-set_same (λ (v : UdevView). steps_in v.kept) devices i device after is_device steps))
 feed_leaves devices actors i number a device after count new (Some stop) is_device is_actor place description h =
     sym (
     ap (λ (v : UdevView). stage_with (slice_set devices i v) (slice_set actors number (record a { owning = new }))) h.0
@@ -309,31 +236,27 @@ act_does r devices actors number line text a b device after keeps f (inr c) = (
 -- it is still the same device
 pub act_described : (r : RecordView) (line : Line) (a b : ActorView) (device after : UdevView) → ActsLine owned_view IsFeedbackOf device after r None a line b → after.description ≡ device.description
 act_described r line a b device after (inr c) = description-kept (owned_view device) (owned_view after) c.holds.calls c.holds.are_calls
-act_described r line a b device after (inl o) = by_stop a.owning.stop o.fed
-  where
-    by_stop : (stop : Option Stop) → FeedsUnless IsFeedbackOf stop device after (min o.room FEEDBACK_MAX) a.owning b.owning → after.description ≡ device.description
-    by_stop None h = let f : IsFeedbackOf device after (min o.room FEEDBACK_MAX) h.answer h.events = h.fed in ap (λ (u : UdevView). u.description) f.kept
-    by_stop (Some stop) h = ap (λ (u : UdevView). u.description) h.0
+act_described r line a b device after (inl o) =
+    (elim a.owning.stop as (λ stop. FeedsUnless IsFeedbackOf stop device after (min o.room FEEDBACK_MAX) a.owning b.owning → after.description ≡ device.description) [
+      | None ↦ λ h. (let f : IsFeedbackOf device after (min o.room FEEDBACK_MAX) h.answer h.events = h.fed in ap (λ (u : UdevView). u.description) f.kept)
+      | Some stop ↦ λ h. ap (λ (u : UdevView). u.description) h.0
+    ]) o.fed
 
 -- The devices and the actors are still the record's
 
 pub devices_stay : (r : RecordView) (devices : List UdevView) (i : ℕ) (device after : UdevView) → HasDevices r devices → slice_get devices i ≡ Some device → after.description ≡ device.description → HasDevices r (slice_set devices i after)
-devices_stay r devices i device after has there same =
-    let f : UdevView → Description = λ d. d.description in
-    map-set f devices i after
-    ∙ ap (slice_set (map f devices) i) same
-    ∙ set_same (map f devices) i device.description (slice_get-map f devices i ∙ ap (option_map f) there)
-    ∙ has
+devices_stay r devices i device after has there same = map-set_same
+    (λ (d : UdevView). d.description) devices i device after there same ∙ has
 
 pub actors_stay : (r : RecordView) (actors : List ActorView) (i : ℕ) (a : ActorView) (job : Job) (owning : Owning) → HasActors r actors → slice_get actors i ≡ Some a → HasActors r (slice_set actors i (record a { job = job; owning = owning }))
 actors_stay r actors i a job owning has there = record {
   count = length-set actors i (record a { job = job; owning = owning }) ∙ has.count;
   each = λ k b h.
       let old = has.each i a there in
-      elim (set_or_before actors i k (record a { job = job; owning = owning }) b h) [
+      elim (slice_get-set actors i k a (record a { job = job; owning = owning }) b there h) [
         | inl e ↦
             let mine : HasActor r (record a { job = job; owning = owning }) = record { text = old.1.text; device = old.1.device; is_text = old.1.is_text; role = old.1.role; is_device = old.1.is_device; description = old.1.description } in
             (ap (λ (c : ActorView). c.actor) e.1 ∙ old.0 ∙ sym e.0, subst (HasActor r) (sym e.1) mine)
-        | inr e ↦ has.each k b e
+        | inr e ↦ has.each k b e.1
       ];
 }

@@ -1,19 +1,13 @@
 -- The lines of a record, one after another.
-use Rattle.std.proofs.Common.{◌≡◌, ℕ, zero, suc, ◌+◌, ◌≤◌, List, [], ◌∷◌, ◌++◌, length, take, drop, Option, Some, None, refl, sym, ap, ◌∙◌, add_comm, get_or}
+use Rattle.std.proofs.Common.{◌≡◌, ℕ, ◌+◌, ◌≤◌, List, [], ◌∷◌, ◌++◌, length, take, drop, Option, Some, None, refl, sym, ap, ◌∙◌, add_comm, get_or}
 use Rattle.std.specs.Prelude.{slice_get, option_map, option_and_then}
-use Rattle.std.proofs.Math.Seq.{take-add}
+use Rattle.std.proofs.Math.Seq.{take-add, drop-cons}
+use Rattle.std.proofs.lemmas.Option.{get_or_from_slice_get, slice_get_within}
 use Rattle.std.proofs.lemmas.List.{take_all}
-use Rattle.inp_actors.specs.declared.actor_text.ActorText.{ActorText}
-use Rattle.inp_actors.specs.declared.line.Line.{Line}
-use Rattle.inp_actors.specs.Record.{RecordView, IsRecord}
+use Rattle.inp_script.proofs.Words.{ActorText, Line, RecordView, IsRecord, played_of, ActorView}
 use Rattle.inp_script.specs.declared.run.Played.{Played}
-use Rattle.inp_script.specs.Ended.{played_of}
-use Rattle.inp_script.specs.Job.{ActorView}
-use Rattle.inp_uinput.specs.UdevView.{UdevView}
-use Rattle.inp_play.specs.declared.player.Player.{Player}
+use Rattle.inp_play.proofs.Words.{UdevView, Player, Stage, first_stage, after_line, after_lines, runs_of, play, IsPlay, stage_of, IsPlayer, DoesOn, HasDone}
 use Rattle.inp_play.proofs.PlayerLines.{IsFound, found}
-use Rattle.inp_runs.specs.Play.{Stage, first_stage, after_line, after_lines, runs_of, play, IsPlay}
-use Rattle.inp_play.specs.Player.{stage_of, IsPlayer, DoesOn, HasDone}
 use Rattle.inp_runs.proofs.order.Rounds.{after_lines-more}
 
 -- Which line it is, and what it finds
@@ -27,22 +21,21 @@ found_by r p number line text a device lines actors keeps is same is_line these 
 
 -- One after another
 
-after_lines-append : (r : RecordView) (n : ℕ) (s : Stage) (lines more : List Line) → after_lines r n s (lines ++ more) ≡ option_and_then (λ now. after_lines r n now more) (after_lines r n s lines)
+pub after_lines-append : (r : RecordView) (n : ℕ) (s : Stage) (lines more : List Line) → after_lines r n s (lines ++ more) ≡ option_and_then (λ now. after_lines r n now more) (after_lines r n s lines)
 unfolding after_lines
 after_lines-append r n s [] more = refl
-after_lines-append r n s (line ∷ lines) more = by_stage (after_line r n s line) (λ now. after_lines-append r n now lines more)
-  where
-    by_stage : (o : Option Stage) → ((now : Stage) → after_lines r n now (lines ++ more) ≡ option_and_then (λ u. after_lines r n u more) (after_lines r n now lines))
-        → option_and_then (λ now. after_lines r n now (lines ++ more)) o ≡ option_and_then (λ now. after_lines r n now more) (option_and_then (λ now. after_lines r n now lines) o)
-    by_stage None rest = refl
-    by_stage (Some now) rest = rest now
+after_lines-append r n s (line ∷ lines) more =
+    elim (after_line r n s line) as (λ (o : Option Stage). option_and_then
+    (λ now. after_lines r n now (lines ++ more)) o ≡ option_and_then (λ now. after_lines r n now more)
+    (option_and_then (λ now. after_lines r n now lines) o)) [
+      | None ↦ refl
+      | Some now ↦ after_lines-append r n now lines more
+    ]
 
 one_at : (lines : List Line) (i : ℕ) (line : Line) → slice_get lines i ≡ Some line → take 1 (drop i lines) ≡ line ∷ []
-one_at [] i line h = absurd cc
-one_at (first ∷ lines) zero line h =
-    let same : first ≡ line = cc in
-    ap (λ (l : Line). l ∷ []) same
-one_at (first ∷ lines) (suc i) line h = one_at lines i line h
+one_at lines i line h =
+    ap (λ (ls : List Line). take 1 ls) (drop-cons lines i line (slice_get_within lines i line h))
+    ∙ ap (λ (l : Line). l ∷ []) (get_or_from_slice_get lines i line line h)
 
 -- one line alone
 pub one-line : (r : RecordView) (n number : ℕ) (s t : Stage) (line : Line) → slice_get r.lines number ≡ Some line → after_line r n s line ≡ Some t → after_lines r n s (take 1 (drop number r.lines)) ≡ Some t

@@ -3,28 +3,13 @@ use Rattle.std.proofs.Common.{◌≡◌, ◌≤◌, ℕ, ◌+◌, Bool, true, fa
 use Rattle.std.specs.Prelude.{slice_get, slice_set, option_map, option_and_then}
 use Rattle.std.proofs.lemmas.List.{set-set}
 use Rattle.std.proofs.lemmas.Option.{slice_get-map}
-use Rattle.inp_model.specs.declared.stamped.Stamped.{Stamped}
-use Rattle.inp_model.specs.declared.step.Step.{Step}
-use Rattle.inp_model.specs.declared.reply.Reply.TheVariants.{Refused}
-use Rattle.inp_model.specs.declared.reply.Refusal.TheVariants.{LogFull}
+use Rattle.inp_script.proofs.Words.{Stamped, Step, LogFull, ActorText, Line, Role, Source, RecordView, IsRecord, Job, ActorView, Answer, answer_by, done_answer, is_accepted, is_full, past_after, Refused, Talk, finish, talk_with, unless_stopped, inject_talk, line_talk, after_call, call_talk, stream_talk}
 use Rattle.inp_model.specs.Injection.{AreInTime, inject_of}
-use Rattle.inp_model.specs.Reply.{Answer, answer_by, done_answer, is_accepted, is_full, past_after}
-use Rattle.inp_actors.specs.declared.actor_text.ActorText.{ActorText}
-use Rattle.inp_actors.specs.declared.line.Line.{Line}
-use Rattle.inp_actors.specs.declared.role.Role.{Role}
-use Rattle.inp_actors.specs.declared.role.Role.TheVariants.{Source}
-use Rattle.inp_actors.specs.Record.{RecordView, IsRecord}
-use Rattle.inp_reader.specs.Talk.{Talk, finish, talk_with}
-use Rattle.inp_script.specs.declared.stop.Stop.{Stop}
 use Rattle.inp_script.specs.declared.stop.Stop.TheVariants.{Full}
-use Rattle.inp_script.specs.DoneLine.{unless_stopped, inject_talk, line_talk}
-use Rattle.inp_script.specs.Job.{Job, ActorView}
-use Rattle.inp_script.specs.Line.{after_call, call_talk, stream_talk}
-use Rattle.inp_runs.specs.Play.{Stage, after_talk, after_line, after_line_of, after_lines}
+use Rattle.inp_play.proofs.Words.{Stage, after_talk, after_line, after_line_of, after_lines, inject_line, Stop}
 use Rattle.inp_runs.proofs.order.LineDone.{set_same}
 use Rattle.inp_runs.proofs.EventLines.{dropped, event-in_time, event-source, taken}
 use Rattle.inp_runs.proofs.Lists.{slice_get-set_same}
-use Rattle.inp_runs.specs.EventLines.{inject_line}
 
 -- Which lines they are
 
@@ -50,6 +35,17 @@ injects-source r number count actor text (s ∷ events) keeps is_text are some =
 
 -- What they leave
 
+-- a line whose actor's text, actor and device's past are found
+pub line-finds : (r : RecordView) (n : ℕ) (s : Stage) (line : Line) (text : ActorText) (a : ActorView) (past : List Step)
+    → slice_get r.actors line.actor ≡ Some text → slice_get s.actors line.actor ≡ Some a → slice_get s.pasts text.device ≡ Some past
+    → after_line r n s line ≡ after_line_of r n s line text.device a past
+unfolding after_line
+line-finds r n s line text a past is_text is_actor is_past =
+    let by_past : ActorText → ActorView → List Step → Option Stage = λ t b p. after_line_of r n s line t.device b p in
+    let by_actor : ActorText → ActorView → Option Stage = λ t b. option_and_then (by_past t b) (slice_get s.pasts t.device) in
+    let by_text : ActorText → Option Stage = λ t. option_and_then (by_actor t) (slice_get s.actors line.actor) in
+    ap (option_and_then by_text) is_text ∙ ap (option_and_then (by_actor text)) is_actor ∙ ap (option_and_then (by_past text a)) is_past
+
 module _ (r : RecordView) (n number : ℕ) (text : ActorText) (is_text : slice_get r.actors number ≡ Some text) where
   -- a source, and what its device accepted
   pub record IsSourceAt (s : Stage) (a : ActorView) (past : List Step) : Type 0 where
@@ -64,15 +60,10 @@ module _ (r : RecordView) (n number : ℕ) (text : ActorText) (is_text : slice_g
 
   -- one line
   one-inject : (s : Stage) (a : ActorView) (past : List Step) (x : Stamped) → IsSourceAt s a past → after_line r n s (inject_line number x) ≡ behind s a past (unless_stopped a.job.stop a.job (call_talk a.job (inject_of x)))
-  unfolding after_line line_talk
+  unfolding line_talk
   one-inject s a past x h =
       let line : Line = inject_line number x in
-      let by_past : ActorText → ActorView → List Step → Option Stage = λ t b p. after_line_of r n s line t.device b p in
-      let by_actor : ActorText → ActorView → Option Stage = λ t b. option_and_then (by_past t b) (slice_get s.pasts t.device) in
-      let by_text : ActorText → Option Stage = λ t. option_and_then (by_actor t) (slice_get s.actors number) in
-      ap (option_and_then by_text) is_text
-      ∙ ap (option_and_then (by_actor text)) h.is_actor
-      ∙ ap (option_and_then (by_past text a)) h.is_past
+      line-finds r n s line text a past is_text h.is_actor h.is_past
       ∙ ap (λ (role : Role). behind s a past (line_talk role a.description r.streams None n line.command a.job)) h.role
 
   -- where nothing is done the stage stays
@@ -153,8 +144,8 @@ module _ (r : RecordView) (n number : ℕ) (text : ActorText) (is_text : slice_g
           ∙ behind-again s a j now (talk_with a.description now (stream_talk events j))
 
   pub injects-lines : (events : List Stamped) (s : Stage) (a : ActorView) (past : List Step) → IsSourceAt s a past → after_lines r n s (map (inject_line number) events) ≡ behind s a past (inject_talk events a.job)
-  injects-lines events s a past h = by a.job.stop refl
-    where
-      by : (o : Option Stop) → a.job.stop ≡ o → after_lines r n s (map (inject_line number) events) ≡ behind s a past (unless_stopped o a.job (stream_talk events a.job))
-      by None e = lines-going events s a past h e
-      by (Some stop) e = lines-stopped events s a past stop h e ∙ sym (stays s a past h)
+  injects-lines events s a past h =
+      (elim a.job.stop as (λ o. a.job.stop ≡ o → after_lines r n s (map (inject_line number) events) ≡ behind s a past (unless_stopped o a.job (stream_talk events a.job))) [
+        | None ↦ λ e. lines-going events s a past h e
+        | Some stop ↦ λ e. lines-stopped events s a past stop h e ∙ sym (stays s a past h)
+      ]) refl

@@ -2,26 +2,12 @@
 use Rattle.std.proofs.Common.{◌≡◌, ℕ, true, false, refl, sym, ap, subst, ◌∙◌, inl, inr, Option, Some}
 use Rattle.std.specs.Prelude.{min}
 use Rattle.std.specs.List.{slice_get}
-use Rattle.inp_model.specs.Description.{Description}
-use Rattle.inp_model.specs.Evdev.{EvdevView}
-use Rattle.inp_actors.specs.declared.command.Command.{Command}
+use Rattle.inp_script.proofs.Words.{Description, EvdevView, Command, Line, Role, RecordView, RoleState, Waiting, ActorView, role_of, is_command_of, is_owner, feedback_room, BeginsLine, DoesLine, IsCommandFor, Owner as OwnerRole, FEEDBACK_MAX, Feeding}
 use Rattle.inp_actors.specs.declared.command.Command.TheVariants.{Feedback}
-use Rattle.inp_actors.specs.declared.line.Line.{Line}
-use Rattle.inp_actors.specs.declared.role.Role.{Role}
-use Rattle.inp_actors.specs.declared.role.Role.TheVariants.{Owner as OwnerRole}
-use Rattle.inp_actors.specs.Command.{is_command_of, is_owner, feedback_room}
-use Rattle.inp_actors.specs.Record.{RecordView}
-use Rattle.inp_feedback.specs.declared.fed.TheConstants.{FEEDBACK_MAX}
-use Rattle.inp_feedback.specs.Feeds.{Feeding}
-use Rattle.inp_script.specs.declared.role.state.RoleState.{RoleState}
-use Rattle.inp_script.specs.declared.role.state.RoleState.TheVariants.{Source, Tap, Client, Joy, Owner}
+use Rattle.inp_script.specs.declared.role.state.RoleState.TheVariants.{Owner}
 use Rattle.inp_script.specs.declared.role.owner.Owner as owner
-use Rattle.inp_script.specs.declared.waiting.Waiting.{Waiting}
 use Rattle.inp_script.specs.ActorLine.{Acts, BeginsToAct}
-use Rattle.inp_script.specs.DoneLine.{BeginsLine, DoesLine, IsCommandFor}
-use Rattle.inp_script.specs.Job.{ActorView}
 use Rattle.inp_script.specs.Owner.{Owning, FeedsLine, MayHaveFed}
-use Rattle.inp_script.specs.RoleState.{role_of}
 
 -- each command of an owner is a feedback call
 owner-room : (command : Command) → is_command_of OwnerRole command ≡ true → (room : ℕ) × (feedback_room command ≡ Some room)
@@ -31,10 +17,7 @@ owner-room _ h = absurd cc
 -- what keeps no owner's is of another role
 pub caller-of : (state : RoleState) → ((caps : Description) (owner : owner.Owner) → state ≡ Owner caps owner → ⊥) → is_owner (role_of state) ≡ false
 caller-of (Owner caps owner) other = absurd (other caps owner refl)
-caller-of (Source caps view) other = refl
-caller-of (Tap caps tap) other = refl
-caller-of (Client reader) other = refl
-caller-of (Joy joy) other = refl
+caller-of _ other = refl
 
 module _ {S : Type 0} (told : S → EvdevView) (feeds : Feeding S) (before after : S) (r : RecordView) (wait : Option Waiting) (number : ℕ) (old : ActorView) where
   module _ (line : Line) (is_line : slice_get r.lines number ≡ Some line) (command : IsCommandFor old.role r.streams line.command) (owner : old.role ≡ OwnerRole) where

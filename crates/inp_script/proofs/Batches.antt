@@ -1,19 +1,15 @@
 -- The calls that one call is which injects events, and their notes.
-use Rattle.std.proofs.Common.{◌≡◌, ℕ, zero, suc, ◌+◌, ◌-◌, ◌<◌, ◌≤◌, nat_lt, nat_le, List, [], ◌∷◌, ◌++◌, length, take, drop, get_or, refl, sym, ap, subst, ◌∙◌, Bool, true, false, if◌then◌else◌, Some, None, arith, pos}
+use Rattle.std.proofs.Common.{◌≡◌, ℕ, zero, suc, ◌+◌, ◌-◌, ◌<◌, ◌≤◌, nat_lt, nat_le, List, [], ◌∷◌, ◌++◌, length, take, drop, get_or, length-drop, refl, sym, ap, subst, ◌∙◌, Bool, true, false, if◌then◌else◌, Some, None, arith, pos}
 use Rattle.std.specs.Prelude.{min}
 use Rattle.std.specs.List.{slice_get}
 use Rattle.std.proofs.lemmas.Bool.Decides.{nat_tests}
 use Rattle.std.proofs.lemmas.List.{take_more, take_all, length-take-le}
-use Rattle.inp_model.specs.declared.stamped.Stamped.{Stamped}
+use Rattle.inp_script.proofs.Words.{Stamped, EvdevView, Call, Notes, notes_after, entered_calls, AreMade, AreNoted, AreCalls}
 use Rattle.inp_model.specs.declared.injected.Injected.{Injected}
-use Rattle.inp_model.specs.Evdev.{EvdevView}
 use Rattle.inp_model.specs.Injection.{AreInTime, IsInjectAll, entered_call, full_call, calls_of}
-use Rattle.inp_model.specs.Leaves.{AreCalls}
-use Rattle.inp_model.specs.Run.{Call}
 use Rattle.inp_model.proofs.Injection.{injected-calls}
-use Rattle.inp_script.specs.declared.notes.Notes.{Notes}
-use Rattle.inp_script.specs.Notes.{notes_after, entered_calls, AreMade, AreNoted}
 use Rattle.std.proofs.lemmas.Bool.{lt-ltb, le-ltb}
+use Rattle.std.proofs.lemmas.Option.{slice_get_within}
 
 abbrev pub no_stamped : Stamped
 no_stamped = record { event = record { kind = 0; code = 0; value = pos 0 }; now = 0 }
@@ -105,10 +101,8 @@ none_left zero (first ∷ events) h = absurd (cc h)
 none_left (suc count) (first ∷ events) h = omega (arith, none_left count events h)
 
 one_left : (count : ℕ) (events : List Stamped) (stamped : Stamped) → slice_get (drop count events) 0 ≡ Some stamped → count < length events
-one_left zero [] stamped h = absurd (cc h)
-one_left (suc count) [] stamped h = absurd (cc h)
-one_left zero (first ∷ events) stamped h = omega arith
-one_left (suc count) (first ∷ events) stamped h = omega (arith, one_left count events stamped h)
+one_left count events stamped h =
+    omega (arith, slice_get_within (drop count events) 0 stamped h, length-drop count events)
 
 le_true : (m n : ℕ) → m ≤ n → true ≡ nat_le m n
 le_true m n h = grind (arith, nat_tests, h)
@@ -163,7 +157,3 @@ take-in_time n events h i s is = h i s (take-front n i events s is)
 
 pub drop-in_time : (n : ℕ) (events : List Stamped) → AreInTime events → AreInTime (drop n events)
 drop-in_time n events h i s is = h (n + i) s (drop-back n i events s is)
-
-pub no_more : (events : List Stamped) → length events ≡ 0 → events ≡ []
-no_more [] h = refl
-no_more (first ∷ events) h = absurd (omega (arith, h))

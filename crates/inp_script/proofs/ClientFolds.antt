@@ -2,30 +2,14 @@
 use Rattle.std.proofs.Common.{◌≡◌, ℕ, Bool, false, if◌then◌else◌, List, [], ◌∷◌, ◌++◌, refl, sym, ap, subst, ◌∙◌}
 use Rattle.std.specs.Prelude.{Result, Ok, Err}
 use Rattle.std.proofs.lemmas.Bool.{cond-true, cond-false, cond_both}
-use Rattle.inp_model.specs.declared.step.Step.{Step}
+use Rattle.inp_script.proofs.Words.{Step, Reply, Description, is_again, past_at, Answer, is_accepted, IsAnswer, Call, place_of, View, Mode, Next, Started, Reading, queries, start_talk, stop_of, next_talk, EndsWith, Sight, call_sight, Opened, Success, Dropped, Sync}
 use Rattle.inp_model.specs.declared.step.Step.TheVariants.{Open, Read, Discard}
-use Rattle.inp_model.specs.declared.reply.Reply.{Reply}
-use Rattle.inp_model.specs.declared.reply.Reply.TheVariants.{Opened}
-use Rattle.inp_model.specs.Description.{Description}
-use Rattle.inp_model.specs.Evdev.{is_again}
-use Rattle.inp_model.specs.Past.{past_at}
-use Rattle.inp_model.specs.Reply.{Answer, is_accepted, IsAnswer}
-use Rattle.inp_model.specs.Run.{Call, place_of}
-use Rattle.inp_recon.specs.declared.view.View.{View}
 use Rattle.inp_recon.proofs.Each.{Each}
-use Rattle.inp_reader.specs.declared.mode.Mode.{Mode}
-use Rattle.inp_reader.specs.declared.next.Next.{Next}
-use Rattle.inp_reader.specs.declared.next.Next.TheVariants.{Success, Dropped, Sync}
-use Rattle.inp_reader.specs.declared.started.Started.{Started}
-use Rattle.inp_reader.specs.Reader.{Reading, queries, start_talk, stop_of, next_talk}
-use Rattle.inp_reader.specs.Talk.{EndsWith}
 use Rattle.inp_reader.proofs.AgainCounts.{IsNoRead, no_read-queries, not_again}
 use Rattle.inp_reader.proofs.Meets.{Any, Runs, meets-ends}
 use Rattle.inp_reader.proofs.NextWalk.{AskRules, asked-meets, sync-by_parts, Queried, start-meets, Renewed, NextRules, next-meets, stop-cases}
-use Rattle.inp_script.specs.declared.sight.Sight.{Sight}
 use Rattle.inp_script.specs.declared.sight.Sight.TheVariants.{Call as Called, Took, Made}
 use Rattle.inp_script.specs.Fold.{Folding, settled, asking, asked_on, after_client_call, after_client_entry, client_fold, view_told}
-use Rattle.inp_script.specs.Sight.{call_sight}
 use Rattle.inp_script.proofs.Folds.{told-exact, ArePlaced}
 use Rattle.inp_script.proofs.Told.{noted_sight}
 

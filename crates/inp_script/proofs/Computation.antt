@@ -1,11 +1,7 @@
 -- The words that a worked example unfolds, in one place.
 use Rattle.inp_joy.specs.Codes.{codes_among, buttons}
-use Rattle.inp_joy.specs.Joy.{startup, joy_start, sync_turn, event_turn, turns}
+use Rattle.inp_script.proofs.Words.{startup, joy_start, sync_turn, event_turn, turns, stream_talk, start_job, next_round, rounds, line_talk, start_joystick, read_on, read_records}
 use Rattle.inp_joy.specs.Picture.{picture_after}
-use Rattle.inp_script.specs.Line.{stream_talk}
-use Rattle.inp_script.specs.Client.{start_job, next_round, rounds}
-use Rattle.inp_script.specs.DoneLine.{line_talk}
-use Rattle.inp_script.specs.Joystick.{start_joystick, read_on, read_records}
 
 unfoldable pub computing_jobs : Type 0
 unfolding stream_talk start_job next_round rounds line_talk

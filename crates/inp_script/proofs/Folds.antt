@@ -1,21 +1,10 @@
 -- The view of a tap is the fold of its sight.
 use Rattle.std.proofs.Common.{◌≡◌, ℕ, List, [], ◌∷◌, ◌++◌, map, refl, sym, ap, subst, ◌∙◌, inl, inr, ℤ}
-use Rattle.inp_model.specs.declared.taken.Taken.{Taken}
-use Rattle.inp_model.specs.declared.step.Step.{Step}
+use Rattle.inp_script.proofs.Words.{Taken, Step, Reply, Description, past_at, Answer, answer, IsAnswer, View, Sight, Job, call_sight, again_sight, taken_sight, Call, HasPlace, place_of, event_of_taken, after_tap_call}
 use Rattle.inp_model.specs.declared.step.Step.TheVariants.{Open, GetKeys, GetSwitches, GetLeds, GetAxis, SyncSlots}
-use Rattle.inp_model.specs.declared.reply.Reply.{Reply}
 use Rattle.inp_model.specs.declared.reply.Reply.TheVariants.{Again as NothingVisible}
-use Rattle.inp_model.specs.Description.{Description}
-use Rattle.inp_model.specs.Past.{past_at}
-use Rattle.inp_model.specs.Reply.{Answer, answer, IsAnswer}
-use Rattle.inp_model.specs.Run.{Call, HasPlace, place_of}
-use Rattle.inp_recon.specs.declared.view.View.{View}
 use Rattle.inp_recon.specs.View.{view_after_answer, view_after_event, view_after_events}
-use Rattle.inp_script.specs.declared.sight.Sight.{Sight}
 use Rattle.inp_script.specs.Fold.{view_told, view_after_entry, tap_fold}
-use Rattle.inp_script.specs.Job.{Job}
-use Rattle.inp_script.specs.Line.{event_of_taken, after_tap_call}
-use Rattle.inp_script.specs.Sight.{call_sight, again_sight, taken_sight}
 use Rattle.inp_reader.proofs.Meets.{Runs}
 
 pub tap_fold-append : (d : Description) (h : List Step) (v : View) (sight more : List Sight) → tap_fold d h v (sight ++ more) ≡ tap_fold d h (tap_fold d h v sight) more

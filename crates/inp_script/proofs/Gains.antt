@@ -3,23 +3,10 @@ use Rattle.std.proofs.Common.{◌≡◌, ℕ, true, List, [], ◌∷◌, ◌++�
 use Rattle.std.specs.Prelude.{filter}
 use Rattle.std.proofs.lemmas.List.Elements.{filter-append}
 use Rattle.std.proofs.lemmas.Bool.{cond_both}
-use Rattle.inp_model.specs.declared.step.Step.{Step}
-use Rattle.inp_model.specs.declared.reply.Reply.{Reply}
+use Rattle.inp_script.proofs.Words.{Step, Reply, Description, Call, Sight, Holds, DoesLine, Job, ActorView, end_talk, call_sight, again_sight, Waiting, RecordView, EvdevView, is_again, own_after, AreCalls, places_of, sight_of_calls, is_call_entry, places_in, IsLegalSight, LeavesOut, GainsPlaces}
 use Rattle.inp_model.specs.declared.reply.Reply.TheVariants.{Again as NothingVisible}
-use Rattle.inp_model.specs.Description.{Description}
-use Rattle.inp_model.specs.Evdev.{EvdevView, is_again, own_after}
-use Rattle.inp_model.specs.Run.{Call}
-use Rattle.inp_model.specs.Leaves.{AreCalls, places_of}
 use Rattle.inp_model.proofs.Leaves.{own-grown}
-use Rattle.inp_script.specs.declared.sight.Sight.{Sight}
 use Rattle.inp_script.specs.declared.sight.Sight.TheVariants.{Call as Called}
-use Rattle.inp_script.specs.DoneLine.{Holds, DoesLine}
-use Rattle.inp_script.specs.Job.{Job, ActorView}
-use Rattle.inp_script.specs.Legal.{sight_of_calls, is_call_entry, places_in, IsLegalSight, LeavesOut, GainsPlaces}
-use Rattle.inp_script.specs.Line.{end_talk}
-use Rattle.inp_script.specs.Sight.{call_sight, again_sight}
-use Rattle.inp_script.specs.declared.waiting.Waiting.{Waiting}
-use Rattle.inp_actors.specs.Record.{RecordView}
 use Rattle.inp_script.proofs.LineTold.{line-told, end-told}
 use Rattle.inp_script.proofs.Runs.{leaves_out-append, legal-less, runs-on}
 use Rattle.inp_script.proofs.Told.{Tells, sight_of_calls-append}

@@ -1,37 +1,11 @@
 -- A job that stops as idle made as many calls that were answered Again as it says.
 use Rattle.std.proofs.Common.{◌≡◌, ℕ, suc, ◌+◌, ◌-◌, ◌^◌, ◌≤◌, ◌⊎◌, inl, inr, ◌&&◌, Bool, true, false, if◌then◌else◌, List, [], ◌∷◌, refl, sym, ap, subst, ◌∙◌, arith, Option, Some, None, nat_lt}
 use Rattle.std.proofs.lemmas.Bool.Decides.{nat_tests}
-use Rattle.inp_model.specs.declared.stamped.Stamped.{Stamped}
-use Rattle.inp_model.specs.declared.step.Step.{Step}
-use Rattle.inp_model.specs.declared.reply.Reply.{Reply}
-use Rattle.inp_model.specs.Description.{Description}
-use Rattle.inp_model.specs.Evdev.{EvdevView, is_again, agains_after}
-use Rattle.inp_model.specs.Run.{Call}
-use Rattle.inp_actors.specs.declared.command.Command.{Command}
-use Rattle.inp_actors.specs.declared.role.Role.{Role}
-use Rattle.inp_reader.specs.declared.next.Next.{Next}
+use Rattle.inp_script.proofs.Words.{Stamped, Step, Reply, Description, Call, Command, Role, Next, Started, EndsWith, Sight, Stop, Waiting, Going, job_after_start, turn_after, after_next, mode_of, Job, ActorView, stop_after, stop_after_start, RecordView, Answer, View, Mode, joystick_talk, EvdevView, is_again, agains_after, Reading, stop_of, after_failed_sync, start_talk, next_talk, AreCalls, DoesLine, line_talk, CountsTurns, Read}
 use Rattle.inp_reader.specs.declared.next.Next.TheVariants.{Again}
-use Rattle.inp_reader.specs.declared.started.Started.{Started}
-use Rattle.inp_reader.specs.Reader.{Reading, stop_of, after_failed_sync, start_talk, next_talk}
-use Rattle.inp_model.specs.Leaves.{AreCalls}
-use Rattle.inp_reader.specs.Talk.{EndsWith}
-use Rattle.inp_script.specs.declared.sight.Sight.{Sight}
-use Rattle.inp_script.specs.declared.stop.Stop.{Stop}
 use Rattle.inp_script.specs.declared.stop.Stop.TheVariants.{Idle, Full as FullHistory}
-use Rattle.inp_script.specs.declared.waiting.Waiting.{Waiting}
-use Rattle.inp_script.specs.Client.{Going, job_after_start, turn_after, after_next, mode_of}
-use Rattle.inp_script.specs.DoneLine.{DoesLine, line_talk}
-use Rattle.inp_script.specs.Job.{Job, ActorView}
-use Rattle.inp_script.specs.Legal.{CountsTurns}
-use Rattle.inp_script.specs.Sight.{stop_after, stop_after_start}
-use Rattle.inp_actors.specs.Record.{RecordView}
-use Rattle.inp_model.specs.declared.step.Step.TheVariants.{Read}
-use Rattle.inp_model.specs.Reply.{Answer}
-use Rattle.inp_recon.specs.declared.view.View.{View}
-use Rattle.inp_reader.specs.declared.mode.Mode.{Mode}
 use Rattle.inp_reader.proofs.Meets.{Any, Runs, meets-ends, meets-always, meets-weaker}
 use Rattle.inp_reader.proofs.NextWalk.{sync-meets, Renewed, NextRules, next-meets, stop-cases}
-use Rattle.inp_script.specs.Joystick.{joystick_talk}
 use Rattle.inp_script.proofs.LineWalk.{NotedBy, OfJob, OfTurn, AfterNext, read_so, LineRules, start_job-meets, round-meets, turn-cases, line-meets}
 use Rattle.inp_script.proofs.JoyStops.{IsNotIdle, NotIdle, none-not_idle, reply-not_idle, started-not_idle, joy-stops}
 use Rattle.inp_script.proofs.JoyWalk.{joystick-meets}
@@ -66,12 +40,13 @@ counted-one reply n = by_flag (is_again reply) (nat_lt n (2 ^ 64 - 1)) refl
     by_flag false below h = record { rises = omega arith; counts = inl (omega arith) }
 
 counted-then : (a b c m n : ℕ) → Counted a b m → Counted b c n → Counted a c (m + n)
-counted-then a b c m n s t = record { rises = omega (arith, s.rises, t.rises); counts = by_cases s.counts t.counts }
-  where
-    by_cases : (a + m ≤ b) ⊎ (2 ^ 64 - 1 ≤ b) → (b + n ≤ c) ⊎ (2 ^ 64 - 1 ≤ c) → (a + (m + n) ≤ c) ⊎ (2 ^ 64 - 1 ≤ c)
-    by_cases (inl x) (inl y) = inl (omega (arith, x, y))
-    by_cases (inr x) (inl y) = inr (omega (arith, x, t.rises))
-    by_cases x (inr y) = inr y
+counted-then a b c m n s t = record {
+  rises = omega (arith, s.rises, t.rises);
+  counts = elim t.counts [
+    | inl y ↦ elim s.counts [ inl x ↦ inl (omega (arith, x, y)) | inr x ↦ inr (omega (arith, x, t.rises)) ]
+    | inr y ↦ inr y
+  ];
+}
 
 calls-counted : (a b : EvdevView) (calls : List Call) → AreCalls a b calls → Counted a.agains b.agains (again_count calls)
 unfolding AreCalls again_count
@@ -167,12 +142,10 @@ idles-line d role command wait = record {
   forces = λ e s j i. i;
   joys = λ e s j n none i.
       meets-weaker Any AgainBy (OfJob NotIdle) (OfJob IdlesOf) s (joystick_talk d n command j)
-      (joystick-meets AgainBy NotIdle d command (joy-stops AgainBy d command) n s j (none-not_idle j.stop none)) (λ t o h. of_joy t o h);
+      (joystick-meets AgainBy NotIdle d command (joy-stops AgainBy d command) n s j (none-not_idle j.stop none))
+      (λ t o. elim o as (λ p. OfJob NotIdle t p → OfJob IdlesOf t p)
+      [ None ↦ λ h. h | Some k ↦ not_idle t k.stop ]);
 }
-  where
-    of_joy : (t : ℕ) (o : Option Job) → OfJob NotIdle t o → OfJob IdlesOf t o
-    of_joy t None h = tt
-    of_joy t (Some k) h = not_idle t k.stop h
 
 line-idles : (role : Role) (d : Description) (streams : List (List Stamped)) (wait : Option Waiting) (n : ℕ) (command : Command) (j k : Job) (calls : List Call) → j.stop ≡ None → EndsWith (line_talk role d streams wait n command j) calls (Some k) → Idles (again_count calls) k.stop
 line-idles role d streams wait n command j k calls none h =
@@ -182,8 +155,5 @@ line-idles role d streams wait n command j k calls none h =
 pub counts-turns : (a b : EvdevView) (actor : ActorView) (r : RecordView) (wait : Option Waiting) (number : ℕ) (new : Job) → DoesLine a b actor r wait number new → CountsTurns a b actor.job new
 counts-turns a b actor r wait number new does turns at none idle =
     let most : turns ≤ again_count does.holds.calls = line-idles actor.role actor.description r.streams wait does.rounds does.line.command actor.job new does.holds.calls none does.holds.talk_ends turns at idle in
-    by_cases (calls-counted a b does.holds.calls does.holds.are_calls).counts most
-  where
-    by_cases : (a.agains + again_count does.holds.calls ≤ b.agains) ⊎ (2 ^ 64 - 1 ≤ b.agains) → turns ≤ again_count does.holds.calls → (a.agains + turns ≤ b.agains) ⊎ (2 ^ 64 - 1 ≤ b.agains)
-    by_cases (inl x) most = inl (omega (arith, x, most))
-    by_cases (inr x) most = inr x
+    elim (calls-counted a b does.holds.calls does.holds.are_calls).counts
+    [ inl x ↦ inl (omega (arith, x, most)) | inr x ↦ inr x ]

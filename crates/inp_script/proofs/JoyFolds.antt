@@ -2,47 +2,21 @@
 use Rattle.std.proofs.Common.{◌≡◌, ℕ, Bool, true, false, if◌then◌else◌, List, [], ◌∷◌, ◌++◌, map, refl, sym, ap, subst, ◌∙◌, append-nil, append_assoc, Option, Some, None}
 use Rattle.std.specs.Prelude.{Result, Ok, Err}
 use Rattle.std.proofs.lemmas.Bool.{true≢false, cond_both, cond-true, cond-false}
-use Rattle.inp_model.specs.declared.taken.Taken.{Taken}
-use Rattle.inp_model.specs.declared.step.Step.{Step}
+use Rattle.inp_script.proofs.Words.{Taken, Step, Reply, Description, is_again, past_at, Answer, is_accepted, IsAnswer, Call, place_of, Command, Joy, is_command_of, JoyRead, JoyRecord, View, Next, Success, Dropped, Started, Talk, finish, EndsWith, Sight, with_sight, Job, joying_of, after_call, step_of, call_sight, again_sight, taken_sight, sight_of_call, Reading, queries, start_talk, after_queries, start_stop_of, stop_of as reader_stop, hand_synthesised, after_full_sync, next_talk, is_report, Needed, start_joystick, record_sight, after_joy_answer, joystick_talk}
 use Rattle.inp_model.specs.declared.step.Step.TheVariants.{Open as ToOpen, Read as ToRead, Discard, Close as ToClose}
-use Rattle.inp_model.specs.declared.reply.Reply.{Reply}
 use Rattle.inp_model.specs.declared.reply.Reply.TheVariants.{Opened, Again as NothingVisible, Refused as StepRefused}
-use Rattle.inp_model.specs.Description.{Description}
-use Rattle.inp_model.specs.Evdev.{is_again}
-use Rattle.inp_model.specs.Event.{is_report}
-use Rattle.inp_model.specs.Past.{past_at}
-use Rattle.inp_model.specs.Reply.{Answer, is_accepted, IsAnswer}
-use Rattle.inp_model.specs.Run.{Call, place_of}
-use Rattle.inp_actors.specs.declared.command.Command.{Command}
 use Rattle.inp_actors.specs.declared.command.Command.TheVariants.{Close}
-use Rattle.inp_actors.specs.declared.role.Role.TheVariants.{Joy}
-use Rattle.inp_actors.specs.Command.{is_command_of}
-use Rattle.inp_joy.specs.declared.joy_read.JoyRead.{JoyRead}
 use Rattle.inp_joy.specs.declared.joy_read.JoyRead.TheVariants.{Again}
-use Rattle.inp_joy.specs.declared.joy_record.JoyRecord.{JoyRecord}
 use Rattle.inp_joy.specs.JoyRecord.{bytes_of_record}
 use Rattle.inp_joy.specs.Joy.{Joying, JoyAnswer, JoyTurn, gives, goes_on, hand_out_record, next_in_startup, joy_read_of, joy_record_of, record_or_on, stop_or_on, joying_after_next, joying_after_sync, turn_talk, turns, with_reading, with_startup, joying_after_start, joy_started, joy_start}
 use Rattle.inp_joy.specs.Picture.{PictureView, blank_picture, picture_after}
 use Rattle.inp_joy.proofs.Nexts.{lost-needed}
 use Rattle.inp_joy.proofs.Records.{FitsBytes, record-back, startup-fits, FitsIf, event-fits}
 use Rattle.inp_joy.proofs.TurnCases.{Synchronises, TurnCase, of_startup, of_sync, of_loss, of_next, turn-case, turns-all}
-use Rattle.inp_recon.specs.declared.view.View.{View}
 use Rattle.inp_reader.specs.declared.mode.Mode.TheVariants.{Normal, Sync as Synchronising}
-use Rattle.inp_reader.specs.declared.next.Next.{Next}
-use Rattle.inp_reader.specs.declared.next.Next.TheVariants.{Success, Dropped}
-use Rattle.inp_reader.specs.declared.phase.Phase.TheVariants.{Needed}
-use Rattle.inp_reader.specs.declared.started.Started.{Started}
-use Rattle.inp_reader.specs.Reader.{Reading, queries, start_talk, after_queries, start_stop_of, stop_of as reader_stop, hand_synthesised, after_full_sync, next_talk}
 use Rattle.inp_reader.specs.ReaderPlace.{is_needed}
-use Rattle.inp_reader.specs.Talk.{Talk, finish, EndsWith}
-use Rattle.inp_script.specs.declared.sight.Sight.{Sight}
 use Rattle.inp_script.specs.declared.sight.Sight.TheVariants.{Call as Called, Again as AgainSight, Record}
-use Rattle.inp_script.specs.Client.{with_sight}
-use Rattle.inp_script.specs.Job.{Job, joying_of}
-use Rattle.inp_script.specs.Joystick.{start_joystick, record_sight, after_joy_answer, joystick_talk}
 use Rattle.inp_script.specs.JoyFold.{Showing, shown, asking, blank_shown, asked_on, after_joy_call, after_joy_entry, joy_fold}
-use Rattle.inp_script.specs.Line.{after_call, step_of}
-use Rattle.inp_script.specs.Sight.{call_sight, again_sight, taken_sight, sight_of_call}
 use Rattle.inp_recon.proofs.Each.{Each}
 use Rattle.inp_reader.proofs.Meets.{Any, Runs, meets-ends}
 use Rattle.inp_reader.proofs.NextWalk.{AskRules, asked-meets, sync-by_parts, Queried, start-meets, Handed, needed-meets, NextRules, next-ends, stop-cases}

@@ -1,20 +1,10 @@
 -- Where so many rounds are enough for a line of a joystick, more of them change nothing, whatever is answered.
 use Rattle.std.proofs.Common.{◌≡◌, ℕ, zero, suc, ◌≤◌, List, ◌++◌, map, refl, sym, subst, ◌∙◌, arith, Option, Some, None}
-use Rattle.inp_model.specs.Description.{Description}
-use Rattle.inp_model.specs.Run.{Call}
-use Rattle.inp_actors.specs.declared.command.Command.{Command}
+use Rattle.inp_script.proofs.Words.{Description, Call, Command, JoyRead, Talk, finish, and_then, EndsWith, Sight, Job, joying_of, made_sight, noted, Joying, JoyAnswer, turns, calls_kept, Reach, handed_out, line_ends, after_joy_answer, after_joy_read, after_turns, read_on, on_reach, read_records, joystick_talk}
 use Rattle.inp_actors.specs.declared.command.Command.TheVariants.{Open, Read}
-use Rattle.inp_joy.specs.declared.joy_read.JoyRead.{JoyRead}
-use Rattle.inp_joy.specs.declared.joy_read.JoyRead.TheVariants.{Record as HandedOut, Frame, Again, NoDevice, Closed, Full, More}
-use Rattle.inp_joy.specs.Joy.{Joying, JoyAnswer, turns}
+use Rattle.inp_joy.specs.declared.joy_read.JoyRead.TheVariants.{Frame, More}
 use Rattle.inp_joy.proofs.MoreTurns.{turns-longer}
-use Rattle.inp_reader.specs.Says.{calls_kept}
-use Rattle.inp_reader.specs.Talk.{Talk, finish, and_then, EndsWith}
 use Rattle.inp_reader.proofs.Talks.{LeadsTo-append, LeadsTo-and_then}
-use Rattle.inp_script.specs.declared.sight.Sight.{Sight}
-use Rattle.inp_script.specs.Job.{Job, joying_of}
-use Rattle.inp_script.specs.Joystick.{Reach, handed_out, line_ends, after_joy_answer, after_joy_read, after_turns, read_on, on_reach, read_records, joystick_talk}
-use Rattle.inp_script.specs.Sight.{made_sight, noted}
 use Rattle.inp_reader.proofs.Calls.{finished, split-and_then}
 use Rattle.inp_script.proofs.Noted.{noted-ends}
 use Rattle.inp_script.proofs.Told.{noted-back, noted_sight}
@@ -36,13 +26,9 @@ read-longer d n m j sight calls o answer is le h =
 
 -- reads behind a read
 answer-longer : (short long : Job → Talk (Option Reach)) (read : JoyRead) (j : Job) (reach : Reach) (calls : List Call) → ((k : Job) → EndsWith (short k) calls (Some reach) → EndsWith (long k) calls (Some reach)) → EndsWith (after_joy_read short read j) calls (Some reach) → EndsWith (after_joy_read long read j) calls (Some reach)
-answer-longer short long HandedOut j reach calls more h = h
 answer-longer short long (Frame place) j reach calls more h = more j h
 answer-longer short long More j reach calls more h = more j h
-answer-longer short long (Again at ends) j reach calls more h = h
-answer-longer short long NoDevice j reach calls more h = h
-answer-longer short long Closed j reach calls more h = h
-answer-longer short long (Full at) j reach calls more h = h
+answer-longer short long _ j reach calls more h = h
 
 read_on-longer : (d : Description) (most max n m : ℕ) (j : Job) (reach : Reach) (calls : List Call) → most ≤ max → n ≤ m → EndsWith (read_on d most n j) calls (Some reach) → EndsWith (read_on d max m j) calls (Some reach)
 unfolding read_on

@@ -1,32 +1,17 @@
 -- The reads of a joystick's line, and the records that it reads, one after another.
 use Rattle.std.proofs.Common.{◌≡◌, ℕ, suc, ◌+◌, ◌-◌, ◌<◌, ◌≤◌, List, [], ◌∷◌, ◌++◌, map, refl, sym, ap, subst, ◌∙◌, append-nil, arith, Option, Some, None}
-use Rattle.inp_model.specs.Description.{Description}
-use Rattle.inp_model.specs.Evdev.{EvdevView}
-use Rattle.inp_model.specs.Leaves.{AreCalls}
+use Rattle.inp_script.proofs.Words.{Description, EvdevView, JoyRead, JoyRecord, CallMade, Notes, Sight, Stop, Holds, Begins, Job, joy_job, made_sight, noted, AreCalls, Joying, JoyAnswer, turns, calls_kept, Talk, finish, and_then, LeadsTo, EndsWith, Reach, handed_out, line_ends, record_sight, after_joy_read, after_turns, read_on, on_reach, read_records}
 use Rattle.inp_model.proofs.Leaves.{AreCalls-append, description-kept}
-use Rattle.inp_joy.specs.declared.joy_read.JoyRead.{JoyRead}
+use Rattle.inp_script.proofs.TalkCalls.{holds-begins, begins-first}
 use Rattle.inp_joy.specs.declared.joy_read.JoyRead.TheVariants.{Record as HandedOut, Frame, More}
-use Rattle.inp_joy.specs.declared.joy_record.JoyRecord.{JoyRecord}
-use Rattle.inp_joy.specs.Joy.{Joying, JoyAnswer, turns}
 use Rattle.inp_joy.specs.Reads.{IsJoyRead, IsReadLess, bytes_after}
 use Rattle.inp_joy.proofs.MoreTurns.{turns-longer}
 use Rattle.inp_joy.proofs.Records.{HandsOutAsSaid, turns-said}
-use Rattle.inp_reader.specs.declared.call_made.CallMade.{CallMade}
-use Rattle.inp_reader.specs.Says.{calls_kept}
-use Rattle.inp_reader.specs.Talk.{Talk, finish, and_then, LeadsTo, EndsWith}
 use Rattle.inp_reader.proofs.Talks.{LeadsTo-append, LeadsTo-and_then}
 use Rattle.inp_script.specs.declared.role.joystick.AfterRead.{AfterRead}
 use Rattle.inp_script.specs.declared.role.joystick.AfterRead.TheVariants.{Hands, GoesOn, Ends}
-use Rattle.inp_script.specs.declared.notes.Notes.{Notes}
-use Rattle.inp_script.specs.declared.sight.Sight.{Sight}
 use Rattle.inp_script.specs.declared.sight.Sight.TheVariants.{Record}
-use Rattle.inp_script.specs.declared.stop.Stop.{Stop}
-use Rattle.inp_script.specs.DoneLine.{Holds, Begins}
-use Rattle.inp_script.specs.Job.{Job}
-use Rattle.inp_script.specs.Joystick.{Reach, handed_out, line_ends, record_sight, after_joy_read, after_turns, read_on, on_reach, read_records}
-use Rattle.inp_script.specs.Notes.{joy_job}
 use Rattle.inp_script.specs.JoyProgress.{Leads, after_bytes, then_reads, HasRead, BeginsRead, LeavesLess, ReadsOn, BeginsReading, ReadsRecords}
-use Rattle.inp_script.specs.Sight.{made_sight, noted}
 use Rattle.inp_script.proofs.Noted.{noted-ends}
 
 -- The first calls of a talk, one part after another
@@ -53,14 +38,8 @@ leads-begins before between after talk mid s t = record {
 leads-holds : {A : Type 0} (before after : EvdevView) (talk left : Talk A) (result : A) → left ≡ finish result → Leads before after talk left → Holds before after talk result
 leads-holds {A = A} before after talk left result same s = record { calls = s.calls; talk_ends = subst (λ (t : Talk A). LeadsTo talk s.calls t) same s.leads; are_calls = s.are_calls }
 
-pub holds-begins : {A : Type 0} (before after : EvdevView) (talk : Talk A) (result : A) → Holds before after talk result → Begins before after talk
-holds-begins before after talk result s = record { calls = s.calls; rest = finish result; leads = s.talk_ends; are_calls = s.are_calls }
-
 holds-leads : {A B : Type 0} (before after : EvdevView) (talk : Talk A) (next : A → Talk B) (a : A) → Holds before after talk a → Leads before after (and_then talk next) (next a)
 holds-leads before after talk next a s = record { calls = s.calls; leads = LeadsTo-and_then talk (finish a) next s.calls s.talk_ends; are_calls = s.are_calls }
-
-begins-first : {A B : Type 0} (before after : EvdevView) (talk : Talk A) (next : A → Talk B) → Begins before after talk → Begins before after (and_then talk next)
-begins-first before after talk next s = record { calls = s.calls; rest = and_then s.rest next; leads = LeadsTo-and_then talk s.rest next s.calls s.leads; are_calls = s.are_calls }
 
 -- One read
 

@@ -1,26 +1,9 @@
 -- A joystick's job never stops as idle.
 use Rattle.std.proofs.Common.{◌≡◌, ℕ, sym, List, subst, Option, Some, None}
-use Rattle.inp_model.specs.declared.reply.Reply.{Reply}
-use Rattle.inp_model.specs.declared.reply.Reply.TheVariants.{Refused as StepRefused}
-use Rattle.inp_model.specs.declared.reply.Refusal.{Refusal}
-use Rattle.inp_model.specs.declared.reply.Refusal.TheVariants.{LogFull}
-use Rattle.inp_model.specs.declared.step.Step.{Step}
-use Rattle.inp_model.specs.Description.{Description}
-use Rattle.inp_model.specs.Run.{Call}
-use Rattle.inp_actors.specs.declared.command.Command.{Command}
-use Rattle.inp_joy.specs.declared.joy_read.JoyRead.{JoyRead}
+use Rattle.inp_script.proofs.Words.{Reply, LogFull, Step, Description, Call, Command, JoyRead, Started, EndsWith, Sight, Stop, Job, joying_of, noted, stop_after, stop_after_start, Answer, Refused as StepRefused, JoyAnswer, turns, start_joystick, after_joy_answer}
 use Rattle.inp_joy.specs.declared.joy_read.JoyRead.TheVariants.{Full}
-use Rattle.inp_joy.specs.Joy.{JoyAnswer, turns}
-use Rattle.inp_reader.specs.declared.started.Started.{Started}
 use Rattle.inp_reader.specs.declared.started.Started.TheVariants.{Refused}
-use Rattle.inp_reader.specs.Talk.{EndsWith}
-use Rattle.inp_script.specs.declared.sight.Sight.{Sight}
-use Rattle.inp_script.specs.declared.stop.Stop.{Stop}
 use Rattle.inp_script.specs.declared.stop.Stop.TheVariants.{Idle, Full as FullHistory}
-use Rattle.inp_script.specs.Job.{Job, joying_of}
-use Rattle.inp_script.specs.Joystick.{start_joystick, after_joy_answer}
-use Rattle.inp_script.specs.Sight.{noted, stop_after, stop_after_start}
-use Rattle.inp_model.specs.Reply.{Answer}
 use Rattle.inp_reader.proofs.Meets.{meets-always}
 use Rattle.inp_script.proofs.LineWalk.{job-ends-meet}
 use Rattle.inp_script.proofs.JoyWalk.{AfterRead, AfterTurns, JoyRules}
@@ -34,19 +17,13 @@ none-not_idle stop none turns at h = cc
 
 -- after a call, and after a start of a reader
 pub reply-not_idle : (reply : Reply) → IsNotIdle (stop_after reply)
-reply-not_idle (StepRefused place why) turns at h = by_cause why h
-  where
-    by_cause : (w : Refusal) → stop_after (StepRefused place w) ≡ Some (Idle turns at) → ⊥
-    by_cause LogFull e = cc
-    by_cause _ e = cc
+reply-not_idle (StepRefused place LogFull) turns at h = cc
+reply-not_idle (StepRefused place _) turns at h = cc
 reply-not_idle _ turns at h = cc
 
 pub started-not_idle : (s : Started) → IsNotIdle (stop_after_start s)
-started-not_idle (Refused place why) turns at h = by_cause why h
-  where
-    by_cause : (w : Refusal) → stop_after_start (Refused place w) ≡ Some (Idle turns at) → ⊥
-    by_cause LogFull e = cc
-    by_cause _ e = cc
+started-not_idle (Refused place LogFull) turns at h = cc
+started-not_idle (Refused place _) turns at h = cc
 started-not_idle _ turns at h = cc
 
 full-not_idle : (at : ℕ) → IsNotIdle (Some (FullHistory at))

@@ -1,21 +1,10 @@
 -- What each line of a joystick adds to a sight tells of its calls.
 use Rattle.std.proofs.Common.{◌≡◌, ℕ, List, [], ◌∷◌, ◌++◌, refl, sym, ap, subst, ◌∙◌, append-nil, Option, Some, None}
-use Rattle.inp_model.specs.Description.{Description}
-use Rattle.inp_model.specs.Run.{Call}
-use Rattle.inp_actors.specs.declared.command.Command.{Command}
-use Rattle.inp_joy.specs.declared.joy_read.JoyRead.{JoyRead}
+use Rattle.inp_script.proofs.Words.{Description, Call, Command, JoyRead, JoyRecord, Started, Talk, finish, EndsWith, Sight, sight_of_call, noted, start_lacks_memory, stop_after_start, Job, joying_of, with_joying, Joying, JoyAnswer, joy_start, turns, after_joy_start, start_joystick, record_sight, after_joy_answer}
 use Rattle.inp_joy.specs.declared.joy_read.JoyRead.TheVariants.{Again}
-use Rattle.inp_joy.specs.declared.joy_record.JoyRecord.{JoyRecord}
 use Rattle.inp_joy.specs.JoyRecord.{bytes_of_record}
-use Rattle.inp_joy.specs.Joy.{Joying, JoyAnswer, joy_start, turns}
 use Rattle.inp_joy.proofs.Records.{HandsOutAsSaid, turns-said}
-use Rattle.inp_reader.specs.declared.started.Started.{Started}
-use Rattle.inp_reader.specs.Talk.{Talk, finish, EndsWith}
-use Rattle.inp_script.specs.declared.sight.Sight.{Sight}
 use Rattle.inp_script.specs.declared.sight.Sight.TheVariants.{Again as NothingVisible, Record}
-use Rattle.inp_script.specs.Job.{Job, joying_of, with_joying}
-use Rattle.inp_script.specs.Joystick.{after_joy_start, start_joystick, record_sight, after_joy_answer}
-use Rattle.inp_script.specs.Sight.{sight_of_call, noted, start_lacks_memory, stop_after_start}
 use Rattle.inp_reader.proofs.Meets.{Listed, run-listed}
 use Rattle.inp_script.proofs.LineWalk.{job-ends-meet}
 use Rattle.inp_script.proofs.JoyWalk.{AfterRead, JoyRules, turns-meet}

@@ -1,25 +1,13 @@
 -- What a joystick does at a line, walked once: what has to be shown of a start, of a read and of a single call, for `Meets` of the whole.
 use Rattle.std.proofs.Common.{◌≡◌, ℕ, zero, suc, Bool, true, false, List, ◌++◌, refl, Option, Some, None}
-use Rattle.inp_model.specs.declared.step.Step.{Step}
-use Rattle.inp_model.specs.Description.{Description}
-use Rattle.inp_model.specs.Reply.{Answer}
-use Rattle.inp_actors.specs.declared.command.Command.{Command}
+use Rattle.inp_script.proofs.Words.{Step, Description, Answer, Command, JoyRead, EndsWith, Call, Sight, Job, joying_of, step_of, after_call, noted, with_sight, with_stop, start_talk, Talk, finish, and_then, after_joy_start, with_joying, start_lacks_memory, stop_after_start, Started, Reading, Joying, JoyAnswer, joy_start, joy_started, turns, Reach, handed_out, line_ends, start_joystick, after_joy_answer, after_joy_read, after_turns, read_on, on_reach, read_records, joystick_talk}
 use Rattle.inp_actors.specs.declared.command.Command.TheVariants.{Open, Read}
-use Rattle.inp_joy.specs.declared.joy_read.JoyRead.{JoyRead}
 use Rattle.inp_joy.specs.declared.joy_read.JoyRead.TheVariants.{Frame, Again, Full, More}
-use Rattle.inp_joy.specs.Joy.{JoyAnswer, turns}
+use Rattle.std.proofs.lemmas.Bool.{cond_both}
 use Rattle.inp_reader.proofs.Meets.{Meets, Any, Runs, meets-then}
-use Rattle.inp_reader.specs.Talk.{EndsWith}
-use Rattle.inp_model.specs.Run.{Call}
-use Rattle.inp_script.specs.declared.sight.Sight.{Sight}
 use Rattle.inp_script.specs.declared.sight.Sight.TheVariants.{Again as NothingVisible}
 use Rattle.inp_script.specs.declared.stop.Stop.TheVariants.{Full as FullHistory}
-use Rattle.inp_script.specs.Client.{with_sight, with_stop}
-use Rattle.inp_script.specs.Job.{Job, joying_of}
-use Rattle.inp_script.specs.Joystick.{Reach, handed_out, line_ends, start_joystick, after_joy_answer, after_joy_read, after_turns, read_on, on_reach, read_records, joystick_talk}
-use Rattle.inp_script.specs.Line.{step_of, after_call}
-use Rattle.inp_script.specs.Sight.{noted}
-use Rattle.inp_script.proofs.LineWalk.{OfJob, call_if-meets, noted-ends-meet}
+use Rattle.inp_script.proofs.LineWalk.{NotedBy, OfJob, call_if-meets, meets-noted, noted-ends-meet}
 use Rattle.inp_script.proofs.Told.{noted_sight}
 
 -- of a job behind an answer of its client, with what the answer adds
@@ -31,6 +19,10 @@ AfterRead I s _ j = I s j
 abbrev pub AfterTurns : {S : Type 0} → (S → Job → Type 0) → Job → S → Option JoyAnswer → List Sight → Type 0
 AfterTurns I j s None sight = Unit {0}
 AfterTurns I j s (Some answer) sight = AfterRead I s answer.read (after_joy_answer j answer sight)
+
+-- a job after a start
+abbrev pub joystick_started : Job → Started × Joying → List Sight → Job
+joystick_started j o sight = record (with_joying j o.1) { sight = sight; stop = stop_after_start o.0 }
 
 abbrev OfReach : {S : Type 0} → (S → Job → Type 0) → S → Option Reach → Type 0
 OfReach I s None = Unit {0}
@@ -45,14 +37,31 @@ pub turns-meet : {S : Type 0} (R : S → Step → Answer → S → Type 0) (I : 
     → AfterRead I t answer.read (after_joy_answer j answer (j.sight ++ noted_sight calls)))
     → Meets Any R (λ (t : S) (o : Option JoyAnswer × List Sight). AfterTurns I j t o.0 o.1) s
     (noted (turns d most 0 (joying_of j)) j.sight)
-turns-meet {S} R I d s j most each =
-    noted-ends-meet R (λ (t : S) (o : Option JoyAnswer × List Sight). AfterTurns I j t o.0 o.1) s j.sight
-    (turns d most 0 (joying_of j)) by
-  where
-    by : (t : S) (calls : List Call) (o : Option JoyAnswer) → Runs R s calls t
-        → EndsWith (turns d most 0 (joying_of j)) calls o → AfterTurns I j t o (j.sight ++ noted_sight calls)
-    by t calls None run ends = tt
-    by t calls (Some answer) run ends = each t calls answer run ends
+turns-meet R I d s j most each =
+    noted-ends-meet R (λ t o. AfterTurns I j t o.0 o.1) s j.sight (turns d most 0 (joying_of j))
+    (λ t calls o run.
+    elim o as (λ p. EndsWith (turns d most 0 (joying_of j)) calls p → AfterTurns I j t p (j.sight ++ noted_sight calls)) [
+      | None ↦ λ ends. tt
+      | Some answer ↦ each t calls answer run
+    ])
+
+-- a start, by what its client's reader leaves
+pub start_joystick-meets : {S : Type 0} (R : S → Step → Answer → S → Type 0) (I : S → Job → Type 0)
+    (d : Description) (s : S) (j : Job)
+    → Meets Any (NotedBy R)
+    (λ (u : S × List Sight) (o : Started × Reading). I u.0 (joystick_started j (joy_started d (joying_of j) o) u.1))
+    (s, j.sight) (start_talk d j.reading)
+    → Meets Any R (OfJob I) s (start_joystick d j)
+unfolding start_joystick joy_start
+start_joystick-meets {S} R I d s j h =
+    let start : Talk (Started × Reading) = start_talk d j.reading in
+    let joy : Started × Reading → Talk (Started × Joying) = λ o. finish (joy_started d (joying_of j) o) in
+    let Q : S → (Started × Joying) × List Sight → Type 0 = λ t o. I t (joystick_started j o.0 o.1) in
+    meets-then Any R Q (OfJob I) s (noted (and_then start joy) j.sight) (λ o. finish (after_joy_start j o))
+    (meets-noted R Q s j.sight (and_then start joy)
+    (meets-then Any (NotedBy R) _ (λ (u : S × List Sight) (o : Started × Joying). Q u.0 (o, u.1))
+    (s, j.sight) start joy h (λ u o k. k)))
+    (λ t o k. cond_both (start_lacks_memory o.0.0) _ _ (OfJob I t) (λ _. tt) (λ _. k))
 
 -- a joystick's command that is a call, and no more
 abbrev pub is_joy_call : Command → Bool
@@ -86,8 +95,8 @@ read_records-meets : {S : Type 0} (R : S → Step → Answer → S → Type 0) (
 unfolding read_records
 read_records-meets R I d command rules n zero s j i = i
 read_records-meets {S} R I d command rules n (suc count) s j i =
-    meets-then Any R (OfReach I) (OfJob I) s (read_on d n n j) (on_reach (read_records d n count)) (read_on-meets R I d command rules n n s j i)
-    (λ t o k. of_reach t o (λ here m. read_records-meets R I d command rules n count t here m) k)
+    meets-then Any R (OfReach I) (OfJob I) s (read_on d n n j) (on_reach (read_records d n count)) (read_on-meets R I d command rules n n s j i) (λ t o k.
+    of_reach t o (read_records-meets R I d command rules n count t) k)
   where
     of_reach : (t : S) (o : Option Reach) → ((here : Job) → I t here → Meets Any R (OfJob I) t (read_records d n count here)) → OfReach I t o → Meets Any R (OfJob I) t (on_reach (read_records d n count) o)
     of_reach t None more k = tt

@@ -1,17 +1,8 @@
 -- A `next` that answers Again made a call that was answered so last.
 use Rattle.std.proofs.Common.{◌≡◌, ℕ, List, [], ◌∷◌, ◌++◌, refl, sym, ap, ◌∙◌, append_assoc, Option, Some, None}
-use Rattle.inp_model.specs.declared.step.Step.{Step}
-use Rattle.inp_model.specs.declared.reply.Reply.{Reply}
+use Rattle.inp_script.proofs.Words.{Step, Reply, Description, Answer, Call, View, Mode, Next, Reading, stop_of, next_talk, EndsWith}
 use Rattle.inp_model.specs.declared.reply.Reply.TheVariants.{Again as NothingVisible}
-use Rattle.inp_model.specs.Description.{Description}
-use Rattle.inp_model.specs.Reply.{Answer}
-use Rattle.inp_model.specs.Run.{Call}
-use Rattle.inp_recon.specs.declared.view.View.{View}
-use Rattle.inp_reader.specs.declared.mode.Mode.{Mode}
-use Rattle.inp_reader.specs.declared.next.Next.{Next}
 use Rattle.inp_reader.specs.declared.next.Next.TheVariants.{Again}
-use Rattle.inp_reader.specs.Reader.{Reading, stop_of, next_talk}
-use Rattle.inp_reader.specs.Talk.{EndsWith}
 use Rattle.inp_reader.proofs.Meets.{Any, Runs}
 use Rattle.inp_reader.proofs.NextWalk.{sync-meets, Renewed, NextRules, next-ends, stop-cases}
 

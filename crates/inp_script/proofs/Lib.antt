@@ -1,10 +1,10 @@
+pub mod Words
 pub mod Computation
 pub mod TalkCalls
 pub mod IdleTurns
 pub mod SightLists
 pub mod Batches
 pub mod Streams
-pub mod Commands
 pub mod Replies
 pub mod TapCalls
 pub mod Noted
@@ -30,4 +30,3 @@ pub mod JoyFolds
 pub mod LineFolds
 pub mod LinesDone
 pub mod ActorLines
-pub mod Endings

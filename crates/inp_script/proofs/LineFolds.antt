@@ -1,40 +1,14 @@
 -- Each line keeps that a job's view is the fold of its sight.
 use Rattle.std.proofs.Common.{◌≡◌, ℕ, Bool, true, List, [], ◌∷◌, ◌++◌, map, refl, sym, ap, subst, ◌∙◌, Option, Some, None, append-nil, append_assoc}
-use Rattle.inp_model.specs.declared.stamped.Stamped.{Stamped}
-use Rattle.inp_model.specs.declared.taken.Taken.{Taken}
-use Rattle.inp_model.specs.declared.step.Step.{Step}
-use Rattle.inp_model.specs.declared.reply.Reply.{Reply}
+use Rattle.inp_script.proofs.Words.{Stamped, Taken, Step, Reply, Description, past_at, Command, Role, is_command_of, RecordView, View, Mode, Next, Started, Reading, start_talk, next_talk, Talk, finish, EndsWith, Sight, Waiting, Job, ActorView, first_job, step_of, after_call, end_talk, after_tap_call, noted, call_sight, again_sight, taken_sight, start_lacks_memory, joystick_talk, EvdevView, BeginsWith, Answer, accepted, IsAnswer, Call, HasPlace, place_of, Source, Client, Tap, Joy, AreCalls, line_talk, DoesLine}
 use Rattle.inp_model.specs.declared.reply.Reply.TheVariants.{Again as Nothing}
-use Rattle.inp_model.specs.Description.{Description}
-use Rattle.inp_model.specs.Evdev.{EvdevView, BeginsWith}
-use Rattle.inp_model.specs.Past.{past_at}
-use Rattle.inp_model.specs.Reply.{Answer, accepted, IsAnswer}
-use Rattle.inp_model.specs.Run.{Call, HasPlace, place_of}
-use Rattle.inp_actors.specs.declared.command.Command.{Command}
 use Rattle.inp_actors.specs.declared.command.Command.TheVariants.{Close, Grab, Ungrab, Revoke, Mask, Clock, Write, SetAxis}
-use Rattle.inp_actors.specs.declared.role.Role.{Role}
-use Rattle.inp_actors.specs.declared.role.Role.TheVariants.{Source, Client, Tap, Joy}
-use Rattle.inp_actors.specs.Command.{is_command_of}
-use Rattle.inp_actors.specs.Record.{RecordView}
-use Rattle.inp_recon.specs.declared.view.View.{View}
 use Rattle.inp_recon.specs.View.{first_view}
-use Rattle.inp_reader.specs.declared.mode.Mode.{Mode}
-use Rattle.inp_reader.specs.declared.next.Next.{Next}
 use Rattle.inp_reader.specs.declared.next.Next.TheVariants.{Success, Dropped, Sync, Again}
-use Rattle.inp_reader.specs.declared.started.Started.{Started}
-use Rattle.inp_reader.specs.Reader.{Reading, start_talk, next_talk}
-use Rattle.inp_model.specs.Leaves.{AreCalls}
-use Rattle.inp_reader.specs.Talk.{Talk, finish, EndsWith}
-use Rattle.inp_script.specs.declared.sight.Sight.{Sight}
 use Rattle.inp_script.specs.declared.sight.Sight.TheVariants.{Again as AgainSight}
-use Rattle.inp_script.specs.declared.waiting.Waiting.{Waiting}
 use Rattle.inp_script.specs.Client.{Going, Turn, start_job, start_ends, job_after_start, after_next, mode_of, next_round, forced}
-use Rattle.inp_script.specs.DoneLine.{line_talk, DoesLine}
 use Rattle.inp_script.specs.JoyFold.{joy_fold}
 use Rattle.inp_script.specs.Fold.{Folding, settled, after_first_call, client_fold, tap_fold, IsFolded, StaysFolded}
-use Rattle.inp_script.specs.Job.{Job, ActorView, first_job}
-use Rattle.inp_script.specs.Line.{step_of, after_call, end_talk, after_tap_call}
-use Rattle.inp_script.specs.Sight.{noted, call_sight, again_sight, taken_sight, start_lacks_memory}
 use Rattle.inp_script.proofs.ClientFolds.{client_fold-append, start-folds, next-folds, entries_of_next, placed-left}
 use Rattle.inp_script.proofs.Folds.{Placed, placed-run, run-placed, ArePlaced, call-folds}
 use Rattle.inp_script.proofs.JoyFolds.{joystick-folds}
@@ -44,7 +18,6 @@ use Rattle.inp_script.proofs.Replies.{is_answer_has}
 use Rattle.inp_model.proofs.Leaves.{BeginsWith-trans, HasPlace-longer, seen-kept}
 use Rattle.inp_script.proofs.Told.{noted-back, noted_sight}
 use Rattle.inp_reader.proofs.Meets.{Meets, Any, AnyAnswer, meets-ends, meets-then, any-run}
-use Rattle.inp_script.specs.Joystick.{joystick_talk}
 use Rattle.inp_script.proofs.LineWalk.{job-ends-meet, noted-ends-meet, OfJob, OfTurn, OfGoing, AfterNext, read_so, is_one_call, LineRules, turn-of, line-meets, end-meets}
 
 -- calls on an evdev have their places in each history that begins with what was seen

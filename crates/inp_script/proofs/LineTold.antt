@@ -1,32 +1,10 @@
 -- What each line adds to a sight tells of its calls.
 use Rattle.std.proofs.Common.{◌≡◌, ℕ, false, List, [], ◌∷◌, ◌++◌, refl, sym, ap, subst, ◌∙◌, append-nil, Option, Some}
-use Rattle.inp_model.specs.declared.stamped.Stamped.{Stamped}
-use Rattle.inp_model.specs.declared.step.Step.{Step}
-use Rattle.inp_model.specs.declared.step.Step.TheVariants.{Read}
-use Rattle.inp_model.specs.declared.reply.Reply.{Reply}
+use Rattle.inp_script.proofs.Words.{Stamped, Step, Reply, Description, Answer, Call, Command, Role, View, Mode, Next, Reading, stop_of, start_talk, next_talk, Talk, EndsWith, Sight, Stop, Waiting, mode_of, after_next, Job, after_call, end_talk, call_sight, sight_of_call, Read, line_talk, is_call_entry}
 use Rattle.inp_model.specs.declared.reply.Reply.TheVariants.{Again as NothingVisible}
-use Rattle.inp_model.specs.Description.{Description}
-use Rattle.inp_model.specs.Reply.{Answer}
-use Rattle.inp_model.specs.Run.{Call}
-use Rattle.inp_actors.specs.declared.command.Command.{Command}
-use Rattle.inp_actors.specs.declared.role.Role.{Role}
-use Rattle.inp_recon.specs.declared.view.View.{View}
-use Rattle.inp_reader.specs.declared.mode.Mode.{Mode}
-use Rattle.inp_reader.specs.declared.next.Next.{Next}
-use Rattle.inp_reader.specs.Reader.{Reading, stop_of, start_talk, next_talk}
-use Rattle.inp_reader.specs.Talk.{Talk, EndsWith}
 use Rattle.inp_reader.proofs.Meets.{Listed, listed-run, Meets, Any, meets-ends, meets-keeps, meets-weaker}
 use Rattle.inp_reader.proofs.NextWalk.{sync-meets, Renewed, NextRules, next-meets, stop-cases}
-use Rattle.inp_script.specs.declared.sight.Sight.{Sight}
 use Rattle.inp_script.specs.declared.sight.Sight.TheVariants.{Took, Made, Again as AgainSight}
-use Rattle.inp_script.specs.declared.stop.Stop.{Stop}
-use Rattle.inp_script.specs.declared.waiting.Waiting.{Waiting}
-use Rattle.inp_script.specs.Client.{mode_of, after_next}
-use Rattle.inp_script.specs.DoneLine.{line_talk}
-use Rattle.inp_script.specs.Job.{Job}
-use Rattle.inp_script.specs.Legal.{is_call_entry}
-use Rattle.inp_script.specs.Line.{after_call, end_talk}
-use Rattle.inp_script.specs.Sight.{call_sight, sight_of_call}
 use Rattle.inp_script.proofs.LineWalk.{NotedBy, OfJob, OfTurn, OfGoing, AfterNext, read_so, LineRules, start_job-meets, round-meets, turn-of, line-meets, end-meets}
 use Rattle.inp_script.proofs.Told.{Tells, tells-none, tells-then, tells-event, tells-call, tells-noted, tells-again}
 pub use Rattle.inp_script.proofs.Told.{memory_there}

@@ -1,34 +1,13 @@
 -- The talks of lines, walked once: what has to be shown of one call, of a start and of a `next`, for `Meets` of a whole line.
 use Rattle.std.proofs.Common.{◌≡◌, ℕ, zero, suc, Bool, true, false, List, [], ◌∷◌, ◌++◌, refl, sym, subst, Option, Some, None, nat_le}
 use Rattle.std.proofs.lemmas.Bool.{cond_both}
-use Rattle.inp_model.specs.declared.stamped.Stamped.{Stamped}
-use Rattle.inp_model.specs.declared.step.Step.{Step}
-use Rattle.inp_model.specs.declared.step.Step.TheVariants.{Inject, End}
-use Rattle.inp_model.specs.Description.{Description}
-use Rattle.inp_model.specs.Reply.{Answer, is_accepted}
-use Rattle.inp_actors.specs.declared.command.Command.{Command}
+use Rattle.inp_script.proofs.Words.{Stamped, Step, Description, Answer, is_accepted, Command, Role, Next, Started, Reading, start_talk, next_talk, Talk, finish, ask, EndsWith, Sight, Stop, Waiting, Job, joystick_talk, noted, call_sight, lacks_memory, start_lacks_memory, Call, Inject, End, Source, Client, Tap, Joy, Owner, NO_CLIENT, command_talk, unless_stopped, line_talk, step_of, after_call, call_if, stream_talk, stream_numbered, source_talk, end_talk, after_tap_call, tap_call_if}
 use Rattle.inp_actors.specs.declared.command.Command.TheVariants.{Stream, Stream16, Open, Next as ToNext, Skip, Follow, Force}
-use Rattle.inp_actors.specs.declared.role.Role.{Role}
-use Rattle.inp_actors.specs.declared.role.Role.TheVariants.{Source, Client, Tap, Joy, Owner}
-use Rattle.inp_reader.specs.declared.next.Next.{Next}
 use Rattle.inp_reader.specs.declared.next.Next.TheVariants.{Success, Dropped, Sync, Again, Synced, Full}
-use Rattle.inp_reader.specs.declared.started.Started.{Started}
-use Rattle.inp_reader.specs.declared.reader.TheConstants.{NO_CLIENT}
-use Rattle.inp_reader.specs.Reader.{Reading, start_talk, next_talk}
-use Rattle.inp_reader.specs.Talk.{Talk, finish, ask, EndsWith}
 use Rattle.inp_reader.proofs.Meets.{Meets, Any, meets-then, meets-if, Runs, ends-meet}
-use Rattle.inp_script.specs.declared.sight.Sight.{Sight}
 use Rattle.inp_script.specs.declared.sight.Sight.TheVariants.{Took, Made, Again as AgainSight}
-use Rattle.inp_script.specs.declared.stop.Stop.{Stop}
 use Rattle.inp_script.specs.declared.stop.Stop.TheVariants.{Idle, Full as FullStop}
-use Rattle.inp_script.specs.declared.waiting.Waiting.{Waiting}
 use Rattle.inp_script.specs.Client.{Going, Turn, goes_on, ends_with, start_job, start_ends, job_after_start, handed, one_less, is_done, patience, after_again, turn_after, after_next, mode_of, with_sight, with_stop, forced, next_round, on_turn, rounds, hand_talk, client_talk}
-use Rattle.inp_script.specs.DoneLine.{command_talk, unless_stopped, line_talk}
-use Rattle.inp_script.specs.Job.{Job}
-use Rattle.inp_script.specs.Joystick.{joystick_talk}
-use Rattle.inp_script.specs.Line.{step_of, after_call, call_if, stream_talk, stream_numbered, source_talk, end_talk, after_tap_call, tap_call_if}
-use Rattle.inp_script.specs.Sight.{noted, call_sight, lacks_memory, start_lacks_memory}
-use Rattle.inp_model.specs.Run.{Call}
 use Rattle.inp_script.proofs.Told.{noted-back, noted_sight}
 
 -- ---- a talk whose calls are noted
@@ -64,11 +43,8 @@ OfJob I s (Some j) = I s j
 
 -- the same of each job that a talk ends with
 pub job-ends-meet : {S : Type 0} (R : S → Step → Answer → S → Type 0) (I : S → Job → Type 0) (s : S) (talk : Talk (Option Job)) → ((t : S) (calls : List Call) (k : Job) → Runs R s calls t → EndsWith talk calls (Some k) → I t k) → Meets Any R (OfJob I) s talk
-job-ends-meet {S} R I s talk each = ends-meet R (OfJob I) s talk (λ t calls o run ends. by t calls o run ends)
-  where
-    by : (t : S) (calls : List Call) (o : Option Job) → Runs R s calls t → EndsWith talk calls o → OfJob I t o
-    by t calls None run ends = tt
-    by t calls (Some k) run ends = each t calls k run ends
+job-ends-meet R I s talk each = ends-meet R (OfJob I) s talk (λ t calls o run.
+    elim o as (λ p. EndsWith talk calls p → OfJob I t p) [ None ↦ λ ends. tt | Some k ↦ each t calls k run ])
 
 abbrev pub OfTurn : {S : Type 0} → (S → Job → Type 0) → (S → Going → Type 0) → S → Turn → Type 0
 OfTurn I G s (goes_on g) = G s g
@@ -208,12 +184,12 @@ pub rounds-meets : {S : Type 0} (R : S → Step → Answer → S → Type 0) (I 
     → ((s : S) (g : Going) → G s g → Meets Any R (OfTurn I G) s (next_round d wait skips g)) → (n : ℕ) (s : S) (g : Going) → G s g → Meets Any R (OfJob I) s (rounds d wait skips n g)
 unfolding rounds
 rounds-meets R I G d wait skips round zero s g i = tt
-rounds-meets {S} R I G d wait skips round (suc n) s g i =
-    meets-then Any R (OfTurn I G) (OfJob I) s (next_round d wait skips g) (on_turn (rounds d wait skips n)) (round s g i) (λ t turn h. by t turn h (λ here k. rounds-meets R I G d wait skips round n t here k))
-  where
-    by : (t : S) (turn : Turn) → OfTurn I G t turn → ((here : Going) → G t here → Meets Any R (OfJob I) t (rounds d wait skips n here)) → Meets Any R (OfJob I) t (on_turn (rounds d wait skips n) turn)
-    by t (goes_on here) h more = more here h
-    by t (ends_with j) h more = h
+rounds-meets R I G d wait skips round (suc n) s g i =
+    meets-then Any R (OfTurn I G) (OfJob I) s (next_round d wait skips g) (on_turn (rounds d wait skips n)) (round s g i) (λ t turn.
+    elim turn as (λ u. OfTurn I G t u → Meets Any R (OfJob I) t (on_turn (rounds d wait skips n) u)) [
+      | goes_on here ↦ rounds-meets R I G d wait skips round n t here
+      | ends_with j ↦ λ h. h
+    ])
 
 hand-meets : {S : Type 0} (R : S → Step → Answer → S → Type 0) (I : S → Job → Type 0) (G : S → Going → Type 0) (d : Description) (command : Command) (wait : Option Waiting) → LineRules R I G d Client command wait
     → (waits : Option Waiting) (skips : Bool) (left : Option ℕ) (n : ℕ) (s : S) (j : Job) → (wait ≡ None → waits ≡ None) → I s j → Meets Any R (OfJob I) s (hand_talk d waits skips left n j)
@@ -243,8 +219,8 @@ command-meets R I G d Owner command wait rules streams n s j none i = i
 pub line-meets : {S : Type 0} (R : S → Step → Answer → S → Type 0) (I : S → Job → Type 0) (G : S → Going → Type 0) (d : Description) (role : Role) (command : Command) (wait : Option Waiting) → LineRules R I G d role command wait
     → (streams : List (List Stamped)) (n : ℕ) (s : S) (j : Job) → I s j → Meets Any R (OfJob I) s (line_talk role d streams wait n command j)
 unfolding line_talk
-line-meets {S} R I G d role command wait rules streams n s j i = by j.stop refl
-  where
-    by : (stop : Option Stop) → j.stop ≡ stop → Meets Any R (OfJob I) s (unless_stopped stop j (command_talk role d streams wait n command j))
-    by None none = command-meets R I G d role command wait rules streams n s j none i
-    by (Some stop) is = i
+line-meets R I G d role command wait rules streams n s j i =
+    (elim j.stop as (λ (stop : Option Stop). j.stop ≡ stop → Meets Any R (OfJob I) s (unless_stopped stop j (command_talk role d streams wait n command j))) [
+      | None ↦ λ none. command-meets R I G d role command wait rules streams n s j none i
+      | Some stop ↦ λ is. i
+    ]) refl

@@ -1,59 +1,33 @@
 -- The lines of a record: what a record keeps of them, and what an actor does at one that it stops before, or not.
-use Rattle.std.proofs.Common.{◌≡◌, ℕ, zero, suc, ◌+◌, ◌<◌, ◌≤◌, true, false, List, [], ◌∷◌, ◌++◌, length, refl, sym, ap, subst, ◌∙◌, arith, Option, Some, None}
+use Rattle.std.proofs.Common.{◌≡◌, ℕ, zero, suc, ◌<◌, true, false, List, [], ◌∷◌, length, refl, sym, ap, subst, ◌∙◌, arith, Option, Some, None}
 use Rattle.std.specs.Prelude.{is_some}
-use Rattle.std.specs.List.{slice_get, range_with_len}
-use Rattle.inp_model.specs.declared.stamped.Stamped.{Stamped}
-use Rattle.inp_model.specs.declared.step.Step.TheVariants.{End}
-use Rattle.inp_model.specs.declared.reply.Reply.{Reply}
-use Rattle.inp_model.specs.Evdev.{EvdevView}
-use Rattle.inp_actors.specs.declared.actor_text.ActorText.{ActorText}
-use Rattle.inp_actors.specs.declared.command.Command.{Command}
-use Rattle.inp_actors.specs.declared.command.Command.TheVariants.{Stream, Stream16}
-use Rattle.inp_actors.specs.declared.line.Line.{Line}
-use Rattle.inp_actors.specs.declared.role.Role.{Role}
-use Rattle.inp_actors.specs.declared.role.Role.TheVariants.{Source as SourceRole}
-use Rattle.inp_actors.specs.Command.{is_command_of, is_in_range, stream_of}
-use Rattle.inp_model.specs.Injection.{AreInTime}
-use Rattle.inp_actors.specs.Record.{RecordView, IsRecord, streams_of}
-use Rattle.inp_reader.specs.Reader.{Reading}
-use Rattle.inp_reader.specs.Talk.{Talk, finish}
-use Rattle.inp_script.specs.declared.notes.Notes.{Notes}
-use Rattle.inp_script.specs.declared.stop.Stop.{Stop}
-use Rattle.inp_script.specs.declared.waiting.Waiting.{Waiting}
-use Rattle.inp_script.specs.declared.role.state.RoleState.{RoleState}
-use Rattle.inp_script.specs.declared.role.state.RoleState.TheVariants.{Source, Tap, Client, Joy, Owner}
-use Rattle.inp_script.specs.DoneLine.{Holds, Begins, DoesCommand, DoesLine, BeginsLine, IsCommandFor, HasStream, command_talk, unless_stopped, line_talk, inject_talk}
-use Rattle.inp_script.specs.Job.{Job, Stick, ActorView, no_stick}
-use Rattle.inp_script.specs.Line.{stream_numbered, stream_talk, end_talk, call_talk}
-use Rattle.inp_script.specs.Notes.{job_with, IsStepMade, IsNoted}
-use Rattle.inp_script.specs.RoleState.{role_of, stick_of}
+use Rattle.std.specs.List.{Contains, slice_get, range_with_len}
+use Rattle.std.proofs.lemmas.List.Elements.{Contains-append_left, Contains-append_right, Contains-push}
+use Rattle.std.proofs.lemmas.List.FromFn.{get_or-range_with_len, length-range_with_len}
+use Rattle.inp_script.proofs.Words.{Stamped, Reply, EvdevView, ActorText, Command, Line, Role, Source as SourceRole, AreInTime, Reading, Talk, finish, Notes, Stop, Waiting, RoleState, Job, Stick, ActorView, no_stick, role_of, stick_of, End, is_command_of, is_in_range, stream_of, RecordView, IsRecord, streams_of, job_with, IsStepMade, IsNoted, Stream, Stream16, Holds, Begins, DoesCommand, DoesLine, BeginsLine, IsCommandFor, HasStream, command_talk, unless_stopped, line_talk, inject_talk, stream_numbered, stream_talk, end_talk, call_talk, Description, Joy, joystick_talk, first_of, NO_CLIENT, step_of, source_talk, call_if}
+use Rattle.inp_model.specs.declared.step.Step.TheVariants.{Close as ToClose}
+use Rattle.inp_actors.specs.declared.command.Command.TheVariants.{Open, Close, Read}
+use Rattle.inp_script.specs.declared.role.state.RoleState.TheVariants.{Source}
+use Rattle.std.proofs.lemmas.Option.{same_Some, slice_get_within}
 use Rattle.inp_script.proofs.TalkCalls.{holds-nothing, holds-same, begins-same}
 use Rattle.inp_script.proofs.Streams.{holds-noted, begins-call_if}
 
 -- Each stream that a line names is there
 
-abbrev AllBelow : ℕ → List ℕ → Type 0
-AllBelow n [] = Unit {0}
-AllBelow n (i ∷ is) = (i < n) × AllBelow n is
+in_numbers : (n i : ℕ) → Contains (range_with_len 0 n) i → i < n
+in_numbers n i (k, within, same) =
+    let long : length (range_with_len 0 n) ≡ n = length-range_with_len 0 n in
+    omega (arith, within, long, same, get_or-range_with_len 0 n k i (omega (arith, within, long)))
 
-below-range : (n first count : ℕ) → first + count ≤ n → AllBelow n (range_with_len first count)
-below-range n first zero h = tt
-below-range n first (suc count) h = (omega (arith, h), below-range n (first + 1) count (omega (arith, h)))
-
-below-left : (n : ℕ) (is js : List ℕ) → AllBelow n (is ++ js) → AllBelow n is
-below-left n [] js h = tt
-below-left n (i ∷ is) js h = (h.0, below-left n is js h.1)
-
-below-right : (n : ℕ) (is js : List ℕ) → AllBelow n (is ++ js) → AllBelow n js
-below-right n [] js h = h
-below-right n (i ∷ is) js h = below-right n is js h.1
-
-below-line : (n : ℕ) (lines : List Line) (number : ℕ) (line : Line) → AllBelow n (streams_of lines) → slice_get lines number ≡ Some line → AllBelow n (stream_of line.command)
-below-line n [] number line h is = absurd cc
-below-line n (first ∷ lines) zero line h is =
-    let same : first ≡ line = cc in
-    subst (λ (l : Line). AllBelow n (stream_of l.command)) same (below-left n (stream_of first.command) (streams_of lines) h)
-below-line n (first ∷ lines) (suc number) line h is = below-line n lines number line (below-right n (stream_of first.command) (streams_of lines) h) is
+named : (lines : List Line) (number : ℕ) (line : Line) (i : ℕ) → slice_get lines number ≡ Some line
+    → Contains (stream_of line.command) i → Contains (streams_of lines) i
+named [] number line i is has = absurd cc
+named (first ∷ lines) zero line i is has =
+    let same : line ≡ first = cc in
+    Contains-append_left (stream_of first.command) (streams_of lines) i
+    (subst (λ (l : Line). Contains (stream_of l.command) i) same has)
+named (first ∷ lines) (suc number) line i is has =
+    Contains-append_right (stream_of first.command) (streams_of lines) i (named lines number line i is has)
 
 slice_get-stream_numbered : (streams : List (List Stamped)) (index : ℕ) → index < length streams → slice_get streams index ≡ Some (stream_numbered streams index)
 slice_get-stream_numbered [] index h = absurd (omega arith)
@@ -66,19 +40,49 @@ stream_there r at is below index e =
     let within : index < length r.streams = omega (arith, same, below) in
     (within, is.in_time index (stream_numbered r.streams index) (slice_get-stream_numbered r.streams index within))
 
-has_stream : (r : RecordView) (command : Command) → IsRecord r → AllBelow (length r.streams) (stream_of command) → HasStream r.streams command
-has_stream r (Stream file at) is below = stream_there r at is below.0
-has_stream r (Stream16 file at) is below = stream_there r at is below.0
+has_stream : (r : RecordView) (command : Command) → IsRecord r
+    → ((i : ℕ) → Contains (stream_of command) i → i < length r.streams) → HasStream r.streams command
+has_stream r (Stream file at) is below = stream_there r at is (below at (Contains-push [] at))
+has_stream r (Stream16 file at) is below = stream_there r at is (below at (Contains-push [] at))
 has_stream r _ is below = λ index e. absurd (cc e)
 
 pub is_command_for : (r : RecordView) (number : ℕ) (line : Line) (text : ActorText) (role : Role) → IsRecord r → slice_get r.lines number ≡ Some line → slice_get r.actors line.actor ≡ Some text → text.role ≡ role → IsCommandFor role r.streams line.command
 is_command_for r number line text role is has_line has_text same = record {
   of_role = ap (λ (x : Role). is_command_of x line.command) (sym same) ∙ is.commands number line text has_line has_text;
   in_range = ap (λ (x : Role). is_in_range x line.command) (sym same) ∙ is.ranges number line text has_line has_text;
-  has_stream =
-      let all : AllBelow (length r.streams) (streams_of r.lines) = subst (λ (is : List ℕ). AllBelow (length r.streams) is) (sym is.numbered) (below-range (length r.streams) 0 (length r.streams) (omega arith)) in
-      has_stream r line.command is (below-line (length r.streams) r.lines number line all has_line);
+  has_stream = has_stream r line.command is (λ i has.
+      in_numbers (length r.streams) i (subst (λ (all : List ℕ). Contains all i) is.numbered
+      (named r.lines number line i has_line has)));
 }
+
+-- What a source and a joystick do at a command, by the command
+
+-- the stream of a number that is there
+pub stream_numbered-slice_get : (streams : List (List Stamped)) (index : ℕ) (stream : List Stamped) → slice_get streams index ≡ Some stream → stream_numbered streams index ≡ stream
+stream_numbered-slice_get streams index stream h =
+    same_Some _ stream (sym (slice_get-stream_numbered streams index (slice_get_within streams index stream h)) ∙ h)
+
+pub source_talk-single : (streams : List (List Stamped)) (command : Command) (j : Job) → first_of (stream_of command) ≡ None → source_talk streams command j ≡ call_if j (step_of NO_CLIENT command)
+source_talk-single streams (Stream file index) j h = absurd (cc h)
+source_talk-single streams (Stream16 file index) j h = absurd (cc h)
+source_talk-single streams _ j h = refl
+
+stream_is : (streams : List (List Stamped)) (at index : ℕ) (stream : List Stamped) (j : Job) → Some at ≡ Some index → slice_get streams index ≡ Some stream → stream_talk (stream_numbered streams at) j ≡ stream_talk stream j
+stream_is streams at index stream j e is =
+    let same : at ≡ index = cc e in
+    ap (λ (s : List Stamped). stream_talk s j) (ap (stream_numbered streams) same ∙ stream_numbered-slice_get streams index stream is)
+
+pub source_talk-stream : (streams : List (List Stamped)) (command : Command) (index : ℕ) (stream : List Stamped) (j : Job) → first_of (stream_of command) ≡ Some index → slice_get streams index ≡ Some stream → source_talk streams command j ≡ stream_talk stream j
+source_talk-stream streams (Stream file at) index stream j e is = stream_is streams at index stream j e is
+source_talk-stream streams (Stream16 file at) index stream j e is = stream_is streams at index stream j e is
+source_talk-stream streams _ index stream j e is = absurd (cc e)
+
+-- a joystick that neither opens nor reads closes
+pub joystick_talk-close : (d : Description) (n : ℕ) (command : Command) (j : Job) → is_command_of Joy command ≡ true → (command ≡ Open → ⊥) → ((count : ℕ) → command ≡ Read count → ⊥) → call_talk j (ToClose j.reading.client) ≡ joystick_talk d n command j
+joystick_talk-close d n Close j of_role no_open no_read = refl
+joystick_talk-close d n Open j of_role no_open no_read = absurd (no_open refl)
+joystick_talk-close d n (Read count) j of_role no_open no_read = absurd (no_read count refl)
+joystick_talk-close d n command j of_role no_open no_read = absurd cc
 
 -- What an actor does at a line
 
@@ -133,10 +137,7 @@ injects-begun before after events old h = begins-same before after (stream_talk 
 -- a source keeps nothing of a joystick
 pub source-stick : (state : RoleState) → role_of state ≡ SourceRole → no_stick ≡ stick_of state
 source-stick (Source caps view) h = refl
-source-stick (Tap caps tap) h = absurd cc
-source-stick (Client reader) h = absurd cc
-source-stick (Joy joy) h = absurd cc
-source-stick (Owner caps owner) h = absurd cc
+source-stick _ h = absurd cc
 
 -- The end of a source
 

@@ -1,19 +1,9 @@
 -- All that is promised of a line that was done, and of the end of a source.
-use Rattle.std.proofs.Common.{◌≡◌, ℕ, List, ap, subst, ◌∙◌, true, false, Some}
+use Rattle.std.proofs.Common.{◌≡◌, ℕ, List, sym, ap, subst, ◌∙◌, true, false, Some}
 use Rattle.std.specs.Prelude.{is_some, Option}
 use Rattle.std.specs.List.{slice_get}
-use Rattle.inp_model.specs.Evdev.{EvdevView}
-use Rattle.inp_model.specs.Run.{Call}
-use Rattle.inp_actors.specs.declared.line.Line.{Line}
-use Rattle.inp_actors.specs.declared.role.Role.TheVariants.{Source}
-use Rattle.inp_actors.specs.Command.{is_command_of}
-use Rattle.inp_actors.specs.Record.{RecordView, IsRecord}
-use Rattle.inp_script.specs.declared.waiting.Waiting.{Waiting}
-use Rattle.inp_script.specs.DoneLine.{DoesCommand, DoesLine, HasActor, Holds, IsCommandFor, IsLineOf}
+use Rattle.inp_script.proofs.Words.{EvdevView, Call, Line, Source, is_command_of, RecordView, IsRecord, Waiting, ActorView, Job, end_talk, DoesCommand, DoesLine, HasActor, Holds, IsCommandFor, IsLineOf, CountsTurns, GainsPlaces, StaysLegal}
 use Rattle.inp_script.specs.Fold.{StaysFolded}
-use Rattle.inp_script.specs.Job.{ActorView, Job}
-use Rattle.inp_script.specs.Legal.{CountsTurns, GainsPlaces, StaysLegal}
-use Rattle.inp_script.specs.Line.{end_talk}
 use Rattle.inp_script.proofs.Gains.{gains-places, stays-legal, line-tells, end-tells}
 use Rattle.inp_script.proofs.IdleTurns.{counts-turns}
 use Rattle.inp_script.proofs.LineFolds.{line-folds, end-folds}
@@ -30,9 +20,12 @@ pub record IsLineDone (a b : EvdevView) (actor : ActorView) (r : RecordView) (wa
   pub turns : CountsTurns a b actor.job new
 
 -- the command of one of an actor's lines is one for it
-pub command-of : (r : RecordView) (actor : ActorView) (number : ℕ) (line : Line) → IsRecord r → HasActor r actor → slice_get r.lines number ≡ Some line → line.actor ≡ actor.actor → IsCommandFor actor.role r.streams line.command
-command-of r actor number line is has is_line same =
-    is_command_for r number line has.text actor.role is is_line (ap (λ (n : ℕ). slice_get r.actors n) same ∙ has.is_text) has.role
+pub command-of : (r : RecordView) (actor : ActorView) (number : ℕ) (line : Line) → IsRecord r → HasActor r actor → IsLineOf r number actor.actor → slice_get r.lines number ≡ Some line → IsCommandFor actor.role r.streams line.command
+command-of r actor number line is has its is_line =
+    let same : its.line ≡ line = cc (its.is_line, is_line) in
+    is_command_for r number line has.text actor.role is is_line
+    (ap (λ (l : Line). slice_get r.actors l.actor) (sym same) ∙ ap (slice_get r.actors) its.is_actor
+    ∙ has.is_text) has.role
 
 line-done : (a b : EvdevView) (actor : ActorView) (r : RecordView) (wait : Option Waiting) (number : ℕ) (line : Line) (new : Job) → a.description ≡ actor.description → slice_get r.lines number ≡ Some line → IsCommandFor actor.role r.streams line.command → DoesLine a b actor r wait number new → IsLineDone a b actor r wait number new
 line-done a b actor r wait number line new same is_line command does =
@@ -50,7 +43,7 @@ line-done a b actor r wait number line new same is_line command does =
 -- of an actor that stopped before
 pub line-stopped : (told : EvdevView) (actor : ActorView) (r : RecordView) (wait : Option Waiting) (number : ℕ) → told.description ≡ actor.description → IsRecord r → HasActor r actor → IsLineOf r number actor.actor → is_some actor.job.stop ≡ true → IsLineDone told told actor r wait number actor.job
 line-stopped told actor r wait number same is has line stopped =
-    line-done told told actor r wait number line.line actor.job same line.is_line (command-of r actor number line.line is has line.is_line line.is_actor)
+    line-done told told actor r wait number line.line actor.job same line.is_line (command-of r actor number line.line is has line line.is_line)
     (does-nothing told actor r wait number line.line line.is_line stopped)
 
 -- of one that did the command

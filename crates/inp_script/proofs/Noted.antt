@@ -1,38 +1,17 @@
 -- What the calls of a reader add to a sight.
 use Rattle.std.proofs.Common.{◌≡◌, List, [], ◌∷◌, ◌++◌, map, refl, sym, ap, subst, ◌∙◌, append_assoc, append-nil, Bool, true, false, if◌then◌else◌, Option, Some, None, ℕ}
 use Rattle.std.proofs.lemmas.List.{map-append}
-use Rattle.inp_model.specs.declared.step.Step.{Step}
-use Rattle.inp_model.specs.declared.reply.Reply.{Reply}
-use Rattle.inp_model.specs.Description.{Description}
-use Rattle.inp_model.specs.Evdev.{EvdevView, is_again}
-use Rattle.inp_model.specs.Run.{Call}
-use Rattle.inp_joy.specs.Joy.{Joying, joy_start}
-use Rattle.inp_reader.specs.declared.call_made.CallMade.{CallMade}
-use Rattle.inp_reader.specs.declared.mode.Mode.{Mode}
-use Rattle.inp_reader.specs.declared.next.Next.{Next}
-use Rattle.inp_reader.specs.declared.started.Started.{Started}
-use Rattle.inp_reader.specs.Reader.{Reading, start_talk, next_talk}
+use Rattle.inp_script.proofs.Words.{Step, Reply, Description, EvdevView, is_again, Call, CallMade, Mode, Next, Started, Reading, start_talk, next_talk, Notes, Sight, Waiting, Holds, Begins, Job, no_stick, call_sight, made_sight, noted, stop_after_start, start_lacks_memory, job_of, joy_job, IsStartNoted, Joying, joy_start, Talk, finish, ask, LeadsTo, EndsWith, after_joy_start, start_joystick}
 use Rattle.inp_reader.specs.Says.{Says, kept_call, calls_kept}
-use Rattle.inp_reader.specs.Talk.{Talk, finish, ask, LeadsTo, EndsWith}
-use Rattle.inp_script.specs.declared.notes.Notes.{Notes}
-use Rattle.inp_script.specs.declared.sight.Sight.{Sight}
 use Rattle.inp_script.specs.declared.sight.Sight.TheVariants.{Call as Called}
-use Rattle.inp_script.specs.declared.waiting.Waiting.{Waiting}
 use Rattle.inp_script.specs.Client.{Going, Turn, start_job, start_ends, job_after_start, unless_start_lacks, next_round, after_next, mode_of}
-use Rattle.inp_script.specs.DoneLine.{Holds, Begins}
-use Rattle.inp_script.specs.Job.{Job, no_stick}
-use Rattle.inp_script.specs.Joystick.{after_joy_start, start_joystick}
-use Rattle.inp_script.specs.Notes.{job_of, joy_job, IsStartNoted}
-use Rattle.inp_script.specs.Sight.{call_sight, made_sight, noted, stop_after_start, start_lacks_memory}
 use Rattle.inp_script.proofs.TalkCalls.{holds-nothing, holds-then, begins-then}
 
 -- the entries of a call that is kept, and of one that is not
 map-kept : (x : Step) (reply : Reply) → map made_sight (kept_call x reply) ≡ call_sight x reply
-map-kept x reply = by_flag (is_again reply)
-  where
-    by_flag : (b : Bool) → map made_sight (if b then [] else record { step = x; reply = reply } ∷ []) ≡ (if b then [] else Called x reply ∷ [])
-    by_flag true = refl
-    by_flag false = refl
+map-kept x reply =
+    elim (is_again reply) as (λ b. map made_sight (if b then [] else record { step = x; reply = reply } ∷ [])
+    ≡ (if b then [] else Called x reply ∷ [])) [ true ↦ refl | false ↦ refl ]
 
 sight-more : (sight : List Sight) (x : Step) (reply : Reply) (calls : List Call) → (sight ++ call_sight x reply) ++ map made_sight (calls_kept calls) ≡ sight ++ map made_sight (kept_call x reply ++ calls_kept calls)
 sight-more sight x reply calls =

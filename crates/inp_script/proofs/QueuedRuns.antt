@@ -2,37 +2,17 @@
 use Rattle.std.proofs.Common.{◌≡◌, ◌≤◌, ◌<◌, ℕ, zero, suc, ◌+◌, ◌-◌, Bool, true, false, ◌||◌, nat_eq, List, [], ◌∷◌, ◌++◌, length, map, drop, if◌then◌else◌, Option, Some, None, refl, sym, ap, subst, ◌∙◌, arith, append_assoc, append-nil, length-append}
 use Rattle.std.proofs.lemmas.Bool.{cond_both, cond-true, cond-false}
 use Rattle.std.proofs.lemmas.Bool.Decides.{nat_tests}
-use Rattle.inp_model.specs.declared.event.Event.{Event}
-use Rattle.inp_model.specs.declared.taken.Taken.{Taken}
-use Rattle.inp_model.specs.Description.{Description}
-use Rattle.inp_model.specs.Evdev.{EvdevView}
-use Rattle.inp_model.specs.Leaves.{AreCalls}
+use Rattle.inp_script.proofs.Words.{Taken, Description, EvdevView, Mode, Next, Success, Dropped, Phase, Notes, Sight, Waiting, Job, job_of, noted, taken_sight, Event, AreCalls, Normal, Plain, Needed, effort, held_back, Talk, finish, and_then, LeadsTo, Took, total_effort, Shrinks}
 use Rattle.inp_recon.specs.View.{view_after_event, view_after_events}
 use Rattle.inp_recon.specs.Synchronised.{is_dropped}
-use Rattle.inp_reader.specs.declared.mode.Mode.{Mode}
-use Rattle.inp_reader.specs.declared.mode.Mode.TheVariants.{Normal}
-use Rattle.inp_reader.specs.declared.next.Next.{Next}
-use Rattle.inp_reader.specs.declared.next.Next.TheVariants.{Success, Dropped}
-use Rattle.inp_reader.specs.declared.phase.Phase.{Phase}
-use Rattle.inp_reader.specs.declared.phase.Phase.TheVariants.{Plain, Needed}
 use Rattle.inp_reader.specs.Reader.{Reading, first_run, queued_run, after_run, has_loss, hand_out_event, next_talk, is_plain_phase}
-use Rattle.inp_reader.specs.Effort.{effort, held_back}
-use Rattle.inp_reader.specs.Talk.{Talk, finish, and_then, LeadsTo}
 use Rattle.inp_reader.proofs.NextWalk.{next-queued}
 use Rattle.inp_reader.proofs.Runs.{queue-run, queued-many}
 use Rattle.inp_script.specs.declared.role.client.Turn.{Turn as KeptTurn}
 use Rattle.inp_script.specs.declared.role.client.Turn.TheVariants.{GoesOn, Ends}
-use Rattle.inp_script.specs.declared.notes.Notes.{Notes}
-use Rattle.inp_script.specs.declared.sight.Sight.{Sight}
-use Rattle.inp_script.specs.declared.sight.Sight.TheVariants.{Took}
-use Rattle.inp_script.specs.declared.waiting.Waiting.{Waiting}
 use Rattle.inp_script.specs.Client.{Going, Turn, goes_on, ends_with, handed, one_less, mode_of, next_round, after_next, turn_after, on_turn, rounds}
-use Rattle.inp_script.specs.Effort.{total_effort, Shrinks}
 use Rattle.inp_script.specs.Progress.{turn_of, IsPatient, IsAnew}
 use Rattle.inp_script.specs.Rounds.{most_of, less_by, job_after_run, HandsRun, IsAdvanced}
-use Rattle.inp_script.specs.Job.{Job}
-use Rattle.inp_script.specs.Notes.{job_of}
-use Rattle.inp_script.specs.Sight.{noted, taken_sight}
 use Rattle.inp_script.proofs.Turns.{less_anew}
 
 -- A round with an event of the queue makes no call

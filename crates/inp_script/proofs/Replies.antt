@@ -1,19 +1,14 @@
 -- What the answers of a device have in common, of refused steps and of accepted ones.
 use Rattle.std.proofs.Common.{◌≡◌, ℕ, Bool, true, false, if◌then◌else◌, List, [], ◌∷◌, length, Some, None, refl, sym, ap, subst, ◌∙◌, inl, inr}
 use Rattle.std.proofs.lemmas.List.{length-map}
-use Rattle.inp_model.specs.declared.step.Step.{Step}
+use Rattle.inp_script.proofs.Words.{Step, Reply, Description, lacks_memory, Answer, Case, answer, answer_by, refused, first_reply, refusals, accepted, alone, taken_of, is_accepted, IsAnswer, count_taken}
 use Rattle.inp_model.specs.declared.step.Step.TheVariants.{Open, Read}
-use Rattle.inp_model.specs.declared.reply.Reply.{Reply}
 use Rattle.inp_model.specs.declared.reply.Reply.TheVariants.{Again, Refused}
 use Rattle.inp_model.specs.declared.reply.Refusal.{Refusal}
 use Rattle.inp_model.specs.declared.reply.Refusal.TheVariants.{BadClient, NoDevice, BadKind, BadCode, BadInfo, Busy, NotGrabber, TooMany, LogFull}
-use Rattle.inp_model.specs.Description.{Description}
 use Rattle.inp_model.specs.Past.{ends}
 use Rattle.inp_model.specs.Left.{eaten}
 use Rattle.inp_model.specs.Queue.{taken_by}
-use Rattle.inp_model.specs.Reply.{Answer, Case, answer, answer_by, refused, first_reply, refusals, accepted, alone, taken_of, is_accepted, IsAnswer}
-use Rattle.inp_script.specs.Notes.{count_taken}
-use Rattle.inp_script.specs.Sight.{lacks_memory}
 
 -- an answer to a step that is refused, though not for want of memory
 pub record IsRefusal (given : Answer) : Type 0 where

@@ -1,18 +1,10 @@
 -- The rounds of a line that hands out events, one after another.
 use Rattle.std.proofs.Common.{◌≡◌, ℕ, suc, ◌+◌, List, [], ◌++◌, refl, sym, ap, subst, arith, Bool, true, false, if◌then◌else◌, Option, Some}
-use Rattle.inp_model.specs.Description.{Description}
-use Rattle.inp_model.specs.Evdev.{EvdevView}
-use Rattle.inp_model.specs.Run.{Call}
-use Rattle.inp_model.specs.Leaves.{AreCalls}
-use Rattle.inp_reader.specs.Talk.{Talk, finish, and_then, LeadsTo, EndsWith}
+use Rattle.inp_script.proofs.Words.{Description, EvdevView, Call, Waiting, IsAdvanced, Job, Holds, Begins, HandsOut, AreCalls, Talk, finish, LeadsTo, EndsWith}
 use Rattle.inp_model.proofs.Leaves.{AreCalls-append}
 use Rattle.inp_reader.proofs.Talks.{LeadsTo-append, LeadsTo-and_then}
-use Rattle.inp_script.specs.declared.waiting.Waiting.{Waiting}
 use Rattle.inp_script.specs.Client.{Going, Turn, goes_on, ends_with, is_done, next_round, on_turn, rounds, hand_talk}
-use Rattle.inp_script.specs.DoneLine.{Holds, Begins, HandsOut}
-use Rattle.inp_script.specs.Rounds.{IsAdvanced}
-use Rattle.inp_script.specs.Job.{Job}
-use Rattle.inp_script.proofs.TalkCalls.{holds-nothing, begins-same}
+use Rattle.inp_script.proofs.TalkCalls.{holds-nothing, begins-same, begins-first}
 
 -- so many rounds were made, and the line goes on from here
 pub record Passed (before now : EvdevView) (d : Description) (wait : Option Waiting) (skips : Bool) (start here : Going) : Type 0 where
@@ -50,15 +42,7 @@ advanced-round before after d wait skips here turn h = record {
 pub begun-round : (before after : EvdevView) (d : Description) (wait : Option Waiting) (skips : Bool) (here : Going) → Begins before after (next_round d wait skips here) → (n : ℕ) × Begins before after (rounds d wait skips n here)
 unfolding rounds
 begun-round before after d wait skips here h =
-    let ending : Turn → Talk (Option Job) = on_turn (rounds d wait skips 0) in (
-      1,
-      record {
-        calls = h.calls;
-        rest = and_then h.rest ending;
-        leads = LeadsTo-and_then (next_round d wait skips here) h.rest ending h.calls h.leads;
-        are_calls = h.are_calls;
-      },
-    )
+    (1, begins-first before after (next_round d wait skips here) (on_turn (rounds d wait skips 0)) h)
 
 pub passed-more : (before between after : EvdevView) (d : Description) (wait : Option Waiting) (skips : Bool) (start here next : Going) → Passed before between d wait skips start here → IsAdvanced between after d wait skips here (goes_on next) → Passed before after d wait skips start next
 passed-more before between after d wait skips start here next s h = record {

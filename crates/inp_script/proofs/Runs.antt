@@ -2,15 +2,8 @@
 use Rattle.std.proofs.Common.{◌≡◌, ℕ, suc, ◌≤◌, inl, inr, Bool, true, false, if◌then◌else◌, List, [], ◌∷◌, ◌++◌, length, refl, sym, ap, subst, ◌∙◌, arith, Some, IsTrue}
 use Rattle.std.specs.List.{slice_get}
 use Rattle.std.proofs.lemmas.Option.{slice_get_within}
-use Rattle.inp_model.specs.declared.step.Step.{Step}
-use Rattle.inp_model.specs.declared.reply.Reply.{Reply}
-use Rattle.inp_model.specs.Description.{Description}
-use Rattle.inp_model.specs.Evdev.{EvdevView, BeginsWith, is_again}
-use Rattle.inp_model.specs.Leaves.{AreCalls}
-use Rattle.inp_model.specs.Reply.{is_accepted}
-use Rattle.inp_model.specs.Run.{Call, HasPlace, IsLegalFrom, IsLegalRun, place_of, next_place}
+use Rattle.inp_script.proofs.Words.{Step, Reply, Description, is_accepted, EvdevView, BeginsWith, is_again, Call, HasPlace, IsLegalFrom, IsLegalRun, place_of, next_place, AreCalls, LeavesOut}
 use Rattle.inp_model.proofs.Leaves.{HasPlace-longer, calls-legal, description-kept, seen-kept}
-use Rattle.inp_script.specs.Legal.{LeavesOut}
 
 legal-weaker : (d : Description) (h : List Step) (least lower : ℕ) (calls : List Call) → lower ≤ least → IsLegalFrom d h least calls → IsLegalFrom d h lower calls
 legal-weaker d h least lower [] less l = tt

@@ -1,23 +1,10 @@
 -- Injecting a stream, some events at a time, and single calls that are noted.
 use Rattle.std.proofs.Common.{◌≡◌, ℕ, suc, ◌+◌, ◌-◌, ◌<◌, ◌≤◌, nat_lt, nat_le, List, [], ◌∷◌, ◌++◌, length, refl, sym, ap, subst, Bool, true, false, if◌then◌else◌, Option, Some, arith}
 use Rattle.std.proofs.lemmas.Bool.Decides.{nat_tests}
-use Rattle.inp_model.specs.declared.stamped.Stamped.{Stamped}
-use Rattle.inp_model.specs.declared.step.Step.{Step}
-use Rattle.inp_model.specs.declared.reply.Reply.{Reply}
-use Rattle.inp_model.specs.Evdev.{EvdevView}
-use Rattle.inp_model.specs.Leaves.{AreCalls}
+use Rattle.inp_script.proofs.Words.{Stamped, Step, Reply, EvdevView, Answer, Call, Reading, Notes, Holds, Begins, Job, Stick, job_of, job_with, IsStepMade, IsNoted, notes_after, AreMade, AreNoted, AreCalls, Talk, finish, LeadsTo, after_call, call_talk, call_if, stream_talk}
 use Rattle.inp_model.specs.Injection.{AreInTime, entered_call, full_call, calls_of}
-use Rattle.inp_model.specs.Reply.{Answer}
-use Rattle.inp_model.specs.Run.{Call}
 use Rattle.inp_model.proofs.Leaves.{AreCalls-append}
-use Rattle.inp_reader.specs.Reader.{Reading}
-use Rattle.inp_reader.specs.Talk.{Talk, finish, LeadsTo}
 use Rattle.inp_reader.proofs.Talks.{LeadsTo-append}
-use Rattle.inp_script.specs.declared.notes.Notes.{Notes}
-use Rattle.inp_script.specs.DoneLine.{Holds, Begins}
-use Rattle.inp_script.specs.Job.{Job, Stick}
-use Rattle.inp_script.specs.Line.{after_call, call_talk, call_if, stream_talk}
-use Rattle.inp_script.specs.Notes.{job_of, job_with, IsStepMade, IsNoted, notes_after, AreMade, AreNoted}
 use Rattle.inp_script.proofs.TalkCalls.{holds-one, begins-one, begins-same}
 
 -- a call that was noted leaves the job that the definition says

@@ -1,14 +1,8 @@
 -- Calls on an evdev that are those of a talk, or its first ones: one call, and one part of a talk after another.
 use Rattle.std.proofs.Common.{◌≡◌, [], ◌∷◌, ◌++◌, refl, subst}
-use Rattle.inp_model.specs.declared.step.Step.{Step}
-use Rattle.inp_model.specs.Evdev.{EvdevView, IsCall}
-use Rattle.inp_model.specs.Reply.{Answer}
-use Rattle.inp_model.specs.Leaves.{AreCalls, IsLeft}
-use Rattle.inp_reader.specs.Talk.{Talk, finish, ask, and_then, LeadsTo}
+use Rattle.inp_script.proofs.Words.{Step, Answer, Holds, Begins, EvdevView, IsCall, IsStepMade, AreCalls, IsLeft, Talk, finish, ask, and_then, LeadsTo}
 use Rattle.inp_model.proofs.Leaves.{AreCalls-append, calls-left}
 use Rattle.inp_reader.proofs.Talks.{LeadsTo-append, LeadsTo-and_then}
-use Rattle.inp_script.specs.DoneLine.{Holds, Begins}
-use Rattle.inp_script.specs.Notes.{IsStepMade}
 
 -- no call
 pub holds-nothing : {A : Type 0} (told : EvdevView) (talk : Talk A) (result : A) → talk ≡ finish result → Holds told told talk result
@@ -52,14 +46,18 @@ begins-one before after x rest made = record {
   are_calls = (after, made.is_call, refl);
 }
 
--- all those of a talk, which another one follows
+-- all those of a talk
+pub holds-begins : {A : Type 0} (before after : EvdevView) (talk : Talk A) (result : A) → Holds before after talk result → Begins before after talk
+holds-begins before after talk result s = record { calls = s.calls; rest = finish result; leads = s.talk_ends; are_calls = s.are_calls }
+
+-- those of a talk, which another one follows
+pub begins-first : {A B : Type 0} (before after : EvdevView) (talk : Talk A) (next : A → Talk B) → Begins before after talk → Begins before after (and_then talk next)
+begins-first before after talk next s = record { calls = s.calls; rest = and_then s.rest next; leads = LeadsTo-and_then talk s.rest next s.calls s.leads; are_calls = s.are_calls }
+
+-- all those of such a talk
 pub begins-then : {A B : Type 0} (before after : EvdevView) (talk : Talk A) (next : A → Talk B) (a : A) → Holds before after talk a → Begins before after (and_then talk next)
-begins-then before after talk next a s = record {
-  calls = s.calls;
-  rest = next a;
-  leads = LeadsTo-and_then talk (finish a) next s.calls s.talk_ends;
-  are_calls = s.are_calls;
-}
+begins-then before after talk next a s = begins-first before after talk next
+    (holds-begins before after talk a s)
 
 pub begins-same : {A : Type 0} (before after : EvdevView) (talk same : Talk A) → talk ≡ same → Begins before after talk → Begins before after same
 begins-same {A = A} before after talk same h s = subst (λ (t : Talk A). Begins before after t) h s

@@ -1,24 +1,9 @@
 -- What one call of a tap leaves.
 use Rattle.std.proofs.Common.{◌≡◌, ℕ, ◌*◌, ◌≤◌, List, ◌++◌, length, take, drop, map, refl, sym, ap, subst, ◌∙◌, arith, Bool, false, if◌then◌else◌, Option, Some, None, ℤ}
 use Rattle.std.proofs.lemmas.List.{take_at, length-append}
-use Rattle.inp_model.specs.declared.taken.Taken.{Taken}
-use Rattle.inp_model.specs.declared.step.Step.{Step}
-use Rattle.inp_model.specs.declared.reply.Reply.{Reply}
-use Rattle.inp_model.specs.Evdev.{EvdevView, IsCall, IsEvdevCall}
-use Rattle.inp_model.specs.Past.{past_at}
-use Rattle.inp_model.specs.Reply.{Answer}
-use Rattle.inp_model.specs.Run.{place_of}
-use Rattle.inp_recon.specs.declared.view.View.{View}
+use Rattle.inp_script.proofs.Words.{Taken, Step, Reply, past_at, Answer, place_of, View, Reading, finish, Notes, Holds, Begins, Job, no_stick, lacks_memory, sight_of_call, stop_after, EvdevView, IsCall, IsEvdevCall, event_of_taken, view_after_call, tap_client_after, after_tap_call, tap_call, unless_lacking, job_of, count_taken}
 use Rattle.inp_recon.specs.View.{view_after_answer, view_after_events}
-use Rattle.inp_reader.specs.Reader.{Reading}
-use Rattle.inp_reader.specs.Talk.{finish}
 use Rattle.inp_reader.proofs.QueryAnswers.{view-answered}
-use Rattle.inp_script.specs.declared.notes.Notes.{Notes}
-use Rattle.inp_script.specs.DoneLine.{Holds, Begins}
-use Rattle.inp_script.specs.Job.{Job, no_stick}
-use Rattle.inp_script.specs.Line.{event_of_taken, view_after_call, tap_client_after, after_tap_call, tap_call, unless_lacking}
-use Rattle.inp_script.specs.Notes.{job_of, count_taken}
-use Rattle.inp_script.specs.Sight.{lacks_memory, sight_of_call, stop_after}
 use Rattle.inp_script.specs.Tap.{IsTapCall}
 use Rattle.inp_script.proofs.TalkCalls.{holds-one, begins-one}
 use Rattle.inp_script.proofs.Replies.{events-counted}

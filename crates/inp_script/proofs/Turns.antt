@@ -3,20 +3,14 @@ use Rattle.std.proofs.Common.{◌≡◌, ℕ, suc, ◌+◌, ◌<◌, ◌≤◌, 
 use Rattle.std.proofs.lemmas.Bool.Decides.{nat_tests}
 use Rattle.std.proofs.Math.Nat.{mul-le-mul_right}
 use Rattle.std.proofs.lemmas.Bool.{cond_both}
-use Rattle.inp_reader.specs.declared.next.Next.{Next}
+use Rattle.inp_script.proofs.Words.{Next, Waiting, Phase, going, turn_of, Job, Plain, IsLess, is_idle}
 use Rattle.inp_reader.specs.declared.next.Next.TheVariants.{Success, Dropped, Sync, Again, Synced}
 use Rattle.inp_script.specs.declared.role.client.Progress.{Progress}
 use Rattle.inp_script.specs.declared.role.client.Turn.{Turn as KeptTurn}
 use Rattle.inp_script.specs.declared.role.client.Turn.TheVariants.{GoesOn, Ends}
 use Rattle.inp_script.specs.declared.sight.Sight.TheVariants.{Took, Made}
-use Rattle.inp_script.specs.declared.waiting.Waiting.{Waiting}
 use Rattle.inp_script.specs.Client.{Going, goes_on, handed, one_less, is_done, patience, after_again, turn_after, with_sight, mode_of}
-use Rattle.inp_reader.specs.declared.phase.Phase.{Phase}
-use Rattle.inp_reader.specs.declared.phase.Phase.TheVariants.{Plain}
-use Rattle.inp_reader.specs.Effort.{IsLess, is_idle}
 use Rattle.inp_script.specs.Effort.{idle_of, total_effort, Shrinks}
-use Rattle.inp_script.specs.Progress.{going, turn_of}
-use Rattle.inp_script.specs.Job.{Job}
 
 -- a line never asks its reader for nothing
 pub mode_of-busy : (skips : Bool) (phase : Phase) → is_idle (mode_of skips phase) phase ≡ false

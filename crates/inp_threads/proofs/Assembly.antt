@@ -1,37 +1,20 @@
 -- What comes of a device whose actors all did their lines, each on what it saw of the device's entries.
-use Rattle.std.proofs.Common.{◌≡◌, ℕ, ◌<◌, ◌≤◌, false, List, [], ◌∷◌, length, reverse, refl, sym, ap, subst, ◌∙◌, arith, Option, Some}
+use Rattle.std.proofs.Common.{◌≡◌, ℕ, ◌<◌, ◌≤◌, false, List, length, reverse, refl, sym, ap, subst, ◌∙◌, arith, Option, Some}
 use Rattle.std.specs.Prelude.{slice_get, map, flat_map, option_map}
 use Rattle.std.specs.List.{range_with_len}
 use Rattle.std.proofs.lemmas.List.{length-reverse, reverse-reverse}
 use Rattle.std.proofs.lemmas.Option.{slice_get-map, same_Some}
+use Rattle.std.proofs.lemmas.Simd.{map-map}
 use mathlib.Core.List.{IsPrefix}
-use Rattle.inp_model.specs.Description.{Description, IsDescription}
-use Rattle.inp_actors.specs.declared.actor_text.ActorText.{ActorText}
-use Rattle.inp_actors.specs.declared.device_text.DeviceText.{DeviceText}
-use Rattle.inp_actors.specs.declared.role.Role.{Role}
-use Rattle.inp_actors.specs.declared.role.Role.TheVariants.{Source, Client, Tap, Joy, Owner}
-use Rattle.inp_actors.specs.Command.{is_owner}
-use Rattle.inp_actors.specs.Record.{RecordView, IsRecord}
-use Rattle.inp_feedback.specs.declared.u_entry.UEntry.{UEntry}
-use Rattle.inp_feedback.specs.UEntry.{step_made}
-use Rattle.inp_script.specs.declared.waiting.Waiting.{Waiting}
-use Rattle.inp_script.specs.DoneLine.{HasActor}
-use Rattle.inp_script.specs.Ended.{HasDeviceSlots, ended_of}
-use Rattle.inp_script.specs.Job.{ActorView}
+use Rattle.inp_script.proofs.Words.{Description, IsDescription, ActorText, DeviceText, Role, is_owner, RecordView, IsRecord, UEntry, step_made, HasActor, ActorView, HasDeviceSlots, ended_of, Owner}
 use Rattle.inp_script.specs.Runs.{actors_of, is_on_device}
-use Rattle.inp_runs.specs.Done.{HasFollowed, IsDeviceDone, IsRunAsPromised, calls_at}
-use Rattle.inp_runs.specs.Job.{wait_of}
 use Rattle.inp_runs.proofs.Done.{device-promised}
 use Rattle.inp_runs.proofs.Lists.{IsAt, IsImage, eq_same, option_map-some, slice_get-filter}
-use Rattle.inp_turn.specs.declared.pass_view.PassView.{PassView}
-use Rattle.inp_turn.specs.PassView.{OwnsSeen}
-use Rattle.inp_port.specs.Entries.{steps_among, is_step_at, step_places}
+use Rattle.inp_threads.proofs.Words.{PassView, OwnsSeen, steps_among, is_step_at, step_places, HasWorked, HasOwnedLines, HasDoneLines, HasFollowed, IsDeviceDone, IsRunAsPromised, calls_at, wait_of, Waiting}
 use Rattle.inp_port.proofs.Places.{other_places-begins}
-use Rattle.inp_threads.specs.Worker.{HasWorked, HasOwnedLines, HasDoneLines}
 use Rattle.inp_threads.proofs.CallsAt.{HasAllCalls, all-calls}
-use Rattle.inp_threads.proofs.PlaceCounts.{times, sum-places}
+use Rattle.inp_threads.proofs.Counts.{times, sum-places, HasIn, one-has, same-worker, few-numbers}
 use Rattle.inp_threads.proofs.Followed.{caller-followed, owner-followed, caller-counts, owner-counts}
-use Rattle.inp_threads.proofs.Numbers.{HasIn, one-has, same-worker, few-numbers}
 use Rattle.inp_threads.proofs.StepPlaces.{no-others, steps-of-all, steps-once}
 
 -- An actor of the record did all its lines on a beginning of the entries, and its view, if one comes of it, has the device's
@@ -49,11 +32,8 @@ data Does (r : RecordView) (d : Description) (wait : Option Waiting) (a : ActorV
   owns : a.role ≡ Owner → HasOwnedLines r d a view → Does r d wait a view
 
 which : (role : Role) (r : RecordView) (d : Description) (wait : Option Waiting) (a : ActorView) (view : PassView Description UEntry) → a.role ≡ role → HasDoneLines role r d wait a view → Does r d wait a view
-which Source r d wait a view is h = calls (ap is_owner is) h
-which Client r d wait a view is h = calls (ap is_owner is) h
-which Tap r d wait a view is h = calls (ap is_owner is) h
-which Joy r d wait a view is h = calls (ap is_owner is) h
 which Owner r d wait a view is h = owns is h
+which _ r d wait a view is h = calls (ap is_owner is) h
 
 module _ (r : RecordView) (d : Description) (wait : Option Waiting) (entries : List UEntry) (view : PassView Description UEntry) (a : ActorView) (h : HasDoneAllLines r d wait entries view a) where
   does : Does r d wait a view
@@ -63,34 +43,31 @@ module _ (r : RecordView) (d : Description) (wait : Option Waiting) (entries : L
   role_of : (text : ActorText) → slice_get r.actors a.actor ≡ Some text → a.role ≡ text.role
   role_of text is_text =
       let has : HasActor r a = h.has_actor in
-      let same : has.text ≡ text = same_Some has.text text (sym has.is_text ∙ is_text) in
-      sym has.role ∙ ap (λ (t : ActorText). t.role) same
+      sym has.role ∙ ap (λ (t : ActorText). t.role) (same_Some has.text text (sym has.is_text ∙ is_text))
 
   followed : (text : ActorText) → slice_get r.actors a.actor ≡ Some text → (a.role ≡ Owner → HasAllCalls (reverse entries) view.own) → HasFollowed r d wait (steps_among step_made entries) text.role a
-  followed text is_text all = by does
-    where
-      role : a.role ≡ text.role
-      role = role_of text is_text
-
-      by : Does r d wait a view → HasFollowed r d wait (steps_among step_made entries) text.role a
-      by (calls caller w) = caller-followed r d wait a view entries text role h.seen h.cells (ap is_owner (sym role) ∙ caller) w
-      by (owns owner w) = owner-followed r d wait a view entries text role h.seen h.cells (sym role ∙ owner) w (all owner)
+  followed text is_text all =
+      let role : a.role ≡ text.role = role_of text is_text in
+      elim does [
+        | calls caller w ↦ caller-followed r d wait a view entries text role h.seen h.cells (ap is_owner (sym role) ∙ caller) w
+        | owns owner w ↦ owner-followed r d wait a view entries text role h.seen h.cells (sym role ∙ owner) w (all owner)
+      ]
 
   counts : IsRecord r → (place : ℕ) → calls_at place a ≡ times place (step_places step_made entries view.own)
-  counts is_record place = by does
-    where
-      by : Does r d wait a view → calls_at place a ≡ times place (step_places step_made entries view.own)
-      by (calls caller w) = caller-counts r d wait a view entries h.has_actor.text (sym h.has_actor.role) h.seen h.cells h.owns (ap is_owner h.has_actor.role ∙ caller) w is_record h.has_actor.is_text place
-      by (owns owner w) = owner-counts r d wait a view entries h.has_actor.text (sym h.has_actor.role) h.seen h.cells h.owns w place
+  counts is_record place =
+      let has : HasActor r a = h.has_actor in
+      elim does [
+        | calls caller w ↦ caller-counts r d wait a view entries has.text (sym has.role) h.seen h.cells h.owns (ap is_owner has.role ∙ caller) w is_record has.is_text place
+        | owns owner w ↦ owner-counts r d wait a view entries has.text (sym has.role) h.seen h.cells h.owns w place
+      ]
 
   -- whoever owns a place without a step is an owner
   owner-there : (place : ℕ) → is_step_at step_made entries place ≡ false → 1 ≤ times place view.own → a.role ≡ Owner
-  owner-there place away some = by does
-    where
-      by : Does r d wait a view → a.role ≡ Owner
-      by (calls caller w) =
-          absurd (omega (arith, some, no-others step_made entries view.own place (other_places-begins step_made view.seen entries view.own h.seen h.owns ∙ w.others) away))
-      by (owns owner w) = owner
+  owner-there place away some = elim does [
+    | calls caller w ↦
+        absurd (omega (arith, some, no-others step_made entries view.own place (other_places-begins step_made view.seen entries view.own h.seen h.owns ∙ w.others) away))
+    | owns owner w ↦ owner
+  ]
 
 -- All actors of a device
 
@@ -118,11 +95,9 @@ module _ {W : Type 0} (view : W → PassView Description UEntry) (actor : W → 
         let b : HasActor r (actor u) = (h.each m u there).has_actor in
         let same : (actor u).actor ≡ (actor w).actor =
         is_record.one_owner (actor u).actor (actor w).actor b.text a.text b.is_text a.is_text (b.role ∙ other) (a.role ∙ owner) (on_it m u b.text there b.is_text ∙ sym (on_it k w a.text at a.is_text)) in
-        same-worker (λ (w : W). (actor w).actor) ws m k u w there at same (few-numbers (λ (w : W). (actor w).actor) (λ n. is_on_device i (slice_get r.actors n)) (length r.actors) ws (both actor ws ∙ h.numbers))
-      where
-        both : (f : W → ActorView) (vs : List W) → map (λ (w : W). (f w).actor) vs ≡ map (λ (a : ActorView). a.actor) (map f vs)
-        both f [] = refl
-        both f (v ∷ vs) = ap (λ (ns : List ℕ). (f v).actor ∷ ns) (both f vs)
+        same-worker (λ (w : W). (actor w).actor) ws m k u w there at same
+        (few-numbers (λ (w : W). (actor w).actor) (λ n. is_on_device i (slice_get r.actors n))
+        (length r.actors) ws (sym (map-map (λ (a : ActorView). a.actor) actor ws) ∙ h.numbers))
 
     -- and that one owns all feedback calls
     owns-all : (k : ℕ) (w : W) → slice_get ws k ≡ Some w → (actor w).role ≡ Owner → HasAllCalls (reverse entries) (view w).own

@@ -1,25 +1,22 @@
 -- An owner's feedback calls among what its device kept.
-use Rattle.std.proofs.Common.{◌≡◌, ℕ, zero, suc, ◌≤◌, ◌<◌, false, nat_eq, List, [], ◌∷◌, ◌++◌, length, reverse, refl, sym, ap, subst, ◌∙◌, arith, inl, inr, Option, None, length-append}
-use Rattle.std.specs.Prelude.{All, map, slice_get, is_some}
+use Rattle.std.proofs.Common.{◌≡◌, ℕ, suc, ◌≤◌, ◌<◌, false, nat_eq, List, [], ◌∷◌, ◌++◌, length, reverse, refl, sym, ap, subst, ◌∙◌, arith, inl, inr, Option, None, length-append}
+use Rattle.std.specs.Prelude.{All, map, is_some}
 use Rattle.std.specs.List.{count_by}
 use Rattle.std.specs.Option.{option_and_then}
 use Rattle.std.proofs.lemmas.List.{length-reverse, reverse-append, reverse-reverse}
 use Rattle.std.proofs.lemmas.List.Elements.{All-nil, All-push, All-weaker}
+use Rattle.inp_recon.proofs.ReadEntries.{get-front}
 use mathlib.Core.List.{IsPrefix}
-use Rattle.inp_model.specs.Description.{Description}
-use Rattle.inp_turn.specs.declared.pass_view.PassView.{PassView}
+use Rattle.inp_script.proofs.Words.{Description, UEntry, step_made, steps_in}
+use Rattle.inp_threads.proofs.Words.{PassView, steps_among, is_step_at, step_places, HasCallsAt, HasFedLines}
 use Rattle.inp_turn.proofs.Places.{here-other, count-cons, count-append}
-use Rattle.inp_port.specs.Entries.{steps_among, is_step_at, step_places}
 use Rattle.inp_port.proofs.Places.{slice_get-seam, step_places-append, step_places-begins}
-use Rattle.inp_feedback.specs.declared.u_entry.UEntry.{UEntry}
 use Rattle.inp_feedback.specs.declared.u_entry.UEntry.TheVariants.{Made, Feedback}
-use Rattle.inp_feedback.specs.UEntry.{step_made, steps_in}
 use Rattle.inp_feedback.proofs.Lists.{reverse-cons}
 use Rattle.inp_uinput.proofs.ServedEntries.{steps-reverse}
 use Rattle.inp_script.specs.Owner.{Owning, first_owning}
 use Rattle.inp_runs.specs.Owner.{HasFed, EndsFed, HasOwned}
 use Rattle.inp_runs.proofs.owners.OwnerLaws.{ends-steps, free-goes_on, grew-free}
-use Rattle.inp_threads.specs.Owner.{HasCallsAt, HasFedLines}
 
 -- the place of each feedback call that a device kept, newest first, is one of these
 unfoldable pub HasAllCalls : List UEntry → List ℕ → Type 0
@@ -131,10 +128,6 @@ only-steps (Made x ∷ more) kept own all none = ap (λ (es : List UEntry). Made
 only-steps (Feedback count ∷ more) kept own all none =
     absurd (omega (arith, all.0, none (length (more ++ kept)) (omega (arith, length-append more kept))))
 
-ends-longer : (d : Description) (more kept : List UEntry) (rooms done : List ℕ) (before last : Owning) → more ≡ map Made (steps_in more) → EndsFed d kept rooms done before last → EndsFed d (more ++ kept) rooms done before last
-ends-longer d more kept rooms done before last steps h =
-    subst (λ (es : List UEntry). EndsFed d (es ++ kept) rooms done before last) (sym steps) (ends-steps d kept rooms done before last (steps_in more) h)
-
 -- An owner that did its lines owned all feedback calls of the device, of which its pass saw a beginning.
 pub lines-owned : (d : Description) (rooms : List ℕ) (view : PassView Description UEntry) (entries : List UEntry) (last : Owning) → HasFedLines d rooms view last → IsPrefix view.seen entries → HasAllCalls (reverse entries) view.own
     → HasOwned d (steps_among step_made entries) rooms last
@@ -150,19 +143,15 @@ lines-owned d rooms view entries last h begins all =
       done = h.done;
       before = h.before;
       fed = all-fed d (more ++ kept) view.own h.done h.before (calls-longer d more kept view.own h.done h.before h.calls) here;
-      ends = ends-longer d more kept rooms h.done h.before last steps h.ends;
+      ends = subst (λ (es : List UEntry). EndsFed d (es ++ kept) rooms h.done h.before last) (sym steps)
+          (ends-steps d kept rooms h.done h.before last (steps_in more) h.ends);
     }
 
 -- each place that has no step is owned
 same-place : (kept : List UEntry) (e : UEntry) (place : ℕ) → place < length kept → is_step_at step_made (reverse (e ∷ kept)) place ≡ is_step_at step_made (reverse kept) place
 same-place kept e place l =
     ap (λ (es : List UEntry). is_step_at step_made es place) (reverse-cons kept e)
-    ∙ ap (λ (o : Option UEntry). is_some (option_and_then step_made o)) (front (reverse kept) (e ∷ []) place (omega (arith, l, length-reverse kept)))
-  where
-    front : (xs ys : List UEntry) (n : ℕ) → n < length xs → slice_get (xs ++ ys) n ≡ slice_get xs n
-    front [] ys n l = absurd (omega (arith, l))
-    front (x ∷ xs) ys zero l = refl
-    front (x ∷ xs) ys (suc n) l = front xs ys n (omega (arith, l))
+    ∙ ap (λ (o : Option UEntry). is_some (option_and_then step_made o)) (get-front (reverse kept) (e ∷ []) place (omega (arith, l, length-reverse kept)))
 
 pub all-calls : (kept : List UEntry) (own : List ℕ) → ((place : ℕ) → place < length kept → is_step_at step_made (reverse kept) place ≡ false → 1 ≤ count_by (nat_eq place) own) → HasAllCalls kept own
 unfolding HasAllCalls

@@ -1,11 +1,10 @@
 -- The lines of a record are dealt to its actors, one after another.
-use Rattle.std.proofs.Common.{◌≡◌, ◌⊎◌, ℕ, zero, suc, ◌+◌, ◌<◌, ◌≤◌, Bool, true, false, cond, nat_eq, List, [], ◌∷◌, ◌++◌, length, take, sym, ap, ◌∙◌, inl, inr, Option, Some, replicate, get_or}
+use Rattle.std.proofs.Common.{◌≡◌, ℕ, zero, suc, ◌+◌, ◌<◌, ◌≤◌, Bool, true, false, cond, nat_eq, List, [], ◌∷◌, ◌++◌, length, take, sym, ap, ◌∙◌, inl, inr, Option, Some, replicate, get_or}
 use Rattle.std.specs.Prelude.{map, slice_get}
 use Rattle.std.proofs.lemmas.List.{append-nil, map-append, length-replicate, length-set, take_all, take_more}
 use Rattle.std.proofs.lemmas.List.Elements.{filter-append}
 use Rattle.std.proofs.lemmas.Option.{slice_get-get_or, slice_get_within, get_or_from_slice_get}
-use Rattle.inp_actors.specs.declared.line.Line.{Line}
-use Rattle.inp_actors.specs.Record.{RecordView}
+use Rattle.inp_script.proofs.Words.{Line, RecordView}
 use Rattle.inp_runs.specs.Job.{lines_by}
 use Rattle.inp_runs.proofs.Lists.{eq_true, eq_false, slice_get-set}
 use Rattle.inp_threads.specs.Lines.{AreLinesDealt, HasLineMore}
@@ -41,22 +40,21 @@ module _ (r : RecordView) where
       record {
         count = ap length (more numbers at) ∙ length-set lists line.actor longer ∙ h.count;
         each = λ actor xs there.
-            by actor xs numbers at (slice_get-set lists line.actor actor numbers longer xs at (sym (ap (λ (ys : List (List ℕ)). slice_get ys actor) (more numbers at)) ∙ there));
+            elim (slice_get-set lists line.actor actor numbers longer xs at (sym (ap (λ (ys : List (List ℕ)). slice_get ys actor) (more numbers at)) ∙ there)) [
+              | inl (same, is_longer) ↦
+                  ap (map (slice_get r.lines)) is_longer ∙ map-append (slice_get r.lines) numbers (n ∷ [])
+                  ∙ ap (λ (ls : List (Option Line)). ls ++ slice_get r.lines n ∷ [])
+                  (h.each actor numbers (ap (slice_get lists) same ∙ at))
+                  ∙ ap (λ (l : Option Line). map Some (lines_by actor (take n r.lines)) ++ l ∷ []) is
+                  ∙ sym (map-append Some (lines_by actor (take n r.lines)) (line ∷ []))
+                  ∙ ap (map Some) (sym (own actor true (eq_true line.actor actor (sym same))))
+              | inr (other, before) ↦
+                  h.each actor xs before ∙ ap (map Some) (sym (own actor false (eq_false line.actor actor (λ e. other (sym e))) ∙ append-nil (lines_by actor (take n r.lines))))
+            ];
       }
     where
       own : (actor : ℕ) (b : Bool) → nat_eq line.actor actor ≡ b → lines_by actor (take (n + 1) r.lines) ≡ lines_by actor (take n r.lines) ++ cond b (line ∷ []) []
       own actor b same = next n line actor is ∙ ap (λ (x : Bool). lines_by actor (take n r.lines) ++ cond x (line ∷ []) []) same
-
-      by : (actor : ℕ) (xs numbers : List ℕ) → slice_get lists line.actor ≡ Some numbers → ((actor ≡ line.actor) × (xs ≡ numbers ++ n ∷ [])) ⊎ ((actor ≡ line.actor → ⊥) × (slice_get lists actor ≡ Some xs))
-          → map (slice_get r.lines) xs ≡ map Some (lines_by actor (take (n + 1) r.lines))
-      by actor xs numbers at (inl (same, longer)) =
-          let before = h.each actor numbers (ap (slice_get lists) same ∙ at) in
-          ap (map (slice_get r.lines)) longer ∙ map-append (slice_get r.lines) numbers (n ∷ []) ∙ ap (λ (ls : List (Option Line)). ls ++ slice_get r.lines n ∷ []) before
-          ∙ ap (λ (l : Option Line). map Some (lines_by actor (take n r.lines)) ++ l ∷ []) is
-          ∙ sym (map-append Some (lines_by actor (take n r.lines)) (line ∷ []))
-          ∙ ap (map Some) (sym (own actor true (eq_true line.actor actor (sym same))))
-      by actor xs numbers at (inr (other, there)) =
-          h.each actor xs there ∙ ap (map Some) (sym (own actor false (eq_false line.actor actor (λ e. other (sym e))) ∙ append-nil (lines_by actor (take n r.lines))))
 
   pub all-dealt : (n : ℕ) (lists : List (List ℕ)) → AreFirstDealt n lists → length r.lines ≤ n → AreLinesDealt r lists
   all-dealt n lists h all = record {

@@ -1,45 +1,20 @@
--- What comes of a device whose workers are done, and whose passes were joined: all is promised of it.
-use Rattle.std.proofs.Common.{◌≡◌, ℕ, true, nat_eq, List, [], ◌∷◌, ◌++◌, refl, sym, ap, subst, ◌∙◌, arith, Option, Some}
-use Rattle.std.specs.Prelude.{All, map, slice_get}
+-- What comes of a device whose workers are done, and whose passes were joined: all is promised of it, and so of the record.
+use Rattle.std.proofs.Common.{◌≡◌, ℕ, true, nat_eq, List, [], ◌++◌, sym, ap, subst, ◌∙◌, arith, Option, Some, ◌<◌, length, get_or, None}
+use Rattle.std.specs.Prelude.{All, map, slice_get, option_map, IfSome}
 use Rattle.std.specs.List.{count_by}
-use Rattle.std.proofs.lemmas.Option.{get_or_from_slice_get, slice_get_within}
+use Rattle.std.proofs.lemmas.Option.{get_or_from_slice_get, slice_get_within, slice_get-map}
+use Rattle.std.proofs.lemmas.Simd.{map-map}
 use mathlib.Core.List.{IsPrefix}
-use Rattle.inp_feedback.specs.declared.u_entry.UEntry.{UEntry}
-use Rattle.inp_feedback.specs.UEntry.{step_made}
-use Rattle.inp_model.specs.Description.{Description, IsDescription}
-use Rattle.inp_uinput.specs.UdevView.{UdevView}
-use Rattle.inp_actors.specs.declared.device_text.DeviceText.{DeviceText}
-use Rattle.inp_actors.specs.Record.{RecordView, IsRecord}
-use Rattle.inp_script.specs.declared.waiting.Waiting.{Waiting}
-use Rattle.inp_script.specs.declared.end.ended.Ended.{Ended}
-use Rattle.inp_script.specs.Ended.{HasDeviceSlots, ended_of}
-use Rattle.inp_script.specs.Job.{ActorView}
+use Rattle.inp_script.proofs.Words.{UEntry, step_made, Description, IsDescription, DeviceText, RecordView, IsRecord, ActorView, HasDeviceSlots, ended_of, played_of}
+use Rattle.inp_threads.proofs.Words.{UdevView, IsRunAsPromised, PassView, Ghosts, Pass, PortOf, steps_among, description_of, Worker, wait_of, IsEachAddedOnce, OwnsSeen, view_in, actor_number, HasPass, HasDoneLines, IsWorked, AreJoined, AreWorkersDone, IsSizedWorker, AreSized, ends_of_workers, own_of, ArePromised, IsPromisedOf, Waiting, Ended, DeviceEnds}
 use Rattle.inp_script.specs.Runs.{actors_of}
-use Rattle.inp_runs.specs.Done.{IsRunAsPromised}
-use Rattle.inp_runs.specs.Job.{wait_of}
-use Rattle.inp_turn.specs.declared.pass_view.PassView.{PassView}
-use Rattle.inp_turn.specs.PassView.{IsEachAddedOnce, OwnsSeen}
-use Rattle.inp_turn.specs.declared.kept.Kept.{Ghosts}
-use Rattle.inp_turn.specs.declared.pass.Pass.{Pass}
-use Rattle.inp_port.specs.declared.port.PortOf.{PortOf}
-use Rattle.inp_port.specs.Entries.{steps_among}
-use Rattle.inp_port.specs.Port.{description_of}
-use Rattle.inp_threads.specs.declared.worker.Worker.{Worker}
-use Rattle.inp_threads.specs.Worker.{view_in, actor_number, HasPass, HasDoneLines, IsWorked}
-use Rattle.inp_threads.specs.Joined.{AreJoined, AreWorkersDone, IsSizedWorker, AreSized, ends_of_workers, own_of}
 use Rattle.inp_threads.proofs.Assembly.{AreAllDone, HasDoneAllLines, done-promised}
+use Rattle.std.proofs.lemmas.List.{length-map}
+use Rattle.inp_runs.proofs.Played.{all-promised}
 
 -- a fact on all stands where one is found
 at_found : {A : Type 0} (P : A → Type 0) (xs : List A) (k : ℕ) (x : A) → All P xs → slice_get xs k ≡ Some x → P x
 at_found P xs k x all at = subst P (get_or_from_slice_get xs k x x at) (all k x (slice_get_within xs k x at))
-
-actor_numbers : (ws : List Worker) → map (λ (a : ActorView). a.actor) (map (λ (w : Worker). w.actor) ws) ≡ map actor_number ws
-actor_numbers [] = refl
-actor_numbers (w ∷ ws) = ap (λ (ns : List ℕ). w.actor.actor ∷ ns) (actor_numbers ws)
-
-actor_ends : (ws : List Worker) → map ended_of (map (λ (w : Worker). w.actor) ws) ≡ ends_of_workers ws
-actor_ends [] = refl
-actor_ends (w ∷ ws) = ap (λ (ends : List Ended). ended_of w.actor ∷ ends) (actor_ends ws)
 
 -- a pass that is back owns places of what it has seen
 owned_by : {K : Ghosts UdevView Description UEntry} {port : PortOf UdevView UEntry} (place : Option (Pass UdevView Description UEntry K)) → HasPass port place → OwnsSeen (view_in place)
@@ -78,12 +53,27 @@ module _ (idle i : ℕ) (r : RecordView) (device : DeviceText) (port : PortOf Ud
       let owned : IsEachAddedOnce [] entries joined.own = is.owned in
       let own : joined.own ≡ own_of workers = all.own ∙ ap (λ (places : List ℕ). places ++ own_of workers) is.none in
       record {
-        numbers = actor_numbers workers ∙ is.numbers;
+        numbers = map-map (λ (a : ActorView). a.actor) (λ (w : Worker). w.actor) workers ∙ is.numbers;
         each = has_done;
         once = λ place below. ap (count_by (nat_eq place)) (sym own) ∙ owned.once place (omega arith) below;
       }
 
   pub left-promised : IsRecord r → IsDescription device.caps → (ends : List Ended) → ends ≡ ends_of_workers workers → IsRunAsPromised (Some idle) r i device (record { history = steps_among step_made entries; ends = ends })
   left-promised is_record described ends ended =
-      subst (λ (es : List Ended). IsRunAsPromised (Some idle) r i device (record { history = steps_among step_made entries; ends = es })) (actor_ends workers ∙ sym ended)
+      subst (λ (es : List Ended). IsRunAsPromised (Some idle) r i device
+      (record { history = steps_among step_made entries; ends = es }))
+      (map-map ended_of (λ (w : Worker). w.actor) workers ∙ sym ended)
       (done-promised (λ (w : Worker). view_in w.pass) (λ (w : Worker). w.actor) (Some idle) r i device entries workers is_record described all_done)
+
+-- of the whole record, where it is so of each device
+pub collected : (idle : ℕ) (r : RecordView) (outcomes : List (Option DeviceEnds)) (devices : List DeviceEnds) → length outcomes ≡ length r.devices
+    → ((i : ℕ) (d : Option DeviceEnds) → i < length outcomes → IfSome (get_or outcomes i d) (IsPromisedOf idle r i))
+    → map Some devices ≡ outcomes → ArePromised (Some idle) r (played_of devices)
+collected idle r outcomes devices long each all =
+    all-promised (Some idle) r devices (sym (length-map devices Some) ∙ ap length all ∙ long)
+    (λ i device done is_device is_done.
+    (let there : slice_get outcomes i ≡ Some (Some done) =
+    ap (λ (s : List (Option DeviceEnds)). slice_get s i) (sym all) ∙ slice_get-map Some devices i ∙ ap (option_map Some) is_done in
+    let promised : IfSome (Some done) (IsPromisedOf idle r i) =
+    subst (λ (outcome : Option DeviceEnds). IfSome outcome (IsPromisedOf idle r i)) (get_or_from_slice_get outcomes i (Some done) None there) (each i None (slice_get_within outcomes i (Some done) there)) in
+    promised device is_device))

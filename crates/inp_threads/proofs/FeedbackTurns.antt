@@ -4,29 +4,18 @@ use Rattle.std.specs.Prelude.{min}
 use Rattle.std.specs.List.{cons_option}
 use Rattle.std.proofs.lemmas.List.{append-nil, length-reverse, reverse-append}
 use Rattle.std.proofs.Math.Seq.{take-append_seam}
-use Rattle.inp_model.specs.declared.event.Event.{Event}
-use Rattle.inp_model.specs.Description.{Description}
-use Rattle.inp_model.specs.Reply.{written}
-use Rattle.inp_turn.specs.declared.pass_view.PassView.{PassView}
-use Rattle.inp_actors.specs.declared.line.Line.{Line}
-use Rattle.inp_feedback.specs.declared.u_entry.UEntry.{UEntry}
+use Rattle.inp_script.proofs.Words.{Description, Line, UEntry, steps_in, ActorView, written, Event, Fed, FEEDBACK_MAX}
+use Rattle.inp_threads.proofs.Words.{PassView, rooms_of, IsFedTurn, HasCallsAt, HasFedLines, Stop}
 use Rattle.inp_feedback.specs.declared.u_entry.UEntry.TheVariants.{Feedback}
-use Rattle.inp_feedback.specs.declared.fed.Fed.{Fed}
 use Rattle.inp_feedback.specs.declared.fed.Fed.TheVariants.{Took, Full}
-use Rattle.inp_feedback.specs.declared.fed.TheConstants.{FEEDBACK_MAX}
 use Rattle.inp_feedback.specs.Feeds.{Feeding, taken_count}
-use Rattle.inp_feedback.specs.UEntry.{steps_in}
 use Rattle.inp_feedback.specs.Feedback.{feedback_queue, is_full_of_feedback, taken_by_feedback, fed}
 use Rattle.inp_feedback.proofs.Few.{room-enough, room-enough-taken}
 use Rattle.inp_uinput.specs.FeedbackTurn.{entries_after_call, call_places, IsFeedbackTurn}
-use Rattle.inp_script.specs.declared.stop.Stop.{Stop}
 use Rattle.inp_script.specs.ActorLine.{FeedCall, AreFeedCalls}
-use Rattle.inp_script.specs.Job.{ActorView}
 use Rattle.inp_script.specs.Owner.{Owning, after_feedback, FeedsUnless}
 use Rattle.inp_runs.specs.DoingAll.{AreOwned}
-use Rattle.inp_runs.specs.Owner.{rooms_of}
 use Rattle.inp_runs.proofs.owners.OwnerLaws.{fed-free, fed-full, kept-free, told-call-so, told-stopped-so}
-use Rattle.inp_threads.specs.Owner.{IsFedTurn, HasCallsAt, HasFedLines}
 use Rattle.inp_threads.proofs.CallsAt.{calls-go_on, calls-longer}
 
 -- What a call takes and answers

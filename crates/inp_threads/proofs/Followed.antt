@@ -4,36 +4,16 @@ use Rattle.std.specs.Prelude.{slice_get}
 use Rattle.std.specs.List.{count_by}
 use Rattle.std.proofs.lemmas.List.{reverse-reverse}
 use mathlib.Core.List.{IsPrefix}
-use Rattle.inp_model.specs.declared.step.Step.{Step}
-use Rattle.inp_model.specs.Description.{Description}
-use Rattle.inp_model.specs.Evdev.{BeginsWith}
-use Rattle.inp_model.specs.Run.{Call, IsLegalFrom, next_place}
+use Rattle.inp_script.proofs.Words.{Step, Description, ActorText, Role, is_owner, RecordView, IsRecord, UEntry, step_made, ActorView, Job, first_job, BeginsWith, Call, IsLegalFrom, next_place, HasDeviceSlots, ended_of, Owner, LeadsTo, EndsWith, finish}
 use Rattle.inp_model.proofs.Leaves.{HasPlace-longer}
-use Rattle.inp_actors.specs.declared.actor_text.ActorText.{ActorText}
-use Rattle.inp_actors.specs.declared.role.Role.{Role}
-use Rattle.inp_actors.specs.declared.role.Role.TheVariants.{Owner}
-use Rattle.inp_actors.specs.Command.{is_owner}
-use Rattle.inp_actors.specs.Record.{RecordView, IsRecord}
-use Rattle.inp_feedback.specs.declared.u_entry.UEntry.{UEntry}
-use Rattle.inp_feedback.specs.UEntry.{step_made}
-use Rattle.inp_reader.specs.Talk.{LeadsTo, EndsWith, finish}
-use Rattle.inp_script.specs.declared.waiting.Waiting.{Waiting}
-use Rattle.inp_script.specs.Ended.{HasDeviceSlots, ended_of}
-use Rattle.inp_script.specs.Job.{ActorView, Job, first_job}
-use Rattle.inp_runs.specs.Done.{HasFollowed, calls_at}
-use Rattle.inp_runs.specs.Job.{is_entry_at, lines_by, lines_talk}
-use Rattle.inp_runs.specs.Owner.{rooms_of}
+use Rattle.inp_threads.proofs.Words.{rooms_of, PassView, OwnsSeen, steps_among, step_places, HasWorked, HasOwnedLines, HasFollowed, calls_at, is_entry_at, lines_by, lines_talk, Waiting}
 use Rattle.inp_runs.proofs.Done.{followed-told}
 use Rattle.inp_runs.proofs.DoingAll.{no-owner}
 use Rattle.inp_runs.proofs.Entries.{told-counts}
 use Rattle.inp_runs.proofs.owners.OwnerTalks.{lines-nothing}
-use Rattle.inp_turn.specs.declared.pass_view.PassView.{PassView}
-use Rattle.inp_turn.specs.PassView.{OwnsSeen}
-use Rattle.inp_port.specs.Entries.{steps_among, step_places}
 use Rattle.inp_port.proofs.Places.{steps-begins, step_places-begins}
-use Rattle.inp_threads.specs.Worker.{HasWorked, HasOwnedLines}
 use Rattle.inp_threads.proofs.CallsAt.{HasAllCalls, calls-no_steps, lines-owned}
-use Rattle.inp_threads.proofs.PlaceCounts.{times, times-calls}
+use Rattle.inp_threads.proofs.Counts.{times, times-calls}
 
 pub legal-longer : (d : Description) (h k : List Step) (least : ℕ) (calls : List Call) → BeginsWith h k → IsLegalFrom d h least calls → IsLegalFrom d k least calls
 legal-longer d h k least [] begins l = tt

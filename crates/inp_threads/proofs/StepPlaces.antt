@@ -23,16 +23,13 @@ module _ {E : Type 0} (made : E → Option Step) where
   next-number m n = grind (arith, nat_tests)
 
   -- the steps before a place that is not the first one
-  before-step : (e : E) (entries : List E) (x : Step) (p : ℕ) → made e ≡ Some x → steps_before made (e ∷ entries) (suc p) ≡ suc (steps_before made entries p)
-  before-step e entries x p is = ap (λ (o : Option Step). length (cons_option o (steps_among made (take p entries)))) is
-
-  before-other : (e : E) (entries : List E) (p : ℕ) → made e ≡ None → steps_before made (e ∷ entries) (suc p) ≡ steps_before made entries p
-  before-other e entries p none = ap (λ (o : Option Step). length (cons_option o (steps_among made (take p entries)))) none
+  before : (e : E) (entries : List E) (o : Option Step) (p : ℕ) → made e ≡ o → steps_before made (e ∷ entries) (suc p) ≡ length (cons_option o (steps_among made (take p entries)))
+  before e entries o p is = ap (λ (s : Option Step). length (cons_option s (steps_among made (take p entries)))) is
 
   first-step : (e : E) (entries : List E) (x : Step) → made e ≡ Some x → (p : ℕ) → (is_step_at made (e ∷ entries) p && nat_eq 0 (steps_before made (e ∷ entries) p)) ≡ nat_eq 0 p
   first-step e entries x is zero = ap (λ (o : Option Step). is_some o && nat_eq 0 0) is
   first-step e entries x is (suc p) =
-      ap (λ (k : ℕ). is_step_at made entries p && nat_eq 0 k) (before-step e entries x p is)
+      ap (λ (k : ℕ). is_step_at made entries p && nat_eq 0 k) (before e entries (Some x) p is)
       ∙ ap (λ (b : Bool). is_step_at made entries p && b) (ne_eqb 0 (suc (steps_before made entries p)) (λ e. omega (arith, e)))
       ∙ flat (is_step_at made entries p) ∙ sym (ne_eqb 0 (suc p) (λ e. omega (arith, e)))
 
@@ -41,7 +38,7 @@ module _ {E : Type 0} (made : E → Option Step) where
   next-step e entries x n place is alone zero =
       ap (λ (b : Bool). is_some (made e) && b) (ne_eqb (suc n) 0 (λ e. omega (arith, e))) ∙ flat (is_some (made e)) ∙ sym (ne_eqb (suc place) 0 (λ e. omega (arith, e)))
   next-step e entries x n place is alone (suc p) =
-      ap (λ (k : ℕ). is_step_at made entries p && nat_eq (suc n) k) (before-step e entries x p is)
+      ap (λ (k : ℕ). is_step_at made entries p && nat_eq (suc n) k) (before e entries (Some x) p is)
       ∙ ap (λ (b : Bool). is_step_at made entries p && b) (next-number n (steps_before made entries p))
       ∙ alone p ∙ sym (next-number place p)
 
@@ -50,7 +47,7 @@ module _ {E : Type 0} (made : E → Option Step) where
   next-other e entries n place none alone zero =
       ap (λ (o : Option Step). is_some o && nat_eq n (steps_before made (e ∷ entries) 0)) none ∙ sym (ne_eqb (suc place) 0 (λ e. omega (arith, e)))
   next-other e entries n place none alone (suc p) =
-      ap (λ (k : ℕ). is_step_at made entries p && nat_eq n k) (before-other e entries p none) ∙ alone p ∙ sym (next-number place p)
+      ap (λ (k : ℕ). is_step_at made entries p && nat_eq n k) (before e entries None p none) ∙ alone p ∙ sym (next-number place p)
 
   after-step : (e : E) (entries : List E) (x : Step) (n : ℕ) → made e ≡ Some x → ((m : ℕ) → n ≡ suc m → IsPlaceOfStep entries m) → IsPlaceOfStep (e ∷ entries) n
   after-step e entries x zero is later = record { place = 0; within = omega arith; alone = first-step e entries x is }
@@ -61,27 +58,21 @@ module _ {E : Type 0} (made : E → Option Step) where
   after-other : (e : E) (entries : List E) (n : ℕ) → made e ≡ None → IsPlaceOfStep entries n → IsPlaceOfStep (e ∷ entries) n
   after-other e entries n none there = record { place = suc there.place; within = omega (arith, there.within); alone = next-other e entries n there.place none there.alone }
 
-  one-less : (e : E) (entries : List E) (x : Step) (n m : ℕ) → made e ≡ Some x → n < length (steps_among made (e ∷ entries)) → n ≡ suc m → m < length (steps_among made entries)
-  one-less e entries x n m is l same = omega (arith, l, same, ap (λ (o : Option Step). length (cons_option o (steps_among made entries))) is)
-
-  no-less : (e : E) (entries : List E) (n : ℕ) → made e ≡ None → n < length (steps_among made (e ∷ entries)) → n < length (steps_among made entries)
-  no-less e entries n none l = omega (arith, l, ap (λ (o : Option Step). length (cons_option o (steps_among made entries))) none)
-
   pub step-stands : (entries : List E) (n : ℕ) → n < length (steps_among made entries) → IsPlaceOfStep entries n
   step-stands [] n l = absurd (omega (arith, l))
-  step-stands (e ∷ entries) n l = by (made e) refl (λ m k. step-stands entries m k)
-    where
-      by : (o : Option Step) → made e ≡ o → ((m : ℕ) → m < length (steps_among made entries) → IsPlaceOfStep entries m) → IsPlaceOfStep (e ∷ entries) n
-      by None is later = after-other e entries n is (later n (no-less e entries n is l))
-      by (Some x) is later = after-step e entries x n is (λ m same. later m (one-less e entries x n m is l same))
+  step-stands (e ∷ entries) n l =
+      let fewer = λ (o : Option Step) (is : made e ≡ o). ap
+      (λ (s : Option Step). length (cons_option s (steps_among made entries))) is in
+      (elim (made e) as (λ (o : Option Step). made e ≡ o → IsPlaceOfStep (e ∷ entries) n) [
+        | None ↦ λ is. after-other e entries n is (step-stands entries n (omega (arith, l, fewer None is)))
+        | Some x ↦ λ is. after-step e entries x n is
+            (λ m same. step-stands entries m (omega (arith, l, same, fewer (Some x) is)))
+      ]) refl
 
   -- how often a step's place is among those of places of entries
-  abbrev weight : Bool → ℕ
-  weight b = cond b 1 0
-
   one-place : (n m count rest place p : ℕ) (b : Bool) → (b && nat_eq n m) ≡ nat_eq place p → count ≡ cond b (cond (nat_eq n m) 1 0 + rest) rest → count ≡ cond (nat_eq place p) 1 0 + rest
-  one-place n m count rest place p true e h = omega (arith, h, ap (λ (c : Bool). weight c) e)
-  one-place n m count rest place p false e h = omega (arith, h, ap (λ (c : Bool). weight c) e)
+  one-place n m count rest place p true e h = omega (arith, h, ap {B = ℕ} (λ (c : Bool). cond c 1 0) e)
+  one-place n m count rest place p false e h = omega (arith, h, ap {B = ℕ} (λ (c : Bool). cond c 1 0) e)
 
   first-count : (f : ℕ → ℕ) (n p : ℕ) (b : Bool) (rest : List ℕ) → count_by (nat_eq n) (map f (cond b (p ∷ rest) rest)) ≡ cond b (cond (nat_eq n (f p)) 1 0 + count_by (nat_eq n) (map f rest)) (count_by (nat_eq n) (map f rest))
   first-count f n p true rest = count-cons n (f p) (map f rest)
@@ -106,13 +97,9 @@ module _ {E : Type 0} (made : E → Option Step) where
   no-others entries [] place none away = refl
   no-others entries (p ∷ own) place none away = by (is_step_at made entries p) refl none (λ e. no-others entries own place e away)
     where
-      differ : (b : Bool) → b ≡ true → b ≡ false → ⊥
-      differ true h k = cc
-      differ false h k = cc
-
       by : (b : Bool) → is_step_at made entries p ≡ b → cond (not b) (p ∷ other_places made entries own) (other_places made entries own) ≡ [] → (other_places made entries own ≡ [] → count_by (nat_eq place) own ≡ 0) → count_by (nat_eq place) (p ∷ own) ≡ 0
       by true is e later =
-          omega (arith, count-cons place p own, later e, here-other place p (λ same. differ (is_step_at made entries p) is (ap (is_step_at made entries) (sym same) ∙ away)))
+          omega (arith, count-cons place p own, later e, here-other place p (λ same. let never : true ≡ false = sym is ∙ ap (is_step_at made entries) (sym same) ∙ away in cc))
       by false is e later = absurd (cc)
 
   -- of many owners

@@ -1,51 +1,57 @@
 -- What a worker's thread leaves: its pass is one of the same port, and its actor did its lines.
-use Rattle.std.proofs.Common.{◌≡◌, ℕ, ◌+◌, ◌<◌, ◌≤◌, Bool, true, false, not, cond, List, [], ◌∷◌, ◌++◌, length, drop, refl, sym, ap, subst, ◌∙◌, arith, inl, inr, Option, Some, None}
+use Rattle.std.proofs.Common.{◌≡◌, ℕ, ◌+◌, ◌<◌, ◌≤◌, Bool, true, false, not, cond, List, [], ◌∷◌, ◌++◌, length, drop, refl, sym, ap, subst, ◌∙◌, arith, inl, inr, Option, Some, None, zero, suc}
 use Rattle.std.specs.Prelude.{Result, Ok, Err, OnOk, if◌then◌else◌}
 use Rattle.std.specs.Result.{is_ok}
 use Rattle.std.proofs.lemmas.List.{append-nil}
 use Rattle.std.proofs.lemmas.List.Sums.{sum_by-cons}
 use Rattle.std.proofs.lemmas.Option.{same_Some}
-use Rattle.inp_model.specs.declared.event.Event.{Event}
-use Rattle.inp_model.specs.declared.step.Step.{Step}
-use Rattle.inp_model.specs.Description.{Description}
+use Rattle.inp_script.proofs.Words.{Step, Description, Line, Role, is_owner, RecordView, UEntry, step_made, EndsWith, HasActor, ActorView, Job, first_job, Owning, EvdevView, IsCall, TurnsRise, TurnsStand, Call, IsLegalRun, IsLegalFrom, Event, IsLeft, AreCalls, places_of, Owner, Fed, Feeding}
 use Rattle.inp_model.specs.Step.{is_inject}
-use Rattle.inp_model.specs.Evdev.{EvdevView, IsCall, TurnsRise, TurnsStand}
-use Rattle.inp_model.specs.Leaves.{IsLeft, AreCalls, places_of}
-use Rattle.inp_model.specs.Run.{Call, IsLegalRun, IsLegalFrom}
 use Rattle.inp_model.proofs.Leaves.{calls-legal, own-grown}
-use Rattle.inp_actors.specs.declared.line.Line.{Line}
-use Rattle.inp_actors.specs.declared.role.Role.{Role}
-use Rattle.inp_actors.specs.declared.role.Role.TheVariants.{Source, Client, Tap, Joy, Owner}
-use Rattle.inp_actors.specs.Command.{is_owner}
-use Rattle.inp_actors.specs.Record.{RecordView}
-use Rattle.inp_feedback.specs.declared.fed.Fed.{Fed}
-use Rattle.inp_feedback.specs.declared.u_entry.UEntry.{UEntry}
-use Rattle.inp_feedback.specs.Feeds.{Feeding}
-use Rattle.inp_feedback.specs.UEntry.{step_made}
-use Rattle.inp_reader.specs.Talk.{EndsWith}
-use Rattle.inp_script.specs.declared.waiting.Waiting.{Waiting}
-use Rattle.inp_script.specs.DoneLine.{HasActor}
-use Rattle.inp_script.specs.Job.{ActorView, Job, first_job}
 use Rattle.inp_script.specs.ActorLine.{IsActedOn}
-use Rattle.inp_script.specs.Owner.{Owning}
-use Rattle.inp_runs.specs.Job.{lines_by, lines_talk}
 use Rattle.inp_runs.specs.DoingAll.{ActsAll, DoesAll}
 use Rattle.inp_runs.proofs.DoingAll.{all-called, all-owned}
-use Rattle.inp_turn.specs.declared.kept.Kept.{Ghosts}
-use Rattle.inp_turn.specs.declared.pass.Pass.{Pass}
-use Rattle.inp_turn.specs.declared.pass_view.PassView.{PassView}
-use Rattle.inp_turn.specs.Pass.{view_of}
+use Rattle.inp_threads.proofs.Words.{Ghosts, Pass, PassView, view_of, PortOf, UdevView, rooms_of, lines_by, lines_talk, IsFedBy, HasFedLines, IsAtStart, IsFreshPass, HasPass, HasWorked, HasOwnedLines, HasDoneLines, asking_count, Waiting}
 use Rattle.inp_turn.specs.Shared.{shared_id}
-use Rattle.inp_port.specs.declared.port.PortOf.{PortOf}
 use Rattle.inp_port.specs.Entries.{steps_among, step_places, other_places}
 use Rattle.inp_port.specs.Port.{IsReadyAt, description_of, told_by}
-use Rattle.inp_uinput.specs.UdevView.{UdevView}
-use Rattle.inp_runs.specs.Owner.{rooms_of}
-use Rattle.inp_threads.specs.Owner.{IsFedBy, HasFedLines}
-use Rattle.inp_threads.specs.Worker.{IsAtStart, IsFreshPass, HasPass, HasWorked, HasOwnedLines, HasDoneLines, asking_count}
 use Rattle.inp_threads.proofs.CallsAt.{no-calls}
 use Rattle.inp_threads.proofs.FeedbackTurns.{all-lines, calls-keep, owner-stays}
-use Rattle.inp_threads.proofs.Ties.{numbers_in, number_at, as-long, same-table}
+use Rattle.inp_turn.specs.declared.shared.Shared.{Shared}
+
+-- The tie of a caller of a port names the port
+
+abbrev numbers_in : Option (List ℕ) → List ℕ
+numbers_in None = []
+numbers_in (Some numbers) = numbers
+
+abbrev number_at : ℕ → List ℕ → ℕ
+number_at k [] = 0
+number_at zero (n ∷ ns) = n
+number_at (suc k) (n ∷ ns) = number_at k ns
+
+-- a list as long as one that begins with it
+as-long : (xs ys more : List ℕ) → length xs ≡ length ys → xs ++ more ≡ ys → (xs ≡ ys) × (more ≡ [])
+as-long [] [] more long h = (refl, h)
+as-long [] (y ∷ ys) more long h = absurd (omega (arith, long))
+as-long (x ∷ xs) [] more long h = absurd (omega (arith, long))
+as-long (x ∷ xs) (y ∷ ys) more long h =
+    let rest = as-long xs ys more (omega (arith, long)) (ap (drop 1) h) in
+    ((λ i. ap (number_at 0) h i ∷ rest.0 i), rest.1)
+
+-- which table it is, by its name
+same-table : (s s' : Shared UdevView Description UEntry) → shared_id s' ≡ shared_id s → s'.table.shared.table_id ≡ s.table.shared.table_id
+same-table s s' e = λ i. record {
+  words = number_at 0 (e i);
+  slots = number_at 1 (e i);
+  views_name = number_at 2 (e i);
+  atom = number_at 3 (e i);
+  block = number_at 4 (e i);
+  offset = number_at 5 (e i);
+  slot_names = drop 6 (e i);
+}
+
+-- What a pass leaves
 
 module _ {K : Ghosts UdevView Description UEntry} where
   -- Calls through a pass that has seen nothing leave its share, and it stays a pass of the port that it was one of. It owns
@@ -83,8 +89,7 @@ unfolding AreCalls
 turns-taken before after [] m same told = (m, ap (λ (v : EvdevView). v.turns) same ∙ told, omega arith)
 turns-taken before after (call ∷ calls) m h told =
     let c : IsCall before h.0 call = h.1 in
-    let between : EvdevView = h.0 in
-    let next = one-turn before.turns between.turns (is_inject call.step) m c.turns c.rises told in
+    let next = one-turn before.turns h.0.turns (is_inject call.step) m c.turns c.rises told in
     let last = turns-taken h.0 after calls next.0 h.2 next.1 in
     let counted = sum_by-cons (λ (x : Call). cond (not (is_inject x.step)) 1 0) call calls in
     (last.0, last.1, one-more (is_inject call.step) m next.0 last.0 (asking_count calls) (asking_count (call ∷ calls)) next.2 last.2 counted)
@@ -105,7 +110,6 @@ has-worked : (r : RecordView) (d : Description) (wait : Option Waiting) (a : Act
 has-worked r d wait a new owning b e v no_seen no_own same_d seen own others m begun_turns turns described first does =
     let h = does.holds in
     let taken = turns-taken b e h.calls m h.are_calls begun_turns in
-    let counted : taken.0 ≡ v.turns = same_Some taken.0 v.turns (sym taken.1 ∙ turns) in
     let from : IsLegalFrom e.description e.seen 0 h.calls = subst (λ (s : List Step). IsLegalFrom e.description e.seen (length s) h.calls) no_seen (calls-legal b e h.calls h.are_calls) in
     let run : IsLegalRun d e.seen h.calls = subst (λ (x : Description). IsLegalFrom x e.seen 0 h.calls) same_d from in
     let begun : EndsWith (lines_talk a.role a.description r.streams wait does.rounds (lines_by a.actor r.lines) (first_job a.role a.description)) h.calls (Some new) =
@@ -117,16 +121,13 @@ has-worked r d wait a new owning b e v no_seen no_own same_d seen own others m b
       follows = subst (λ (x : Description). EndsWith (lines_talk a.role x r.streams wait does.rounds (lines_by a.actor r.lines) (first_job a.role x)) h.calls (Some new)) described begun;
       own = sym own ∙ own-grown b e h.calls h.are_calls ∙ ap (λ (places : List ℕ). places ++ places_of h.calls) no_own;
       others = others;
-      turns = omega (arith, taken.2, counted);
+      turns = omega (arith, taken.2, same_Some taken.0 v.turns (sym taken.1 ∙ turns));
     }
 
 -- an actor that is no owner did its lines by calls of an evdev
 calling-done : (role : Role) (r : RecordView) (d : Description) (wait : Option Waiting) (a : ActorView) (view : PassView Description UEntry) → is_owner role ≡ false → HasWorked r d wait a view → HasDoneLines role r d wait a view
-calling-done Source r d wait a view away h = h
-calling-done Client r d wait a view away h = h
-calling-done Tap r d wait a view away h = h
-calling-done Joy r d wait a view away h = h
 calling-done Owner r d wait a view away h = absurd cc
+calling-done _ r d wait a view away h = h
 
 -- a record has an actor, whatever its job and whatever it was told
 pub has_actor-still : (r : RecordView) (a : ActorView) (j : Job) (o : Owning) → HasActor r a → HasActor r (record a { job = j; owning = o })
@@ -157,46 +158,36 @@ module _ {S : Type 0} {K : Ghosts UdevView Description UEntry} (port : S → Por
   pub worked-done : (r : RecordView) (wait : Option Waiting) (before after : S) (old new : ActorView) → IsFreshPass (port before) (pass before) → IsReadyAt (port after) (pass after) → IsAtStart (port before) r old
       → new ≡ record old { job = new.job; owning = new.owning } → IsActedOn told feeds old.role before after → ActsAll told feeds before after r wait old new
       → HasDoneLines new.role r (description_of (port before)) wait new (view_of (pass after))
-  worked-done r wait before after old new fresh ready start still acted all = by_role acted
-    where
-      d : Description
-      d = description_of (port before)
-
-      v : PassView Description UEntry
-      v = view_of (pass after)
-
-      role : new.role ≡ old.role
-      role = ap (λ (a : ActorView). a.role) still
-
-      owned : old.role ≡ Owner → HasOwnedLines r d new v
-      owned owner =
-          let lines : List Line = lines_by old.actor r.lines in
-          let acts = all-owned told feeds r wait before after old new owner all in
-          let stays : new ≡ record old { owning = new.owning } = owner-stays feeds lines before after old new acts in
-          let fed : HasFedLines d (rooms_of lines) v new.owning =
-          all-lines feeds (λ (s : S). description_of (port s)) (λ (s : S). view_of (pass s))
-          (λ b a room answer events h. (let t = by b a room answer events h in (ap description_of t.0, t.1)))
-          lines [] before after old new
-          (record { done = []; before = old.owning; calls = no-calls d (view_of (pass before)) old.owning fresh.seen fresh.own start.owning; ends = inl (refl, refl) }) acts in
-          record {
-            fed = subst (λ (n : ℕ). HasFedLines d (rooms_of (lines_by n r.lines)) v new.owning) (sym (ap (λ (a : ActorView). a.actor) still)) fed;
-            job = ap (λ (a : ActorView). a.job) stays ∙ start.job ∙ (λ i. first_job (owner i) (start.description i));
-          }
-
-      by_role : IsActedOn told feeds old.role before after → HasDoneLines new.role r d wait new v
-      by_role (inl (owner, calls, made)) = subst (λ (x : Role). HasDoneLines x r d wait new v) (sym (role ∙ owner)) (owned owner)
-      by_role (inr (caller, left)) =
-          let p = pass before in
-          let its = pass-back (port before) (port after) p (pass after) (agains before) (agains after) fresh left ready in
-          calling-done new.role r d wait new v (ap is_owner role ∙ caller)
-          (subst (λ (a : ActorView). HasWorked r d wait a v) (sym still)
-          (has-worked r d wait old new.job new.owning (told before) (told after) v
-          (ap (steps_among step_made) fresh.seen) (ap (step_places step_made (view_of p).seen) fresh.own)
-          left.leaves.description refl refl its.others (view_of p).turns refl refl start.description start.job (all-called told feeds r wait before after old new caller all)))
+  worked-done r wait before after old new fresh ready start still acted all =
+      let d : Description = description_of (port before) in
+      let v : PassView Description UEntry = view_of (pass after) in
+      let role : new.role ≡ old.role = ap (λ (a : ActorView). a.role) still in
+      elim acted [
+        | inl fed_all ↦
+            (let owner : old.role ≡ Owner = fed_all.0 in
+            let lines : List Line = lines_by old.actor r.lines in
+            let acts = all-owned told feeds r wait before after old new owner all in
+            let stays : new ≡ record old { owning = new.owning } = owner-stays feeds lines before after old new acts in
+            let fed : HasFedLines d (rooms_of lines) v new.owning =
+            all-lines feeds (λ (s : S). description_of (port s)) (λ (s : S). view_of (pass s))
+            (λ b a room answer events h. (let t = by b a room answer events h in (ap description_of t.0, t.1)))
+            lines [] before after old new
+            (record { done = []; before = old.owning; calls = no-calls d (view_of (pass before)) old.owning fresh.seen fresh.own start.owning; ends = inl (refl, refl) }) acts in
+            let owned : HasOwnedLines r d new v = record {
+              fed = subst (λ (n : ℕ). HasFedLines d (rooms_of (lines_by n r.lines)) v new.owning) (sym (ap (λ (a : ActorView). a.actor) still)) fed;
+              job = ap (λ (a : ActorView). a.job) stays ∙ start.job ∙ (λ i. first_job (owner i) (start.description i));
+            } in
+            subst (λ (x : Role). HasDoneLines x r d wait new v) (sym (role ∙ owner)) owned)
+        | inr called ↦
+            (let p = pass before in
+            let its = pass-back (port before) (port after) p (pass after) (agains before) (agains after) fresh called.1 ready in
+            calling-done new.role r d wait new v (ap is_owner role ∙ called.0)
+            (subst (λ (a : ActorView). HasWorked r d wait a v) (sym still)
+            (has-worked r d wait old new.job new.owning (told before) (told after) v
+            (ap (steps_among step_made) fresh.seen) (ap (step_places step_made (view_of p).seen) fresh.own)
+            called.1.leaves.description refl refl its.others (view_of p).turns refl refl start.description start.job (all-called told feeds r wait before after old new called.0 all))))
+      ]
 
 pub on-ok : {T E : Type 0} (P : Type 0) (result : Result T E) (b : Bool) → b ≡ is_ok result → b ≡ true → OnOk result P → P
 on-ok P (Ok x) b same good h = h
-on-ok P (Err e) b same good h = absurd (opposite b same good)
-  where
-    opposite : (b : Bool) → b ≡ false → b ≡ true → ⊥
-    opposite b e f = cc
+on-ok P (Err e) b same good h = absurd (let never : false ≡ true = sym same ∙ good in cc)

@@ -1,6 +1,5 @@
 use Rattle.std.proofs.Common.{◌≤◌, length, arith, ap, IfOk}
-use Rattle.std.specs.Prelude.{Result, Ok, Err}
-use Rattle.inp_model.specs.declared.no_memory.NoMemory.{NoMemory}
+use Rattle.std.proofs.lemmas.Result.{IfOk-weaker}
 use Rattle.inp_runs.specs.Play.{IsPlay}
 use Rattle.inp_play.proofs.PlayerSteps.{done-none, done-more, done-all}
 use Rattle.inp_runs.proofs.order.Promised.{promised-if_ok}
@@ -12,13 +11,9 @@ loop-line-init c = done-none c.args.rec.now c.in_ok-player.player c.in_ok-player
 pub loop-line-preserved : goal.loop-line-preserved
 loop-line-preserved c = done-more c.args.rec.now c.loop-line.line c.in_ok-line.field-0 c.loop-line.player c.lines-in-loop-line.new.self c.loop-line.invariant c.in_ok-line.ensures.done c.in_ok-line.ensures.player
 
-by_result : {A : Type 0} (P Q : A → Type 0) (result : Result A NoMemory) → ((x : A) → P x → Q x) → IfOk result P → IfOk result Q
-by_result P Q (Ok x) more h = more x h
-by_result P Q (Err err) more h = tt
-
 pub returns : goal.returns
 returns c =
     let few = ap length c.lines.ensures.lines in
     let all : length c.args.rec.now.lines ≤ c.loop-line.line = omega (arith, c.loop-line-test.false, c.len-count.ensures.length, few) in
-    let in_order : IfOk c.finish.result (IsPlay c.args.rec.now) = by_result _ _ c.finish.result (λ played h. done-all c.args.rec.now c.loop-line.line c.loop-line.player played c.loop-line.invariant all h) c.finish.ensures.played in
+    let in_order : IfOk c.finish.result (IsPlay c.args.rec.now) = IfOk-weaker c.finish.result _ (IsPlay c.args.rec.now) (λ played h. done-all c.args.rec.now c.loop-line.line c.loop-line.player played c.loop-line.invariant all h) c.finish.ensures.played in
     record { played = in_order; promised = promised-if_ok c.args.rec.now c.finish.result c.lines.ensures.«record» c.in_ok-player.ensures.described in_order }

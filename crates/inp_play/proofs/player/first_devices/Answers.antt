@@ -1,15 +1,11 @@
-use Rattle.std.proofs.Common.{◌≡◌, ◌<◌, ◌⊎◌, inl, inr, ℕ, ◌+◌, length, map, take, List, [], ◌∷◌, ◌++◌, Some, sym, ap, subst, ◌∙◌, arith}
+use Rattle.std.proofs.Common.{◌≡◌, ◌<◌, inl, inr, ℕ, length, map, take, List, [], ◌∷◌, ◌++◌, Some, sym, ap, subst, ◌∙◌, arith}
 use Rattle.std.specs.List.{slice_get}
+use Rattle.std.proofs.lemmas.Bool.{cases_lt}
 use Rattle.std.proofs.lemmas.List.{map_more}
 use Rattle.std.proofs.lemmas.Option.{same_Some, slice_get_within, slice_get-get_or}
-use Rattle.inp_model.specs.Description.{Description, IsDescription}
-use Rattle.inp_actors.specs.declared.device_text.DeviceText.{DeviceText}
-use Rattle.inp_uinput.specs.UdevView.{UdevView}
-use Rattle.inp_play.specs.Player.{first_device}
+use Rattle.inp_script.proofs.Words.{Description, IsDescription, DeviceText}
+use Rattle.inp_play.proofs.Words.{UdevView, first_device}
 use Rattle.inp_play.proofs.player.first_devices.Goals as goal
-
-earlier_or_last : (i n : ℕ) → i < n + 1 → (i < n) ⊎ (i ≡ n)
-earlier_or_last i n h = grind arith
 
 pub loop-device-preserved : goal.loop-device-preserved
 loop-device-preserved c = record {
@@ -19,18 +15,18 @@ loop-device-preserved c = record {
       ∙ ap (λ (d : UdevView). map first_device (take c.loop-device.device-index c.as_slice-device-items.result.now) ++ d ∷ []) (c.in_ok-new.ensures.fresh ∙ ap (λ (caps : Description). record { description = caps; kept = []; agains = 0 }) c.copy.ensures.same)
       ∙ ap (λ (text : DeviceText). map first_device (take c.loop-device.device-index c.as_slice-device-items.result.now) ++ first_device text ∷ []) c.device-item.is
       ∙ sym (map_more first_device c.as_slice-device-items.result.now c.loop-device.device-index c.device-item.result c.loop-device-test.true);
-  described = λ i text below is. by i text is (earlier_or_last i c.loop-device.device-index below);
-}
-  where
-    by : (i : ℕ) (text : DeviceText) → slice_get c.as_slice-device-items.result.now i ≡ Some text → (i < c.loop-device.device-index) ⊎ (i ≡ c.loop-device.device-index) → IsDescription text.caps
-    by i text is (inl earlier) = c.loop-device.invariant.described i text earlier is
-    by i text is (inr last) =
+  described = λ i text below is. elim (cases_lt i c.loop-device.device-index) [
+    | inl earlier ↦ c.loop-device.invariant.described i text earlier is
+    | inr late ↦
+        (let last : i ≡ c.loop-device.device-index = omega (arith, late, below) in
         let got : slice_get c.as_slice-device-items.result.now i ≡ Some c.device-item.result =
         ap (λ (n : ℕ). slice_get c.as_slice-device-items.result.now n) last
         ∙ slice_get-get_or c.as_slice-device-items.result.now c.loop-device.device-index c.device-item.result c.loop-device-test.true
         ∙ ap (λ (t : DeviceText). Some t) (sym c.device-item.is) in
         let same : c.device-item.result ≡ text = same_Some c.device-item.result text (sym got ∙ is) in
-        subst IsDescription (c.copy.ensures.same ∙ ap (λ (t : DeviceText). t.caps) same) c.copy.ensures.description
+        subst IsDescription (c.copy.ensures.same ∙ ap (λ (t : DeviceText). t.caps) same) c.copy.ensures.description)
+  ];
+}
 
 pub returns-clause-described : goal.returns-clause-described
 returns-clause-described c = λ i device is.

@@ -1,8 +1,27 @@
-use Rattle.std.proofs.Common.{◌∙◌, ◌∷◌, [], List, ◌++◌, ap, sym, append_assoc}
-use Rattle.inp_script.specs.Ended.{jobs_among, joys_among, owners_among}
-use Rattle.inp_script.specs.Job.{JobView, JoyJobView, OwnerView}
-use Rattle.inp_script.proofs.Endings.{jobs_among-append, joys_among-append, owners_among-append}
+use Rattle.std.proofs.Common.{◌≡◌, refl, ◌∙◌, ◌∷◌, [], List, ◌++◌, ap, sym, append_assoc}
+use Rattle.inp_script.proofs.Words.{Ended, jobs_among, joys_among, owners_among, JobView, JoyJobView, OwnerView}
+use Rattle.inp_script.specs.declared.end.ended.Ended.TheVariants.{Job as JobEnded, Joy as JoyEnded, Owner as OwnerEnded}
 use Rattle.inp_script.proofs.run.sort_ends.Goals as goal
+
+-- Where one more comes behind the others
+
+jobs_among-append : (ends more : List Ended) → jobs_among (ends ++ more) ≡ jobs_among ends ++ jobs_among more
+jobs_among-append [] more = refl
+jobs_among-append (JobEnded job ∷ ends) more = ap (λ (jobs : List JobView). job ∷ jobs) (jobs_among-append ends more)
+jobs_among-append (JoyEnded joy ∷ ends) more = jobs_among-append ends more
+jobs_among-append (OwnerEnded owner ∷ ends) more = jobs_among-append ends more
+
+joys_among-append : (ends more : List Ended) → joys_among (ends ++ more) ≡ joys_among ends ++ joys_among more
+joys_among-append [] more = refl
+joys_among-append (JobEnded job ∷ ends) more = joys_among-append ends more
+joys_among-append (JoyEnded joy ∷ ends) more = ap (λ (joys : List JoyJobView). joy ∷ joys) (joys_among-append ends more)
+joys_among-append (OwnerEnded owner ∷ ends) more = joys_among-append ends more
+
+owners_among-append : (ends more : List Ended) → owners_among (ends ++ more) ≡ owners_among ends ++ owners_among more
+owners_among-append [] more = refl
+owners_among-append (JobEnded job ∷ ends) more = owners_among-append ends more
+owners_among-append (JoyEnded joy ∷ ends) more = owners_among-append ends more
+owners_among-append (OwnerEnded owner ∷ ends) more = ap (λ (owners : List OwnerView). owner ∷ owners) (owners_among-append ends more)
 
 pub loop-ended-preserved : goal.loop-ended-preserved
 loop-ended-preserved c = (

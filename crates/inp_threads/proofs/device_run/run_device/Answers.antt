@@ -1,24 +1,11 @@
 use Rattle.std.proofs.Common.{◌≡◌, List, [], length, refl, sym, ap, subst, ◌∙◌, arith, Some}
 use Rattle.std.specs.Prelude.{reverse, slice_get}
 use Rattle.std.proofs.lemmas.Option.{same_Some}
-use Rattle.std.proofs.lemmas.Result.{IfOk-weaker}
 use lib.ListN.{length-map}
-use Rattle.inp_model.specs.declared.step.Step.{Step}
-use Rattle.inp_model.specs.Description.{IsDescription}
-use Rattle.inp_feedback.specs.declared.u_entry.UEntry.{UEntry}
-use Rattle.inp_feedback.specs.UEntry.{step_made}
-use Rattle.inp_port.specs.Entries.{steps_among}
-use Rattle.inp_uinput.specs.UdevView.{UdevView}
+use Rattle.inp_script.proofs.Words.{Step, IsDescription, UEntry, step_made, DeviceText}
+use Rattle.inp_threads.proofs.Words.{steps_among, UdevView, IsRunAsPromised, view_of, actor_number, IsEachAddedOnce, Ended, DeviceEnds}
 use Rattle.inp_uinput.proofs.ServedEntries.{steps-reverse}
-use Rattle.inp_script.specs.declared.end.ended.Ended.{Ended}
-use Rattle.inp_actors.specs.declared.device_text.DeviceText.{DeviceText}
-use Rattle.inp_script.specs.declared.run.DeviceEnds.{DeviceEnds}
-use Rattle.inp_runs.specs.Done.{IsRunAsPromised}
-use Rattle.inp_turn.specs.Pass.{view_of}
-use Rattle.inp_turn.specs.PassView.{IsEachAddedOnce}
 use Rattle.inp_port.specs.Port.{description_of, start_value}
-use Rattle.inp_threads.specs.Promise.{IsPromisedOf}
-use Rattle.inp_threads.specs.Worker.{actor_number}
 use Rattle.inp_threads.proofs.DeviceRun.{IsLeftOf, left-promised}
 use Rattle.inp_threads.proofs.device_run.run_device.Goals as goal
 

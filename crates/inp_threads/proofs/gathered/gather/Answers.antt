@@ -1,12 +1,11 @@
 use Rattle.std.proofs.Common.{List, [], ◌∷◌, ◌++◌, length, sym, ap, subst, ◌∙◌}
 use Rattle.std.proofs.lemmas.Iterator.Adapters.{YieldsList-from_vec}
 use Rattle.std.proofs.lemmas.Iterator.Consumers.{YieldsList-turn}
+use Rattle.std.proofs.lemmas.List.{map-append}
 use Rattle.std.proofs.lemmas.List.Elements.{All-push}
-use Rattle.inp_script.specs.declared.end.ended.Ended.{Ended}
-use Rattle.inp_turn.specs.Pass.{view_of}
-use Rattle.inp_threads.specs.declared.worker.Worker.{Worker}
-use Rattle.inp_threads.specs.Joined.{IsBack, IsSizedWorker, ends_of_workers}
-use Rattle.inp_threads.proofs.JoinedPasses.{done-more, joined-more, ends_of_workers-append}
+use Rattle.inp_script.proofs.Words.{ended_of}
+use Rattle.inp_threads.proofs.Words.{Ended, view_of, Worker, IsBack, IsSizedWorker, ends_of_workers}
+use Rattle.inp_threads.proofs.Passes.{done-more, joined-more}
 use Rattle.inp_threads.proofs.gathered.gather.Goals as goal
 
 pub add-gathered-requires-clause-back : goal.add-gathered-requires-clause-back
@@ -23,7 +22,7 @@ loop-worker-preserved c =
     let added = c.add-gathered.ensures in (
       added.ready,
       joined-more so_far (w ∷ []) (view_of c.args.pass) (view_of c.loop-worker.gathered.pass) (view_of c.add-gathered.result.pass) is.1 added.joined,
-      added.ends ∙ ap (λ (ends : List Ended). ends ++ ends_of_workers (w ∷ [])) is.2 ∙ sym (ends_of_workers-append so_far (w ∷ [])),
+      added.ends ∙ ap (λ (ends : List Ended). ends ++ ends_of_workers (w ∷ [])) is.2 ∙ sym (map-append (λ (u : Worker). ended_of u.actor) so_far (w ∷ [])),
       added.capacity ∙ is.3,
       All-push IsSizedWorker so_far w is.4 added.sized,
       λ both. done-more so_far w c.loop-worker.gathered.is_done is.5 (sym added.done ∙ both),

@@ -3,7 +3,7 @@ use Rattle.std.specs.Prelude.{slice_get}
 use Rattle.std.proofs.lemmas.Bool.Decides.{nat_tests}
 use Rattle.inp_actors.specs.declared.actor_text.ActorText.{ActorText}
 use Rattle.inp_threads.specs.Worker.{AreDealtUpTo}
-use Rattle.inp_threads.proofs.DealtPasses.{dealt-other, on_device}
+use Rattle.inp_threads.proofs.Passes.{dealt-other, on_device}
 use Rattle.inp_threads.proofs.workers.deal.Goals.{then-get-device+in_ok-deal_one, else-get-device}
 use Rattle.inp_threads.proofs.workers.deal.Goals as goal
 

@@ -1,7 +1,6 @@
 use Rattle.std.proofs.Common.{◌+◌, Some, refl, sym, ap, subst, ◌∙◌, arith, false}
-use Rattle.inp_threads.specs.declared.worker.Worker.{Worker}
-use Rattle.inp_threads.specs.Worker.{IsReadyOn, AreDealtUpTo}
-use Rattle.inp_threads.proofs.DealtPasses.{dealt-few, dealt-more, its-device, its-description}
+use Rattle.inp_threads.proofs.Words.{Worker, IsReadyOn, AreDealtUpTo}
+use Rattle.inp_threads.proofs.Passes.{dealt-few, dealt-more, its-device, its-description}
 use Rattle.inp_threads.proofs.workers.deal_one.Goals as goal
 
 pub split-requires-clause-share : goal.split-requires-clause-share

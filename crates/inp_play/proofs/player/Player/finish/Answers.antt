@@ -1,17 +1,12 @@
-use Rattle.std.proofs.Common.{◌≡◌, length, map, List, sym, ap, subst, ◌∙◌, arith, Some, IfOk}
+use Rattle.std.proofs.Common.{◌≡◌, length, List, sym, ap, subst, ◌∙◌, arith, Some, IfOk}
 use Rattle.std.specs.Prelude.{slice_get}
 use Rattle.std.proofs.lemmas.Iterator.Adapters.{YieldsList-from_vec}
 use Rattle.std.proofs.lemmas.Iterator.Consumers.{YieldsList-end, YieldsList-turn}
 use Rattle.std.proofs.lemmas.List.{map-id}
-use Rattle.inp_actors.specs.declared.actor_text.ActorText.{ActorText}
-use Rattle.inp_script.specs.declared.end.ended.Ended.{Ended}
-use Rattle.inp_script.specs.declared.run.DeviceEnds.{DeviceEnds}
-use Rattle.inp_script.specs.Ended.{ended_of, played_of}
-use Rattle.inp_script.specs.Job.{ActorView}
-use Rattle.inp_runs.specs.Play.{runs_of}
-use Rattle.inp_play.specs.GatheredRuns.{HasEndMore}
-use Rattle.inp_play.specs.Player.{stage_of, stage_with}
-use Rattle.inp_play.proofs.Gathered.{IsNext, is_next, next-actor, next-device, no_ends, one_more_end}
+use Rattle.std.proofs.lemmas.Option.{slice_get_within}
+use Rattle.inp_script.proofs.Words.{ActorText, ended_of, played_of, ActorView}
+use Rattle.inp_play.proofs.Words.{runs_of, stage_of, stage_with, HasEndMore, Ended, DeviceEnds}
+use Rattle.inp_play.proofs.Gathered.{IsNext, is_next, next-device, no_ends, one_more_end}
 use Rattle.inp_play.proofs.player.Player.finish.Goals as goal
 
 pub loop-actor-init : goal.loop-actor-init
@@ -24,7 +19,7 @@ get-requires c =
     let next : IsNext c.args.rec.now c.args.self.devices.items c.in-Some.actor = is_next c.args.rec.now c.args.self.devices.items c.args.self.actors.items (length c.loop-actor.yielded) c.in-Some.actor c.actors.ensures.record c.requires.player.devices c.requires.player.actors turn in
     let number = c.number.ensures.number in
     let few = ap length c.actors.ensures.actors in
-    record { within = omega (arith, next-actor c.args.rec.now c.args.self.devices.items c.in-Some.actor next, number, few) }
+    record { within = omega (arith, slice_get_within c.args.rec.now.actors c.in-Some.actor.actor next.text next.is_text, number, few) }
 
 pub push_end-requires : goal.push_end-requires
 push_end-requires c =

@@ -1,6 +1,5 @@
 use Rattle.std.proofs.Common.{◌≡◌}
-use Rattle.inp_runs.specs.Play.{runs_of}
-use Rattle.inp_play.specs.Player.{stage_with}
+use Rattle.inp_play.proofs.Words.{runs_of, stage_with}
 use Rattle.inp_play.proofs.player.Player.finish.Given as goal
 
 abbrev pub invariant-loop-actor : goal.invariant-loop-actor

@@ -1,19 +1,9 @@
 use Rattle.std.proofs.Common.{◌≡◌, ◌≤◌, ◌<◌, ℕ, ◌+◌, ◌-◌, List, length, map, take, drop, refl, sym, ap, subst, ◌∙◌, Some, arith}
 use Rattle.std.specs.Prelude.{slice_set}
 use Rattle.std.proofs.lemmas.List.{take_all, length-drop, length-take-le}
-use Rattle.inp_model.specs.declared.stamped.Stamped.{Stamped}
+use Rattle.inp_script.proofs.Words.{Stamped, ActorText, Line, Source, RecordView, Holds, inject_talk, ActorView}
 use Rattle.inp_model.proofs.Leaves.{description-kept}
-use Rattle.inp_actors.specs.declared.actor_text.ActorText.{ActorText}
-use Rattle.inp_actors.specs.declared.line.Line.{Line}
-use Rattle.inp_actors.specs.declared.role.Role.TheVariants.{Source}
-use Rattle.inp_actors.specs.Record.{RecordView}
-use Rattle.inp_script.specs.DoneLine.{Holds, inject_talk}
-use Rattle.inp_script.specs.Job.{ActorView}
-use Rattle.inp_uinput.specs.UdevView.{UdevView, owned_view}
-use Rattle.inp_runs.specs.Play.{after_lines}
-use Rattle.inp_play.specs.declared.player.Player.{Player}
-use Rattle.inp_play.specs.Player.{stage_of, stage_with, HasDevices, HasActors}
-use Rattle.inp_runs.specs.EventLines.{inject_line}
+use Rattle.inp_play.proofs.Words.{UdevView, owned_view, Player, stage_of, stage_with, HasDevices, HasActors, inject_line, after_lines}
 use Rattle.inp_play.proofs.PlayerLines.{IsFound, found-same_role, inject_does, devices_stay, actors_stay}
 use Rattle.inp_play.proofs.PlayerSteps.{IsDone, found_by}
 use Rattle.inp_play.proofs.RunLines.{AreInjects, injects-in_time, injects-source}

@@ -1,7 +1,6 @@
 use Rattle.std.proofs.Common.{List, map, sym, ap, subst, ◌∙◌}
-use Rattle.inp_uinput.specs.UdevView.{UdevView}
+use Rattle.inp_play.proofs.Words.{UdevView, stage_with, first_device, HasDevices}
 use Rattle.inp_script.specs.Job.{ActorView}
-use Rattle.inp_play.specs.Player.{stage_with, first_device, HasDevices}
 use Rattle.inp_play.proofs.FirstPlayer.{first_has_devices, first_stage_with}
 use Rattle.inp_play.proofs.player.Player.new.Goals as goal
 

@@ -2,12 +2,8 @@ use Rattle.std.proofs.Common.{◌≡◌, ◌∙◌, sym, ap, List}
 use Rattle.std.specs.Prelude.{Some}
 use Rattle.std.specs.List.{slice_get}
 use Rattle.std.proofs.lemmas.Result.{on_ok_weaker}
-use Rattle.inp_actors.specs.declared.line.Line.{Line}
-use Rattle.inp_actors.specs.declared.role.Role.TheVariants.{Owner as OwnerRole}
-use Rattle.inp_script.specs.declared.role.state.RoleState.{RoleState}
+use Rattle.inp_script.proofs.Words.{Line, RoleState, IsCommandFor, ActorView, Job, Owner as OwnerRole}
 use Rattle.inp_script.specs.declared.role.state.RoleState.TheVariants.{Owner}
-use Rattle.inp_script.specs.DoneLine.{IsCommandFor}
-use Rattle.inp_script.specs.Job.{ActorView, Job}
 use Rattle.inp_script.specs.RoleState.{role_of, role_description, job_in, owning_in, owning_of}
 use Rattle.inp_script.proofs.ActorLines.{caller-of, owns-done, owns-begun, calls-done, calls-begun, still-actor}
 use Rattle.inp_script.proofs.LinesDone.{command-of}
@@ -21,8 +17,7 @@ returns-in-Owner g c =
     let old : ActorView = c.args.self.now in
     let got : Line = c.get.result.now in
     let is_line : slice_get r.lines c.args.line ≡ Some got = ap (λ (lines : List Line). slice_get lines c.args.line) (sym c.lines.ensures.lines) ∙ c.get.ensures.item in
-    let same : c.requires.line.line ≡ got = cc (c.requires.line.is_line, is_line) in
-    let command : IsCommandFor old.role r.streams got.command = command-of r old c.args.line got c.lines.ensures.«record» c.requires.actor is_line (ap (λ (l : Line). l.actor) (sym same) ∙ c.requires.line.is_actor) in
+    let command : IsCommandFor old.role r.streams got.command = command-of r old c.args.line got c.lines.ensures.«record» c.requires.actor c.requires.line is_line in
     let owner : old.role ≡ OwnerRole = sym (ap (λ (a : ActorView). a.role) c.self.view_is) ∙ ap role_of c.in-Owner.is in
     let owning : owning_in c.in-Owner.owner ≡ old.owning = sym (ap owning_of c.in-Owner.is) ∙ ap (λ (a : ActorView). a.owning) c.self.view_is in
     let of_state : RoleState → ActorView =

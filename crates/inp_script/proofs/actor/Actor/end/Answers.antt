@@ -1,10 +1,7 @@
 use Rattle.std.proofs.Common.{◌∙◌, sym, ap, subst, rules}
 use Rattle.std.specs.Prelude.{Some, is_some}
 use Rattle.inp_model.proofs.Leaves.{left-none, left-one}
-use Rattle.inp_script.specs.DoneLine.{Begins, Holds}
-use Rattle.inp_script.specs.Job.{Job, ActorView}
-use Rattle.inp_script.specs.Line.{end_talk}
-use Rattle.inp_script.specs.RoleState.{role_reading, stick_of, job_in}
+use Rattle.inp_script.proofs.Words.{Begins, Holds, Job, ActorView, end_talk, role_reading, stick_of, job_in}
 use Rattle.inp_script.proofs.TalkCalls.{begins-none}
 use Rattle.inp_script.proofs.Lines.{ends-nothing, ends-noted, ends-begun}
 use Rattle.inp_script.proofs.LinesDone.{end-done}

@@ -4,10 +4,7 @@ use Rattle.std.specs.List.{slice_get}
 use Rattle.std.proofs.lemmas.Option.{slice_get_within}
 use Rattle.std.proofs.lemmas.Result.{on_ok_weaker}
 use Rattle.inp_model.proofs.Leaves.{left-none}
-use Rattle.inp_actors.specs.declared.line.Line.{Line}
-use Rattle.inp_script.specs.DoneLine.{Begins, BeginsLine, DoesCommand, IsCommandFor, command_talk}
-use Rattle.inp_script.specs.Job.{Job, ActorView}
-use Rattle.inp_script.specs.RoleState.{job_in}
+use Rattle.inp_script.proofs.Words.{Line, Job, ActorView, job_in, Begins, BeginsLine, DoesCommand, IsCommandFor, command_talk}
 use Rattle.inp_script.proofs.TalkCalls.{begins-none, begins-left}
 use Rattle.inp_script.proofs.Lines.{begins-line}
 use Rattle.inp_script.proofs.LinesDone.{IsLineDone, command-of, line-stopped, line-went_on}
@@ -37,9 +34,8 @@ pub do_command-requires-clause-command : goal.do_command-requires-clause-command
 do_command-requires-clause-command g c =
     let got : Line = c.get.result.now in
     let is_line : slice_get c.args.rec.now.lines c.args.line ≡ Some got = ap (λ (lines : List Line). slice_get lines c.args.line) (sym c.lines.ensures.lines) ∙ c.get.ensures.item in
-    let same : c.requires.line.line ≡ got = cc (c.requires.line.is_line, is_line) in
     subst (λ (a : ActorView). IsCommandFor a.role c.args.rec.now.streams got.command) (sym c.self.view_is)
-    (command-of c.args.rec.now c.args.self.now c.args.line got c.lines.ensures.«record» c.requires.actor is_line (ap (λ (l : Line). l.actor) (sym same) ∙ c.requires.line.is_actor))
+    (command-of c.args.rec.now c.args.self.now c.args.line got c.lines.ensures.«record» c.requires.actor c.requires.line is_line)
 
 pub returns : goal.returns
 returns g c =
@@ -50,8 +46,7 @@ returns g c =
     let new : Job = job_in c.do_command.new.self c.do_command.new.notes in
     let got : Line = c.get.result.now in
     let is_line : slice_get r.lines c.args.line ≡ Some got = ap (λ (lines : List Line). slice_get lines c.args.line) (sym c.lines.ensures.lines) ∙ c.get.ensures.item in
-    let same : c.requires.line.line ≡ got = cc (c.requires.line.is_line, is_line) in
-    let command : IsCommandFor actor.role r.streams got.command = command-of r actor c.args.line got c.lines.ensures.«record» c.requires.actor is_line (ap (λ (l : Line). l.actor) (sym same) ∙ c.requires.line.is_actor) in
+    let command : IsCommandFor actor.role r.streams got.command = command-of r actor c.args.line got c.lines.ensures.«record» c.requires.actor c.requires.line is_line in
     let goes : is_some actor.job.stop ≡ false = ap (λ (x : ActorView). is_some x.job.stop) (sym c.self.view_is) ∙ sym c.is_some.ensures ∙ c.if-is_some.false in
     let all : OnOk c.do_command.result (IsLineDone a b actor r c.args.wait c.args.line new) =
     on_ok_weaker c.do_command.result

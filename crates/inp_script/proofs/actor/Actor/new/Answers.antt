@@ -1,12 +1,6 @@
 use Rattle.std.proofs.Common.{◌≡◌, ◌∙◌, sym, ap, [], List}
 use Rattle.std.specs.Prelude.{None}
-use Rattle.inp_model.specs.Description.{Description}
-use Rattle.inp_reader.specs.Reader.{Reading}
-use Rattle.inp_actors.specs.declared.role.Role.{Role}
-use Rattle.inp_script.specs.declared.role.state.RoleState.{RoleState}
-use Rattle.inp_script.specs.declared.sight.Sight.{Sight}
-use Rattle.inp_script.specs.Job.{Job, Stick, first_job, first_reading}
-use Rattle.inp_script.specs.RoleState.{stick_of, role_description, job_in, role_of}
+use Rattle.inp_script.proofs.Words.{Description, Reading, Role, RoleState, Sight, Job, Stick, first_job, first_reading, stick_of, role_description, job_in, role_of}
 use Rattle.inp_script.proofs.LineFolds.{is_folded-first}
 use Rattle.inp_script.proofs.actor.Actor.new.Goals as goal
 

@@ -1,11 +1,6 @@
 use Rattle.std.proofs.Common.{◌+◌, [], ◌++◌, sym, ap, ◌∙◌}
 use Rattle.std.specs.List.{slice_get}
-use Rattle.inp_model.specs.declared.reply.Reply.{Reply}
-use Rattle.inp_model.specs.declared.reply.Reply.TheVariants.{Refused}
-use Rattle.inp_model.specs.declared.reply.Refusal.TheVariants.{LogFull}
-use Rattle.inp_model.specs.declared.step.Step.{Step}
-use Rattle.inp_script.specs.declared.notes.Notes.{Notes}
-use Rattle.inp_script.specs.Sight.{sight_of_call, stop_after}
+use Rattle.inp_script.proofs.Words.{Reply, LogFull, Step, Notes, sight_of_call, stop_after, Refused}
 use Rattle.inp_script.proofs.Batches.{are-made, all-noted, some-noted}
 use Rattle.inp_script.proofs.notes.Notes.inject_all.Goals as goal
 

@@ -1,19 +1,8 @@
 use Rattle.std.proofs.Common.{◌≡◌, ◌∙◌, ap, subst, ℕ, List, map, ◌++◌, false}
 use Rattle.std.proofs.lemmas.Result.{IfOk-weaker}
-use Rattle.inp_model.specs.Description.{Description}
-use Rattle.inp_model.specs.Evdev.{EvdevView}
-use Rattle.inp_reader.specs.declared.call_made.CallMade.{CallMade}
-use Rattle.inp_reader.specs.declared.mode.Mode.{Mode}
-use Rattle.inp_reader.specs.declared.phase.Phase.{Phase}
-use Rattle.inp_reader.specs.Effort.{effort, is_idle}
-use Rattle.inp_reader.specs.Reader.{Reading, next_talk}
+use Rattle.inp_script.proofs.Words.{Description, EvdevView, CallMade, Mode, Phase, Reading, next_talk, mode_of, turn_of, job_of, made_sight, effort, is_idle, total_effort, Shrinks}
 use Rattle.inp_reader.specs.Says.{Says}
 use Rattle.inp_script.specs.declared.role.client.Turn.{Turn}
-use Rattle.inp_script.specs.Client.{mode_of}
-use Rattle.inp_script.specs.Effort.{total_effort, Shrinks}
-use Rattle.inp_script.specs.Progress.{turn_of}
-use Rattle.inp_script.specs.Notes.{job_of}
-use Rattle.inp_script.specs.Sight.{made_sight}
 use Rattle.inp_script.proofs.Noted.{round-noted, round-begun}
 use Rattle.inp_script.proofs.Turns.{mode_of-busy, turn-shrinks}
 use Rattle.inp_script.proofs.role.client.ask_reader.Goals as goal

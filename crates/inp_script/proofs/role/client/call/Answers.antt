@@ -1,9 +1,6 @@
 use Rattle.std.proofs.Common.{◌≡◌, ◌∙◌, sym, ap, ℕ}
 use Rattle.std.specs.Prelude.{Option, Some, None}
-use Rattle.inp_model.specs.declared.step.Step.{Step}
-use Rattle.inp_script.specs.Line.{call_if, step_of}
-use Rattle.inp_script.specs.Job.{no_stick}
-use Rattle.inp_script.specs.Notes.{job_of}
+use Rattle.inp_script.proofs.Words.{Step, call_if, step_of, no_stick, job_of}
 use Rattle.inp_script.proofs.TalkCalls.{holds-same, holds-nothing, begins-none}
 use Rattle.inp_script.proofs.Streams.{holds-noted, begins-call_if}
 use Rattle.inp_script.proofs.role.client.call.Goals as goal

@@ -1,10 +1,6 @@
 use Rattle.std.proofs.Common.{◌≡◌, ◌∙◌, sym, ap}
 use Rattle.std.specs.Prelude.{Some}
-use Rattle.inp_actors.specs.declared.command.Command.{Command}
-use Rattle.inp_reader.specs.Reader.{Reading, ReaderView, with_sync_needed}
-use Rattle.inp_reader.specs.Talk.{finish}
-use Rattle.inp_script.specs.Client.{client_talk}
-use Rattle.inp_script.specs.Notes.{job_of}
+use Rattle.inp_script.proofs.Words.{Command, finish, job_of, Reading, ReaderView, with_sync_needed, client_talk}
 use Rattle.inp_script.proofs.TalkCalls.{holds-nothing, begins-none}
 use Rattle.inp_script.proofs.role.client.do_client_command.Goals as goal
 

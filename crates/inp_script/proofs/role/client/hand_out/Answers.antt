@@ -1,10 +1,8 @@
 use Rattle.std.proofs.Common.{◌∙◌, sym, subst, refl, arith}
-use Rattle.inp_model.specs.Description.{Description}
+use Rattle.inp_script.proofs.Words.{Description, IsAdvanced, job_of}
 use Rattle.inp_model.proofs.Leaves.{description-kept}
 use Rattle.inp_script.specs.declared.role.client.Turn.{Turn}
 use Rattle.inp_script.specs.Progress.{going, turn_of, IsPatient}
-use Rattle.inp_script.specs.Rounds.{IsAdvanced}
-use Rattle.inp_script.specs.Notes.{job_of}
 use Rattle.inp_script.proofs.TalkCalls.{begins-none}
 use Rattle.inp_script.proofs.Rounds.{passed-none, passed-more, hands_out-last, hands_out-none, hands_out-begun}
 use Rattle.inp_script.proofs.role.client.hand_out.Goals as goal

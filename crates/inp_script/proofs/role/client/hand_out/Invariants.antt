@@ -1,8 +1,5 @@
 use Rattle.std.proofs.Common.{◌≡◌, ◌<◌, ◌^◌}
-use Rattle.inp_reader.specs.Effort.{effort}
-use Rattle.inp_script.specs.Effort.{total_effort}
-use Rattle.inp_script.specs.Progress.{going}
-use Rattle.inp_script.specs.Notes.{job_of}
+use Rattle.inp_script.proofs.Words.{total_effort, going, job_of, effort}
 use Rattle.inp_script.proofs.Rounds.{Passed}
 use Rattle.inp_script.proofs.role.client.hand_out.Given as goal
 

@@ -1,6 +1,6 @@
 use Rattle.std.proofs.lemmas.Result.{on_ok_weaker}
 use Rattle.inp_script.specs.Notes.{joy_job}
-use Rattle.inp_script.proofs.Commands.{joystick_talk-close}
+use Rattle.inp_script.proofs.Lines.{joystick_talk-close}
 use Rattle.inp_script.proofs.TalkCalls.{holds-same, begins-same}
 use Rattle.inp_script.proofs.role.joystick.do_joystick_command.Goals as goal
 

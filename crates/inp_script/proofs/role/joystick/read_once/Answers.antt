@@ -1,11 +1,8 @@
 use Rattle.std.proofs.Common.{◌≡◌, ◌∙◌, ap, List, map, ◌++◌}
 use Rattle.std.proofs.lemmas.Result.{IfOk-weaker}
-use Rattle.inp_reader.specs.declared.call_made.CallMade.{CallMade}
-use Rattle.inp_reader.specs.Effort.{effort}
+use Rattle.inp_script.proofs.Words.{CallMade, Notes, made_sight, effort}
 use Rattle.inp_script.specs.declared.role.joystick.AfterRead.{AfterRead}
-use Rattle.inp_script.specs.declared.notes.Notes.{Notes}
 use Rattle.inp_script.specs.JoyProgress.{LeavesLess}
-use Rattle.inp_script.specs.Sight.{made_sight}
 use Rattle.inp_script.proofs.JoyReads.{read-noted, read-begun, read-less}
 use Rattle.inp_script.proofs.role.joystick.read_once.Goals as goal
 

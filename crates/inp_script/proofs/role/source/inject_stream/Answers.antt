@@ -1,8 +1,8 @@
 use Rattle.std.proofs.Common.{sym, subst, arith}
 use Rattle.std.proofs.lemmas.Bool.Decides.{nat_tests}
-use Rattle.inp_model.specs.Injection.{AreInTime}
-use Rattle.inp_script.specs.Notes.{AreNoted}
-use Rattle.inp_script.proofs.Batches.{take-in_time, drop-in_time, no_more}
+use Rattle.std.proofs.lemmas.List.{nil_from_length}
+use Rattle.inp_script.proofs.Words.{AreInTime, AreNoted}
+use Rattle.inp_script.proofs.Batches.{take-in_time, drop-in_time}
 use Rattle.inp_script.proofs.Streams.{injected-none, injected-more, injected-refused, injected-so_far, injected-begun, injected-all}
 use Rattle.inp_script.proofs.role.source.inject_stream.Goals as goal
 
@@ -37,7 +37,7 @@ loop-rest-preserved g c =
 
 pub returns-clause-done : goal.returns-clause-done
 returns-clause-done g c r =
-    injected-all _ _ c.args.stream.now c.loop-rest.rest.now c.args.notes.now c.loop-rest.notes (no_more c.loop-rest.rest.now (grind (arith, nat_tests, c.is_empty.ensures, c.loop-rest-test.false))) c.loop-rest.invariant r
+    injected-all _ _ c.args.stream.now c.loop-rest.rest.now c.args.notes.now c.loop-rest.notes (nil_from_length c.loop-rest.rest.now (grind (arith, nat_tests, c.is_empty.ensures, c.loop-rest-test.false))) c.loop-rest.invariant r
 
 pub returns-clause-begun : goal.returns-clause-begun
 returns-clause-begun g c r = injected-so_far _ _ c.args.stream.now c.loop-rest.rest.now c.args.notes.now c.loop-rest.notes c.loop-rest.invariant r

@@ -1,9 +1,16 @@
--- One of many has a place, and one of them has a number.
-use Rattle.std.proofs.Common.{◌≡◌, ℕ, zero, suc, ◌+◌, ◌≤◌, Bool, true, false, cond, nat_eq, List, [], ◌∷◌, refl, sym, ap, ◌∙◌, arith, inl, inr, eq-eqb, Some}
+-- How often a place stands among those of calls and of many callers, and a number among theirs.
+use Rattle.std.proofs.Common.{◌≡◌, ℕ, zero, suc, ◌+◌, ◌≤◌, Bool, true, false, cond, nat_eq, List, [], ◌∷◌, refl, sym, ap, ◌∙◌, arith, inl, inr, eq-eqb, Some, ◌&&◌, if◌then◌else◌, ◌++◌, zero-add}
 use Rattle.std.specs.Prelude.{slice_get, map, filter, flat_map}
-use Rattle.std.specs.List.{count_by, range_with_len}
+use Rattle.std.specs.List.{count_by, range_with_len, sum_by}
 use Rattle.std.proofs.lemmas.Bool.{cases_lt}
 use Rattle.inp_turn.proofs.Places.{count-append, count-behind, count-cons, count-within}
+use Rattle.std.proofs.lemmas.Bool.Decides.{nat_tests}
+use Rattle.std.proofs.lemmas.List.Sums.{sum_by-cons}
+use Rattle.inp_script.proofs.Words.{Reply, is_accepted, Call, place_of, ActorView, own_after, places_of, sight_of_calls}
+use Rattle.inp_runs.specs.Done.{calls_at}
+use Rattle.inp_runs.proofs.Entries.{entries, entries-cons_call}
+
+-- Numbers, and who has a place
 
 first-kept : (n : ℕ) (b : Bool) (m : ℕ) (ns : List ℕ) → count_by (nat_eq n) (cond b (m ∷ ns) ns) ≤ cond (nat_eq n m) 1 0 + count_by (nat_eq n) ns
 first-kept n true m ns = omega (arith, count-cons n m ns)
@@ -71,3 +78,40 @@ module _ {W : Type 0} where
   pub few-numbers : (number : W → ℕ) (p : ℕ → Bool) (most : ℕ) (ws : List W) → map number ws ≡ filter p (range_with_len 0 most) → (n : ℕ) → count_by (nat_eq n) (map number ws) ≤ 1
   few-numbers number p most ws is n =
       omega (arith, ap (count_by (nat_eq n)) is, kept-counted n p (range_with_len 0 most), in-range n most)
+
+-- Places of calls
+
+-- how often a place stands in a list
+abbrev pub times : ℕ → List ℕ → ℕ
+times place places = count_by (nat_eq place) places
+
+either_way : (m n : ℕ) → nat_eq m n ≡ nat_eq n m
+either_way m n = grind (arith, nat_tests)
+
+-- one call
+times-call : (place : ℕ) (reply : Reply) → times place (own_after reply []) ≡ (if is_accepted reply && nat_eq (place_of reply) place then 1 else 0)
+times-call place reply =
+    let one : times place (place_of reply ∷ []) ≡ (if nat_eq (place_of reply) place then 1 else 0) =
+    zero-add (if nat_eq place (place_of reply) then 1 else 0) ∙ ap (λ (b : Bool). if b then 1 else 0) (either_way place (place_of reply)) in
+    elim (is_accepted reply) as (λ b. times place (if b then [] ++ place_of reply ∷ [] else []) ≡
+    (if b && nat_eq (place_of reply) place then 1 else 0)) [ true ↦ one | false ↦ refl ]
+
+pub times-calls : (place : ℕ) (calls : List Call) → times place (places_of calls) ≡ entries place (sight_of_calls calls)
+times-calls place [] = refl
+times-calls place (call ∷ calls) =
+    count-append place (own_after call.answer.reply []) (places_of calls)
+    ∙ ap (λ (n : ℕ). n + times place (places_of calls)) (times-call place call.answer.reply)
+    ∙ ap (λ (n : ℕ). (if is_accepted call.answer.reply && nat_eq (place_of call.answer.reply) place then 1 else 0) + n) (times-calls place calls)
+    ∙ sym (entries-cons_call place call calls)
+
+-- Many callers
+
+module _ {W : Type 0} where
+  -- where each has as many accepted calls at a place as it owns it, so have all together
+  pub sum-places : (own : W → List ℕ) (actor : W → ActorView) (place : ℕ) (ws : List W) → ((k : ℕ) (w : W) → slice_get ws k ≡ Some w → calls_at place (actor w) ≡ times place (own w)) → sum_by (calls_at place) (map actor ws) ≡ times place (flat_map own ws)
+  sum-places own actor place [] each = refl
+  sum-places own actor place (w ∷ ws) each =
+      sum_by-cons (calls_at place) (actor w) (map actor ws)
+      ∙ ap (λ (n : ℕ). n + sum_by (calls_at place) (map actor ws)) (each 0 w refl)
+      ∙ ap (λ (n : ℕ). times place (own w) + n) (sum-places own actor place ws (λ k v h. each (suc k) v h))
+      ∙ sym (count-append place (own w) (flat_map own ws))

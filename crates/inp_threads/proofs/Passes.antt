@@ -1,30 +1,20 @@
--- Passes are dealt to the actors of a device, one after another.
-use Rattle.std.proofs.Common.{◌≡◌, ℕ, ◌+◌, ◌-◌, ◌≤◌, Bool, true, false, cond, nat_eq, List, [], ◌∷◌, ◌++◌, length, refl, sym, ap, subst, ◌∙◌, arith, Some}
+-- Passes are dealt to the actors of a device, one after another, and joined again once their actors are finished.
+use Rattle.std.proofs.Common.{◌≡◌, ℕ, ◌+◌, ◌-◌, ◌≤◌, Bool, true, false, cond, nat_eq, List, [], ◌∷◌, ◌++◌, length, refl, sym, ap, subst, ◌∙◌, arith, Some, ◌&&◌, append_assoc, length-append}
 use Rattle.std.specs.Prelude.{map, filter, slice_get}
 use Rattle.std.specs.List.{range_with_len}
-use Rattle.std.proofs.lemmas.List.{append-nil, map-append, length-append, length-map}
-use Rattle.std.proofs.lemmas.List.Elements.{filter-append, All-nil, All-push}
+use Rattle.std.proofs.lemmas.List.{append-nil, map-append, length-map}
+use Rattle.std.proofs.lemmas.List.Elements.{filter-append, All-nil, All-push, All-append, All-weaker}
 use Rattle.std.proofs.lemmas.List.FromFn.{length-range_with_len}
 use Rattle.std.proofs.lemmas.List.Sums.{length-filter, count_by-le-length}
-use Rattle.std.proofs.lemmas.Bool.Decides.{nat_tests}
-use Rattle.inp_feedback.specs.declared.u_entry.UEntry.{UEntry}
-use Rattle.inp_model.specs.Description.{Description}
-use Rattle.inp_uinput.specs.UdevView.{UdevView}
-use Rattle.inp_actors.specs.declared.actor_text.ActorText.{ActorText}
-use Rattle.inp_actors.specs.Record.{RecordView}
+use Rattle.inp_runs.proofs.Lists.{eq_same}
+use Rattle.inp_script.proofs.Words.{UEntry, Description, ActorText, RecordView, HasActor, ActorView, is_on_device}
+use Rattle.inp_threads.proofs.Words.{UdevView, Ghosts, Pass, PassView, view_of, PortOf, IsReadyAt, description_of, Worker, whole_share, view_after_split, actor_number, IsPortOf, IsReadyOn, AreDealtUpTo, view_in, AreJoined, AreWorkersDone, own_of}
 use Rattle.inp_reader.proofs.Axes.{range-append}
-use Rattle.inp_script.specs.DoneLine.{HasActor}
-use Rattle.inp_script.specs.Job.{ActorView}
-use Rattle.inp_script.specs.Runs.{is_on_device}
-use Rattle.inp_turn.specs.declared.kept.Kept.{Ghosts}
-use Rattle.inp_turn.specs.declared.pass.Pass.{Pass}
-use Rattle.inp_turn.specs.declared.pass_view.PassView.{PassView}
-use Rattle.inp_turn.specs.Pass.{view_of}
-use Rattle.inp_turn.specs.PassView.{whole_share, view_after_split}
-use Rattle.inp_port.specs.declared.port.PortOf.{PortOf}
-use Rattle.inp_port.specs.Port.{IsReadyAt, description_of}
-use Rattle.inp_threads.specs.declared.worker.Worker.{Worker}
-use Rattle.inp_threads.specs.Worker.{actor_number, IsPortOf, IsReadyOn, AreDealtUpTo}
+use Rattle.std.proofs.lemmas.Grind.{flat_map-append}
+use mathlib.Core.List.{IsPrefix}
+use Rattle.inp_turn.proofs.Prefixes.{prefix-trans}
+
+-- Passes that are dealt
 
 -- the numbers of a device's actors, one number more
 up : (p : ℕ → Bool) (n : ℕ) → filter p (range_with_len 0 (n + 1)) ≡ filter p (range_with_len 0 n) ++ cond (p n) (n ∷ []) []
@@ -75,15 +65,32 @@ module _ {K : Ghosts UdevView Description UEntry} (port : PortOf UdevView UEntry
 pub on_device : (r : RecordView) (device n : ℕ) (text : ActorText) (b : Bool) → slice_get r.actors n ≡ Some text → nat_eq text.device device ≡ b → is_on_device device (slice_get r.actors n) ≡ b
 on_device r device n text b is same = ap (is_on_device device) is ∙ same
 
-same-nat : (m n : ℕ) → nat_eq m n ≡ true → m ≡ n
-same-nat m n h = grind (arith, nat_tests)
-
 pub its-device : (r : RecordView) (device n : ℕ) (a : ActorView) (has : HasActor r a) → a.actor ≡ n → is_on_device device (slice_get r.actors n) ≡ true → has.text.device ≡ device
 its-device r device n a has number on =
     let is : slice_get r.actors n ≡ Some has.text = ap (slice_get r.actors) (sym number) ∙ has.is_text in
-    same-nat has.text.device device (sym (ap (is_on_device device) is) ∙ on)
+    eq_same has.text.device device (sym (ap (is_on_device device) is) ∙ on)
 
 pub its-description : (port : PortOf UdevView UEntry) (r : RecordView) (device n : ℕ) (a : ActorView) → IsPortOf port r device → HasActor r a → a.actor ≡ n → is_on_device device (slice_get r.actors n) ≡ true
     → a.description ≡ description_of port
 its-description port r device n a of has number on =
     sym has.description ∙ sym (of has.device (subst (λ (k : ℕ). slice_get r.devices k ≡ Some has.device) (its-device r device n a has number on) has.is_device))
+
+-- Passes that are joined
+
+-- the passes of some were joined, and then those of others
+pub joined-more : (ws vs : List Worker) (a b c : PassView Description UEntry) → AreJoined ws a b → AreJoined vs b c → AreJoined (ws ++ vs) a c
+joined-more ws vs a b c h k = record {
+  share = omega (arith, h.share, k.share, length-append ws vs);
+  own = k.own ∙ ap (λ (places : List ℕ). places ++ own_of vs) h.own ∙ append_assoc a.own (own_of ws)
+      (own_of vs) ∙ ap (λ (places : List ℕ). a.own ++ places)
+      (sym (flat_map-append (λ (w : Worker). (view_in w.pass).own) ws vs));
+  more = prefix-trans a.seen b.seen c.seen h.more k.more;
+  seen = All-append (λ (u : Worker). IsPrefix (view_in u.pass).seen c.seen) ws vs
+      (All-weaker (λ (u : Worker). IsPrefix (view_in u.pass).seen b.seen) (λ (u : Worker). IsPrefix (view_in u.pass).seen c.seen) (λ u p. prefix-trans (view_in u.pass).seen b.seen c.seen p k.more) ws h.seen)
+      k.seen;
+}
+
+-- those so far are done, and the next one
+pub done-more : (ws : List Worker) (w : Worker) (so_far : Bool) → (so_far ≡ true → AreWorkersDone ws) → (so_far && w.is_done) ≡ true → AreWorkersDone (ws ++ w ∷ [])
+done-more ws w true h both = All-push (λ (u : Worker). u.is_done ≡ true) ws w (h refl) both
+done-more ws w false h both = absurd cc
