@@ -1,34 +1,16 @@
 -- Lines that an actor did by calls of an evdev, some after others: the calls are those of the lines' talk.
 use Rattle.std.proofs.Common.{◌≡◌, ℕ, ◌+◌, Bool, true, false, if◌then◌else◌, List, [], ◌∷◌, ◌++◌, map, refl, sym, ap, subst, ◌∙◌, arith, append_assoc, append-nil, zero-add, inl, inr, Option, Some, None}
-use Rattle.std.specs.Prelude.{◌⊎◌, length}
-use Rattle.std.proofs.lemmas.Option.{same_Some}
-use Rattle.inp_model.specs.declared.stamped.Stamped.{Stamped}
-use Rattle.inp_model.specs.declared.step.Step.{Step}
-use Rattle.inp_model.specs.Description.{Description}
-use Rattle.inp_model.specs.Evdev.{EvdevView}
+use Rattle.inp_runs.proofs.Words.{◌⊎◌, length, same_Some, Stamped, Step, Description, EvdevView, past_at, Answer, IsAnswer, answer_by, done_answer, is_accepted, is_full, Call, place_of, Line, Role, Source, Talk, finish, and_then, EndsWith, finished, Stop, Waiting, Holds, inject_talk, unless_stopped, Job, after_call, call_talk, stop_after, on_job, last_talk, cond_both, Reply}
 use Rattle.inp_model.specs.Injection.{inject_of}
 use Rattle.inp_model.specs.Leaves.{AreCalls}
-use Rattle.inp_model.specs.Past.{past_at}
-use Rattle.inp_model.specs.Reply.{Answer, IsAnswer, answer_by, done_answer, is_accepted, is_full}
-use Rattle.inp_model.specs.Run.{Call, place_of}
 use Rattle.inp_model.proofs.Leaves.{AreCalls-append}
-use Rattle.inp_actors.specs.declared.line.Line.{Line}
-use Rattle.inp_actors.specs.declared.role.Role.{Role}
-use Rattle.inp_actors.specs.declared.role.Role.TheVariants.{Source}
-use Rattle.inp_reader.specs.Talk.{Talk, finish, and_then, LeadsTo, EndsWith}
-use Rattle.inp_reader.proofs.Calls.{finished}
-use Rattle.inp_script.specs.declared.stop.Stop.{Stop}
+use Rattle.inp_reader.specs.Talk.{LeadsTo}
 use Rattle.inp_script.specs.declared.stop.Stop.TheVariants.{Full}
-use Rattle.inp_script.specs.declared.waiting.Waiting.{Waiting}
-use Rattle.inp_script.specs.DoneLine.{Holds, inject_talk, line_talk, unless_stopped}
-use Rattle.inp_script.specs.Job.{Job}
-use Rattle.inp_script.specs.Line.{after_call, call_talk, stream_talk}
-use Rattle.inp_script.specs.Sight.{stop_after}
+use Rattle.inp_script.specs.DoneLine.{line_talk}
+use Rattle.inp_script.specs.Line.{stream_talk}
 use Rattle.inp_runs.specs.EventLines.{inject_line}
-use Rattle.inp_runs.specs.Job.{lines_talk, on_job, last_talk}
+use Rattle.inp_runs.specs.Job.{lines_talk}
 use Rattle.inp_runs.proofs.order.Rounds.{lines-next}
-use Rattle.std.proofs.lemmas.Bool.{cond_both}
-use Rattle.inp_model.specs.declared.reply.Reply.{Reply}
 
 -- How an injected event is answered: it is entered and its source goes on, or the history is full and its source stops.
 abbrev IsInjectAnswer : Answer → Type 0

@@ -1,28 +1,13 @@
 -- The lines of an actor, one after another, over any device.
 use Rattle.std.proofs.Common.{◌≡◌, ℕ, zero, suc, Bool, true, false, nat_eq, List, [], ◌∷◌, ◌++◌, length, take, drop, refl, sym, ap, subst, ◌∙◌, inl, inr, Option, Some, None}
-use Rattle.std.specs.Prelude.{is_some, min, option_map, slice_get, ◌⊎◌}
-use Rattle.std.proofs.lemmas.List.{length-map}
-use Rattle.std.proofs.lemmas.Option.{same_Some, slice_get-map}
-use Rattle.inp_model.specs.Evdev.{EvdevView}
+use Rattle.inp_runs.proofs.Words.{is_some, min, option_map, ◌⊎◌, length-map, same_Some, slice_get-map, EvdevView, ActorText, Line, Role, Source, Client, Tap, Joy, Owner, is_owner, RecordView, finish, Waiting, HasActor, Holds, line_talk, ActorView, Job, end_talk, MayHaveFed, lines_by, last_talk}
+use Rattle.std.specs.Prelude.{slice_get}
 use Rattle.inp_model.proofs.Leaves.{left-none, left-then}
-use Rattle.inp_actors.specs.declared.actor_text.ActorText.{ActorText}
-use Rattle.inp_actors.specs.declared.line.Line.{Line}
-use Rattle.inp_actors.specs.declared.role.Role.{Role}
-use Rattle.inp_actors.specs.declared.role.Role.TheVariants.{Source, Client, Tap, Joy, Owner}
-use Rattle.inp_actors.specs.Command.{is_owner}
-use Rattle.inp_actors.specs.Record.{RecordView}
 use Rattle.inp_feedback.specs.declared.fed.TheConstants.{FEEDBACK_MAX}
 use Rattle.inp_feedback.specs.Feeds.{Feeding}
-use Rattle.inp_reader.specs.Talk.{finish}
-use Rattle.inp_script.specs.declared.waiting.Waiting.{Waiting}
 use Rattle.inp_script.specs.ActorLine.{Acts, ActsLine, FeedCall, AreFeedCalls, BeginsToAct, IsActedOn, OwnsLine}
-use Rattle.inp_script.specs.DoneLine.{HasActor, Holds, line_talk}
-use Rattle.inp_script.specs.Job.{ActorView, Job}
-use Rattle.inp_script.specs.Line.{end_talk}
-use Rattle.inp_script.specs.Owner.{MayHaveFed}
 use Rattle.inp_script.proofs.TalkCalls.{holds-nothing, begins-left}
 use Rattle.inp_runs.specs.DoingAll.{ActsAll, ActsSome, AreNumbersOf, AreOwned, DoesAll, EndsLines}
-use Rattle.inp_runs.specs.Job.{lines_by, last_talk}
 use Rattle.inp_runs.proofs.CalledLines.{AreCalled, called-none, called-line, called-events, called-append, called-all}
 use Rattle.inp_runs.proofs.JobEnds.{owner-role}
 use Rattle.inp_runs.proofs.Lists.{eq_same, option_map-some, slice_get-filter}

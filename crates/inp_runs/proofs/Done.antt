@@ -1,40 +1,17 @@
 -- What comes of a device whose actors did all their lines is promised.
 use Rattle.std.proofs.Common.{◌≡◌, ℕ, ◌<◌, ◌≤◌, Bool, true, not, ◌||◌, if◌then◌else◌, nat_lt, List, [], ◌∷◌, length, map, reverse, refl, sym, ap, subst, ◌∙◌, arith, inl, inr, Option, Some, None}
-use Rattle.std.specs.Prelude.{filter, slice_get, option_map}
-use Rattle.std.specs.List.{range_with_len, sum_by}
-use Rattle.std.proofs.lemmas.Bool.{cases_lt}
-use Rattle.std.proofs.lemmas.Bool.Decides.{nat_tests}
-use Rattle.std.proofs.lemmas.Option.{same_Some, slice_get-map, slice_get_within}
-use Rattle.inp_model.specs.declared.step.Step.{Step}
-use Rattle.inp_model.specs.Description.{Description, IsDescription}
-use Rattle.inp_model.specs.Left.{eaten}
-use Rattle.inp_model.specs.History.{IsHistory}
-use Rattle.inp_model.specs.Past.{past_at}
-use Rattle.inp_model.specs.Run.{Call, HasPlace, IsLegalFrom, place_of, next_place}
-use Rattle.inp_actors.specs.declared.actor_text.ActorText.{ActorText}
+use Rattle.inp_runs.proofs.Words.{filter, option_map, range_with_len, sum_by, cases_lt, nat_tests, same_Some, slice_get-map, slice_get_within, Step, Description, IsDescription, eaten, IsHistory, past_at, Call, HasPlace, IsLegalFrom, place_of, next_place, ActorText, Line, Role, Joy, Owner, is_joy, is_owner, RecordView, IsRecord, IsSizedFor, Talk, EndsWith, Waiting, ActorView, Job, JobView, JoyJobView, OwnerView, first_job, job_end, joy_end, owner_end, sight_of_calls, lines_by, lines_talk, entries_at, AreTold, IsJob, IsJoyJob, IsRun, wait_of, AreReportsSeen, rooms_of, HasOwned, IsOwner}
+use Rattle.std.specs.Prelude.{slice_get}
 use Rattle.inp_actors.specs.declared.device_text.DeviceText.{DeviceText}
-use Rattle.inp_actors.specs.declared.line.Line.{Line}
-use Rattle.inp_actors.specs.declared.role.Role.{Role}
-use Rattle.inp_actors.specs.declared.role.Role.TheVariants.{Joy, Owner}
-use Rattle.inp_actors.specs.Command.{is_joy, is_owner}
-use Rattle.inp_actors.specs.Record.{RecordView, IsRecord}
-use Rattle.inp_recon.specs.View.{IsSizedFor}
 use Rattle.inp_recon.proofs.FaithfulHistories.{faithful_by_reads}
 use Rattle.inp_recon.proofs.FaithfulReads.{reads-faithful}
 use Rattle.inp_runs.proofs.losses.Causes.{all_taken-caused}
-use Rattle.inp_reader.specs.Talk.{Talk, EndsWith}
 use Rattle.inp_reader.proofs.Calls.{IsPlaceOf}
 use Rattle.inp_reader.proofs.LessEffort.{place-below}
-use Rattle.inp_script.specs.declared.waiting.Waiting.{Waiting}
 use Rattle.inp_script.specs.Ended.{ended_of, jobs_among, joys_among, owners_among}
 use Rattle.inp_script.specs.Fold.{IsFolded}
-use Rattle.inp_script.specs.Job.{ActorView, Job, JobView, JoyJobView, OwnerView, first_job, job_end, joy_end, owner_end}
-use Rattle.inp_script.specs.Legal.{sight_of_calls}
 use Rattle.inp_script.specs.Runs.{is_on_device, is_joystick, is_owning, actors_of, jobs_of, joysticks_of, joy_actors, owners_of, owner_actors, IsRunOf}
 use Rattle.inp_runs.specs.Done.{HasFollowed, IsDeviceDone, IsRunAsPromised, calls_at}
-use Rattle.inp_runs.specs.Job.{lines_by, lines_talk, entries_at, AreTold, IsJob, IsJoyJob, IsRun, wait_of}
-use Rattle.inp_runs.specs.JobViews.{AreReportsSeen}
-use Rattle.inp_runs.specs.Owner.{rooms_of, HasOwned, IsOwner}
 use Rattle.inp_runs.proofs.Entries.{entries, told-counts}
 use Rattle.inp_runs.proofs.views.Folded.{its_lines, view-folded}
 use Rattle.inp_runs.proofs.JobEnds.{IsEndOf, OwnersCountNothing, is_stick, is_feeding, is_other, joy-role, owner-role, jobs-kept, joys-kept, owners-kept, job-end_of, joy-end_of, owner-end_of, split-sums, sum-ends, end-numbers}

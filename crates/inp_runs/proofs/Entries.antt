@@ -1,20 +1,9 @@
 -- How many entries of a sight are accepted calls at a place.
 use Rattle.std.proofs.Common.{◌≡◌, ℕ, ◌+◌, true, ◌&&◌, if◌then◌else◌, nat_eq, nat_lt, List, [], ◌∷◌, ◌++◌, refl, sym, ap, ◌∙◌, zero-add, inl, inr, Option, Some, None}
-use Rattle.std.specs.Prelude.{filter}
-use Rattle.std.specs.List.{count_by}
+use Rattle.inp_runs.proofs.Words.{filter, count_by, Step, Reply, is_again, is_accepted, Call, place_of, Sight, Waiting, sight_of_calls, is_call_entry, LeavesOut, call_sight, again_sight, is_entry_at, AreTold}
 use Rattle.std.proofs.lemmas.List.Sums.{sum_by-cons, sum_by-append}
-use Rattle.inp_model.specs.declared.step.Step.{Step}
-use Rattle.inp_model.specs.declared.reply.Reply.{Reply}
 use Rattle.inp_model.specs.declared.reply.Reply.TheVariants.{Again as NothingVisible}
-use Rattle.inp_model.specs.Evdev.{is_again}
-use Rattle.inp_model.specs.Reply.{is_accepted}
-use Rattle.inp_model.specs.Run.{Call, place_of}
-use Rattle.inp_script.specs.declared.sight.Sight.{Sight}
 use Rattle.inp_script.specs.declared.sight.Sight.TheVariants.{Call as Called, Again}
-use Rattle.inp_script.specs.declared.waiting.Waiting.{Waiting}
-use Rattle.inp_script.specs.Legal.{sight_of_calls, is_call_entry, LeavesOut}
-use Rattle.inp_script.specs.Sight.{call_sight, again_sight}
-use Rattle.inp_runs.specs.Job.{is_entry_at, AreTold}
 
 -- the entries of one call
 abbrev pub call_entries : Step → Reply → List Sight

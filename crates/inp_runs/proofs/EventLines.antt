@@ -1,21 +1,11 @@
 -- Lines that each inject an event: whose lines they are, and what a record keeps of them.
 use Rattle.std.proofs.Common.{◌≡◌, ◌≤◌, ◌<◌, ◌+◌, ◌-◌, ℕ, zero, suc, true, List, [], ◌∷◌, length, map, take, drop, Option, Some, refl, sym, ap, subst, ◌∙◌, arith}
-use Rattle.std.specs.Prelude.{slice_get, option_map, nat_le}
-use Rattle.std.proofs.lemmas.List.{take-map, drop-map, take_all, length-drop}
-use Rattle.std.proofs.lemmas.Bool.Decides.{nat_tests}
-use Rattle.std.proofs.lemmas.Option.{slice_get-map, slice_get_within}
-use Rattle.inp_model.specs.declared.stamped.Stamped.{Stamped}
+use Rattle.inp_runs.proofs.Words.{option_map, nat_le, take-map, drop-map, take_all, length-drop, nat_tests, slice_get-map, slice_get_within, Stamped, ActorText, Line, Role, Source, is_source, RecordView, IsRecord, lines_by}
+use Rattle.std.specs.Prelude.{slice_get}
 use Rattle.inp_model.specs.declared.stamped.TheConstants.{MOMENT_MAX}
 use Rattle.inp_model.specs.Injection.{AreInTime}
-use Rattle.inp_actors.specs.declared.actor_text.ActorText.{ActorText}
-use Rattle.inp_actors.specs.declared.line.Line.{Line}
-use Rattle.inp_actors.specs.declared.role.Role.{Role}
-use Rattle.inp_actors.specs.declared.role.Role.TheVariants.{Source}
-use Rattle.inp_actors.specs.Command.{is_source}
-use Rattle.inp_actors.specs.Record.{RecordView, IsRecord}
 use Rattle.inp_runs.specs.DoingAll.{AreNumbersOf}
 use Rattle.inp_runs.specs.EventLines.{AreEventLines, inject_line}
-use Rattle.inp_runs.specs.Job.{lines_by}
 use Rattle.inp_runs.proofs.DoingAll.{own-line}
 use Rattle.inp_runs.proofs.Lists.{option_map-some}
 

@@ -1,16 +1,10 @@
 -- What came of a device's actors, apart: its jobs, its joysticks' jobs, and its owners.
 use Rattle.std.proofs.Common.{◌≡◌, ℕ, suc, ◌+◌, Bool, true, not, ◌||◌, if◌then◌else◌, cond, List, [], ◌∷◌, map, refl, sym, ap, ◌∙◌, arith, Some}
-use Rattle.std.specs.Prelude.{filter, slice_get}
-use Rattle.std.specs.List.{sum_by}
+use Rattle.inp_runs.proofs.Words.{filter, sum_by, slice_get-map, Role, Joy, Owner, is_joy, is_owner, ActorView, JobView, JoyJobView, OwnerView, job_end, joy_end, owner_end, entries_at, joy_entries_at}
+use Rattle.std.specs.Prelude.{slice_get}
 use Rattle.std.proofs.lemmas.List.Sums.{sum_by-cons}
-use Rattle.std.proofs.lemmas.Option.{slice_get-map}
-use Rattle.inp_actors.specs.declared.role.Role.{Role}
-use Rattle.inp_actors.specs.declared.role.Role.TheVariants.{Joy, Owner}
-use Rattle.inp_actors.specs.Command.{is_joy, is_owner}
 use Rattle.inp_script.specs.Ended.{ended_as, ended_of, jobs_among, joys_among, owners_among}
-use Rattle.inp_script.specs.Job.{ActorView, JobView, JoyJobView, OwnerView, job_end, joy_end, owner_end}
 use Rattle.inp_runs.specs.Done.{calls_at}
-use Rattle.inp_runs.specs.Job.{entries_at, joy_entries_at}
 use Rattle.inp_runs.proofs.Entries.{entries}
 use Rattle.inp_runs.proofs.Lists.{IsAt, IsImage, option_map-some, slice_get-filter, sum_by-kept}
 

@@ -1,29 +1,10 @@
 -- What the sight of a job tells of its calls.
 use Rattle.std.proofs.Common.{◌≡◌, ℕ, List, [], ◌∷◌, ◌++◌, refl, sym, ap, subst, ◌∙◌, Option, Some, None}
-use Rattle.std.specs.Prelude.{filter}
-use Rattle.inp_model.specs.declared.stamped.Stamped.{Stamped}
-use Rattle.inp_model.specs.Description.{Description}
-use Rattle.inp_model.specs.Run.{Call}
-use Rattle.inp_actors.specs.declared.line.Line.{Line}
-use Rattle.inp_actors.specs.declared.role.Role.{Role}
-use Rattle.inp_recon.proofs.Sizes.{IsSizedFor-first_view}
-use Rattle.inp_reader.specs.Talk.{Talk, EndsWith}
-use Rattle.inp_script.specs.declared.sight.Sight.{Sight}
-use Rattle.inp_script.specs.declared.waiting.Waiting.{Waiting}
-use Rattle.inp_script.specs.DoneLine.{line_talk}
-use Rattle.inp_script.specs.Job.{Job, first_job}
-use Rattle.inp_script.specs.Legal.{is_call_entry}
+use Rattle.inp_runs.proofs.Words.{filter, Stamped, Description, Call, Line, Role, IsSizedFor-first_view, Talk, EndsWith, Sight, Waiting, line_talk, Job, first_job, is_call_entry, Tells, tells-then, tells-call, tells-none, lines_talk, AreTold, Any, Listed, Meets, listed-run, run-listed, meets-ends, OfJob, job-ends-meet, End, after_call, Answer}
 use Rattle.inp_script.proofs.LineTold.{line-told}
-use Rattle.inp_script.proofs.Told.{Tells, tells-then, tells-call, tells-none}
-use Rattle.inp_runs.specs.Job.{lines_talk, AreTold}
 use Rattle.inp_runs.proofs.memory.ReaderTalks.{AreAnswered, leaves-ends}
 use Rattle.inp_runs.proofs.memory.LineTalks.{IsKept, IsKeptIfSome, leaves-lines}
-use Rattle.inp_reader.proofs.Meets.{Any, Listed, Meets, listed-run, run-listed, meets-ends}
-use Rattle.inp_script.proofs.LineWalk.{OfJob, job-ends-meet}
 use Rattle.inp_runs.proofs.LinesWalk.{any-lines, last-keeps, lines-keep}
-use Rattle.inp_model.specs.declared.step.Step.TheVariants.{End}
-use Rattle.inp_script.specs.Line.{after_call}
-use Rattle.inp_model.specs.Reply.{Answer}
 
 -- these calls made the sight of the job
 abbrev ToldBy : List Call → Job → Type 0

@@ -1,33 +1,10 @@
 -- The talks of an actor's lines, walked once: what has to be shown of one line, of a source's step, and of
 -- its end.
 use Rattle.std.proofs.Common.{◌≡◌, ℕ, List, [], ◌∷◌, refl, subst, Option, Some, None, Bool, false, true, cond, nat_eq, ◌++◌, sym, ap, ◌∙◌, append_assoc, append-nil}
-use Rattle.std.proofs.lemmas.Bool.{cond_both}
-use Rattle.inp_model.specs.declared.step.Step.{Step}
-use Rattle.inp_model.specs.declared.step.Step.TheVariants.{Inject, End}
-use Rattle.inp_model.specs.declared.stamped.Stamped.{Stamped}
-use Rattle.inp_model.specs.Description.{Description}
-use Rattle.inp_model.specs.Reply.{Answer, is_accepted}
-use Rattle.inp_actors.specs.declared.command.Command.{Command}
-use Rattle.inp_actors.specs.declared.command.Command.TheVariants.{Stream, Stream16}
-use Rattle.inp_actors.specs.declared.line.Line.{Line}
-use Rattle.inp_actors.specs.declared.role.Role.{Role}
-use Rattle.inp_actors.specs.declared.role.Role.TheVariants.{Source}
-use Rattle.inp_recon.proofs.Each.{Each}
-use Rattle.inp_reader.specs.declared.reader.TheConstants.{NO_CLIENT}
-use Rattle.inp_reader.specs.Talk.{Talk, finish, and_then, EndsWith}
-use Rattle.inp_reader.proofs.Meets.{Any, Meets, meets-then}
-use Rattle.inp_script.specs.declared.stop.Stop.{Stop}
-use Rattle.inp_script.specs.declared.waiting.Waiting.{Waiting}
-use Rattle.inp_script.specs.DoneLine.{line_talk, unless_stopped}
-use Rattle.inp_script.specs.Job.{Job}
-use Rattle.inp_script.specs.Line.{step_of, after_call, stream_talk, stream_numbered, source_talk, end_talk}
-use Rattle.inp_script.proofs.LineWalk.{OfJob, call_if-meets}
-use Rattle.inp_runs.specs.Job.{on_job, last_talk, lines_talk, lines_by}
-use Rattle.inp_model.specs.Step.{is_open_step}
-use Rattle.std.proofs.lemmas.List.Elements.{filter-append}
-use Rattle.inp_model.specs.Run.{Call}
+use Rattle.inp_runs.proofs.Words.{cond_both, Step, Inject, End, Stamped, Description, Answer, is_accepted, Command, Stream, Stream16, Line, Role, Source, Each, NO_CLIENT, Talk, finish, and_then, EndsWith, Any, Meets, meets-then, Stop, Waiting, line_talk, unless_stopped, Job, step_of, after_call, stream_numbered, source_talk, end_talk, OfJob, call_if-meets, on_job, last_talk, lines_by, is_open_step, filter-append, Call, finished, split-and_then}
+use Rattle.inp_script.specs.Line.{stream_talk}
+use Rattle.inp_runs.specs.Job.{lines_talk}
 use Rattle.inp_reader.proofs.Talks.{LeadsTo-append, LeadsTo-and_then}
-use Rattle.inp_reader.proofs.Calls.{finished, split-and_then}
 
 -- of the step that a command makes, if it makes one
 abbrev pub OfStep : (Step → Type 0) → Option Step → Type 0

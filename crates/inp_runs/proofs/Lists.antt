@@ -1,11 +1,8 @@
 -- Lists by their elements: one that is replaced, those that a test keeps, and sums over them.
 use Rattle.std.proofs.Common.{◌≡◌, ℕ, zero, suc, ◌+◌, Bool, true, false, if◌then◌else◌, cond, nat_eq, List, [], ◌∷◌, map, refl, sym, ap, ◌∙◌, arith, zero-add, ◌⊎◌, inl, inr, Option, Some, None, ◌<◌, length}
-use Rattle.std.specs.Prelude.{filter, slice_get, slice_set, option_map}
-use Rattle.std.specs.List.{enumerate_from, range_with_len, sum_by}
-use Rattle.std.proofs.lemmas.Bool.Decides.{nat_tests}
+use Rattle.inp_runs.proofs.Words.{filter, slice_set, option_map, enumerate_from, range_with_len, sum_by, nat_tests, get_or_from_slice_get, slice_get_within, same_Some, eqb-true, cases_eq, false_from_ne_true}
+use Rattle.std.specs.Prelude.{slice_get}
 use Rattle.std.proofs.lemmas.List.Sums.{sum_by-cons, sum_by-set}
-use Rattle.std.proofs.lemmas.Option.{get_or_from_slice_get, slice_get_within, same_Some}
-use Rattle.std.proofs.lemmas.Bool.{eqb-true, cases_eq, false_from_ne_true}
 
 pub eq_same : (m n : ℕ) → nat_eq m n ≡ true → m ≡ n
 eq_same m n h = eqb-true m n h

@@ -1,23 +1,14 @@
 -- What came of a record is what came of its devices, and each joystick and each owner is found again on its device.
 use Rattle.std.proofs.Common.{◌≡◌, ℕ, zero, suc, ◌+◌, ◌<◌, Bool, true, false, List, [], ◌∷◌, ◌++◌, length, map, refl, sym, ap, subst, ◌∙◌, arith, add-zero, zero-add, append-nil, ◌⊎◌, inl, inr, Option, Some, None}
-use Rattle.std.specs.Prelude.{filter, flat_map, slice_get, option_map}
-use Rattle.std.specs.List.{range_with_len}
-use Rattle.std.proofs.lemmas.List.{length-map, map-append}
-use Rattle.std.proofs.lemmas.List.Elements.{filter-append}
-use Rattle.std.proofs.lemmas.Option.{same_Some, slice_get-map, slice_get_within}
-use Rattle.inp_actors.specs.declared.actor_text.ActorText.{ActorText}
+use Rattle.inp_runs.proofs.Words.{filter, flat_map, option_map, range_with_len, length-map, map-append, filter-append, same_Some, slice_get-map, slice_get_within, ActorText, RecordView, JoyJobView, OwnerView, lines_by, IsRun, ArePromised, joys_on, wait_of, rooms_of, IsOwner, eqb-true}
+use Rattle.std.specs.Prelude.{slice_get}
 use Rattle.inp_actors.specs.declared.device_text.DeviceText.{DeviceText}
-use Rattle.inp_actors.specs.Record.{RecordView}
 use Rattle.inp_script.specs.declared.run.DeviceEnds.{DeviceEnds}
 use Rattle.inp_script.specs.declared.run.Run.{Run}
 use Rattle.inp_script.specs.Ended.{ended_run, joys_among, owners_among, played_of}
-use Rattle.inp_script.specs.Job.{JoyJobView, OwnerView}
 use Rattle.inp_script.specs.Runs.{is_on_device, is_joystick, is_owning, actors_of, joysticks_of, joy_actors, owners_of, IsRunOf}
 use Rattle.inp_runs.specs.Done.{IsRunAsPromised}
-use Rattle.inp_runs.specs.Job.{lines_by, IsRun, ArePromised, joys_on, wait_of}
-use Rattle.inp_runs.specs.Owner.{rooms_of, IsOwner}
 use Rattle.inp_runs.proofs.Lists.{IsAt, IsImage, eq_false, filter-all, filter-none, option_map-some, slice_get-filter, there-is}
-use Rattle.std.proofs.lemmas.Bool.{eqb-true}
 
 -- Parts of what came of each device, whose numbers are these of a device's number
 

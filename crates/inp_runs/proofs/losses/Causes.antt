@@ -1,28 +1,21 @@
 -- Each loss in a queue has its cause, since none comes in a frame.
 use Rattle.std.proofs.Common.{◌≡◌, ◌⊎◌, ℕ, ℤ, Bool, true, false, if◌then◌else◌, List, [], ◌∷◌, ◌++◌, length, map, filter, nat_le, refl, sym, subst, inl, inr, Option, Some, None, option_to_list, option_map, ◌≤◌, ◌<◌, zero, suc, ◌*◌, ◌&&◌, ◌||◌, nat_eq, nat_lt, min, ap, ◌∙◌, arith, append_assoc, length-append, length-drop}
-use Rattle.std.proofs.lemmas.Bool.{cond_both, true≢false, eqb-true}
+use Rattle.inp_runs.proofs.Words.{cond_both, true≢false, eqb-true, Step, Description, doubled, ring, admits, is_call_of, is_opening, clock_of, eaten, left, Each, Each-append, Each-weaker, Each-take, Each-drop, nat_tests, Discard, Query, client_of, is_same, query_of, is_part_of}
 use Rattle.inp_model.specs.declared.event.Event.{Event}
-use Rattle.inp_model.specs.declared.step.Step.{Step}
 use Rattle.inp_model.specs.RawItem.{RawItem, Occurred, Described, Cut}
-use Rattle.inp_model.specs.Description.{Description, doubled, ring}
 use Rattle.inp_model.specs.Event.{is_report, slot_event}
 use Rattle.inp_model.specs.State.{staged}
 use Rattle.inp_model.specs.Passed.{passes_as, announces, announcement, passed, passed_for}
-use Rattle.inp_model.specs.Past.{admits, is_call_of, is_opening, clock_of}
 use Rattle.inp_model.specs.Cut.{pending, cut_for, cuts}
 use Rattle.inp_model.specs.Frame.{frame_of, frames_of_step}
-use Rattle.inp_model.specs.Left.{eaten, left}
 use Rattle.inp_model.specs.Queue.{Entry, event_of, entry, entries_of, entries, is_offered, entry_dropped_at, is_empty, ends_in_report, put, put_all, visible, flush_for, is_same_clock, clock_entry, clock_changed, left_by_call, queue, queue_with, taken_by, took, took_with}
 use Rattle.inp_recon.specs.Synchronised.{is_dropped}
-use Rattle.inp_recon.proofs.Each.{Each, Each-append, Each-weaker, Each-take, Each-drop}
 use Rattle.inp_recon.proofs.EventKinds.{of_reports, of_losses}
 use Rattle.inp_recon.proofs.FrameEntries.{Each-left_from}
 use Rattle.inp_recon.proofs.Cuts.{NoCut, OneCut, cut_cases}
 use Rattle.std.specs.List.{slice_get}
-use Rattle.std.proofs.lemmas.Bool.Decides.{nat_tests}
 use Rattle.inp_model.specs.declared.clock.Clock.{Clock}
-use Rattle.inp_model.specs.declared.step.Step.TheVariants.{Open, Read, Discard, Clock as ToClock}
-use Rattle.inp_model.specs.Step.{Query, client_of, is_same, query_of, is_part_of}
+use Rattle.inp_model.specs.declared.step.Step.TheVariants.{Open, Read, Clock as ToClock}
 use Rattle.inp_model.specs.Raw.{raw, raw_of_step}
 use Rattle.inp_model.proofs.Removal.{flush-length}
 use Rattle.inp_recon.proofs.QueuedValues.{put_all-append, flush-each}

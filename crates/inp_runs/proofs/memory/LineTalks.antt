@@ -1,23 +1,9 @@
 -- What a line that does not wait leaves of a job: a view of the device's size, and a sight that tells of all calls.
 use Rattle.std.proofs.Common.{◌≡◌, ℕ, Bool, List, [], ◌∷◌, ◌++◌, map, sym, ap, subst, ◌∙◌, append-nil, Option, Some, None, refl}
-use Rattle.std.specs.Prelude.{filter}
-use Rattle.std.proofs.lemmas.List.Elements.{filter-append}
-use Rattle.std.proofs.lemmas.Bool.{cond_both}
-use Rattle.inp_model.specs.declared.stamped.Stamped.{Stamped}
-use Rattle.inp_model.specs.declared.step.Step.{Step}
-use Rattle.inp_model.specs.Description.{Description}
-use Rattle.inp_model.specs.Reply.{Answer, answer}
-use Rattle.inp_actors.specs.declared.command.Command.{Command}
-use Rattle.inp_actors.specs.declared.line.Line.{Line}
-use Rattle.inp_actors.specs.declared.role.Role.{Role}
-use Rattle.inp_recon.specs.View.{IsSizedFor, view_after_answer}
-use Rattle.inp_recon.proofs.Sizes.{IsSizedFor-after_events}
-use Rattle.inp_reader.specs.declared.mode.Mode.{Mode}
+use Rattle.inp_runs.proofs.Words.{filter, filter-append, cond_both, Stamped, Step, Description, Answer, answer, Command, Line, Role, IsSizedFor, view_after_answer, IsSizedFor-after_events, Mode, Success, Dropped, Sync, Started, Reading, start_talk, next_talk, is_needed, Talk, finish, and_then, Sight, Took, Made, Record, line_talk, Job, Stick, joying_of, with_joying, is_call_entry, after_call, event_of_taken, after_tap_call, call_sight, again_sight, taken_sight, sight_of_call, noted, start_lacks_memory, stop_after_start, no_calls_taken, call_kept, again_kept, lines_talk, Waiting, Meets, Any, meets-then, meets-weaker, NotedBy, meets-noted, OfJob, OfTurn, OfGoing, read_so, start_job-meets, round-meets, LineRules, line-meets}
 use Rattle.inp_reader.specs.declared.next.Next.{Next}
-use Rattle.inp_reader.specs.declared.next.Next.TheVariants.{Success, Dropped, Sync, Again}
-use Rattle.inp_reader.specs.declared.started.Started.{Started}
+use Rattle.inp_reader.specs.declared.next.Next.TheVariants.{Again}
 use Rattle.inp_reader.specs.declared.started.Started.TheVariants.{Opened, Refused}
-use Rattle.inp_reader.specs.Reader.{Reading, start_talk, next_talk}
 use Rattle.inp_joy.specs.declared.joy_read.JoyRead.{JoyRead}
 use Rattle.inp_joy.specs.declared.joy_read.JoyRead.TheVariants.{Again as NothingToRead}
 use Rattle.inp_joy.specs.declared.joy_record.JoyRecord.{JoyRecord}
@@ -25,23 +11,10 @@ use Rattle.inp_joy.specs.JoyRecord.{bytes_of_record}
 use Rattle.inp_joy.specs.Joy as joy
 use Rattle.inp_joy.specs.Joy.{Joying, JoyAnswer, with_reading, joy_started, joy_start, turns}
 use Rattle.inp_joy.proofs.TurnsWalk.{OfAnswer, TurnRules, turns-meets}
-use Rattle.inp_reader.specs.ReaderPlace.{is_needed}
-use Rattle.inp_reader.specs.Talk.{Talk, finish, and_then}
-use Rattle.inp_script.specs.declared.sight.Sight.{Sight}
-use Rattle.inp_script.specs.declared.sight.Sight.TheVariants.{Took, Made, Again as AgainSight, Record}
+use Rattle.inp_script.specs.declared.sight.Sight.TheVariants.{Again as AgainSight}
 use Rattle.inp_script.specs.Client.{job_after_start, Going, Turn, handed, one_less, is_done, turn_after, after_next, mode_of, with_sight, next_round}
-use Rattle.inp_script.specs.DoneLine.{line_talk}
-use Rattle.inp_script.specs.Job.{Job, Stick, joying_of, with_joying}
 use Rattle.inp_script.specs.Joystick.{record_sight, after_joy_start, start_joystick, after_joy_answer}
-use Rattle.inp_script.specs.Legal.{is_call_entry}
-use Rattle.inp_script.specs.Line.{after_call, event_of_taken, after_tap_call}
-use Rattle.inp_script.specs.Sight.{call_sight, again_sight, taken_sight, sight_of_call, noted, start_lacks_memory, stop_after_start}
-use Rattle.inp_script.proofs.Told.{no_calls_taken, call_kept, again_kept}
-use Rattle.inp_runs.specs.Job.{lines_talk}
 use Rattle.inp_runs.proofs.Entries.{call_entries}
-use Rattle.inp_script.specs.declared.waiting.Waiting.{Waiting}
-use Rattle.inp_reader.proofs.Meets.{Meets, Any, meets-then, meets-weaker}
-use Rattle.inp_script.proofs.LineWalk.{NotedBy, meets-noted, OfJob, OfTurn, OfGoing, read_so, start_job-meets, round-meets, LineRules, line-meets}
 use Rattle.inp_script.proofs.JoyWalk.{AfterRead, AfterTurns, joystick-meets}
 use Rattle.inp_runs.proofs.memory.ReaderTalks.{EntriesBy, Leaves, Both, IsSizedReader, LeavesNext, IsStarted, IsNext, again_of, sized-answered, answers-start, answers-next}
 use Rattle.inp_runs.proofs.LinesWalk.{any-lines, lines-keep}

@@ -1,48 +1,24 @@
 -- A line whose Open was refused for want of memory leaves no job.
 use Rattle.std.proofs.Common.{◌≡◌, ℕ, zero, suc, Bool, true, false, List, [], ◌∷◌, ◌++◌, length, Option, Some, None, refl, sym, ap, subst, ◌∙◌, inl, inr}
-use Rattle.std.specs.List.{list_any}
-use Rattle.std.proofs.lemmas.Bool.{cond_both}
-use Rattle.inp_model.specs.declared.stamped.Stamped.{Stamped}
-use Rattle.inp_model.specs.declared.step.Step.{Step}
-use Rattle.inp_model.specs.declared.step.Step.TheVariants.{Open as ToOpen, Inject, End}
-use Rattle.inp_model.specs.declared.reply.Reply.{Reply}
-use Rattle.inp_model.specs.declared.reply.Reply.TheVariants.{Opened, Refused}
+use Rattle.inp_runs.proofs.Words.{list_any, cond_both, Stamped, Step, Inject, End, Reply, Opened, Refused, Description, is_open_step, past_at, Answer, answer, accepted, alone, is_accepted, Call, HasPlace, IsLegalFrom, place_of, next_place, Command, Stream, Stream16, Skip, Follow, Force, Line, Role, Source, Client, Tap, Joy, Owner, is_command_of, Mode, NO_CLIENT, Started, Reading, ask_each, queries, after_open, after_queries, next_talk, Talk, finish, ask, and_then, EndsWith, Asks, asks-then, Sight, Stop, Waiting, command_talk, unless_stopped, Job, joying_of, step_of, call_if, after_call, stream_numbered, source_talk, end_talk, tap_call_if, noted, call_sight, on_job, last_talk, call_lacks_memory}
+use Rattle.inp_model.specs.declared.step.Step.TheVariants.{Open as ToOpen}
 use Rattle.inp_model.specs.declared.reply.Refusal.TheVariants.{NoMemory}
-use Rattle.inp_model.specs.Description.{Description}
-use Rattle.inp_model.specs.Step.{is_open_step}
-use Rattle.inp_model.specs.Past.{past_at}
-use Rattle.inp_model.specs.Reply.{Answer, answer, accepted, alone, is_accepted}
-use Rattle.inp_model.specs.Run.{Call, HasPlace, IsLegalFrom, place_of, next_place}
-use Rattle.inp_actors.specs.declared.command.Command.{Command}
-use Rattle.inp_actors.specs.declared.command.Command.TheVariants.{Stream, Stream16, Open, Read, Next, Skip, Follow, Force}
-use Rattle.inp_actors.specs.declared.line.Line.{Line}
-use Rattle.inp_actors.specs.declared.role.Role.{Role}
-use Rattle.inp_actors.specs.declared.role.Role.TheVariants.{Source, Client, Tap, Joy, Owner}
-use Rattle.inp_actors.specs.Command.{is_command_of}
-use Rattle.inp_reader.specs.declared.mode.Mode.{Mode}
+use Rattle.inp_actors.specs.declared.command.Command.TheVariants.{Open, Read, Next}
 use Rattle.inp_reader.specs.declared.next.Next.{Next as Answered}
-use Rattle.inp_reader.specs.declared.reader.TheConstants.{NO_CLIENT}
-use Rattle.inp_reader.specs.declared.started.Started.{Started}
-use Rattle.inp_reader.specs.Reader.{Reading, ask_each, queries, start_talk, after_open, after_queries, next_talk}
+use Rattle.inp_reader.specs.Reader.{start_talk}
 use Rattle.inp_joy.specs.declared.joy_read.JoyRead.{JoyRead}
 use Rattle.inp_joy.specs.declared.joy_read.JoyRead.TheVariants.{Frame, More}
 use Rattle.inp_joy.specs.Joy.{Joying, JoyAnswer, joy_started, joy_start, turns}
 use Rattle.inp_joy.proofs.TurnsWalk.{turns-ask}
-use Rattle.inp_reader.specs.Talk.{Talk, finish, ask, and_then, LeadsTo, EndsWith}
-use Rattle.inp_reader.proofs.Meets.{Asks, asks-then}
+use Rattle.inp_reader.specs.Talk.{LeadsTo}
 use Rattle.inp_reader.proofs.NextWalk.{OfQueries, each-query, asks-each, next-asks}
-use Rattle.inp_script.specs.declared.sight.Sight.{Sight}
-use Rattle.inp_script.specs.declared.stop.Stop.{Stop}
-use Rattle.inp_script.specs.declared.waiting.Waiting.{Waiting}
 use Rattle.inp_script.specs.Client.{Going, Turn, goes_on, ends_with, is_done, mode_of, start_ends, start_job, after_next, next_round, on_turn, rounds, hand_talk, client_talk}
-use Rattle.inp_script.specs.DoneLine.{command_talk, unless_stopped, line_talk}
-use Rattle.inp_script.specs.Job.{Job, joying_of}
+use Rattle.inp_script.specs.DoneLine.{line_talk}
 use Rattle.inp_script.specs.Sight as script
 use Rattle.inp_script.specs.Joystick.{Reach, handed_out, line_ends, after_joy_start, start_joystick, after_joy_answer, after_joy_read, after_turns, read_on, on_reach, read_records, joystick_talk}
-use Rattle.inp_script.specs.Line.{step_of, call_if, after_call, stream_talk, stream_numbered, source_talk, end_talk, tap_call_if}
-use Rattle.inp_script.specs.Sight.{noted, call_sight}
+use Rattle.inp_script.specs.Line.{stream_talk}
 use Rattle.inp_script.proofs.Replies.{answer_has}
-use Rattle.inp_runs.specs.Job.{on_job, last_talk, lines_talk, call_lacks_memory}
+use Rattle.inp_runs.specs.Job.{lines_talk}
 use Rattle.inp_runs.proofs.views.Folded.{AreOfRole}
 use Rattle.inp_runs.proofs.memory.ReaderTalks.{AreAnswered}
 use Rattle.inp_runs.proofs.LinesWalk.{is_open_if}

@@ -1,19 +1,12 @@
 -- Calls on a device of which each place is the caller's are those of the one-thread device, one after another.
 use Rattle.std.proofs.Common.{◌≡◌, ℕ, suc, ◌+◌, ◌≤◌, Bool, true, false, if◌then◌else◌, List, [], ◌∷◌, ◌++◌, length, reverse, take, refl, sym, ap, subst, ◌∙◌, arith, inl, inr, Option, Some, None, length-append, IsTrue}
-use Rattle.std.specs.List.{slice_get, range_with_len}
+use Rattle.inp_runs.proofs.Words.{range_with_len, length-reverse, reverse-reverse, reverse-append, append-nil, Step, Description, EvdevView, IsCall, past_at, Answer, IsAnswer, answer, is_accepted, past_after, Call, place_of, Talk, finish, ask, EndsWith, Job}
+use Rattle.std.specs.List.{slice_get}
 use Rattle.std.proofs.Math.Seq.{take-append_seam}
-use Rattle.std.proofs.lemmas.List.{length-reverse, reverse-reverse, reverse-append, append-nil}
 use Rattle.std.proofs.lemmas.List.FromFn.{length-range_with_len}
-use Rattle.inp_model.specs.declared.step.Step.{Step}
-use Rattle.inp_model.specs.Description.{Description}
 use Rattle.inp_model.specs.DeviceView.{DeviceView, evdev_view}
-use Rattle.inp_model.specs.Evdev.{EvdevView, IsCall}
-use Rattle.inp_model.specs.Past.{past_at}
-use Rattle.inp_model.specs.Reply.{Answer, IsAnswer, answer, is_accepted, past_after}
-use Rattle.inp_model.specs.Run.{Call, place_of}
 use Rattle.inp_model.specs.Leaves.{AreCalls}
-use Rattle.inp_reader.specs.Talk.{Talk, finish, ask, LeadsTo, EndsWith, talk_with}
-use Rattle.inp_script.specs.Job.{Job}
+use Rattle.inp_reader.specs.Talk.{LeadsTo, talk_with}
 use Rattle.inp_runs.proofs.memory.Memory.{GivesUp, never_both}
 
 -- A call leaves no fewer places of others than there were

@@ -1,31 +1,18 @@
 -- The calls that a talk makes of the one-thread device: what they leave of its past, and at which places they
 -- are entered.
 use Rattle.std.proofs.Common.{◌≡◌, ℕ, ◌≤◌, Bool, true, false, if◌then◌else◌, List, [], ◌∷◌, ◌++◌, length, reverse, refl, sym, ap, subst, ◌∙◌, arith, inl, None, ◌+◌, ◌&&◌, nat_eq, zero-add}
-use Rattle.std.specs.List.{list_any}
-use Rattle.inp_model.specs.declared.step.Step.{Step}
-use Rattle.inp_model.specs.declared.reply.Reply.{Reply}
-use Rattle.inp_model.specs.Description.{Description}
+use Rattle.inp_runs.proofs.Words.{list_any, Step, Reply, Description, EvdevView, BeginsWith, agains_after, Answer, answer, refused, past_after, is_accepted, Call, IsLegalRun, place_of, Talk, finish, ask, EndsWith, IsHistory, call_lacks_memory, filter, nat_tests, Sight, sight_of_calls, is_call_entry, cond_both}
 use Rattle.inp_model.specs.DeviceView.{evdev_view}
-use Rattle.inp_model.specs.Evdev.{EvdevView, BeginsWith, agains_after}
-use Rattle.inp_model.specs.Reply.{Answer, answer, refused, past_after, is_accepted}
-use Rattle.inp_model.specs.Run.{Call, IsLegalRun, place_of}
 use Rattle.inp_model.proofs.Told.{called_by, given_place}
 use Rattle.inp_model.specs.Leaves.{AreCalls}
-use Rattle.inp_reader.specs.Talk.{Talk, finish, ask, LeadsTo, EndsWith, talk_with, calls_with}
-use Rattle.inp_model.specs.History.{IsHistory}
+use Rattle.inp_reader.specs.Talk.{LeadsTo, talk_with, calls_with}
 use Rattle.inp_reader.proofs.LessEffort.{place-below}
 use Rattle.inp_script.proofs.Replies.{answer_has}
 use Rattle.inp_script.proofs.Runs.{runs-on}
 use Rattle.inp_model.proofs.Leaves.{seen-kept}
-use Rattle.inp_runs.specs.Job.{call_lacks_memory}
 use Rattle.inp_runs.proofs.memory.ReaderTalks.{AreAnswered}
 use Rattle.inp_runs.proofs.memory.Memory.{answered-memory}
-use Rattle.std.specs.Prelude.{filter}
-use Rattle.std.proofs.lemmas.Bool.Decides.{nat_tests}
-use Rattle.inp_script.specs.declared.sight.Sight.{Sight}
-use Rattle.inp_script.specs.Legal.{sight_of_calls, is_call_entry}
 use Rattle.inp_runs.proofs.Entries.{call_entries, entries, below, entries-append, entries-calls, entries-call}
-use Rattle.std.proofs.lemmas.Bool.{cond_both}
 
 -- the calls that a talk makes are its own
 pub talk_with-ends : {A : Type 0} (d : Description) (past : List Step) (talk : Talk A) → EndsWith talk (calls_with d past talk) (talk_with d past talk).0

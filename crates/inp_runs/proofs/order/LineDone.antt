@@ -1,31 +1,14 @@
 -- What a line of a record changes: the past of its device, the feedback calls that the device keeps, and its actor.
 use Rattle.std.proofs.Common.{◌≡◌, ℕ, zero, suc, true, List, [], ◌∷◌, ◌++◌, refl, sym, ap, subst, ◌∙◌, append-nil, Option, Some, None}
-use Rattle.std.specs.Prelude.{slice_get, slice_set, option_map}
-use Rattle.std.proofs.lemmas.Option.{option_and_then_some}
-use Rattle.inp_model.specs.declared.stamped.Stamped.{Stamped}
-use Rattle.inp_model.specs.declared.step.Step.{Step}
-use Rattle.inp_model.specs.Description.{Description}
-use Rattle.inp_model.specs.Run.{Call}
-use Rattle.inp_actors.specs.declared.actor_text.ActorText.{ActorText}
-use Rattle.inp_actors.specs.declared.command.Command.{Command}
-use Rattle.inp_actors.specs.declared.command.Command.TheVariants.{Feedback}
-use Rattle.inp_actors.specs.declared.line.Line.{Line}
-use Rattle.inp_actors.specs.declared.role.Role.{Role}
-use Rattle.inp_actors.specs.declared.role.Role.TheVariants.{Owner}
-use Rattle.inp_actors.specs.Command.{is_command_of, feedback_room}
-use Rattle.inp_actors.specs.Record.{RecordView}
+use Rattle.inp_runs.proofs.Words.{slice_set, option_map, option_and_then_some, Stamped, Step, Description, Call, ActorText, Command, Feedback, Line, Role, Owner, is_command_of, feedback_room, RecordView, Talk, finish, EndsWith, talk_with, calls_with, Sight, Stop, Job, ActorView, sight_of_calls, Owning, after_feedback, Stage, feedback_calls_after, after_talk, unless_owner_stopped, by_command, after_line_of}
+use Rattle.std.specs.Prelude.{slice_get}
 use Rattle.inp_feedback.specs.declared.feedback_call.FeedbackCall.{FeedbackCall}
 use Rattle.inp_feedback.specs.declared.u_entry.UEntry.{UEntry}
 use Rattle.inp_feedback.specs.Feedback.{taken_by_feedback, fed}
 use Rattle.inp_feedback.specs.Kept.{kept_of}
-use Rattle.inp_reader.specs.Talk.{Talk, finish, LeadsTo, EndsWith, talk_with, calls_with}
-use Rattle.inp_script.specs.declared.sight.Sight.{Sight}
-use Rattle.inp_script.specs.declared.stop.Stop.{Stop}
+use Rattle.inp_reader.specs.Talk.{LeadsTo}
 use Rattle.inp_script.specs.DoneLine.{line_talk}
-use Rattle.inp_script.specs.Job.{Job, ActorView}
-use Rattle.inp_script.specs.Legal.{sight_of_calls}
-use Rattle.inp_script.specs.Owner.{Owning, after_feedback}
-use Rattle.inp_runs.specs.Play.{Stage, feedback_calls_after, after_talk, unless_owner_stopped, by_command, after_line_of, after_line}
+use Rattle.inp_runs.specs.Play.{after_line}
 use Rattle.inp_runs.proofs.order.Calls.{AreExact, talk_with-ends, talk_with-exact, exact-answered}
 use Rattle.inp_runs.proofs.memory.ReaderTalks.{leaves-ends}
 use Rattle.inp_runs.proofs.memory.LineTalks.{IsKept, IsKeptIfSome, leaves-line}

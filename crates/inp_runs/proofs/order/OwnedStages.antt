@@ -1,34 +1,16 @@
 -- What is so of owners between two lines.
 use Rattle.std.proofs.Common.{◌≡◌, ℕ, List, [], ◌∷◌, ◌++◌, length, refl, sym, ap, subst, ◌∙◌, arith, append-nil, append_assoc, length-set, length-append, ◌⊎◌, inl, inr, Option, Some, None}
-use Rattle.std.specs.Prelude.{slice_get, slice_set}
-use Rattle.std.specs.List.{cons_option}
-use Rattle.std.proofs.lemmas.List.Elements.{filter_map-append}
-use Rattle.std.proofs.lemmas.Option.{same_Some}
-use Rattle.inp_model.specs.declared.step.Step.{Step}
-use Rattle.inp_model.specs.Description.{Description}
-use Rattle.inp_model.specs.Reply.{is_accepted, past_after}
-use Rattle.inp_model.specs.Run.{Call}
-use Rattle.inp_actors.specs.declared.actor_text.ActorText.{ActorText}
-use Rattle.inp_actors.specs.declared.line.Line.{Line}
-use Rattle.inp_actors.specs.declared.role.Role.TheVariants.{Owner}
-use Rattle.inp_actors.specs.Command.{feedback_room}
-use Rattle.inp_actors.specs.Record.{RecordView}
+use Rattle.inp_runs.proofs.Words.{slice_set, cons_option, filter_map-append, same_Some, Step, Description, is_accepted, past_after, Call, ActorText, Line, Owner, feedback_room, RecordView, Stop, ActorView, Owning, after_feedback, lines_by, rooms_of, Stage, description_at, feedback_calls_after, after_lines, cond_both}
+use Rattle.std.specs.Prelude.{slice_get}
 use Rattle.inp_feedback.specs.declared.feedback_call.FeedbackCall.{FeedbackCall}
 use Rattle.inp_feedback.specs.Feedback.{taken_by_feedback, fed}
 use Rattle.inp_feedback.specs.Kept.{kept_of, StandsWithin}
-use Rattle.inp_script.specs.declared.stop.Stop.{Stop}
-use Rattle.inp_script.specs.Job.{ActorView}
-use Rattle.inp_script.specs.Owner.{Owning, after_feedback}
-use Rattle.inp_runs.specs.Job.{lines_by}
-use Rattle.inp_runs.specs.Owner.{rooms_of}
 use Rattle.inp_runs.proofs.LinesWalk.{lines_by-more, lines_by-other}
 use Rattle.inp_runs.proofs.Lists.{eq_true, eq_false, slice_get-set, slice_get-set_same}
-use Rattle.inp_runs.specs.Play.{Stage, description_at, feedback_calls_after, after_lines}
 use Rattle.inp_runs.proofs.order.Calls.{AreExact}
 use Rattle.inp_runs.proofs.owners.OwnerLaws.{IsToldByLines, told-stopped, so-far-steps, so-far-called, called-within}
 use Rattle.inp_runs.proofs.order.LineDone.{IsFedUnless, IsFedWhereAsked, IsLinePlayed, feedback-of}
 use Rattle.inp_runs.proofs.order.Stages.{IsStage, AreCommandsOf, number_is, its_number, its_actor, actor-behind, past-behind, stages-keep}
-use Rattle.std.proofs.lemmas.Bool.{cond_both}
 
 -- What stands of owners when these lines were done.
 pub record AreOwned (r : RecordView) (lines : List Line) (stage : Stage) : Type 0 where

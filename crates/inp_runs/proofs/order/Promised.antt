@@ -1,37 +1,21 @@
 -- What comes of a record keeps what is promised.
 use Rattle.std.proofs.Common.{◌≡◌, ℕ, zero, suc, ◌+◌, ◌*◌, ◌<◌, Bool, List, [], ◌∷◌, length, map, reverse, refl, sym, ap, subst, ◌∙◌, arith, Option, Some, None}
-use Rattle.std.specs.Prelude.{filter, slice_get, option_map, Result, Ok, Err, IfOk}
-use Rattle.std.specs.List.{enumerate_from, range_with_len, sum_by}
-use Rattle.std.proofs.lemmas.Bool.Decides.{nat_tests}
-use Rattle.std.proofs.lemmas.List.{length-map, length-reverse, map-id}
+use Rattle.inp_runs.proofs.Words.{filter, option_map, Result, Ok, Err, IfOk, enumerate_from, range_with_len, sum_by, nat_tests, length-map, length-reverse, map-id, get_or_from_slice_get, same_Some, slice_get_within, slice_get-map, cond_both, Step, Description, syn_alone, ActorText, Role, Joy, Owner, RecordView, IsRecord, IsHistory, IsSizedFor, IsSizedFor-first_view, ActorView, first_owning, lines_by, AreDescribed, ArePromised, rooms_of, HasOwned, Stage, description_at, first_actor, first_stage, after_lines, jobs_on, run_of, runs_of, IsPlay}
+use Rattle.std.specs.Prelude.{slice_get}
 use Rattle.std.proofs.lemmas.List.FromFn.{length-enumerate_from}
-use Rattle.std.proofs.lemmas.Option.{get_or_from_slice_get, same_Some, slice_get_within, slice_get-map}
-use Rattle.std.proofs.lemmas.Bool.{cond_both}
-use Rattle.inp_model.specs.declared.step.Step.{Step}
-use Rattle.inp_model.specs.Description.{Description, syn_alone}
-use Rattle.inp_actors.specs.declared.actor_text.ActorText.{ActorText}
 use Rattle.inp_actors.specs.declared.device_text.DeviceText.{DeviceText}
-use Rattle.inp_actors.specs.declared.role.Role.{Role}
-use Rattle.inp_actors.specs.declared.role.Role.TheVariants.{Joy, Owner}
-use Rattle.inp_actors.specs.Record.{RecordView, IsRecord}
-use Rattle.inp_model.specs.History.{IsHistory}
 use Rattle.inp_feedback.specs.declared.u_entry.UEntry.{UEntry}
 use Rattle.inp_feedback.specs.declared.feedback_call.FeedbackCall.{FeedbackCall}
 use Rattle.inp_feedback.specs.Kept.{kept_of, StandsWithin}
 use Rattle.inp_feedback.proofs.Lists.{steps_in-kept_of, kept_of-nothing}
-use Rattle.inp_recon.specs.View.{IsSizedFor}
-use Rattle.inp_recon.proofs.Sizes.{IsSizedFor-first_view}
 use Rattle.inp_reader.specs.Talk.{LeadsTo}
 use Rattle.inp_script.specs.declared.run.DeviceEnds.{DeviceEnds}
 use Rattle.inp_script.specs.declared.run.Played.{Played}
 use Rattle.inp_script.specs.Ended.{HasDeviceSlots, ended_as, played_of}
-use Rattle.inp_script.specs.Job.{ActorView}
-use Rattle.inp_script.specs.Owner.{first_owning}
 use Rattle.inp_script.specs.Runs.{is_on_device}
 use Rattle.inp_runs.specs.Done.{IsDeviceDone, IsRunAsPromised, calls_at}
-use Rattle.inp_runs.specs.Job.{lines_by, lines_talk, AreDescribed, ArePromised}
-use Rattle.inp_runs.specs.Owner.{rooms_of, HasOwned}
-use Rattle.inp_runs.specs.Play.{Stage, description_at, first_actor, first_stage, after_lines, jobs_on, run_of, runs_of, play, IsPlay}
+use Rattle.inp_runs.specs.Job.{lines_talk}
+use Rattle.inp_runs.specs.Play.{play}
 use Rattle.inp_runs.proofs.Done.{device-promised}
 use Rattle.inp_runs.proofs.Lists.{option_map-some, slice_get-filter, slice_get-numbered, map-filter, sum_by-kept, sum_by-none}
 use Rattle.inp_runs.proofs.Entries.{entries, below}

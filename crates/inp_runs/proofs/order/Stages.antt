@@ -1,29 +1,10 @@
 -- What is so between two lines: of each actor, of the history of each device, and of its places.
 use Rattle.std.proofs.Common.{◌≡◌, ℕ, suc, ◌+◌, ◌≤◌, Bool, true, false, if◌then◌else◌, nat_eq, List, [], ◌∷◌, ◌++◌, length, map, reverse, refl, sym, ap, subst, ◌∙◌, arith, append_assoc, append-nil, length-set, ◌||◌, ◌⊎◌, inl, inr, Option, Some, None}
-use Rattle.std.specs.Prelude.{filter, slice_get, slice_set, option_map}
-use Rattle.std.specs.List.{list_any, range_with_len, sum_by}
-use Rattle.std.proofs.lemmas.Option.{slice_get-map, same_Some, option_and_then_some}
-use Rattle.inp_model.specs.declared.step.Step.{Step}
-use Rattle.inp_model.specs.Description.{Description}
-use Rattle.inp_model.specs.Evdev.{BeginsWith}
-use Rattle.inp_model.specs.Run.{Call, IsLegalFrom, IsLegalRun, next_place}
-use Rattle.inp_actors.specs.declared.actor_text.ActorText.{ActorText}
-use Rattle.inp_actors.specs.declared.line.Line.{Line}
-use Rattle.inp_actors.specs.declared.role.Role.{Role}
-use Rattle.inp_actors.specs.Command.{is_command_of}
-use Rattle.inp_actors.specs.Record.{RecordView}
-use Rattle.inp_model.specs.History.{IsHistory}
-use Rattle.inp_recon.specs.View.{IsSizedFor}
-use Rattle.inp_reader.specs.Talk.{EndsWith}
-use Rattle.inp_script.specs.DoneLine.{line_talk}
-use Rattle.inp_script.specs.Job.{Job, ActorView, first_job}
-use Rattle.inp_script.specs.Legal.{sight_of_calls, is_call_entry}
-use Rattle.inp_script.specs.Owner.{Owning}
+use Rattle.inp_runs.proofs.Words.{filter, slice_set, option_map, list_any, range_with_len, sum_by, slice_get-map, same_Some, option_and_then_some, Step, Description, BeginsWith, Call, IsLegalFrom, IsLegalRun, next_place, ActorText, Line, Role, is_command_of, RecordView, IsHistory, IsSizedFor, EndsWith, line_talk, Job, ActorView, first_job, sight_of_calls, is_call_entry, Owning, sight_of_calls-append, lines_by, lines_talk, call_lacks_memory, Stage, description_at, after_line}
+use Rattle.std.specs.Prelude.{slice_get}
 use Rattle.inp_script.specs.Runs.{is_on_device}
 use Rattle.inp_model.proofs.Leaves.{HasPlace-longer}
-use Rattle.inp_script.proofs.Told.{sight_of_calls-append}
-use Rattle.inp_runs.specs.Job.{lines_by, lines_talk, call_lacks_memory}
-use Rattle.inp_runs.specs.Play.{Stage, description_at, after_line, after_lines}
+use Rattle.inp_runs.specs.Play.{after_lines}
 use Rattle.inp_runs.proofs.order.Calls.{AreExact, exact-grows, exact-legal, exact-memory, exact-within, exact-history, entries-gained}
 use Rattle.inp_runs.proofs.order.LineDone.{IsLinePlayed, MayDo, line-done}
 use Rattle.inp_runs.proofs.LinesWalk.{lines_talk-more, lines_by-more, lines_by-other}

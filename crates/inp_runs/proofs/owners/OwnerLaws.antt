@@ -1,8 +1,6 @@
 -- What an owner was told, as its device goes on.
 use Rattle.std.proofs.Common.{◌≡◌, ℕ, Bool, true, false, if◌then◌else◌, List, [], ◌∷◌, ◌++◌, length, map, reverse, take, refl, sym, ap, subst, ◌∙◌, append_assoc, arith, inl, inr, Some, None}
-use Rattle.std.proofs.lemmas.List.{map-append}
-use Rattle.inp_model.specs.declared.step.Step.{Step}
-use Rattle.inp_model.specs.Description.{Description}
+use Rattle.inp_runs.proofs.Words.{map-append, Step, Description, Stop, Owning, first_owning, stop_after_answer, after_feedback, EndsFed, false_from_ne_true, cond_both, feedback_calls_after}
 use Rattle.inp_feedback.specs.declared.fed.Fed.{Fed}
 use Rattle.inp_feedback.specs.declared.fed.Fed.TheVariants.{Took, Full}
 use Rattle.inp_feedback.specs.declared.u_entry.UEntry.{UEntry}
@@ -10,15 +8,11 @@ use Rattle.inp_feedback.specs.declared.u_entry.UEntry.TheVariants.{Made, Feedbac
 use Rattle.inp_feedback.specs.UEntry.{steps_in}
 use Rattle.inp_feedback.specs.Feedback.{feedback_queue, is_full_of_feedback, taken_by_feedback, fed, kept_after_feedback}
 use Rattle.inp_feedback.proofs.Lists.{reverse-cons, steps_in-kept_of, kept_of-fed}
-use Rattle.inp_script.specs.declared.stop.Stop.{Stop}
 use Rattle.inp_script.specs.declared.stop.Stop.TheVariants.{Full as FullList}
-use Rattle.inp_script.specs.Owner.{Owning, first_owning, stop_after_answer, after_feedback}
-use Rattle.inp_runs.specs.Owner.{HasFed, EndsFed}
-use Rattle.std.proofs.lemmas.Bool.{false_from_ne_true, cond_both}
+use Rattle.inp_runs.specs.Owner.{HasFed}
 use Rattle.inp_feedback.specs.declared.feedback_call.FeedbackCall.{FeedbackCall}
 use Rattle.inp_feedback.specs.Kept.{kept_of, StandsWithin}
 use Rattle.inp_feedback.proofs.Woven.{kept-longer}
-use Rattle.inp_runs.specs.Play.{feedback_calls_after}
 
 -- What a call leaves, takes and answers, by whether as many are kept as the log limit says
 

@@ -1,17 +1,8 @@
 -- An owner's lines are no calls of an evdev.
 use Rattle.std.proofs.Common.{◌≡◌, ℕ, List, [], ◌∷◌, refl, sym, ap, subst, ◌∙◌, Option, Some, None}
-use Rattle.inp_model.specs.declared.stamped.Stamped.{Stamped}
-use Rattle.inp_model.specs.Description.{Description}
-use Rattle.inp_model.specs.Run.{Call}
-use Rattle.inp_actors.specs.declared.line.Line.{Line}
-use Rattle.inp_actors.specs.declared.role.Role.TheVariants.{Owner}
-use Rattle.inp_reader.specs.Talk.{Talk, finish, and_then, EndsWith}
-use Rattle.inp_script.specs.declared.stop.Stop.{Stop}
-use Rattle.inp_script.specs.declared.waiting.Waiting.{Waiting}
-use Rattle.inp_script.specs.DoneLine.{unless_stopped, line_talk}
-use Rattle.inp_script.specs.Job.{Job, first_job}
-use Rattle.inp_reader.proofs.Calls.{finished}
-use Rattle.inp_runs.specs.Job.{last_talk, on_job, lines_talk}
+use Rattle.inp_runs.proofs.Words.{Stamped, Description, Call, Line, Owner, Talk, finish, and_then, EndsWith, Stop, Waiting, unless_stopped, Job, first_job, finished, last_talk, on_job}
+use Rattle.inp_script.specs.DoneLine.{line_talk}
+use Rattle.inp_runs.specs.Job.{lines_talk}
 
 last-nothing : (wait : Option Waiting) (j : Job) → last_talk wait Owner j ≡ finish (Some j)
 last-nothing None j = refl

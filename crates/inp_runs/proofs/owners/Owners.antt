@@ -1,41 +1,18 @@
 -- Each step of a device's history that names a client is a call of the job that opened it.
 use Rattle.std.proofs.Common.{◌≡◌, ◌⊎◌, ℕ, zero, suc, ◌+◌, ◌<◌, ◌≤◌, Bool, true, false, ◌&&◌, ◌||◌, if◌then◌else◌, nat_eq, nat_lt, List, [], ◌∷◌, ◌++◌, length, take, reverse, refl, sym, ap, subst, ◌∙◌, arith, inl, inr, Option, Some, None}
 use Rattle.std.specs.Prelude.{slice_get}
-use Rattle.std.specs.List.{list_any, sum_by}
-use Rattle.std.proofs.lemmas.Bool.{true≢false, cases_lt, cond-true, lt-ltb, eqb-true, and_from, and_parts, cases_Bool}
-use Rattle.std.proofs.lemmas.List.{reverse-append, length-reverse, length-take, take_all}
+use Rattle.inp_runs.proofs.Words.{list_any, sum_by, true≢false, cases_lt, cond-true, lt-ltb, eqb-true, and_from, and_parts, cases_Bool, reverse-append, length-reverse, length-take, take_all, slice_get_within, same_Some, get_or_from_slice_get, Stamped, Step, Reply, Opened, Refused, Description, IsDescription, past_at, opens, is_open, Answer, IsAnswer, answer_by, accepted, refused, is_accepted, is_bad_client, Call, HasPlace, IsLegalFrom, IsLegalRun, place_of, next_place, client_of, is_same, Line, Role, IsHistory, NO_CLIENT, EndsWith, Waiting, Job, JobView, first_job, sight_of_calls, tap_client_after, lines_talk, entries_at, AreTold, is_use, is_use_of}
 use Rattle.std.proofs.lemmas.List.Sums.{sum_by-cons, get_or-le-sum_by}
-use Rattle.std.proofs.lemmas.Option.{slice_get_within, same_Some, get_or_from_slice_get}
 use Rattle.inp_model.specs.declared.limits.TheConstants.{LOG_MAX}
-use Rattle.inp_model.specs.declared.stamped.Stamped.{Stamped}
-use Rattle.inp_model.specs.declared.step.Step.{Step}
 use Rattle.inp_model.specs.declared.step.Step.TheVariants.{Open}
-use Rattle.inp_model.specs.declared.reply.Reply.{Reply}
-use Rattle.inp_model.specs.declared.reply.Reply.TheVariants.{Opened, Refused}
 use Rattle.inp_model.specs.declared.reply.Refusal.TheVariants.{NoMemory}
-use Rattle.inp_model.specs.Description.{Description, IsDescription}
-use Rattle.inp_model.specs.Past.{past_at, opens, is_open}
-use Rattle.inp_model.specs.Reply.{Answer, IsAnswer, answer_by, accepted, refused, is_accepted, is_bad_client}
-use Rattle.inp_model.specs.Run.{Call, HasPlace, IsLegalFrom, IsLegalRun, place_of, next_place}
-use Rattle.inp_model.specs.Step.{client_of, is_same}
-use Rattle.inp_actors.specs.declared.line.Line.{Line}
-use Rattle.inp_actors.specs.declared.role.Role.{Role}
 use Rattle.inp_model.proofs.Opens.{opens-le}
-use Rattle.inp_model.specs.History.{IsHistory}
-use Rattle.inp_reader.specs.declared.reader.TheConstants.{NO_CLIENT}
-use Rattle.inp_reader.specs.Talk.{EndsWith}
 use Rattle.inp_model.proofs.Refused.{refused-not_accepted, accepted-unrefused}
 use Rattle.inp_reader.proofs.Calls.{IsPlaceOf}
-use Rattle.inp_script.specs.declared.waiting.Waiting.{Waiting}
-use Rattle.inp_script.specs.Job.{Job, JobView, first_job}
-use Rattle.inp_script.specs.Legal.{sight_of_calls}
-use Rattle.inp_script.specs.Line.{tap_client_after}
-use Rattle.inp_runs.specs.Job.{lines_talk, entries_at, AreTold}
 use Rattle.inp_runs.proofs.Entries.{entries, entries-cons_call, told-counts}
 use Rattle.inp_runs.proofs.views.JobClients.{NameLast, job-names}
 use Rattle.inp_runs.proofs.Lists.{eq_true}
 use Rattle.inp_reader.proofs.StandsAfterTalks.{opens-steps, open-opens}
-use Rattle.inp_reader.specs.ReaderPlace.{is_use, is_use_of}
 use Rattle.inp_model.proofs.Allowed.{named_open, head_fails}
 
 -- The calls of a job: a legal run of the history, with the places of those that its sight tells of, and each names no client

@@ -1,41 +1,20 @@
 -- The events that a reader has at hand are the last ones that its client took, and the index of the next is its own.
 use Rattle.std.proofs.Common.{◌≡◌, ℕ, suc, ◌+◌, Bool, true, false, ◌&&◌, if◌then◌else◌, List, [], ◌∷◌, ◌++◌, length, map, refl, ap, ◌∙◌, arith, Option, Some, ◌⊎◌, inl, inr, subst, ◌-◌, drop, reverse, sym, append-nil, append_assoc, length-append, None}
-use Rattle.std.specs.Prelude.{option_map, Result, Ok, Err, slice_get}
-use Rattle.std.proofs.lemmas.Bool.{true≢false, false≢true, eq-eqb}
-use Rattle.inp_model.specs.declared.taken.Taken.{Taken}
-use Rattle.inp_model.specs.declared.step.Step.{Step}
+use Rattle.inp_runs.proofs.Words.{option_map, Result, Ok, Err, true≢false, false≢true, eq-eqb, Taken, Step, Reply, is_accepted, Answer, IsAnswer, answer, refused, taken_of, place_of, Call, HasPlace, next_place, client_of, is_use, is_read, is_use_of, Sight, Took, call_sight, again_sight, taken_sight, LastRead, is_read_as, read_after_entry, IsOwnEvent, reads_as, index_behind, index_in_history, ShowsAt, Description, View, Mode, Success, Dropped, Reading, stop_of, sync_talk, next_talk, EndsWith, Any, Listed, listed-run, meets-always, length-map, map-append, past_at, eaten, noted_sight}
+use Rattle.std.specs.Prelude.{slice_get}
 use Rattle.inp_model.specs.declared.step.Step.TheVariants.{Read}
-use Rattle.inp_model.specs.declared.reply.Reply.{Reply}
 use Rattle.inp_model.specs.declared.reply.Reply.TheVariants.{Again as NothingVisible}
-use Rattle.inp_model.specs.Reply.{is_accepted, Answer, IsAnswer, answer, refused, taken_of}
-use Rattle.inp_model.specs.Run.{place_of, Call, HasPlace, next_place}
-use Rattle.inp_model.specs.Step.{client_of}
-use Rattle.inp_reader.specs.ReaderPlace.{is_use, is_read, is_use_of}
-use Rattle.inp_script.specs.declared.sight.Sight.{Sight}
-use Rattle.inp_script.specs.declared.sight.Sight.TheVariants.{Took}
-use Rattle.inp_script.specs.Sight.{call_sight, again_sight, taken_sight}
-use Rattle.inp_runs.specs.JobViews.{LastRead, is_read_as, read_after_entry, read_after_sight, IsOwnEvent, reads_as, index_behind, index_in_history, ShowsAt}
-use Rattle.inp_model.specs.Description.{Description}
-use Rattle.inp_recon.specs.declared.view.View.{View}
-use Rattle.inp_reader.specs.declared.mode.Mode.{Mode}
+use Rattle.inp_runs.specs.JobViews.{read_after_sight}
 use Rattle.inp_reader.specs.declared.next.Next.{Next}
-use Rattle.inp_reader.specs.declared.next.Next.TheVariants.{Success, Dropped}
-use Rattle.inp_reader.specs.Reader.{Reading, stop_of, sync_talk, next_talk}
-use Rattle.inp_reader.specs.Talk.{EndsWith}
-use Rattle.inp_reader.proofs.Meets.{Any, Listed, listed-run, meets-always}
 use Rattle.inp_reader.proofs.NextWalk.{Renewed, NextRules, next-ends, stop-cases}
-use Rattle.std.proofs.lemmas.List.{length-map, map-append}
-use Rattle.inp_model.specs.Past.{past_at}
 use Rattle.inp_model.specs.Queue.{Entry, taken_by, took, took_with}
 use Rattle.inp_recon.specs.Synchronised.{is_dropped}
 use Rattle.inp_recon.proofs.ReadEntries.{entry-took}
-use Rattle.inp_model.specs.Left.{eaten}
 use Rattle.inp_runs.specs.LossCauses.{IsCausedAt}
 use Rattle.inp_runs.proofs.losses.Causes.{all_taken-caused}
 use Rattle.inp_model.proofs.Refused.{unrefused_by}
 use Rattle.inp_reader.proofs.ClientViews.{idle-taken, used-taken}
 use Rattle.inp_reader.proofs.PastsAtCalls.{AreQuiet, IsMet}
-use Rattle.inp_script.proofs.Told.{noted_sight}
 use Rattle.inp_runs.specs.Losses.{HasLossCause}
 use Rattle.inp_runs.proofs.views.Reports.{whole-past, AreToCome, to-come-behind, past-entered, place_behind, place_behind-append}
 use Rattle.inp_joy.proofs.Lists.{slice_get-left}

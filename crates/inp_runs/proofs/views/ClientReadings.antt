@@ -1,49 +1,27 @@
 -- Where a client's reader stands in the history of its device, and what an event shows that it hands out.
 use Rattle.std.proofs.Common.{◌≡◌, ◌<◌, ◌⊎◌, inl, inr, ℕ, suc, true, false, List, [], ◌∷◌, ◌++◌, length, map, take, reverse, refl, sym, ap, subst, ◌∙◌, arith, append-nil, Option, Some, None}
-use Rattle.std.specs.Prelude.{Result, Ok, Err, slice_get}
-use Rattle.std.proofs.lemmas.Bool.{true≢false, cond-true, false_from_ne_true}
-use Rattle.std.proofs.lemmas.List.{length-reverse, length-take}
-use Rattle.inp_model.specs.declared.taken.Taken.{Taken}
-use Rattle.inp_model.specs.declared.step.Step.{Step}
+use Rattle.inp_runs.proofs.Words.{Result, Ok, Err, true≢false, cond-true, false_from_ne_true, length-reverse, length-take, Taken, Step, Reply, Opened, Description, past_at, opens, Answer, is_accepted, refused, taken_of, Call, HasPlace, IsLegalFrom, place_of, next_place, client_of, View, eaten, IsHistory, Each, Mode, Success, Dropped, NO_CLIENT, Started, Reading, ask_each, queries, after_queries, after_open, start_stop_of, stop_of, next_talk, is_use_of, calls_since, Talk, finish, EndsWith, finished, split-and_then, Any, Sight, call_sight, noted_sight, LastRead, AgreesIn, ShowsAt, is_read_as}
+use Rattle.std.specs.Prelude.{slice_get}
 use Rattle.inp_model.specs.declared.step.Step.TheVariants.{Open}
-use Rattle.inp_model.specs.declared.reply.Reply.{Reply}
-use Rattle.inp_model.specs.declared.reply.Reply.TheVariants.{Opened}
-use Rattle.inp_model.specs.Description.{Description}
-use Rattle.inp_model.specs.Past.{past_at, opens}
 use Rattle.inp_model.specs.Queue.{took}
-use Rattle.inp_model.specs.Reply.{Answer, is_accepted, refused, taken_of}
-use Rattle.inp_model.specs.Run.{Call, HasPlace, IsLegalFrom, place_of, next_place}
-use Rattle.inp_model.specs.Step.{client_of}
-use Rattle.inp_recon.specs.declared.view.View.{View}
 use Rattle.inp_recon.specs.ClientView.{view_at}
 use Rattle.inp_recon.proofs.ReadEntries.{HasEntry, entry-of}
-use Rattle.inp_model.specs.Left.{eaten}
-use Rattle.inp_model.specs.History.{IsHistory}
-use Rattle.inp_recon.proofs.Each.{Each}
 use Rattle.inp_model.proofs.Opens.{is_open-lt, opens-le}
-use Rattle.inp_reader.specs.declared.mode.Mode.{Mode}
 use Rattle.inp_reader.specs.declared.next.Next.{Next}
-use Rattle.inp_reader.specs.declared.next.Next.TheVariants.{Success, Dropped}
-use Rattle.inp_reader.specs.declared.reader.TheConstants.{NO_CLIENT}
-use Rattle.inp_reader.specs.declared.started.Started.{Started}
-use Rattle.inp_reader.specs.Reader.{Reading, ask_each, queries, after_queries, after_open, start_stop_of, start_talk, stop_of, next_talk}
+use Rattle.inp_reader.specs.Reader.{start_talk}
 use Rattle.inp_reader.specs.TrueView.{index_handed_out}
 use Rattle.inp_reader.specs.Spare.{IsSpare, HasSpare}
-use Rattle.inp_reader.specs.ReaderPlace.{is_use_of, calls_since}
-use Rattle.inp_reader.specs.Talk.{Talk, finish, LeadsTo, EndsWith}
+use Rattle.inp_reader.specs.Talk.{LeadsTo}
 use Rattle.inp_reader.proofs.AgreedViews.{spare-made_anew}
-use Rattle.inp_reader.proofs.Calls.{AreAnswered, finished, split-and_then}
-use Rattle.inp_reader.proofs.Meets.{Any, Runs}
+use Rattle.inp_reader.proofs.Calls.{AreAnswered}
+use Rattle.inp_reader.proofs.Meets.{Runs}
 use Rattle.inp_reader.proofs.NextWalk.{sync-by_parts, Renewed, NextRules, next-ends, stop-cases}
 use Rattle.inp_reader.proofs.PastsAtCalls.{AreMet, IsMet}
 use Rattle.inp_reader.proofs.StandsByCalls.{client-next}
 use Rattle.inp_reader.proofs.ShowsDevice.{handed-is-taken, agree-then}
 use Rattle.inp_reader.proofs.TalksKeepSpare.{keeps-next, keeps-start}
 use Rattle.inp_reader.proofs.StandsAfterTalks.{IsHandedOut, HandsOut, IsOpenInStep, Leaves, met-opens, met-unused, in-step-kept, stands-after-next, stands-queried, open-step, open-opens}
-use Rattle.inp_script.specs.declared.sight.Sight.{Sight}
-use Rattle.inp_script.specs.Sight.{call_sight}
-use Rattle.inp_script.proofs.Told.{noted_sight}
-use Rattle.inp_runs.specs.JobViews.{LastRead, AgreesIn, ShowsAt, is_read_as, read_after_sight}
+use Rattle.inp_runs.specs.JobViews.{read_after_sight}
 use Rattle.inp_runs.proofs.views.AtHand.{AreAtHand, hand-kept, met-took, read_after-other}
 use Rattle.inp_runs.proofs.owners.Owners.{opened-exact, past-next, names-open}
 use Rattle.inp_runs.proofs.views.Reports.{HasNoOthers, no-others-at, agrees-had, sized-at, shows-later, whole-past, history-at, place_behind, AreToCome, to-come-next, call-met, calls-met}

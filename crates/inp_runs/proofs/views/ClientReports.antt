@@ -1,64 +1,32 @@
 -- The view of a client's job at each report that it took.
 use Rattle.std.proofs.Common.{◌≡◌, ◌<◌, inl, inr, ℕ, Bool, true, false, ◌&&◌, nat_eq, List, [], ◌∷◌, ◌++◌, length, map, reverse, refl, sym, ap, subst, ◌∙◌, arith, append-nil, append_assoc, Option, Some, None}
 use Rattle.std.specs.Prelude.{slice_get}
-use Rattle.std.proofs.lemmas.Bool.{true≢false, cond_both, eqb-true}
+use Rattle.inp_runs.proofs.Words.{true≢false, cond_both, eqb-true, Taken, Step, Reply, Description, past_at, Answer, accepted, Call, HasPlace, place_of, next_place, client_of, is_same, is_open_step, Command, Close, Grab, Ungrab, Revoke, Mask, Clock, Write, SetAxis, Client, is_command_of, eaten, View, first_view, IsHistory, and-right, Mode, Success, Dropped, Sync, NO_CLIENT, Started, Reading, start_talk, next_talk, is_use, is_use_of, Talk, finish, EndsWith, Sight, Took, Made, Stop, Waiting, OfTurn, OfGoing, AfterNext, turn-of, LineRules, OfJob, is_one_call, noted-ends-meet, read_so, Job, first_job, first_reading, after_call, tap_client_after, step_of, noted, call_sight, again_sight, taken_sight, start_lacks_memory, noted_sight, LastRead, IsOwnEvent, reads_as, is_read_as, index_in_history, folded_view, sight_view, IsSeenAt, Any, Meets, Runs, meets-then}
 use Rattle.inp_model.specs.declared.event.Event.{Event}
 use Rattle.inp_model.specs.declared.event.TheConstants.{EV_SYN, SYN_DROPPED, SYN_REPORT}
-use Rattle.inp_model.specs.declared.taken.Taken.{Taken}
-use Rattle.inp_model.specs.declared.step.Step.{Step}
-use Rattle.inp_model.specs.declared.reply.Reply.{Reply}
 use Rattle.inp_model.specs.declared.reply.Reply.TheVariants.{Again as NothingVisible}
-use Rattle.inp_model.specs.Description.{Description}
 use Rattle.inp_model.specs.Event.{is_report}
-use Rattle.inp_model.specs.Past.{past_at}
-use Rattle.inp_model.specs.Reply.{Answer, accepted}
-use Rattle.inp_model.specs.Run.{Call, HasPlace, place_of, next_place}
-use Rattle.inp_model.specs.Step.{client_of, is_same, is_open_step}
-use Rattle.inp_actors.specs.declared.command.Command.{Command}
-use Rattle.inp_actors.specs.declared.command.Command.TheVariants.{Close, Grab, Ungrab, Revoke, Mask, Clock, Write, SetAxis}
-use Rattle.inp_actors.specs.declared.role.Role.TheVariants.{Client}
-use Rattle.inp_actors.specs.Command.{is_command_of}
 use Rattle.inp_recon.proofs.ReadEntries.{HasEntry, entry-of}
 use Rattle.inp_recon.specs.ClientView.{read_entries}
-use Rattle.inp_model.specs.Left.{eaten}
-use Rattle.inp_recon.specs.declared.view.View.{View}
-use Rattle.inp_recon.specs.View.{first_view}
-use Rattle.inp_model.specs.History.{IsHistory}
-use Rattle.inp_recon.proofs.Each.{and-right}
-use Rattle.inp_reader.specs.declared.mode.Mode.{Mode}
 use Rattle.inp_reader.specs.declared.next.Next.{Next}
-use Rattle.inp_reader.specs.declared.next.Next.TheVariants.{Success, Dropped, Sync, Again}
-use Rattle.inp_reader.specs.declared.reader.TheConstants.{NO_CLIENT}
-use Rattle.inp_reader.specs.declared.started.Started.{Started}
+use Rattle.inp_reader.specs.declared.next.Next.TheVariants.{Again}
 use Rattle.inp_recon.specs.Synchronised.{is_dropped}
-use Rattle.inp_reader.specs.Reader.{Reading, start_talk, next_talk}
 use Rattle.inp_reader.specs.TrueView.{index_handed_out}
-use Rattle.inp_reader.specs.ReaderPlace.{is_use, is_use_of}
-use Rattle.inp_reader.specs.Talk.{Talk, finish, EndsWith}
 use Rattle.inp_reader.proofs.StandsByCalls.{client-next}
 use Rattle.inp_reader.proofs.TalksKeepSpare.{new-spare}
-use Rattle.inp_script.specs.declared.sight.Sight.{Sight}
-use Rattle.inp_script.specs.declared.sight.Sight.TheVariants.{Took, Made, Again as AgainSight}
-use Rattle.inp_script.specs.declared.stop.Stop.{Stop}
-use Rattle.inp_script.specs.declared.waiting.Waiting.{Waiting}
-use Rattle.inp_script.proofs.LineWalk.{OfTurn, OfGoing, AfterNext, turn-of, LineRules, OfJob, is_one_call, noted-ends-meet, read_so}
+use Rattle.inp_script.specs.declared.sight.Sight.TheVariants.{Again as AgainSight}
 use Rattle.inp_script.specs.Client.{Going, Turn, start_job, start_ends, job_after_start, after_next, mode_of, with_sight, with_stop, next_round, forced}
 use Rattle.inp_script.specs.Fold.{settled, after_first_call, client_fold}
-use Rattle.inp_script.specs.Job.{Job, first_job, first_reading}
-use Rattle.inp_script.specs.Line.{after_call, tap_client_after, step_of}
-use Rattle.inp_script.specs.Sight.{noted, call_sight, again_sight, taken_sight, start_lacks_memory}
 use Rattle.inp_script.proofs.ClientFolds.{next-folds, entries_of_next, start-folds}
 use Rattle.inp_script.proofs.Folds.{ArePlaced}
 use Rattle.inp_script.proofs.LineFolds.{folds-on, IsSilent, no_events, silent-fold}
-use Rattle.inp_script.proofs.Told.{noted_sight}
-use Rattle.inp_runs.specs.JobViews.{LastRead, IsOwnEvent, client_after_sight, reads_as, is_read_as, read_after_sight, index_in_history, folded_view, sight_view, IsSeenAt}
+use Rattle.inp_runs.specs.JobViews.{client_after_sight, read_after_sight}
 use Rattle.inp_runs.proofs.views.AtHand.{AreAtHand, IsRest, hand-first, hand-took, hand-index, hand-taken, taken-later, index-took, next-hand, read_after-append, read_after-took, read_after-told, unused-unread, with_handed, next-sources}
 use Rattle.inp_runs.proofs.views.ClientReadings.{IsReadingAt, NextReads, HandsAt, next-reads, start-reads, quiet-reads, quiet-hand, start-hand, legal-first}
 use Rattle.inp_runs.proofs.views.Folded.{legal-placed}
 use Rattle.inp_runs.proofs.views.JobClients.{Drops, last_opened, next-names, start-names, stays-last}
 use Rattle.inp_runs.proofs.views.Reports.{AtEach, at_each-append, at_each-noted, place_behind, AreToCome, Coming, Comes, HaveCome, have-come, shows-as, at_each-eventless}
 use Rattle.inp_runs.proofs.views.TapViews.{client_after-append, client_after-none, client_after-told}
-use Rattle.inp_reader.proofs.Meets.{Any, Meets, Runs, meets-then}
 use Rattle.inp_runs.proofs.LinesWalk.{OfStep}
 
 -- What is promised of an event that a client's job took: it is the one of its own index, and at a report the view is shown.

@@ -1,30 +1,11 @@
 -- The view of a job is the fold of its whole sight.
 use Rattle.std.proofs.Common.{◌≡◌, ℕ, suc, true, nat_eq, List, [], ◌∷◌, refl, ap, subst, ◌∙◌, Option, Some, sym}
 use Rattle.std.specs.Prelude.{slice_get}
-use Rattle.std.proofs.lemmas.Bool.{cond_both, eqb-true}
-use Rattle.inp_model.specs.declared.stamped.Stamped.{Stamped}
-use Rattle.inp_model.specs.declared.step.Step.{Step}
-use Rattle.inp_model.specs.Description.{Description}
-use Rattle.inp_model.specs.Run.{Call, IsLegalFrom, IsLegalRun, next_place}
-use Rattle.inp_actors.specs.declared.actor_text.ActorText.{ActorText}
-use Rattle.inp_actors.specs.declared.line.Line.{Line}
-use Rattle.inp_actors.specs.declared.role.Role.{Role}
-use Rattle.inp_actors.specs.Command.{is_command_of}
-use Rattle.inp_actors.specs.Record.{RecordView, IsRecord}
-use Rattle.inp_recon.proofs.Each.{Each}
-use Rattle.inp_reader.specs.Talk.{EndsWith}
-use Rattle.inp_script.specs.declared.waiting.Waiting.{Waiting}
-use Rattle.inp_script.specs.DoneLine.{line_talk}
+use Rattle.inp_runs.proofs.Words.{cond_both, eqb-true, Stamped, Step, Description, Call, IsLegalFrom, IsLegalRun, next_place, ActorText, Line, Role, is_command_of, RecordView, IsRecord, Each, EndsWith, Waiting, line_talk, Job, first_job, lines_by, last_talk, lines_talk, Any, Meets, meets-ends, OfJob, job-ends-meet, End, after_call}
 use Rattle.inp_script.specs.Fold.{IsFolded}
-use Rattle.inp_script.specs.Job.{Job, first_job}
 use Rattle.inp_script.proofs.Folds.{ArePlaced, Placed, placed-run, run-placed}
 use Rattle.inp_script.proofs.LineFolds.{line_talk-folds, is_folded-first}
-use Rattle.inp_runs.specs.Job.{lines_by, last_talk, lines_talk}
-use Rattle.inp_reader.proofs.Meets.{Any, Meets, meets-ends}
-use Rattle.inp_script.proofs.LineWalk.{OfJob, job-ends-meet}
 use Rattle.inp_runs.proofs.LinesWalk.{lines-keep, last-keeps}
-use Rattle.inp_model.specs.declared.step.Step.TheVariants.{End}
-use Rattle.inp_script.specs.Line.{after_call}
 
 -- each call of a legal run has its place
 pub legal-placed : (d : Description) (h : List Step) (least : ℕ) (calls : List Call) → IsLegalFrom d h least calls → ArePlaced d h calls

@@ -1,50 +1,21 @@
 -- Which clients the calls of a job name: each names none, or the one that the job opened last.
 use Rattle.std.proofs.Common.{◌≡◌, ◌⊎◌, ℕ, true, false, List, [], ◌∷◌, ◌++◌, refl, sym, ap, subst, ◌∙◌, inl, inr, Option, Some, None}
-use Rattle.std.specs.Prelude.{Result, Ok, Err}
-use Rattle.std.proofs.lemmas.Bool.{true≢false, cond_both}
-use Rattle.std.proofs.lemmas.Option.{same_Some}
-use Rattle.inp_model.specs.declared.stamped.Stamped.{Stamped}
-use Rattle.inp_model.specs.declared.step.Step.{Step}
-use Rattle.inp_model.specs.declared.step.Step.TheVariants.{Inject, Open as ToOpen, Read as ToRead, Discard as ToDiscard, GetKeys, GetSwitches, GetLeds, GetAxis, SyncSlots as ToSyncSlots, End}
-use Rattle.inp_model.specs.declared.reply.Reply.{Reply}
-use Rattle.inp_model.specs.declared.reply.Reply.TheVariants.{Opened}
-use Rattle.inp_model.specs.Description.{Description}
-use Rattle.inp_model.specs.Reply.{Answer}
-use Rattle.inp_model.specs.Run.{Call}
-use Rattle.inp_model.specs.Step.{client_of, is_open_step}
-use Rattle.inp_actors.specs.declared.command.Command.{Command}
-use Rattle.inp_actors.specs.declared.command.Command.TheVariants.{Event as ToEvent, Tick, Inhibit, Uninhibit, Stream, Stream16, Open, Next as ToNext, Skip, Follow, Force, Feedback}
-use Rattle.inp_actors.specs.declared.line.Line.{Line}
-use Rattle.inp_actors.specs.declared.role.Role.{Role}
-use Rattle.inp_actors.specs.declared.role.Role.TheVariants.{Source, Client, Tap, Joy, Owner}
-use Rattle.inp_recon.specs.declared.view.View.{View}
-use Rattle.inp_recon.proofs.Each.{Each}
-use Rattle.inp_reader.specs.declared.mode.Mode.{Mode}
+use Rattle.inp_runs.proofs.Words.{Result, Ok, Err, true≢false, cond_both, same_Some, Stamped, Step, Inject, GetKeys, GetSwitches, GetLeds, GetAxis, End, Reply, Opened, Description, Answer, Call, client_of, is_open_step, Command, Tick, Inhibit, Uninhibit, Stream, Stream16, Skip, Follow, Force, Feedback, Line, Role, Source, Client, Tap, Joy, Owner, View, Each, Mode, Dropped, Started, NO_CLIENT, Reading, queries, start_talk, stop_of, next_talk, Meets, Any, Listed, meets-weaker, meets-ends, listed-run, Talk, finish, EndsWith, Sight, Waiting, Job, Stick, first_job, joying_of, step_of, after_call, source_talk, tap_client_after, tap_call_if, tap_talk, lacks_memory, NotedBy, meets-noted, note-meets, OfJob, OfTurn, OfGoing, AfterNext, read_so, is_one_call, start_job-meets, round-meets, turn-of, LineRules, line-meets, last_talk, lines_talk}
+use Rattle.inp_model.specs.declared.step.Step.TheVariants.{Open as ToOpen, Read as ToRead, Discard as ToDiscard, SyncSlots as ToSyncSlots}
+use Rattle.inp_actors.specs.declared.command.Command.TheVariants.{Event as ToEvent, Open, Next as ToNext}
 use Rattle.inp_reader.specs.declared.next.Next.{Next}
-use Rattle.inp_reader.specs.declared.next.Next.TheVariants.{Dropped, Again}
-use Rattle.inp_reader.specs.declared.started.Started.{Started}
-use Rattle.inp_reader.specs.declared.reader.TheConstants.{NO_CLIENT}
+use Rattle.inp_reader.specs.declared.next.Next.TheVariants.{Again}
 use Rattle.inp_recon.specs.Synchronised.{is_dropped}
-use Rattle.inp_reader.specs.Reader.{Reading, queries, start_talk, stop_of, next_talk}
 use Rattle.inp_joy.specs.declared.joy_read.JoyRead.{JoyRead}
 use Rattle.inp_joy.specs.declared.joy_read.JoyRead.TheVariants.{Again as NothingToRead}
 use Rattle.inp_joy.specs.Joy.{JoyAnswer, turns}
-use Rattle.inp_reader.proofs.Meets.{Meets, Any, Listed, meets-weaker, meets-ends, listed-run}
 use Rattle.inp_reader.proofs.NextWalk.{OfQueries, each-query, each-sync, AskRules, asked-meets, sync-meets, Queried, start-meets, Renewed, NextRules, next-meets, stop-cases}
-use Rattle.inp_reader.specs.Talk.{Talk, finish, EndsWith}
-use Rattle.inp_script.specs.declared.sight.Sight.{Sight}
-use Rattle.inp_script.specs.declared.waiting.Waiting.{Waiting}
 use Rattle.inp_script.specs.Client.{job_after_start, after_next, mode_of}
 use Rattle.inp_script.specs.DoneLine.{line_talk}
-use Rattle.inp_script.specs.Job.{Job, Stick, first_job, joying_of}
 use Rattle.inp_script.specs.Joystick.{after_joy_answer, joystick_talk}
-use Rattle.inp_script.specs.Line.{step_of, after_call, source_talk, tap_client_after, tap_call_if, tap_talk}
-use Rattle.inp_script.specs.Sight.{lacks_memory}
-use Rattle.inp_script.proofs.LineWalk.{NotedBy, meets-noted, note-meets, OfJob, OfTurn, OfGoing, AfterNext, read_so, is_one_call, start_job-meets, round-meets, turn-of, LineRules, line-meets}
 use Rattle.inp_script.proofs.JoyWalk.{AfterRead, AfterTurns, is_joy_call, JoyRules, joystick-meets}
 use Rattle.inp_joy.proofs.TurnsWalk.{OfAnswer as JoyAnswers, TurnRules, turns-meets}
 use Rattle.inp_runs.proofs.memory.LineTalks.{start_joystick-meets}
-use Rattle.inp_runs.specs.Job.{last_talk, lines_talk}
 use Rattle.inp_runs.proofs.LinesWalk.{OfStep, any-lines, unless-keeps, source-keeps, last-keeps, lines-keep, is_open_if}
 
 -- A step names no client, the one that was opened last, or the number that no client has.

@@ -1,51 +1,20 @@
 -- At each report that a job took, its view is its client's in the history, and each loss that it took has its cause.
 use Rattle.std.proofs.Common.{◌≡◌, ◌<◌, inl, inr, ℕ, Bool, true, false, ◌||◌, List, [], ◌∷◌, ◌++◌, length, take, reverse, suc, refl, sym, ap, subst, ◌∙◌, arith, append-nil, Option, Some, None, not}
 use Rattle.std.specs.Prelude.{slice_get}
-use Rattle.std.specs.List.{list_any}
-use Rattle.std.proofs.lemmas.Bool.{eq-eqb}
-use Rattle.inp_model.specs.declared.stamped.Stamped.{Stamped}
-use Rattle.inp_model.specs.declared.taken.Taken.{Taken}
-use Rattle.inp_model.specs.declared.step.Step.{Step}
-use Rattle.inp_model.specs.declared.step.Step.TheVariants.{End}
-use Rattle.inp_model.specs.declared.reply.Reply.TheVariants.{Opened}
-use Rattle.inp_model.specs.Description.{Description}
-use Rattle.inp_model.specs.Past.{past_at}
-use Rattle.inp_model.specs.Reply.{Answer, IsAnswer}
-use Rattle.inp_model.specs.Run.{Call, IsLegalRun, place_of, HasPlace}
-use Rattle.inp_actors.specs.declared.actor_text.ActorText.{ActorText}
-use Rattle.inp_actors.specs.declared.command.Command.{Command}
-use Rattle.inp_actors.specs.declared.command.Command.TheVariants.{Event as ToEvent, Tick, Inhibit, Uninhibit, Stream, Stream16, Close}
-use Rattle.inp_actors.specs.declared.line.Line.{Line}
-use Rattle.inp_actors.specs.declared.role.Role.{Role}
-use Rattle.inp_actors.specs.declared.role.Role.TheVariants.{Source, Client, Tap, Joy, Owner}
-use Rattle.inp_actors.specs.Command.{is_command_of, is_joy, is_owner}
-use Rattle.inp_actors.specs.Record.{RecordView, IsRecord}
-use Rattle.inp_model.specs.History.{IsHistory}
-use Rattle.inp_recon.proofs.Each.{Each}
-use Rattle.inp_reader.specs.declared.reader.TheConstants.{NO_CLIENT}
-use Rattle.inp_reader.specs.ReaderPlace.{is_read}
+use Rattle.inp_runs.proofs.Words.{list_any, eq-eqb, Stamped, Taken, Step, End, Opened, Description, past_at, Answer, IsAnswer, Call, IsLegalRun, place_of, HasPlace, ActorText, Command, Tick, Inhibit, Uninhibit, Stream, Stream16, Close, Line, Role, Source, Client, Tap, Joy, Owner, is_command_of, is_joy, is_owner, RecordView, IsRecord, IsHistory, Each, NO_CLIENT, is_read, Talk, finish, EndsWith, Sight, Record, Waiting, Job, JobView, first_job, joying_of, step_of, after_call, source_talk, tap_talk, Any, meets-ends, Meets, OfJob, job-ends-meet, OfGoing, line-meets, noted-ends-meet, noted_sight, lines_by, last_talk, lines_talk, AreTold, AreEventsOwn, AreReportsSeen, sight_view, IsSizedFor, IsSizedFor-first_view}
+use Rattle.inp_actors.specs.declared.command.Command.TheVariants.{Event as ToEvent}
 use Rattle.inp_joy.specs.declared.joy_read.JoyRead.{JoyRead}
 use Rattle.inp_joy.specs.declared.joy_read.JoyRead.TheVariants.{Again as NothingToRead}
 use Rattle.inp_joy.specs.declared.joy_record.JoyRecord.{JoyRecord}
 use Rattle.inp_joy.specs.JoyRecord.{bytes_of_record}
 use Rattle.inp_joy.specs.Joy.{JoyAnswer, turns}
-use Rattle.inp_reader.specs.Talk.{Talk, finish, EndsWith}
 use Rattle.inp_reader.proofs.ClientViews.{no_read-takes}
 use Rattle.inp_reader.proofs.PastsAtCalls.{AreAllOwn}
-use Rattle.inp_script.specs.declared.sight.Sight.{Sight}
-use Rattle.inp_script.specs.declared.sight.Sight.TheVariants.{Again as AgainSight, Record}
-use Rattle.inp_script.specs.declared.waiting.Waiting.{Waiting}
+use Rattle.inp_script.specs.declared.sight.Sight.TheVariants.{Again as AgainSight}
 use Rattle.inp_script.specs.DoneLine.{line_talk}
-use Rattle.inp_script.specs.Job.{Job, JobView, first_job, joying_of}
 use Rattle.inp_script.specs.Joystick.{record_sight, start_joystick, after_joy_answer, joystick_talk}
-use Rattle.inp_script.specs.Line.{step_of, after_call, source_talk, tap_talk}
-use Rattle.inp_reader.proofs.Meets.{Any, meets-ends, Meets}
 use Rattle.inp_script.proofs.JoyTold.{starts}
 use Rattle.inp_script.proofs.JoyWalk.{AfterRead, AfterTurns, is_joy_call, JoyRules, joystick-meets}
-use Rattle.inp_script.proofs.LineWalk.{OfJob, job-ends-meet, OfGoing, line-meets, noted-ends-meet}
-use Rattle.inp_script.proofs.Told.{noted_sight}
-use Rattle.inp_runs.specs.Job.{lines_by, last_talk, lines_talk, AreTold}
-use Rattle.inp_runs.specs.JobViews.{AreEventsOwn, AreReportsSeen, sight_view}
 use Rattle.inp_runs.specs.Losses.{AreLossesCaused}
 use Rattle.inp_runs.proofs.views.AtHand.{own-caused, shown-own}
 use Rattle.inp_runs.proofs.views.ClientReports.{IsClientJob, ClientSaw, client-first, client-rules}
@@ -54,8 +23,6 @@ use Rattle.inp_runs.proofs.owners.Owners.{HasOwners, is_opened_as, is_opening_of
 use Rattle.inp_runs.proofs.views.Reports.{AtEntry, AtEach, at_each-append, at_each-at, at_each-noted, AreToCome, Coming, Comes, coming-run, at_each-eventless}
 use Rattle.inp_runs.proofs.views.TapViews.{TapStands, TapSaw, tap-line, tap-first}
 use Rattle.inp_runs.proofs.LinesWalk.{OfStep, unless-keeps, source-keeps, last-keeps, lines-keep}
-use Rattle.inp_recon.specs.View.{IsSizedFor}
-use Rattle.inp_recon.proofs.Sizes.{IsSizedFor-first_view}
 use Rattle.inp_script.specs.Fold.{IsFolded}
 
 -- ---- sources, which read nothing, and joysticks, which take nothing

@@ -1,54 +1,28 @@
 -- What holds at each event that a sight took, and what a client took and saw where its history grows.
 use Rattle.std.proofs.Common.{◌≡◌, ◌≤◌, ◌<◌, inl, inr, ℕ, zero, suc, ◌+◌, ◌-◌, nat_eq, nat_lt, Bool, true, false, not, if◌then◌else◌, ℤ, List, [], ◌∷◌, ◌++◌, length, map, take, drop, reverse, replicate, refl, sym, ap, subst, ◌∙◌, arith, append-nil, append_assoc, take-append-drop, Option, Some, None}
 use Rattle.std.specs.Prelude.{slice_get}
-use Rattle.std.specs.List.{All}
-use Rattle.std.proofs.lemmas.Bool.{true≢false, cond-false, cases_lt, lt-ltb, false_from_ne_true, cond_both, cases_Bool}
-use Rattle.std.proofs.lemmas.List.{ext_get_or, length-replicate, length-take, nil_from_length, reverse-append, get_or-replicate}
-use Rattle.std.proofs.lemmas.List.Elements.{All-nil, All-head, All-tail, All-take}
+use Rattle.inp_runs.proofs.Words.{All, true≢false, cond-false, cases_lt, lt-ltb, false_from_ne_true, cond_both, cases_Bool, ext_get_or, length-replicate, length-take, nil_from_length, reverse-append, get_or-replicate, All-nil, All-head, All-tail, All-take, Taken, Step, GetKeys, GetSwitches, GetLeds, Reply, Opened, Bits, Description, has_kind, is_again, past_at, Answer, IsAnswer, answer, answer_by, accepted, refused, is_accepted, past_after, bitmap_of, code_on, Call, IsLegalFrom, HasPlace, place_of, next_place, View, IsSizedFor, key_count, code_count, with_flag, flags_after_reply, keys_after_answer, switches_after_answer, leds_after_answer, eaten, IsHistory, Each, IsSizedFor-after_events, is_use_of, taken_events, IsPlaceOf, place-least, Sight, Took, call_sight, again_sight, taken_sight, Job, after_call, noted_sight, AgreesIn, ShowsAt}
 use Rattle.std.proofs.lemmas.List.FromFn.{length-map-range_with_len}
 use Rattle.inp_model.specs.declared.event.Event.{Event}
 use Rattle.inp_model.specs.declared.event.TheConstants.{EV_KEY, EV_SW, EV_LED}
-use Rattle.inp_model.specs.declared.taken.Taken.{Taken}
-use Rattle.inp_model.specs.declared.step.Step.{Step}
-use Rattle.inp_model.specs.declared.step.Step.TheVariants.{GetKeys, GetSwitches, GetLeds}
-use Rattle.inp_model.specs.declared.reply.Reply.{Reply}
-use Rattle.inp_model.specs.declared.reply.Reply.TheVariants.{Opened, Bits, Again as NothingVisible}
-use Rattle.inp_model.specs.Description.{Description, has_kind}
-use Rattle.inp_model.specs.Evdev.{is_again}
+use Rattle.inp_model.specs.declared.reply.Reply.TheVariants.{Again as NothingVisible}
 use Rattle.inp_model.specs.Event.{is_repeat}
-use Rattle.inp_model.specs.Past.{past_at}
 use Rattle.inp_model.specs.Queue.{Entry, event_of, taken_by, took}
 use Rattle.inp_model.specs.Raw.{raw}
-use Rattle.inp_model.specs.Reply.{Answer, IsAnswer, answer, answer_by, accepted, refused, is_accepted, past_after, bitmap_of, code_on}
-use Rattle.inp_model.specs.Run.{Call, IsLegalFrom, HasPlace, place_of, next_place}
-use Rattle.inp_recon.specs.declared.view.View.{View}
-use Rattle.inp_recon.specs.View.{IsSizedFor, key_count, code_count, with_flag, bits_in, flags_after_reply, keys_after_answer, switches_after_answer, leds_after_answer, first_view, view_after_event, view_after_events, view_after_answer}
+use Rattle.inp_recon.specs.View.{bits_in, first_view, view_after_event, view_after_events, view_after_answer}
 use Rattle.inp_recon.specs.ClientView.{ReadEntry, client_view, client_view_with, read_entries, read_entries_with, view_at}
 use Rattle.inp_recon.proofs.ReadEntries.{entry-before, entry-kept}
-use Rattle.inp_model.specs.Left.{eaten}
-use Rattle.inp_model.specs.History.{IsHistory}
-use Rattle.inp_recon.proofs.Each.{Each}
-use Rattle.inp_recon.proofs.Sizes.{IsSizedFor-after_events}
 use Rattle.inp_recon.proofs.ToldBits.{told_flag}
 use Rattle.inp_recon.proofs.ViewSteps.{client_view-sized}
 use Rattle.inp_reader.specs.Spare.{is_event_of}
-use Rattle.inp_reader.specs.ReaderPlace.{is_use_of, taken_events}
 use Rattle.inp_reader.proofs.AgreedViews.{AgreeBut}
 use Rattle.inp_model.proofs.Refused.{refused-not_accepted}
-use Rattle.inp_reader.proofs.Calls.{IsPlaceOf, place-least}
 use Rattle.inp_reader.proofs.ClientViews.{at-last, idle-step, idle-taken, used-view, taken-events}
 use Rattle.inp_reader.proofs.PastsAtCalls.{AreQuiet, IsMet, AreMet, AreAllOwn, later_own, past_before, quiet-from_places, quiet-reversed, slice_get-taken, slice_get-behind}
 use Rattle.inp_reader.proofs.ShowsDevice.{what_is_had, no-key-down, nothing-on}
 use Rattle.inp_reader.proofs.SpareAgrees.{no-keys, no-switches, no-leds, keys-stay}
 use Rattle.inp_reader.proofs.Supported.{events-of}
-use Rattle.inp_script.specs.declared.sight.Sight.{Sight}
-use Rattle.inp_script.specs.declared.sight.Sight.TheVariants.{Took}
-use Rattle.inp_script.specs.Sight.{call_sight, again_sight, taken_sight}
-use Rattle.inp_script.specs.Job.{Job}
-use Rattle.inp_script.specs.Line.{after_call}
 use Rattle.inp_reader.proofs.Meets.{Runs}
-use Rattle.inp_script.proofs.Told.{noted_sight}
-use Rattle.inp_runs.specs.JobViews.{AgreesIn, ShowsAt}
 use Rattle.inp_script.proofs.Runs.{next_place-within}
 use Rattle.inp_model.proofs.Injection.{past-shorter}
 use Rattle.inp_runs.proofs.owners.Owners.{past-next}

@@ -1,11 +1,6 @@
 use Rattle.std.proofs.Common.{◌≡◌, ℕ, List, take, refl, sym, ap, subst, ◌∙◌, arith, take-add}
-use Rattle.std.proofs.lemmas.List.{take_all}
+use Rattle.inp_runs.proofs.Words.{take_all, Line, is_owner, ActorView, Owning, lines_by}
 use Rattle.std.proofs.lemmas.Result.{on_ok_weaker}
-use Rattle.inp_actors.specs.declared.line.Line.{Line}
-use Rattle.inp_actors.specs.Command.{is_owner}
-use Rattle.inp_script.specs.Job.{ActorView}
-use Rattle.inp_script.specs.Owner.{Owning}
-use Rattle.inp_runs.specs.Job.{lines_by}
 use Rattle.inp_runs.proofs.DoingAll.{AreDone, acted_on-none, acted_on-next, acted_on-described, done-none, done-more, done-all, own-count}
 use Rattle.inp_runs.proofs.actor_lines.do_lines.Goals as goal
 

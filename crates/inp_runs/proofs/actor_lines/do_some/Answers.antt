@@ -1,13 +1,6 @@
 use Rattle.std.proofs.Common.{◌≡◌, ◌≤◌, ℕ, ◌-◌, List, length, map, take, drop, sym, ap, subst, ◌∙◌, arith, inr, Some}
 use Rattle.std.specs.Prelude.{slice_get}
-use Rattle.std.proofs.lemmas.List.{length-take-le}
-use Rattle.std.proofs.lemmas.Option.{slice_get-get_or}
-use Rattle.inp_model.specs.declared.stamped.Stamped.{Stamped}
-use Rattle.inp_actors.specs.declared.role.Role.TheVariants.{Source}
-use Rattle.inp_actors.specs.Command.{is_owner}
-use Rattle.inp_actors.specs.Record.{RecordView, IsRecord}
-use Rattle.inp_script.specs.DoneLine.{HasActor}
-use Rattle.inp_script.specs.Job.{ActorView}
+use Rattle.inp_runs.proofs.Words.{length-take-le, slice_get-get_or, Stamped, Source, is_owner, RecordView, IsRecord, HasActor, ActorView}
 use Rattle.inp_runs.specs.EventLines.{AreEventLines, inject_line}
 use Rattle.inp_runs.proofs.DoingAll.{acted-line, acted_on-begun, own-line}
 use Rattle.inp_runs.proofs.EventLines.{events-in_time, events-source, own-events, own-within, whole}

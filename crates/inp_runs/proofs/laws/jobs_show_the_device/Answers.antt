@@ -1,13 +1,8 @@
 -- A job's view at a report is its client's there, and so the device's.
 use Rattle.std.proofs.Common.{ℕ, Bool, false, List, reverse, ap, ◌∙◌, Option}
-use Rattle.std.specs.Prelude.{slice_index_or}
+use Rattle.inp_runs.proofs.Words.{slice_index_or, Taken, Step, Description, View, AgreesIn, ShowsAt, ShowsTheState}
 use Rattle.inp_model.specs.RawItem.{RawItem}
-use Rattle.inp_model.specs.declared.taken.Taken.{Taken}
-use Rattle.inp_model.specs.declared.step.Step.{Step}
-use Rattle.inp_model.specs.Description.{Description}
-use Rattle.inp_recon.specs.declared.view.View.{View}
 use Rattle.inp_recon.specs.Faithful.{IsFaithful, IsDeviceState}
-use Rattle.inp_runs.specs.JobViews.{AgreesIn, ShowsAt, ShowsTheState}
 use Rattle.inp_runs.proofs.laws.jobs_show_the_device.Goals as goal
 
 state-agrees : (d : Description) (r : List RawItem) (v w : View) → AgreesIn d v w → IsDeviceState d r w → IsDeviceState d r v

@@ -1,14 +1,6 @@
 -- The lines of an owner are feedback calls, since a record's are of the roles of their actors.
 use Rattle.std.proofs.Common.{◌≡◌, true, List, [], ◌∷◌, map, refl, ap, subst}
-use Rattle.std.specs.List.{cons_option}
-use Rattle.inp_actors.specs.declared.command.Command.{Command}
-use Rattle.inp_actors.specs.declared.command.Command.TheVariants.{Feedback}
-use Rattle.inp_actors.specs.declared.line.Line.{Line}
-use Rattle.inp_actors.specs.declared.role.Role.{Role}
-use Rattle.inp_actors.specs.declared.role.Role.TheVariants.{Owner}
-use Rattle.inp_actors.specs.Command.{is_command_of, feedback_room}
-use Rattle.inp_runs.specs.Job.{lines_by}
-use Rattle.inp_runs.specs.Owner.{rooms_of}
+use Rattle.inp_runs.proofs.Words.{cons_option, Command, Feedback, Line, Role, Owner, is_command_of, feedback_room, lines_by, rooms_of}
 use Rattle.inp_runs.proofs.views.Folded.{AreOfRole, its_lines}
 use Rattle.inp_runs.proofs.laws.owners_lines_are_calls.Goals as goal
 

@@ -1,11 +1,10 @@
 -- What comes of an owner on a short row, computed.
 use Rattle.std.proofs.Common.{pos, refl, [], ◌∷◌, inl, inr}
-use Rattle.inp_model.specs.declared.step.Step.TheVariants.{Inject}
+use Rattle.inp_runs.proofs.Words.{Inject, Owning, first_owning, after_feedback}
 use Rattle.inp_feedback.specs.declared.u_entry.UEntry.TheVariants.{Made, Feedback}
 use Rattle.inp_feedback.specs.declared.fed.Fed.TheVariants.{Took, Full}
 use Rattle.inp_feedback.specs.Examples.{bell}
 use Rattle.inp_feedback.proofs.Computation.{computing}
-use Rattle.inp_script.specs.Owner.{Owning, first_owning, after_feedback}
 use Rattle.inp_runs.specs.Owner.{HasFed}
 use Rattle.inp_runs.specs.OwnerExamples.{TakesTheBellOnce, StopsAtItsLimit}
 use Rattle.inp_runs.proofs.laws.owners_on_a_short_row.Goals as goal
