@@ -21,7 +21,8 @@ filter_same p q a (suc n) h =
     ap (λ (b : Bool). cond b (a ∷ filter p (range_with_len (a + 1) n)) (filter p (range_with_len (a + 1) n))) (h a (omega arith) (omega arith)) ∙ ap (λ (xs : List ℕ). cond (q a) (a ∷ xs) xs) rest
 
 -- where no number of the range passes, none is kept
-filter_none : (p : ℕ → Bool) (a n : ℕ) → ((k : ℕ) → a ≤ k → k < a + n → p k ≡ false) → filter p (range_with_len a n) ≡ []
+filter_none : (p : ℕ → Bool) (a n : ℕ) → ((k : ℕ) → a ≤ k → k < a + n → p k ≡ false)
+    → filter p (range_with_len a n) ≡ []
 filter_none p a zero h = refl
 filter_none p a (suc n) h =
     ap (λ (b : Bool). cond b (a ∷ filter p (range_with_len (a + 1) n)) (filter p (range_with_len (a + 1) n))) (h a (omega arith) (omega arith)) ∙ filter_none p (a + 1) n (λ k l m. h k (omega arith) (omega arith))

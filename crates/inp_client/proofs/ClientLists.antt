@@ -46,11 +46,14 @@ module _ {E : Type 0} (f : ℕ → ClientView E) (numbered : (n : ℕ) → (f n)
   pub map_client-map : (number : ℕ) (change : ClientView E → ClientView E) (ns : List ℕ) → map_client number change (map f ns) ≡ map (λ n. if nat_eq n number then change (f n) else f n) ns
   map_client-map number change ns =
       map-map (λ c. if has_number number c then change c else c) f ns
-      ∙ map_same _ (λ n. if nat_eq n number then change (f n) else f n) ns (λ j d in_j. ap (λ (b : Bool). if b then change (f (get_or ns j d)) else f (get_or ns j d)) (has_number_of number (get_or ns j d)))
+      ∙ map_same _ (λ n. if nat_eq n number then change (f n) else f n) ns
+      (λ j d in_j. ap (λ (b : Bool). if b then change (f (get_or ns j d)) else f (get_or ns j d))
+      (has_number_of number (get_or ns j d)))
 
   -- a client is open where its number is in the list
   pub has_client-map : (number : ℕ) (ns : List ℕ) → has_client number (map f ns) ≡ list_any (λ n. nat_eq n number) ns
-  has_client-map number ns = list_any-map (has_number number) f ns ∙ ap (λ (test : ℕ → Bool). list_any test ns) (fun_ext (has_number_of number))
+  has_client-map number ns = list_any-map (has_number number) f ns
+      ∙ ap (λ (test : ℕ → Bool). list_any test ns) (fun_ext (has_number_of number))
 
   -- the same where the numbers are those below a bound that pass a test
   pub has_client-filter : (number bound : ℕ) (p : ℕ → Bool) → has_client number (map f (filter p (range_with_len 0 bound))) ≡ (nat_lt number bound && p number)

@@ -20,11 +20,13 @@ pub map_over : {X Y Z : Type 0} (f : X → Z) (g : X → Y) (h : Y → Z) (xs : 
 map_over f g h xs each = map_same f (λ x. h (g x)) xs each ∙ sym (map-map h g xs)
 
 -- Whether a test passes, and a sum, over what a function gives.
-pub list_any-map : {X Y : Type 0} (p : Y → Bool) (f : X → Y) (xs : List X) → list_any p (map f xs) ≡ list_any (λ x. p (f x)) xs
+pub list_any-map : {X Y : Type 0} (p : Y → Bool) (f : X → Y) (xs : List X)
+    → list_any p (map f xs) ≡ list_any (λ x. p (f x)) xs
 list_any-map p f [] = refl
 list_any-map p f (x ∷ xs) = ap (λ (b : Bool). p (f x) || b) (list_any-map p f xs)
 
-pub sum_by-map : {X Y : Type 0} (g : Y → ℕ) (f : X → Y) (xs : List X) → sum_by g (map f xs) ≡ sum_by (λ x. g (f x)) xs
+pub sum_by-map : {X Y : Type 0} (g : Y → ℕ) (f : X → Y) (xs : List X)
+    → sum_by g (map f xs) ≡ sum_by (λ x. g (f x)) xs
 sum_by-map g f xs = sym (sum-map g (map f xs)) ∙ ap sum (map-map g f xs) ∙ sum-map (λ x. g (f x)) xs
 
 -- A test that chooses between a value and itself, and a function of the value that a test chooses.
@@ -32,7 +34,8 @@ pub either_same : {X : Type 0} (b : Bool) (x : X) → (if b then x else x) ≡ x
 either_same true x = refl
 either_same false x = refl
 
-pub either_map : {X Y : Type 0} (f : X → Y) (b : Bool) (x y : X) → f (if b then x else y) ≡ (if b then f x else f y)
+pub either_map : {X Y : Type 0} (f : X → Y) (b : Bool) (x y : X)
+    → f (if b then x else y) ≡ (if b then f x else f y)
 either_map f true x y = refl
 either_map f false x y = refl
 
@@ -137,7 +140,8 @@ filter_same p q (x ∷ xs) each =
 -- one filter behind the other
 pub filter-filter : {X : Type 0} (p q : X → Bool) (xs : List X) → filter q (filter p xs) ≡ filter (λ x. p x && q x) xs
 filter-filter p q [] = refl
-filter-filter {X} p q (x ∷ xs) = by_test (p x) ∙ ap (λ (ys : List X). if p x && q x then x ∷ ys else ys) (filter-filter p q xs)
+filter-filter {X} p q (x ∷ xs) = by_test (p x) ∙ ap (λ (ys : List X). if p x && q x then x ∷ ys else ys)
+    (filter-filter p q xs)
   where
     by_test : (b : Bool) → filter q (if b then x ∷ filter p xs else filter p xs) ≡ (if b && q x then x ∷ filter q (filter p xs) else filter q (filter p xs))
     by_test true = refl

@@ -99,7 +99,8 @@ module _ {locations : List Location} {slab : Slab Member} (located : AreLocated 
         numbered : (j : ℕ) → j < length locations → number_at (with_value slab key new) (get_or locations j d).key ≡ Some (get_or locations j d).number
         numbered =
             at_each _ i
-            (λ in_j. ap (number_at (with_value slab key new)) at ∙ ap (option_map (λ c. c.number)) write.changed
+            (λ in_j. ap (number_at (with_value slab key new)) at
+            ∙ ap (option_map (λ c. c.number)) write.changed
             ∙ ap Some same ∙ sym (ap (option_map (λ c. c.number)) found) ∙ ap (number_at slab) (sym at) ∙ located.keyed i d in_i)
             (λ j n in_j. ap (option_map (λ c. c.number)) (slot_kept j in_j n) ∙ located.keyed j d in_j)
 

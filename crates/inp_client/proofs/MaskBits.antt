@@ -36,7 +36,8 @@ admits_of-full_masks e =
 -- Masks that are made of a function to their bits.
 
 -- a fact that holds for each type that has a mask
-pub by_kind : (P : ℕ → Type 0) → P EV_SYN → P EV_KEY → P EV_REL → P EV_ABS → P EV_MSC → P EV_SW → P EV_LED → P EV_SND → (kind : ℕ) → has_mask kind ≡ true → P kind
+pub by_kind : (P : ℕ → Type 0) → P EV_SYN → P EV_KEY → P EV_REL → P EV_ABS → P EV_MSC → P EV_SW → P EV_LED
+    → P EV_SND → (kind : ℕ) → has_mask kind ≡ true → P kind
 by_kind P syn key rel axis msc switch led snd kind has =
     elim (or_cases _ _ has) [
       | inl first ↦ elim (or_cases _ _ first) [
@@ -173,5 +174,6 @@ unfolding masks_with full_masks
 all_set = refl
 
 -- masks whose bits are all set are full
-pub masks_with-full : (bit : ℕ → ℕ → Bool) → ((kind index : ℕ) → bit kind index ≡ true) → masks_with bit ≡ full_masks
+pub masks_with-full : (bit : ℕ → ℕ → Bool) → ((kind index : ℕ) → bit kind index ≡ true)
+    → masks_with bit ≡ full_masks
 masks_with-full bit set = ap masks_with (fun_ext (λ kind. fun_ext (λ index. set kind index))) ∙ all_set

@@ -38,7 +38,8 @@ owing_none : (number n : ℕ) → owing number 0 n ≡ 0
 owing_none number n = elim (cases_eq n number) [ inl e ↦ cond-true (nat_eq n number) 0 0 (eq-eqb n number e) | inr d ↦ owing_other number 0 n d ]
 
 once_owing : (number : ℕ) → (n : ℕ) → once n number ≡ owing number 1 n
-once_owing number = at_each _ number (once_same number ∙ sym (owing_same number 1)) (λ n d. once_other n number (λ e. d (sym e)) ∙ sym (owing_other number 1 n d))
+once_owing number = at_each _ number (once_same number ∙ sym (owing_same number 1))
+    (λ n d. once_other n number (λ e. d (sym e)) ∙ sym (owing_other number 1 n d))
 
 owing_more : (number a b : ℕ) → (n : ℕ) → owing number a n + owing number b n ≡ owing number (a + b) n
 owing_more number a b =
@@ -72,7 +73,8 @@ module _ {cell : Cell} {holder : Option ℕ} {number : ℕ} {locations : List Lo
     enter_absent = ap (λ (m : Member). times number m.ring.events) (sym old_is) ∙ to.absent i (omega arith) in_i
 
     not_owed : (n : ℕ) → 1 ≤ times n (member_at locations slab i).ring.events → owing number taken n ≡ 0
-    not_owed = at_each _ number (λ there. absurd (omega (arith, there, to.absent i (omega arith) in_i))) (λ n d there. owing_other number taken n d)
+    not_owed = at_each _ number (λ there. absurd (omega (arith, there, to.absent i (omega arith) in_i)))
+        (λ n d there. owing_other number taken n d)
 
     pub enter_held : AreHeld store old.ring.events
     enter_held = let P : Member → Type 0 = λ m. AreHeld store m.ring.events in subst P old_is (member_held to.stored (new_client 0 0) i long_i not_owed)
@@ -97,7 +99,8 @@ module _ {cell : Cell} {holder : Option ℕ} {number : ℕ} {locations : List Lo
           by_case false e = omega (arith, ap (times n) e, owing_none number n)
 
       owed_stay : (n : ℕ) → 1 ≤ owing number taken n → cell_in after n ≡ cell_in store n
-      owed_stay = at_each _ number (λ some. ap held_cell entered.same) (λ n d some. absurd (omega (arith, some, owing_other number taken n d)))
+      owed_stay = at_each _ number (λ some. ap held_cell entered.same)
+          (λ n d some. absurd (omega (arith, some, owing_other number taken n d)))
 
       places_kept : new.ring.places ≡ (member_at locations slab i).ring.places
       places_kept = places ∙ ap (λ (m : Member). m.ring.places) (sym old_is)
@@ -172,9 +175,13 @@ module _ {cell : Cell} {holder : Option ℕ} {number : ℕ} {locations : List Lo
       next_numbered : (j : ℕ) → j < i + 1 → j < length locations → IsPutBehind (admitted_number (seen_at first locations before j).masks cell.event number) (loses_event cell holder (seen_at first locations before j)) (ring_at locations before j) (ring_at locations next_slab j)
       next_numbered =
           at_each _ i
-          (λ below in_j. let P : List ℕ → Type 0 = λ q. IsPutBehind (admitted_number (seen_at first locations before i).masks cell.event number) (loses_event cell holder (seen_at first locations before i)) (ring_at locations before i) q in
+          (λ below in_j. let P : List ℕ → Type 0 = λ q. IsPutBehind
+          (admitted_number (seen_at first locations before i).masks cell.event number)
+          (loses_event cell holder (seen_at first locations before i)) (ring_at locations before i) q in
           subst P (sym (ap (λ (m : Member). m.ring.events) member_here)) put_here)
-          (λ j d below in_j. let P : List ℕ → Type 0 = λ q. IsPutBehind (admitted_number (seen_at first locations before j).masks cell.event number) (loses_event cell holder (seen_at first locations before j)) (ring_at locations before j) q in
+          (λ j d below in_j. let P : List ℕ → Type 0 = λ q. IsPutBehind
+          (admitted_number (seen_at first locations before j).masks cell.event number)
+          (loses_event cell holder (seen_at first locations before j)) (ring_at locations before j) q in
           subst P (sym (ap (λ (m : Member). m.ring.events) (member_other j d))) (to.numbered j (omega (arith, d)) in_j))
 
       next_few : taken + gained ≤ i + 1

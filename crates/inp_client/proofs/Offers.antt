@@ -31,13 +31,15 @@ module _ {locations : List Location} {slab : Slab Member} {s after : StoreView} 
   in_none = omega (arith, shared.stored.held number, ap holders_of new)
 
   added_stay : (n : ℕ) → 1 ≤ times_in n (clients_in locations slab) → cell_in after n ≡ cell_in s n
-  added_stay = at_each _ number (λ there. absurd (omega (arith, there, in_none))) (λ n d there. ap held_cell (put.others n d))
+  added_stay = at_each _ number (λ there. absurd (omega (arith, there, in_none)))
+      (λ n d there. ap held_cell (put.others n d))
 
   pub stored_add : cell_count s + s.spare ≤ cell_count after + after.spare → AreStored after (clients_in locations slab) (λ n. 0)
   stored_add room = stored_stays shared.stored after added_stay (λ n. 0) held room
     where
       held : (n : ℕ) → holders after n + 0 ≡ times_in n (clients_in locations slab)
-      held = at_each _ number (omega (arith, ap holders_of put.changed, in_none)) (λ n d. omega (arith, ap holders_of (put.others n d), shared.stored.held n))
+      held = at_each _ number (omega (arith, ap holders_of put.changed, in_none))
+          (λ n d. omega (arith, ap holders_of (put.others n d), shared.stored.held n))
 
   pub cells_add : cells_in after (clients_in locations slab) ≡ cells_in s (clients_in locations slab)
   cells_add = cells_stay shared.stored after added_stay
@@ -65,7 +67,8 @@ module _ {count : ℕ} {cell : Cell} {holder : Option ℕ} {number : ℕ} {locat
     shared_settled room = record {
       located = to.located;
       stored = stored_stays to.stored after settled_stay (λ n. 0) held room;
-      none_idle = at_each _ number (λ idle. busy (subst IsIdleSlot put.changed idle)) (λ n d idle. d (to.idle n (subst IsIdleSlot (put.others n d) idle)));
+      none_idle = at_each _ number (λ idle. busy (subst IsIdleSlot put.changed idle))
+          (λ n d idle. d (to.idle n (subst IsIdleSlot (put.others n d) idle)));
     }
       where
         held : (n : ℕ) → holders after n + 0 ≡ times_in n clients

@@ -50,7 +50,9 @@ module _ {X Y : Type 0} (f : X → Y) (event : X → Event) (event' : Y → Even
       either false true = sym (map_push f q x)
       either false false = refl
 
-  pub put_all-on : (lost : X → X) (lost' : Y → Y) → ((x : X) → lost' (f x) ≡ f (lost x)) → (places : ℕ) (q xs : List X) → put_all event' lost' places (map f q) (map f xs) ≡ map f (put_all event lost places q xs)
+  pub put_all-on : (lost : X → X) (lost' : Y → Y) → ((x : X) → lost' (f x) ≡ f (lost x))
+      → (places : ℕ) (q xs : List X) → put_all event' lost' places (map f q) (map f xs) ≡ map f
+      (put_all event lost places q xs)
   put_all-on lost lost' alike places q [] = refl
   put_all-on lost lost' alike places q (x ∷ xs) =
       ap (λ r. put_all event' lost' places r (map f xs)) (put-on lost lost' alike places q x)
@@ -100,12 +102,14 @@ module _ (d : Description) where
   -- the list of clients
   pub clients_on-map : (change : ClientView Cell → ClientView Cell) (change' : ClientView Taken → ClientView Taken) → ((c : ClientView Cell) → client_on d (change c) ≡ change' (client_on d c)) → (clients : List (ClientView Cell)) → clients_on d (map change clients) ≡ map change' (clients_on d clients)
   clients_on-map change change' same clients =
-      map-map (client_on d) change clients ∙ map_over (λ c. client_on d (change c)) (client_on d) change' clients (λ j e in_j. same _)
+      map-map (client_on d) change clients ∙ map_over (λ c. client_on d (change c))
+      (client_on d) change' clients (λ j e in_j. same _)
 
   pub clients_on-map_client : (number : ℕ) (change : ClientView Cell → ClientView Cell) (change' : ClientView Taken → ClientView Taken) → ((c : ClientView Cell) → client_on d (change c) ≡ change' (client_on d c)) → (clients : List (ClientView Cell)) → clients_on d (map_client number change clients) ≡ map_client number change' (clients_on d clients)
   clients_on-map_client number change change' same clients =
       clients_on-map (λ c. if has_number number c then change c else c) (λ c. if has_number number c then change' c else c)
-      (λ c. either_map (client_on d) (has_number number c) (change c) c ∙ ap (λ x. if has_number number c then x else client_on d c) (same c)) clients
+      (λ c. either_map (client_on d) (has_number number c) (change c) c
+      ∙ ap (λ x. if has_number number c then x else client_on d c) (same c)) clients
 
   pub has_client-on : (number : ℕ) (clients : List (ClientView Cell)) → has_client number (clients_on d clients) ≡ has_client number clients
   has_client-on number clients = list_any-map (has_number number) (client_on d) clients
@@ -133,8 +137,10 @@ module _ (d : Description) where
   pub without_client-on : (number : ℕ) (clients : List (ClientView Cell)) → clients_on d (without_client number clients) ≡ without_client number (clients_on d clients)
   without_client-on number [] = refl
   without_client-on number (c ∷ clients) =
-      either_map (clients_on d) (not (nat_eq c.number number)) (c ∷ without_client number clients) (without_client number clients)
-      ∙ ap (λ cs. if not (nat_eq c.number number) then client_on d c ∷ cs else cs) (without_client-on number clients)
+      either_map (clients_on d) (not (nat_eq c.number number)) (c ∷ without_client number clients)
+      (without_client number clients)
+      ∙ ap (λ cs. if not (nat_eq c.number number) then client_on d c ∷ cs else cs)
+      (without_client-on number clients)
 
   pub with_client-on : (new : ClientView Cell) (clients : List (ClientView Cell)) → clients_on d (with_client new clients) ≡ with_client (client_on d new) (clients_on d clients)
   with_client-on new [] = refl

@@ -78,7 +78,9 @@ module _ {s : StoreView} {ms : List Member} {owed : ℕ → ℕ} (st : AreStored
         arith,
         st.room,
         numbers_fit ms st.rings,
-        cells_few s (x ∷ numbers_in ms) (at_each _ x (λ there. times_first x (numbers_in ms)) (λ n differs there. omega (arith, known n there differs, times-numbers_in n ms))),
+        cells_few s (x ∷ numbers_in ms)
+            (at_each _ x (λ there. times_first x (numbers_in ms))
+            (λ n differs there. omega (arith, known n there differs, times-numbers_in n ms))),
       )
 
   -- A call on the client at i: its numbers become others, of which some are owed holders still.
@@ -122,7 +124,8 @@ module _ {s : StoreView} {ms : List Member} {owed : ℕ → ℕ} (st : AreStored
         fit : (j : ℕ) → j < length ms → AreFit (map (cell_at after) (get_or (set ms i new) j d).ring.events)
         fit =
             at_each _ i (λ in_j. subst Fit (sym (get_or-set_same ms i new d in_i)) timed)
-            (λ j differs in_j. subst Fit (sym (get_or-set_other ms i j new d differs)) (stays_fit j in_j differs))
+            (λ j differs in_j. subst Fit (sym (get_or-set_other ms i j new d differs))
+            (stays_fit j in_j differs))
 
 abbrev changed_one : ℕ → (ClientView Cell → ClientView Cell) → ClientView Cell → ClientView Cell
 changed_one number change c = if has_number number c then change c else c

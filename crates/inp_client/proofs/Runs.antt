@@ -138,7 +138,8 @@ added_more {first} {s} {cells} {count} {numbers} to some x cell new none put roo
       ∙ ap (λ (q : List Cell). q ++ cell_at new x ∷ []) (queue_stays s new numbers (λ n there. ap held_cell (put.others n (apart n there))) ∙ to.there)
       ∙ ap (λ (o : Option Held). cells ++ some_cell (held_cell o) ∷ []) put.changed;
   held = at_each _ x (λ there. ap holders_of put.changed)
-      (λ n d there. ap holders_of (put.others n d) ∙ to.held n (omega (arith, there, times_push n x numbers, once_other n x (λ e. d (sym e)))));
+      (λ n d there. ap holders_of (put.others n d)
+      ∙ to.held n (omega (arith, there, times_push n x numbers, once_other n x (λ e. d (sym e)))));
   others = at_each _ x (λ out. absurd (omega (arith, out, times_push x x numbers, once_same x)))
       (λ n d out. put.others n d ∙ to.others n (omega (arith, out, times_push n x numbers)));
   room = room ∙ to.room;
@@ -327,7 +328,8 @@ module _ {locations : List Location} {before : Slab Member} {first store : Store
         (λ h. was)
 
     cells_fit : now ≤ MOMENT_MAX → AreFit cells
-    cells_fit fits = All-map (λ (cell : Cell). cell.now ≤ MOMENT_MAX) (cell_of_event now place) frame (λ j d in_j. fits)
+    cells_fit fits = All-map (λ (cell : Cell). cell.now ≤ MOMENT_MAX) (cell_of_event now place) frame
+        (λ j d in_j. fits)
 
     timed_with : now ≤ MOMENT_MAX → AreFit (map (cell_at store) (with_run holder numbers m).ring.events)
     timed_with fits =

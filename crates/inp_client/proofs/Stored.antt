@@ -61,7 +61,8 @@ module _ (k : Inside) (kept : AreKept k) where
       lengths : (ms : List Member) → sum_by (λ c. length c.ring.events) (cells_in k.store ms) ≡ sum_by (λ m. length m.ring.events) ms
       lengths ms =
           sum_by-map (λ (c : ClientView Cell). length c.ring.events) (client_in k.store) ms
-          ∙ ap (λ (long : Member → ℕ). sum_by long ms) (fun_ext (λ m. length-map m.ring.events (cell_at k.store)))
+          ∙ ap (λ (long : Member → ℕ). sum_by long ms)
+          (fun_ext (λ m. length-map m.ring.events (cell_at k.store)))
 
   -- events of different places are different cells
   pub stored_places : length (held_places (kept_view k).list) ≤ cell_count k.store

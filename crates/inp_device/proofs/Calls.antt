@@ -75,7 +75,8 @@ IsNumbered f = (n : ℕ) → (f n).number ≡ n
 
 -- two functions that agree at each number that passes a test
 pub map-filter_same : {X : Type 0} → (f g : ℕ → X) (p : ℕ → Bool) (ns : List ℕ) → ((k : ℕ) → p k ≡ true → f k ≡ g k) → map f (filter p ns) ≡ map g (filter p ns)
-map-filter_same f g p ns same = map_same f g (filter p ns) (λ j d in_j. same (get_or (filter p ns) j d) (filter_passes p ns j d in_j))
+map-filter_same f g p ns same = map_same f g (filter p ns)
+    (λ j d in_j. same (get_or (filter p ns) j d) (filter_passes p ns j d in_j))
 
 -- one client changed, and the others as they are
 pub map_client-filter : (n : ℕ) (change : ClientView Taken → ClientView Taken) (f g : ℕ → ClientView Taken) (p : ℕ → Bool) (ns : List ℕ) → IsNumbered f

@@ -26,7 +26,8 @@ record IsShort (given : Answer) : Type 0 where
   events : given.events ≡ []
   cells : given.cells ≡ []
 
-pub accepted-enters : (d : Description) (past : List Step) (x : Step) → is_accepted (accepted d past x).reply ≡ true
+pub accepted-enters : (d : Description) (past : List Step) (x : Step)
+    → is_accepted (accepted d past x).reply ≡ true
 accepted-enters d past x = by x
   where
     by : (y : Step) → is_accepted (accepted d past y).reply ≡ true
@@ -55,7 +56,8 @@ module _ {d : Description} {past : List Step} {x : Step} {reply : Reply} {out ne
 
 -- Refused
 
-pub refused_step : (d : Description) (past : List Step) (x : Step) (reply : Reply) (out : List Taken) (cells : List ℤ) → refused d past x ≡ Some reply → IsDeviceStep d past x reply out out cells cells past
+pub refused_step : (d : Description) (past : List Step) (x : Step) (reply : Reply) (out : List Taken)
+    (cells : List ℤ) → refused d past x ≡ Some reply → IsDeviceStep d past x reply out out cells cells past
 refused_step d past x reply out cells h =
     let given : answer d past x ≡ alone reply = ap (λ o. answer_by o (accepted d past x)) h in
     record {
@@ -98,8 +100,10 @@ pub told_of : (lent p : Present) (now steps : List Step) (x : Step) (given : Opt
 told_of lent p now steps x given same same_steps exact =
     sym (exact ∙ ap (λ (q : Present). refused q.caps (reverse now) x) same ∙ ap (λ (ss : List Step). refused p.caps (reverse ss) x) same_steps)
 
-pub made_of : (r : Result Reply WantOfMemory) (lent p new : Present) (now steps : List Step) (x : Step) (out new_out : List Taken) (cells new_cells : List ℤ) → lent ≡ p → now ≡ steps
-    → IsMadeOrLacks now x lent r out new_out cells new_cells new → IsMadeOrLacks steps x p r out new_out cells new_cells new
+pub made_of : (r : Result Reply WantOfMemory) (lent p new : Present) (now steps : List Step) (x : Step)
+    (out new_out : List Taken) (cells new_cells : List ℤ) → lent ≡ p → now ≡ steps
+    → IsMadeOrLacks now x lent r out new_out cells new_cells new
+    → IsMadeOrLacks steps x p r out new_out cells new_cells new
 made_of r lent p new now steps x out new_out cells new_cells same same_steps made =
     subst (λ (ss : List Step). IsMadeOrLacks ss x p r out new_out cells new_cells new) same_steps
     (subst (λ (q : Present). IsMadeOrLacks now x q r out new_out cells new_cells new) same made)
@@ -120,7 +124,8 @@ module _ {p : Present} {steps : List Step} {capacity : ℕ} (x : Step) (kept : I
   -- Entered
 
   pub entered_kept : {new : Present} {pushed : List Step} {wider : ℕ} {reply : Reply} {out new_out : List Taken} {cells new_cells : List ℤ}
-      → IsAcceptedStep steps x p reply out new_out cells new_cells new → pushed ≡ steps ++ x ∷ [] → capacity ≤ wider → IsKeptWith pushed wider new
+      → IsAcceptedStep steps x p reply out new_out cells new_cells new → pushed ≡ steps ++ x ∷ []
+      → capacity ≤ wider → IsKeptWith pushed wider new
   entered_kept {new} {pushed} made push wide =
       let caps : new.caps ≡ p.caps = made.stands.caps in
       let turned : x ∷ reverse steps ≡ reverse pushed = sym (reverse-append steps (x ∷ [])) ∙ ap reverse (sym push) in
@@ -135,16 +140,20 @@ module _ {p : Present} {steps : List Step} {capacity : ℕ} (x : Step) (kept : I
       }
 
 pub device_made : {old new : Present} {steps pushed : List Step} {x : Step} {reply : Reply} {out new_out : List Taken} {cells new_cells : List ℤ}
-    → refused old.caps (reverse steps) x ≡ None → IsAcceptedStep steps x old reply out new_out cells new_cells new → pushed ≡ steps ++ x ∷ []
+    → refused old.caps (reverse steps) x ≡ None
+    → IsAcceptedStep steps x old reply out new_out cells new_cells new → pushed ≡ steps ++ x ∷ []
     → IsDeviceStep old.caps (reverse steps) x reply out new_out cells new_cells (reverse pushed)
 device_made {old} {new} {steps} {pushed} {x} none made push =
-    made_step old.caps (reverse steps) x _ _ _ _ _ (reverse pushed) none made.replied made.out_written made.cells_written (accepted-enters old.caps (reverse steps) x)
+    made_step old.caps (reverse steps) x _ _ _ _ _
+    (reverse pushed) none made.replied made.out_written made.cells_written
+    (accepted-enters old.caps (reverse steps) x)
     (ap reverse push ∙ reverse-append steps (x ∷ []))
 
 -- Want of memory
 
 pub device_lacks : {d : Description} {steps now : List Step} {x : Step} {reply : Reply} {out new_out : List Taken} {cells new_cells : List ℤ}
-    → refused d (reverse steps) x ≡ None → x ≡ Open → new_out ≡ out → new_cells ≡ cells → now ≡ steps → reply ≡ Refused (length now) NoMemory
+    → refused d (reverse steps) x ≡ None → x ≡ Open → new_out ≡ out → new_cells ≡ cells → now ≡ steps
+    → reply ≡ Refused (length now) NoMemory
     → IsDeviceStep d (reverse steps) x reply out new_out cells new_cells (reverse steps)
 device_lacks {d} {steps} {now} {x} none opens o k same r = record {
   given = alone (Refused (length (reverse steps)) NoMemory);
@@ -158,6 +167,8 @@ device_lacks {d} {steps} {now} {x} none opens o k same r = record {
 -- How many events are kept then
 
 -- what a call added
-pub device_stored : (old lent new : Present) (steps now : List Step) (x : Step) → lent ≡ old → now ≡ steps → StoresFew now x lent new → StoresFew steps x old new
+pub device_stored : (old lent new : Present) (steps now : List Step) (x : Step) → lent ≡ old → now ≡ steps
+    → StoresFew now x lent new → StoresFew steps x old new
 device_stored old lent new steps now x lends same few =
-    subst (λ (ss : List Step). StoresFew ss x old new) same (subst (λ (p : Present). StoresFew now x p new) lends few)
+    subst (λ (ss : List Step). StoresFew ss x old new) same
+    (subst (λ (p : Present). StoresFew now x p new) lends few)

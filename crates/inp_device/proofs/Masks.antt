@@ -37,13 +37,15 @@ no_bits m kind h = grind (arith, nat_tests, h)
 pub mask_bit_of-with : (bit : ℕ → ℕ → Bool) (kind i : ℕ) → EndsSet bit → mask_bit_of (masks_with bit) kind i ≡ bit kind i
 unfolding masks_with
 mask_bit_of-with bit kind i ends =
-    let one : (k : ℕ) → nat_eq k EV_KEY ≡ false → slice_index_or (map (bit k) (range_with_len 0 64)) i true ≡ bit k i =
+    let one : (k : ℕ) → nat_eq k EV_KEY ≡ false → slice_index_or (map (bit k) (range_with_len 0 64)) i true
+    ≡ bit k i =
     λ k other. bit_of (bit k) 64 i (λ h. ends k i (past_one k i other h)) in
     let keys = bit_of (bit EV_KEY) 768 i (λ h. ends EV_KEY i (past_keys i h)) in
     elim (cases_Bool (has_mask kind)) [
       | inl has ↦
           by_kind (λ k. mask_bit_of (masks_with bit) k i ≡ bit k i)
-          (one 0 refl) keys (one 2 refl) (one 3 refl) (one 4 refl) (one 5 refl) (one 17 refl) (one 18 refl) kind has
+          (one 0 refl) keys (one 2 refl) (one 3 refl) (one 4 refl) (one 5 refl) (one 17 refl)
+          (one 18 refl) kind has
       | inr none ↦
           ap (λ (bits : List Bool). slice_index_or bits i true) (no_bits (masks_with bit) kind none)
           ∙ sym (ends kind i (ap (λ b. b && nat_lt i (64 * mask_words kind)) none))

@@ -10,7 +10,9 @@ use Rattle.inp_client.specs.Read.{taken_event as event_of}
 use Rattle.inp_client.proofs.OnClock.{visible-on, put_all-on}
 
 pub put_all-map : (places : ℕ) (xs q : List Entry) → map taken_of (put_all queue.event_of entry_dropped_at places q xs) ≡ put_all event_of dropped_at places (map taken_of q) (map taken_of xs)
-put_all-map places xs q = sym (put_all-on taken_of queue.event_of event_of (λ x. refl) entry_dropped_at dropped_at (λ x. refl) places q xs)
+put_all-map places xs q = sym
+    (put_all-on taken_of queue.event_of event_of (λ x. refl) entry_dropped_at dropped_at
+    (λ x. refl) places q xs)
 
 pub visible-map : (q : List Entry) → visible event_of (map taken_of q) ≡ visible queue.event_of q
 visible-map q = visible-on taken_of queue.event_of event_of (λ x. refl) q

@@ -185,7 +185,8 @@ abbrev reads_loss : ℕ → ClientView Taken → Bool
 reads_loss place c = list_any (is_loss_at place) c.ring.events
 
 count_map : {X Y : Type 0} (p : X → Bool) (q : Y → Bool) (f : X → Y) → ((x : X) → p x ≡ q (f x)) → (xs : List X) → count_by p xs ≡ count_by q (map f xs)
-count_map {X} p q f same xs = ap (λ (t : X → Bool). count_by t xs) (fun_ext same) ∙ sym (sum_by-map (λ y. if q y then 1 else 0) f xs)
+count_map {X} p q f same xs = ap (λ (t : X → Bool). count_by t xs) (fun_ext same)
+    ∙ sym (sum_by-map (λ y. if q y then 1 else 0) f xs)
 
 grown_stored : (count place : ℕ) (old new : ClientsView) → (new ≡ old) ⊎ AreGrown count place old new → stored_of new ≤ stored_of old + count + count_by (is_lost place) new.list
 grown_stored count place old new (inl same) = omega (arith, ap stored_of same)
@@ -194,11 +195,13 @@ grown_stored count place old new (inr grown) = stored_grown count place old new 
 -- A step that may end frames
 
 module _ (d : Description) (past : List Step) (x : Step) (old new : Present) (begun : Handler) (was : PresentStandsFor d past old)
-    (begins : begun ≡ record old.handler { place = length past; holder = old.handles.holder }) (entered : IsEntered d past x new.core takes begun new.handler) where
+    (begins : begun ≡ record old.handler { place = length past; holder = old.handles.holder })
+    (entered : IsEntered d past x new.core takes begun new.handler) where
   passed : IsPassed d past x begun new.handler
   passed =
       passed_all d past x begun new.handler (ap (λ (h : Handler). h.place) begins) (ap (λ (h : Handler). h.holder) begins ∙ was.holder)
-      (subst (λ (h : Handler). FiltersStandFor d.filters (given_in d past) h.filters.kept) (sym begins) was.handler.filters) entered.takes_all
+      (subst (λ (h : Handler). FiltersStandFor d.filters (given_in d past) h.filters.kept)
+      (sym begins) was.handler.filters) entered.takes_all
 
   pub stands_framed : IsAllowed d past x → makes_events x ≡ true → IsFor d new.core
       → new.caps ≡ old.caps → new.handles.holder ≡ old.handles.holder → new.opens ≡ old.opens → new.ends ≡ old.ends
@@ -219,7 +222,9 @@ module _ (d : Description) (past : List Step) (x : Step) (old new : Present) (be
         ends = ended ∙ was.ends ∙ sym (ends-keeps past x ending);
       }
 
-  pub stored_framed : PresentStandsFor d (x ∷ past) new → stored_of new.handler.clients ≤ stored_of old.handler.clients + (offered_count d past x + count_by (is_lost_at d past x) (open_clients (x ∷ past)))
+  pub stored_framed : PresentStandsFor d (x ∷ past) new
+      → stored_of new.handler.clients ≤ stored_of old.handler.clients +
+      (offered_count d past x + count_by (is_lost_at d past x) (open_clients (x ∷ past)))
   stored_framed stands =
       omega (
         arith,
@@ -227,5 +232,7 @@ module _ (d : Description) (past : List Step) (x : Step) (old new : Present) (be
         ap (λ (h : Handler). stored_of h.clients) begins,
         count_map (is_lost (length past)) (reads_loss (length past)) (client_on d) (λ c. sym (list_any-map (is_loss_at (length past)) (cell_taken (offset d c.clock)) c.ring.events)) new.handler.clients.list,
         ap (count_by (reads_loss (length past))) stands.handler.clients,
-        count_map (is_lost_at d past x) (reads_loss (length past)) (client_after d (x ∷ past)) (λ n. sym (list_any-map (is_loss_at (length past)) taken_of (queue d (x ∷ past) n))) (open_clients (x ∷ past)),
+        count_map (is_lost_at d past x) (reads_loss (length past)) (client_after d (x ∷ past))
+            (λ n. sym (list_any-map (is_loss_at (length past)) taken_of (queue d (x ∷ past) n)))
+            (open_clients (x ∷ past)),
       )

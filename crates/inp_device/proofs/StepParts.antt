@@ -73,17 +73,25 @@ module _ {history : List Step} {x : Step} {old : Present} (ready : IsReadyFor hi
       ∙ named_in_past named
 
   -- its queue
-  named_events : {client : ℕ} → client_of x ≡ Some client → events_of client (shown old) ≡ map taken_of (queue old.caps past client)
-  named_events {client} named = ap (events_of client) ready.stands.handler.clients ∙ events_of-after old.caps past client (named_in_past named)
+  named_events : {client : ℕ} → client_of x ≡ Some client
+      → events_of client (shown old) ≡ map taken_of (queue old.caps past client)
+  named_events {client} named = ap (events_of client) ready.stands.handler.clients
+      ∙ events_of-after old.caps past client (named_in_past named)
 
   -- what can be seen of it
-  pub named_visible : {client : ℕ} → client_of x ≡ Some client → visible event_of_cell (events_of client old.handler.clients.list) ≡ visible model.event_of (queue old.caps past client)
-  named_visible {client} named = sym (visible-on_clock old.caps client old.handler.clients.list) ∙ ap (visible taken_event) (named_events named) ∙ visible-map (queue old.caps past client)
+  pub named_visible : {client : ℕ} → client_of x ≡ Some client
+      → visible event_of_cell (events_of client old.handler.clients.list) ≡ visible model.event_of
+      (queue old.caps past client)
+  named_visible {client} named = sym (visible-on_clock old.caps client old.handler.clients.list)
+      ∙ ap (visible taken_event) (named_events named) ∙ visible-map (queue old.caps past client)
 
   -- what a call on one client makes of its cells, it makes of what the client reads
-  pub clients_called : (client : ℕ) (change : ClientView Cell → ClientView Cell) (change' : ClientView Taken → ClientView Taken) {new : List (ClientView Cell)}
-      → ((v : ClientView Cell) → client_on old.caps (change v) ≡ change' (client_on old.caps v)) → new ≡ map_client client change old.handler.clients.list
-      → clients_after old.caps (x ∷ past) ≡ map_client client change' (clients_after old.caps past) → clients_on old.caps new ≡ clients_after old.caps (x ∷ past)
+  pub clients_called : (client : ℕ) (change : ClientView Cell → ClientView Cell)
+      (change' : ClientView Taken → ClientView Taken) {new : List (ClientView Cell)}
+      → ((v : ClientView Cell) → client_on old.caps (change v) ≡ change' (client_on old.caps v))
+      → new ≡ map_client client change old.handler.clients.list
+      → clients_after old.caps (x ∷ past) ≡ map_client client change' (clients_after old.caps past)
+      → clients_on old.caps new ≡ clients_after old.caps (x ∷ past)
   clients_called client change change' same e after =
       ap (clients_on old.caps) e
       ∙ clients_on-map_client old.caps client change change' same old.handler.clients.list
@@ -141,13 +149,15 @@ module _ {history : List Step} {x : Step} {old : Present} (ready : IsReadyFor hi
   slots_kept e = e ∙ sym ready.stands.made.slots
 
   -- the reply that tells values of slots
-  pub cells_at : {reply : Reply} {count told : ℕ} (values : List ℤ) → reply ≡ Cells (length history) count old.core.slots.at_frame → count ≡ told
+  pub cells_at : {reply : Reply} {count told : ℕ} (values : List ℤ)
+      → reply ≡ Cells (length history) count old.core.slots.at_frame → count ≡ told
       → reply ≡ (cells_answer old.caps past told values).reply
   cells_at values r e = cc (at_place, ready.stands.core.raw_events.at_frame)
 
 -- a reply with what is written to the caller's buffers
 pub made_written : {history : List Step} {x : Step} {old new : Present} {given : Answer} {reply : Reply} {out new_out : List Taken} {cells new_cells : List ℤ}
-    → accepted old.caps (reverse history) x ≡ given → reply ≡ given.reply → new_out ≡ written given.events out → new_cells ≡ written given.cells cells → PresentStandsFor old.caps (x ∷ reverse history) new
+    → accepted old.caps (reverse history) x ≡ given → reply ≡ given.reply → new_out ≡ written given.events out
+    → new_cells ≡ written given.cells cells → PresentStandsFor old.caps (x ∷ reverse history) new
     → IsAcceptedStep history x old reply out new_out cells new_cells new
 made_written {out} {cells} e r o k stands = record {
   replied = r ∙ ap (λ (a : Answer). a.reply) (sym e);
@@ -157,12 +167,14 @@ made_written {out} {cells} e r o k stands = record {
 }
 
 -- a reply alone
-pub made_alone : {history : List Step} {x : Step} {old new : Present} {reply is : Reply} → accepted old.caps (reverse history) x ≡ alone is → reply ≡ is
+pub made_alone : {history : List Step} {x : Step} {old new : Present} {reply is : Reply}
+    → accepted old.caps (reverse history) x ≡ alone is → reply ≡ is
     → PresentStandsFor old.caps (x ∷ reverse history) new → IsAcceptedStep history x old reply [] [] [] [] new
 made_alone e r stands = made_written e r refl refl stands
 
 -- a call that is done
-pub made_call : {history : List Step} {x : Step} {old new : Present} {reply : Reply} → accepted old.caps (reverse history) x ≡ done_answer (reverse history) → reply ≡ Done (length history)
+pub made_call : {history : List Step} {x : Step} {old new : Present} {reply : Reply}
+    → accepted old.caps (reverse history) x ≡ done_answer (reverse history) → reply ≡ Done (length history)
     → PresentStandsFor old.caps (x ∷ reverse history) new → IsAcceptedStep history x old reply [] [] [] [] new
 made_call {history} e r stands = made_alone e (r ∙ ap Done (sym (length-reverse history))) stands
 
@@ -203,7 +215,8 @@ stands_ended {history} {old} {new} ready caps core handler grab opened ended =
 read_answer : (past : List Step) (q : List Entry) (count taken at : ℕ) (ts : List Taken) → taken ≡ min count (visible model.event_of q) → ts ≡ map taken_of q → at ≡ length past
     → took_answer past (take (min count (visible model.event_of q)) q) ≡ record { reply = Took at taken; events = take taken ts; cells = [] }
 read_answer past q count taken at ts chosen is placed =
-    let few : taken ≤ length q = omega (arith, visible-le (map taken_of q), visible-map q, length-map q taken_of, chosen) in
+    let few : taken ≤ length q = omega
+    (arith, visible-le (map taken_of q), visible-map q, length-map q taken_of, chosen) in
     let long : length (take taken q) ≡ taken = length-take taken q ∙ omega (arith, few) in
     rw (← chosen, long, ← take-map taken_of taken q, is, placed) refl
 
@@ -213,7 +226,8 @@ accepted-read {history} {old} {client} {count} {taken} ready chosen =
     let past : List Step = reverse history in
     let q : List Entry = queue old.caps past client in
     ap (λ b. took_answer past (if b then take (min count (visible model.event_of q)) q else [])) (eq-eqb client client refl)
-    ∙ read_answer past q count taken (length history) (events_of client (shown old)) (chosen ∙ ap (min count) (named_visible ready refl)) (named_events ready refl) (at_place ready)
+    ∙ read_answer past q count taken (length history) (events_of client (shown old))
+    (chosen ∙ ap (min count) (named_visible ready refl)) (named_events ready refl) (at_place ready)
 
 -- Queries
 
@@ -255,16 +269,20 @@ all_below d past =
     subst (λ (n : ℕ). AllBelow n (clients_after d past)) zero_plus
     (All-map (λ (c : ClientView Taken). c.number < 0 + opens past) (client_after d past) (open_clients past) (All-filter_range (is_open past) 0 (opens past)))
 
-opens_above : {history : List Step} {old : Present} → IsReadyFor history Open old → AllBelow old.opens (shown old)
+opens_above : {history : List Step} {old : Present} → IsReadyFor history Open old
+    → AllBelow old.opens (shown old)
 opens_above {history} {old} ready =
     subst (λ (n : ℕ). AllBelow n (shown old)) (sym ready.stands.opens)
     (subst (AllBelow (opens (reverse history))) (sym ready.stands.handler.clients) (all_below old.caps (reverse history)))
 
 -- so no open client has that number
 pub opens_unused : {history : List Step} {old : Present} → IsReadyFor history Open old → has_client old.opens old.handler.clients.list ≡ false
-opens_unused {history} {old} ready = sym (has_client-on old.caps old.opens old.handler.clients.list) ∙ unused_above old.opens (shown old) (opens_above ready)
+opens_unused {history} {old} ready = sym (has_client-on old.caps old.opens old.handler.clients.list)
+    ∙ unused_above old.opens (shown old) (opens_above ready)
 
-pub made_open : {history : List Step} {old new : Present} {places : ℕ} → IsReadyFor history Open old → places ≡ ring old.caps → new.caps ≡ old.caps → new.core ≡ old.core → new.handler.filters ≡ old.handler.filters
+pub made_open : {history : List Step} {old new : Present} {places : ℕ} → IsReadyFor history Open old
+    → places ≡ ring old.caps → new.caps ≡ old.caps → new.core ≡ old.core
+    → new.handler.filters ≡ old.handler.filters
     → new.handler.clients.list ≡ with_client (new_client old.opens places) old.handler.clients.list → new.handles.holder ≡ old.handles.holder → new.opens ≡ old.opens + 1 → new.ends ≡ old.ends
     → IsAcceptedStep history Open old (Opened (length history) old.opens places) [] [] [] [] new
 made_open {history} {old} {new} {places} ready ringed caps core filters clients grab opened ended =

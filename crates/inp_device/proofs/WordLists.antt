@@ -15,7 +15,8 @@ use Rattle.inp_model.specs.Reply.{number_of_bits, bitmap_word, bitmap_of}
 
 pub map-same : {X : Type 0} → (x : X) (n : ℕ) (f g : ℕ → X) → ((k : ℕ) → k < n → f k ≡ g k) → map f (range_with_len 0 n) ≡ map g (range_with_len 0 n)
 map-same x n f g same =
-    fill_by_all g (map f (range_with_len 0 n)) n x (length-map-range_with_len f 0 n) (λ k h. get_or-map-range_with_len f 0 n k k x h (omega arith) ∙ same k h)
+    fill_by_all g (map f (range_with_len 0 n)) n x (length-map-range_with_len f 0 n)
+    (λ k h. get_or-map-range_with_len f 0 n k k x h (omega arith) ∙ same k h)
 
 number_of_bits-mask : (bits : List Bool) → mask_l bits ≡ number_of_bits bits
 number_of_bits-mask [] = refl
@@ -26,7 +27,8 @@ abbrev pub value_at : List Bool → ℕ → Bool
 value_at bits code = get_or bits code false
 
 -- by what `word` ensures, bit k of the word is value i = 64·q + k
-is_on_at-word : (bits : List Bool) (q k i word : ℕ) → i ≡ 64 * q + k → k < 64 → word_bits word ≡ slice_range bits (64 * q) (64 * q + 64) → is_on_at bits i ≡ (bit_at word k == 1)
+is_on_at-word : (bits : List Bool) (q k i word : ℕ) → i ≡ 64 * q + k → k < 64
+    → word_bits word ≡ slice_range bits (64 * q) (64 * q + 64) → is_on_at bits i ≡ (bit_at word k == 1)
 is_on_at-word bits q k i word place h e =
     ap (is_on_at bits) place ∙ sym (get_or-drop (64 * q) bits k false) ∙ sym (get_or-take (64 * q + 64 - 64 * q) (drop (64 * q) bits) k false (omega arith)) ∙ ap (λ part. get_or part k false) (sym e) ∙ get_or-word_bits word k h
 

@@ -123,9 +123,12 @@ module _ (d : Description) (r : List RawItem) (e : Event) (frame : Bool) (is : a
 
   pending_is : pending d (Occurred e ∷ r) ≡ (if frame then [] else if is_report e then [] else batch)
   unfolding pending
-  pending_is = by_report (is_report e) ∙ ap (λ (b : Bool). if b then [] else if is_report e then [] else batch) is
+  pending_is = by_report (is_report e)
+      ∙ ap (λ (b : Bool). if b then [] else if is_report e then [] else batch) is
     where
-      by_report : (report : Bool) → (if report then [] else if nat_le d.hint (length batch) then [] else batch) ≡ (if are_frame report (waiting d r e) then [] else if report then [] else batch)
+      by_report : (report : Bool)
+          → (if report then [] else if nat_le d.hint (length batch) then [] else batch) ≡
+          (if are_frame report (waiting d r e) then [] else if report then [] else batch)
       by_report true = sym (either (nat_lt 1 (length batch)) [])
       by_report false = refl
 
@@ -139,9 +142,12 @@ module _ (d : Description) (r : List RawItem) (e : Event) (frame : Bool) (is : a
 
   cuts_are : cuts d r (Occurred e ∷ []) ≡ (if frame then cut_of e r (frame_events d r e) ∷ [] else [])
   unfolding cuts
-  cuts_are = ap (λ (o : Option (List Event)). option_to_list (option_map (cut_of e r) o) ++ []) cut_is ∙ cut_list frame
+  cuts_are = ap (λ (o : Option (List Event)). option_to_list (option_map (cut_of e r) o) ++ []) cut_is
+      ∙ cut_list frame
     where
-      cut_list : (b : Bool) → option_to_list (option_map (cut_of e r) (if b then Some (frame_events d r e) else None)) ++ [] ≡ (if b then cut_of e r (frame_events d r e) ∷ [] else [])
+      cut_list : (b : Bool) → option_to_list
+          (option_map (cut_of e r) (if b then Some (frame_events d r e) else None)) ++ [] ≡
+          (if b then cut_of e r (frame_events d r e) ∷ [] else [])
       cut_list true = refl
       cut_list false = refl
 

@@ -37,7 +37,8 @@ both_hold f h true = (and_parts (f true) (f false) h).0
 both_hold f h false = (and_parts (f true) (f false) h).1
 
 -- a test of four flags that is true whatever they are, which one computation shows
-each_flags : (f : Bool → Bool → Bool → Bool → Bool) → both (λ a. both (λ b. both (λ c. both (f a b c)))) ≡ true → (a b c d : Bool) → f a b c d ≡ true
+each_flags : (f : Bool → Bool → Bool → Bool → Bool)
+    → both (λ a. both (λ b. both (λ c. both (f a b c)))) ≡ true → (a b c d : Bool) → f a b c d ≡ true
 each_flags f h a b c d =
     let first = both_hold (λ a. both (λ b. both (λ c. both (f a b c)))) h a in
     let second = both_hold (λ b. both (λ c. both (f a b c))) first b in
@@ -49,10 +50,12 @@ same_flag true false h = absurd (cc h)
 same_flag false false h = refl
 
 flag_1 : (passes device slot flush : Bool) → (bit_and (flags passes device slot flush) 1 == 1) ≡ passes
-flag_1 p d s f = same_flag _ p (each_flags (λ p d s f. let x = bit_and (flags p d s f) 1 == 1 in if p then x else not x) refl p d s f)
+flag_1 p d s f = same_flag _ p
+    (each_flags (λ p d s f. let x = bit_and (flags p d s f) 1 == 1 in if p then x else not x) refl p d s f)
 
 flag_4 : (passes device slot flush : Bool) → (bit_and (flags passes device slot flush) 4 == 4) ≡ slot
-flag_4 p d s f = same_flag _ s (each_flags (λ p d s f. let x = bit_and (flags p d s f) 4 == 4 in if s then x else not x) refl p d s f)
+flag_4 p d s f = same_flag _ s
+    (each_flags (λ p d s f. let x = bit_and (flags p d s f) 4 == 4 in if s then x else not x) refl p d s f)
 
 -- the event itself
 

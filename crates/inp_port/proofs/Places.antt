@@ -33,7 +33,8 @@ module _ {X : Type 0} where
 
   -- a place of a list, and none more than the list has
   pub added-one : (xs : List X) (x : X) → added_places xs (xs ++ x ∷ []) ≡ length xs ∷ []
-  added-one xs x = let one : length (xs ++ x ∷ []) - length xs ≡ 1 = omega (arith, length-append xs (x ∷ [])) in ap (range_with_len (length xs)) one
+  added-one xs x = let one : length (xs ++ x ∷ []) - length xs ≡ 1 = omega
+      (arith, length-append xs (x ∷ [])) in ap (range_with_len (length xs)) one
 
   pub added-none : (xs : List X) → added_places xs xs ≡ []
   added-none xs = let none : length xs - length xs ≡ 0 = omega arith in ap (range_with_len (length xs)) none
@@ -134,11 +135,13 @@ module _ {E : Type 0} (made : E → Option Step) where
 
   step_places-first : (es : List E) (e : E) (more : List E) (x : Step) → made e ≡ Some x → step_places made (es ++ e ∷ more) (length es ∷ []) ≡ length (steps_among made es) ∷ []
   step_places-first es e more x is =
-      step_places-begins made (es ++ e ∷ []) (es ++ e ∷ more) (length es ∷ []) (more, append_assoc es (e ∷ []) more) (here es e) ∙ step_places-end made es e x is
+      step_places-begins made (es ++ e ∷ []) (es ++ e ∷ more) (length es ∷ [])
+      (more, append_assoc es (e ∷ []) more) (here es e) ∙ step_places-end made es e x is
 
   other_places-first : (es : List E) (e : E) (more : List E) (x : Step) → made e ≡ Some x → other_places made (es ++ e ∷ more) (length es ∷ []) ≡ []
   other_places-first es e more x is =
-      other_places-begins made (es ++ e ∷ []) (es ++ e ∷ more) (length es ∷ []) (more, append_assoc es (e ∷ []) more) (here es e) ∙ other_places-end made es e x is
+      other_places-begins made (es ++ e ∷ []) (es ++ e ∷ more) (length es ∷ [])
+      (more, append_assoc es (e ∷ []) more) (here es e) ∙ other_places-end made es e x is
 
   -- the places of all of them
 
@@ -151,7 +154,8 @@ module _ {E : Type 0} (made : E → Option Step) where
       let n : ℕ = length (steps_among made es) in
       let count : length (steps_among made (es ++ e ∷ [])) ≡ n + 1 = ap length (steps-push made es e x is) ∙ length-append (steps_among made es) (x ∷ []) in
       let later : step_places made (es ++ e ∷ more) rest ≡ range_with_len (n + 1) (length more) =
-      (λ i. step_places made (sym (append_assoc es (e ∷ []) more) i) (range_with_len (sym (length-append es (e ∷ [])) i) (length more)))
+      (λ i. step_places made (sym (append_assoc es (e ∷ []) more) i)
+      (range_with_len (sym (length-append es (e ∷ [])) i) (length more)))
       ∙ step_places-added (es ++ e ∷ []) more steps (later_steps e more x steps h)
       ∙ ap (λ (k : ℕ). range_with_len k (length more)) count in
       step_places-append made (es ++ e ∷ more) (length es ∷ []) rest

@@ -56,8 +56,10 @@ pub moved_add : {s new : StoreView} (m : ℕ) (cell : Cell) → held_under s m �
 moved_add {s} {new} m cell none put room = record {
   held = at_each _ m (omega (arith, ap holders_of put.changed, ap holders_of none, once_same m))
       (λ n d. omega (arith, ap holders_of (put.others n d), once_other n m (λ e. d (sym e))));
-  kept = at_each _ m (λ h. absurd (omega (arith, h, ap holders_of none))) (λ n d h. ap held_cell (put.others n d));
-  idle = at_each _ m (λ h. absurd (omega (arith, ap holders_of put.changed, idle_none new m h))) (λ n d h. subst IsIdleSlot (put.others n d) h);
+  kept = at_each _ m (λ h. absurd (omega (arith, h, ap holders_of none)))
+      (λ n d h. ap held_cell (put.others n d));
+  idle = at_each _ m (λ h. absurd (omega (arith, ap holders_of put.changed, idle_none new m h)))
+      (λ n d h. subst IsIdleSlot (put.others n d) h);
   rest = at_each _ m (λ i t. absurd (omega (arith, t, once_same m))) (λ n d i t. put.others n d);
   room = room;
 }
@@ -66,10 +68,13 @@ moved_add {s} {new} m cell none put room = record {
 pub taken_first : {s new : StoreView} (x : ℕ) (q : List ℕ) → AreHeld s (x ∷ q) → IsPut s new x (held_less (held_under s x)) → s.spare ≤ new.spare → cell_count s + s.spare ≤ cell_count new + new.spare → IsTakenOut s new (x ∷ q) q
 taken_first {s} {new} x q h put spare room = record {
   moved = record {
-    held = at_each _ x (omega (arith, less, once_same x)) (λ n d. omega (arith, ap holders_of (put.others n d), once_other n x (λ i. d (sym i))));
+    held = at_each _ x (omega (arith, less, once_same x))
+        (λ n d. omega (arith, ap holders_of (put.others n d), once_other n x (λ i. d (sym i))));
     kept = λ n fewer. same n (λ e. omega (arith, fewer, ap (λ (k : ℕ). once k x) e, once_same x, ap (λ (k : ℕ). holders s k) e));
-    idle = at_each _ x (λ i. absurd (last (held_under s x) some (subst IsIdleSlot put.changed i))) (λ n d i. subst IsIdleSlot (put.others n d) i);
-    rest = at_each _ x (λ i none. absurd (omega (arith, some, idle_none s x i))) (λ n d i none. put.others n d);
+    idle = at_each _ x (λ i. absurd (last (held_under s x) some (subst IsIdleSlot put.changed i)))
+        (λ n d i. subst IsIdleSlot (put.others n d) i);
+    rest = at_each _ x (λ i none. absurd (omega (arith, some, idle_none s x i)))
+        (λ n d i none. put.others n d);
     room = room;
   };
   fewer = λ n. omega arith;
@@ -104,7 +109,8 @@ taken_first {s} {new} x q h put spare room = record {
     ]
 
     same : (n : ℕ) → (n ≡ x → 1 < holders s x) → cell_in new n ≡ cell_in s n
-    same = at_each _ x (λ many. ap held_cell put.changed ∙ stays (held_under s x) (many refl)) (λ n d many. ap held_cell (put.others n d))
+    same = at_each _ x (λ many. ap held_cell put.changed ∙ stays (held_under s x) (many refl))
+        (λ n d many. ap held_cell (put.others n d))
 
 -- Beside numbers that leave others stay.
 pub taken_beside : {s new : StoreView} (p r : List ℕ) → AreHeld s (p ++ r) → IsTakenOut s new p [] → IsTakenOut s new (p ++ r) r
@@ -171,10 +177,13 @@ moved_hold {s} {t} {u} {from} {to} x e absent there put room =
     record {
       held = at_each _ x (omega (arith, more, here, absent, ap holders_of e.same))
           (λ n d. omega (arith, ap holders_of (put.others n d), ap (times n) e.entered, times_push n x e.before, once_other n x (λ i. d (sym i)), e.moved.held n));
-      kept = at_each _ x (λ h. ap held_cell put.changed ∙ same_cell (held_under t x) ∙ ap held_cell e.same) (λ n d h. ap held_cell (put.others n d) ∙ e.moved.kept n h);
-      idle = at_each _ x (λ h. absurd (omega (arith, more, idle_none u x h))) (λ n d h. e.moved.idle n (subst IsIdleSlot (put.others n d) h));
+      kept = at_each _ x (λ h. ap held_cell put.changed ∙ same_cell (held_under t x) ∙ ap held_cell e.same)
+          (λ n d h. ap held_cell (put.others n d) ∙ e.moved.kept n h);
+      idle = at_each _ x (λ h. absurd (omega (arith, more, idle_none u x h)))
+          (λ n d h. e.moved.idle n (subst IsIdleSlot (put.others n d) h));
       rest = at_each _ x (λ i t0. absurd (omega (arith, t0, here)))
-          (λ n d i t0. put.others n d ∙ e.moved.rest n i (omega (arith, t0, ap (times n) e.entered, times_push n x e.before)));
+          (λ n d i t0. put.others n d ∙ e.moved.rest n i
+          (omega (arith, t0, ap (times n) e.entered, times_push n x e.before)));
       room = omega (arith, e.moved.room, room);
     }
   where

@@ -49,4 +49,5 @@ times_first n q = omega (arith, once_same n)
 
 -- the numbers stay different where a new one is put
 pub AreDifferent_push : (m : ℕ) (q : List ℕ) → AreDifferent q → times m q ≡ 0 → AreDifferent (q ++ m ∷ [])
-AreDifferent_push m q h new = at_each _ m (omega (arith, times_push m m q, once_same m, new)) (λ n d. omega (arith, times_push n m q, once_other n m (λ e. d (sym e)), h n))
+AreDifferent_push m q h new = at_each _ m (omega (arith, times_push m m q, once_same m, new))
+    (λ n d. omega (arith, times_push n m q, once_other n m (λ e. d (sym e)), h n))

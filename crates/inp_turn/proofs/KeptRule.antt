@@ -43,7 +43,8 @@ module _ {B E : Type 0} where
   still_fits b first log more v g f = record { seen = prefix-trans v.seen log more f.seen g; base_is = f.base_is; first_seen = f.first_seen; spent = f.spent }
 
   -- a seat without the turn fits a log where both its passes do
-  free_fits : (b : B) (first log : List E) (v : SeatView B E) → v.has_turn ≡ false → FitsLog b first log v.pass → FitsLog b first log v.met → SeatFits b first log v
+  free_fits : (b : B) (first log : List E) (v : SeatView B E) → v.has_turn ≡ false
+      → FitsLog b first log v.pass → FitsLog b first log v.met → SeatFits b first log v
   free_fits b first log v free pass met = record { pass = pass; met = met; all_seen = λ z. absurd (false≢true (sym free ∙ z)); alive = λ z. absurd (false≢true (sym free ∙ z)) }
 
 -- what the slot in hand has
@@ -153,17 +154,18 @@ module _ {S B E : Type 0} (base : S → B) (entries : S → List E) where
                 count-append place me.0.pass.own (added_places me.0.pass.seen (entries y)),
                 added-more place (entries start) r.log (entries y) (prefix-length (entries start) r.log r.begins) (prefix-length r.log (entries y) grown),
               );
-          each_seat = stays (SeatFits (base start) (entries start) (entries y)) s.views id w (free_fits (base start) (entries start) (entries y) w refl (record {
-            seen = prefix-refl (entries y);
-            base_is = fits.pass.base_is;
-            first_seen = λ _. prefix-trans (entries start) r.log (entries y) r.begins grown;
-            spent = λ z. absurd (omega arith);
-          }) (still_fits (base start) (entries start) r.log (entries y) me.0.met grown fits.met)) (λ j d other k. let f = r.each_seat j d k in let idle : d.has_turn ≡ true → ⊥ = λ has. let has_one : turn_count d ≡ 1 = ap (λ (b : Bool). turn_count (record d { has_turn = b })) has in omega (arith, two-le-sum turn_count s.views id j me.0 d other at k) in record {
-            pass = still_fits (base start) (entries start) r.log (entries y) d.pass grown f.pass;
-            met = still_fits (base start) (entries start) r.log (entries y) d.met grown f.met;
-            all_seen = λ z. absurd (idle z);
-            alive = λ z. absurd (idle z);
-          });
+          each_seat = stays (SeatFits (base start) (entries start) (entries y)) s.views id w
+              (free_fits (base start) (entries start) (entries y) w refl (record {
+                seen = prefix-refl (entries y);
+                base_is = fits.pass.base_is;
+                first_seen = λ _. prefix-trans (entries start) r.log (entries y) r.begins grown;
+                spent = λ z. absurd (omega arith);
+              }) (still_fits (base start) (entries start) r.log (entries y) me.0.met grown fits.met)) (λ j d other k. let f = r.each_seat j d k in let idle : d.has_turn ≡ true → ⊥ = λ has. let has_one : turn_count d ≡ 1 = ap (λ (b : Bool). turn_count (record d { has_turn = b })) has in omega (arith, two-le-sum turn_count s.views id j me.0 d other at k) in record {
+                pass = still_fits (base start) (entries start) r.log (entries y) d.pass grown f.pass;
+                met = still_fits (base start) (entries start) r.log (entries y) d.met grown f.met;
+                all_seen = λ z. absurd (idle z);
+                alive = λ z. absurd (idle z);
+              });
         },
         λ x e. let is : y ≡ x = ap (held_or y) (sym held ∙ e) in (ap (λ (z : S). seat_after_give me.0 (entries z)) is, ap rest held),
       )
@@ -182,7 +184,8 @@ module _ {S B E : Type 0} (base : S → B) (entries : S → List E) where
         owned = λ place. omega (arith, r.owned place, sum-set (own_count place) s.views id v left at, sum_by_push (own_count place) vs right);
         each_seat = λ j d k. ⊎_elim (stays (SeatFits (base start) (entries start) r.log) s.views id left
             (free_fits (base start) (entries start) r.log left free (record { seen = fits.pass.seen; base_is = λ _. fits.pass.base_is (omega arith); first_seen = λ _. fits.pass.first_seen (omega arith); spent = λ z. absurd (omega arith) })
-            fits.met) (λ i e _ l. r.each_seat i e l) j d) (λ (t : right ≡ d). subst (SeatFits (base start) (entries start) r.log) t
+            fits.met) (λ i e _ l. r.each_seat i e l) j d)
+            (λ (t : right ≡ d). subst (SeatFits (base start) (entries start) r.log) t
             (free_fits (base start) (entries start) r.log right refl (record { seen = fits.pass.seen; base_is = λ _. fits.pass.base_is (omega arith); first_seen = λ _. fits.pass.first_seen (omega arith); spent = λ z. absurd (omega arith) })
             (spent_fits (base start) (entries start) r.log))) (at_snoc vs right d j k);
       }
@@ -223,12 +226,13 @@ module _ {S B E : Type 0} (base : S → B) (entries : S → List E) where
           home = λ z. r.home (sym turns ∙ z);
           shares = omega (arith, r.shares, sum-set share_of s.views id me.0 w at);
           owned = λ place. omega (arith, r.owned place, sum-set (own_count place) s.views id me.0 w at, count-append place me.0.pass.own me.0.met.own);
-          each_seat = stays (SeatFits (base start) (entries start) r.log) s.views id w (free_fits (base start) (entries start) r.log w free (record {
-            seen = long.whole;
-            base_is = λ _. fits.pass.base_is alive;
-            first_seen = λ _. prefix-trans (entries start) me.0.pass.seen w.pass.seen (fits.pass.first_seen alive) long.left;
-            spent = λ z. absurd (omega arith);
-          }) (spent_fits (base start) (entries start) r.log)) (λ j d _ k. r.each_seat j d k);
+          each_seat = stays (SeatFits (base start) (entries start) r.log) s.views id w
+              (free_fits (base start) (entries start) r.log w free (record {
+                seen = long.whole;
+                base_is = λ _. fits.pass.base_is alive;
+                first_seen = λ _. prefix-trans (entries start) me.0.pass.seen w.pass.seen (fits.pass.first_seen alive) long.left;
+                spent = λ z. absurd (omega arith);
+              }) (spent_fits (base start) (entries start) r.log)) (λ j d _ k. r.each_seat j d k);
         },
         record {
           base_is = fits.met.base_is met_alive ∙ sym (fits.pass.base_is alive);

@@ -64,7 +64,8 @@ udev_served d kept new x reply out new_out cells new_cells s e h =
 -- many events
 
 steps-events : (events : List Stamped) → map step_made (map (λ stamped. Made (inject_of stamped)) events) ≡ map Some (map inject_of events)
-steps-events events = map-map step_made (λ stamped. Made (inject_of stamped)) events ∙ sym (map-map (λ x. Some x) inject_of events)
+steps-events events = map-map step_made (λ stamped. Made (inject_of stamped)) events
+    ∙ sym (map-map (λ x. Some x) inject_of events)
 
 grown_by : (kept new : List UEntry) (events : List Stamped) → new ≡ kept_after_events events kept → GrownBy step_made (reverse kept) (map inject_of events) (reverse new)
 grown_by kept new events e = (map (λ stamped. Made (inject_of stamped)) events, ap reverse e ∙ reverse-kept events kept, steps-events events)

@@ -8,7 +8,8 @@ use Rattle.inp_device.specs.Present.{HasBits}
 use Rattle.inp_device.proofs.queries.bits.Goals as goal
 
 -- the one that is left
-sound : (kind : ℕ) → HasBits kind → (kind ≡ EV_KEY → ⊥) → (kind ≡ EV_SW → ⊥) → (kind ≡ EV_LED → ⊥) → kind ≡ EV_SND
+sound : (kind : ℕ) → HasBits kind → (kind ≡ EV_KEY → ⊥) → (kind ≡ EV_SW → ⊥) → (kind ≡ EV_LED → ⊥)
+    → kind ≡ EV_SND
 sound kind (inl e) key switch led = absurd (key e)
 sound kind (inr (inl e)) key switch led = absurd (switch e)
 sound kind (inr (inr (inl e))) key switch led = absurd (led e)

@@ -13,7 +13,8 @@ returns-then-at-log-clause-step c out cells =
     let limit = c.log.ensures.log ∙ ap (λ (p : Present). p.caps.log_limit) c.deref.ensures in
     let long = length-reverse c.self.inside.steps.items in
     rw (← c.self.view_is)
-    (inject_refused _ _ c.args.event c.args.now c.refuse.result out cells (omega (arith, limit, long, c.len-at.ensures, c.if-at-log.true))
+    (inject_refused _ _ c.args.event c.args.now c.refuse.result out cells
+    (omega (arith, limit, long, c.len-at.ensures, c.if-at-log.true))
     (c.refuse.ensures.refused ∙ ap (λ n. Refused n LogFull) (ap length c.deref-then-at-log.ensures.value ∙ sym long)))
 
 pub returns-clause-step : goal.returns-clause-step

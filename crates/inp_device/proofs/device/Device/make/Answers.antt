@@ -46,7 +46,8 @@ pub returns-in-Ok-clause-stored : goal.returns-in-Ok-clause-stored
 returns-in-Ok-clause-stored c = rw (← c.self.view_is) (device_stored _ c.deref_mut.result.now c.accept.new.self _ c.deref-3.result.now c.args.step c.deref_mut.ensures.value c.deref-3.ensures.value c.in-Ok.ensures.stored)
 
 pub returns-in-Err-clause-stored_stays : goal.returns-in-Err-clause-stored_stays
-returns-in-Err-clause-stored_stays c refused = rw (← c.self.view_is) (c.in-Err.ensures.stored ∙ ap (λ (p : Present). stored_of p.handler.clients) c.deref_mut.ensures.value)
+returns-in-Err-clause-stored_stays c refused = rw (← c.self.view_is)
+    (c.in-Err.ensures.stored ∙ ap (λ (p : Present). stored_of p.handler.clients) c.deref_mut.ensures.value)
 
 pub returns-in-Err-clause-stored : goal.returns-in-Err-clause-stored
 returns-in-Err-clause-stored c = rw (← c.self.view_is) (omega (arith, c.in-Err.ensures.stored ∙ ap (λ (p : Present). stored_of p.handler.clients) c.deref_mut.ensures.value))

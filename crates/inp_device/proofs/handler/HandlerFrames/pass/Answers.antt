@@ -13,12 +13,15 @@ use Rattle.inp_filter.proofs.RowLaws.{let_through-no_filter}
 use Rattle.inp_device.proofs.handler.HandlerFrames.pass.Goals.{then-is_some, else-is_some}
 use Rattle.inp_device.proofs.handler.HandlerFrames.pass.Goals as goal
 
-whole_offered : (o : Option ℕ) (fs : List Filter) (now : ℕ) (given : List Timed) (events : List Event) → (o ≡ None → is_empty fs ≡ true) → offered_of o fs now given events ≡ events
+whole_offered : (o : Option ℕ) (fs : List Filter) (now : ℕ) (given : List Timed) (events : List Event)
+    → (o ≡ None → is_empty fs ≡ true) → offered_of o fs now given events ≡ events
 whole_offered (Some client) fs now given events h = refl
 whole_offered None [] now given events h = let_through-no_filter now given events
 whole_offered None (f ∷ fs) now given events h = absurd (cc (h refl))
 
-whole_given : (o : Option ℕ) (fs : List Filter) (now : ℕ) (given : List Timed) (events : List Event) (kept : List FilterState) → (o ≡ None → is_empty fs ≡ true) → FiltersStandFor fs given kept → FiltersStandFor fs (given_with o now given events) kept
+whole_given : (o : Option ℕ) (fs : List Filter) (now : ℕ) (given : List Timed) (events : List Event)
+    (kept : List FilterState) → (o ≡ None → is_empty fs ≡ true) → FiltersStandFor fs given kept
+    → FiltersStandFor fs (given_with o now given events) kept
 unfolding FiltersStandFor
 whole_given (Some client) fs now given events kept h stands = stands
 whole_given None [] now given events [] h stands = tt

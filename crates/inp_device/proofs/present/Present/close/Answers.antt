@@ -20,7 +20,8 @@ returns c =
       made = made_call refl c.done.ensures.done
           (called ready refl refl refl refl refl refl refl refl
           (ap (clients_on old.caps) c.close.ensures.closed ∙ without_client-on old.caps c.args.client old.handler.clients.list
-          ∙ ap (without_client c.args.client) ready.stands.handler.clients ∙ sym (clients_after-close old.caps (reverse c.args.history.now) c.args.client))
+          ∙ ap (without_client c.args.client) ready.stands.handler.clients
+          ∙ sym (clients_after-close old.caps (reverse c.args.history.now) c.args.client))
           (ap (λ (h : HandleState). h.holder) c.release.ensures.holder ∙ ap (holder_without c.args.client) ready.stands.holder
           ∙ holder-close (reverse c.args.history.now) c.args.client));
       stored = stored_fewer old.handler.clients c.close.new.self _ c.close.ensures.none_new;

@@ -16,7 +16,8 @@ returns c =
     record {
       made = made_alone refl (ap₂ Discarded (at_place ready) count)
           (called ready refl refl refl refl refl refl refl refl
-          (clients_called ready c.args.client _ _ (on_take c.args.self.now.caps c.discard-removed.result) c.discard-removed.ensures.rest
+          (clients_called ready c.args.client _ _
+          (on_take c.args.self.now.caps c.discard-removed.result) c.discard-removed.ensures.rest
           (clients_after-discard _ _ c.args.client c.discard-removed.result count))
           (holder_same ready refl));
       stored = stored_none_new c.args.self.now.handler.clients c.discard-removed.new.self _ c.discard-removed.ensures.none_new;

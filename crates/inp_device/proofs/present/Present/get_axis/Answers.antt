@@ -13,6 +13,7 @@ returns c =
     let ready = c.requires.ready in
     record {
       made = made_alone refl (ap₂ Axis (at_place ready) (c.axis.ensures.axis (reverse c.args.history.now) ready.stands.core))
-          (called ready refl refl refl refl refl refl refl refl (clients_same ready refl) (holder_same ready refl));
+          (called ready refl refl refl refl refl refl refl refl (clients_same ready refl)
+          (holder_same ready refl));
       stored = stored_kept c.args.self.now.handler.clients _;
     }

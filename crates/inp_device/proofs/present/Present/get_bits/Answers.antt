@@ -27,7 +27,8 @@ returns c =
           (ap₂ Bits (at_place ready) (c.bits-words.ensures.bits d past ready.stands.core))
           (called ready asks.events asks.opening asks.ending refl refl refl refl refl
           (clients_called ready c.args.client _ _ (on_flush d (Codes c.args.kind)) c.flush.ensures.flushed
-          (clients_after-query d past c.args.step c.args.client (Codes c.args.kind) c.requires.asks.named c.requires.asks.whole))
+          (clients_after-query d past c.args.step c.args.client
+          (Codes c.args.kind) c.requires.asks.named c.requires.asks.whole))
           (holder_same ready asks.grab));
       stored = stored_none_new c.args.self.now.handler.clients c.flush.new.self _ c.flush.ensures.none_new;
     }

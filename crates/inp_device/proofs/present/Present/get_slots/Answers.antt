@@ -8,7 +8,8 @@ use Rattle.inp_device.proofs.present.Present.get_slots.Goals as goal
 
 pub write_column-requires-clause-count : goal.write_column-requires-clause-count
 write_column-requires-clause-count c =
-    slots_kept c.requires.ready c.slots-count.ensures.slots ∙ ap (λ (s : SlotValues). length s.slots) (sym c.slots.ensures.slots)
+    slots_kept c.requires.ready c.slots-count.ensures.slots
+    ∙ ap (λ (s : SlotValues). length s.slots) (sym c.slots.ensures.slots)
 
 pub returns : goal.returns
 returns c =
@@ -19,8 +20,10 @@ returns c =
       made = record {
         replied = cells_at ready (column d items c.args.code) c.tell_cells.ensures.told c.slots-count.ensures.slots;
         out_written = refl;
-        cells_written = c.write_column.ensures.written d items (subst (SlotsStandFor d items) (sym c.slots.ensures.slots) ready.stands.core.raw_events.slots);
-        stands = called ready refl refl refl refl refl refl refl refl (clients_same ready refl) (holder_same ready refl);
+        cells_written = c.write_column.ensures.written d items
+            (subst (SlotsStandFor d items) (sym c.slots.ensures.slots) ready.stands.core.raw_events.slots);
+        stands = called ready refl refl refl refl refl refl refl refl (clients_same ready refl)
+            (holder_same ready refl);
       };
       stored = stored_kept c.args.self.now.handler.clients _;
     }

@@ -15,8 +15,10 @@ returns c =
     record {
       made = made_written (accepted-read ready c.take-taken.ensures.count) refl c.take-taken.ensures.taken refl
           (called ready refl refl refl refl refl refl refl refl
-          (clients_called ready c.args.client _ _ (on_take c.args.self.now.caps took) c.take-taken.ensures.rest
-          (clients_after-read _ _ c.args.client c.args.count took (c.take-taken.ensures.count ∙ ap (min c.args.count) (named_visible ready refl))))
+          (clients_called ready c.args.client _ _
+          (on_take c.args.self.now.caps took) c.take-taken.ensures.rest
+          (clients_after-read _ _ c.args.client c.args.count took
+          (c.take-taken.ensures.count ∙ ap (min c.args.count) (named_visible ready refl))))
           (holder_same ready refl));
       stored = stored_none_new c.args.self.now.handler.clients c.take-taken.new.self _ c.take-taken.ensures.none_new;
     }

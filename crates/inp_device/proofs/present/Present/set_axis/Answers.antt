@@ -11,7 +11,8 @@ pub returns : goal.returns
 returns c = record {
   made = made_call refl c.done.ensures.done
       (stands_in_core c.requires.ready refl refl refl refl refl
-      (c.describe.ensures.stands c.args.self.now.caps (reverse c.args.history.now) c.args.client c.requires.ready.stands.core)
+      (c.describe.ensures.stands c.args.self.now.caps
+      (reverse c.args.history.now) c.args.client c.requires.ready.stands.core)
       (c.describe.ensures.made c.args.self.now.caps c.requires.ready.stands.made) refl refl refl refl);
   stored = stored_kept c.args.self.now.handler.clients _;
 }

@@ -15,7 +15,8 @@ returns c =
     record {
       made = made_call refl c.done.ensures.done
           (called ready refl refl refl refl refl refl refl refl
-          (clients_called ready c.args.client _ _ (on_clock d c.args.clock c.args.now _) (rw (← at_place ready) c.set_clock.ensures.set)
+          (clients_called ready c.args.client _ _ (on_clock d c.args.clock c.args.now _)
+          (rw (← at_place ready) c.set_clock.ensures.set)
           (clients_after-clock d _ c.args.client c.args.clock c.args.now))
           (holder_same ready refl));
       stored = stored_one c.args.self.now.handler.clients c.set_clock.new.self _ c.set_clock.ensures.stored;

@@ -21,8 +21,10 @@ returns c =
     record {
       made = made_call refl c.done.ensures.done
           (called ready refl refl refl refl refl refl refl refl
-          (clients_called ready c.args.client _ (after_mask c.args.kind c.args.word c.args.bits) (λ v. refl) c.set_mask.ensures.set
-          (clients_after-mask c.args.self.now.caps _ c.args.client c.args.kind c.args.word c.args.bits (mask_word _ _ _ _ _ _ (permitted ready))))
+          (clients_called ready c.args.client _ (after_mask c.args.kind c.args.word c.args.bits)
+          (λ v. refl) c.set_mask.ensures.set
+          (clients_after-mask c.args.self.now.caps _ c.args.client c.args.kind c.args.word c.args.bits
+          (mask_word _ _ _ _ _ _ (permitted ready))))
           (holder_same ready refl));
       stored = stored_rings c.args.self.now.handler.clients c.set_mask.new.self _ c.set_mask.ensures.numbers;
     }

@@ -14,7 +14,8 @@ flush_slots-requires c = record { «open» = named_there c.requires.ready refl }
 
 pub write_rows-requires-clause-count : goal.write_rows-requires-clause-count
 write_rows-requires-clause-count c =
-    slots_kept c.requires.ready c.slots-count.ensures.slots ∙ ap (λ (s : SlotValues). length s.slots) (sym c.slots.ensures.slots)
+    slots_kept c.requires.ready c.slots-count.ensures.slots
+    ∙ ap (λ (s : SlotValues). length s.slots) (sym c.slots.ensures.slots)
 
 pub returns : goal.returns
 returns c =
@@ -23,11 +24,14 @@ returns c =
     let items = raw d (reverse c.args.history.now) in
     record {
       made = record {
-        replied = cells_at ready (rows d items) c.tell_cells.ensures.told (ap (λ (n : ℕ). 14 * n) c.slots-count.ensures.slots);
+        replied = cells_at ready (rows d items) c.tell_cells.ensures.told
+            (ap (λ (n : ℕ). 14 * n) c.slots-count.ensures.slots);
         out_written = refl;
-        cells_written = c.write_rows.ensures.written d items (subst (SlotsStandFor d items) (sym c.slots.ensures.slots) ready.stands.core.raw_events.slots);
+        cells_written = c.write_rows.ensures.written d items
+            (subst (SlotsStandFor d items) (sym c.slots.ensures.slots) ready.stands.core.raw_events.slots);
         stands = called ready refl refl refl refl refl refl refl refl
-            (clients_called ready c.args.client _ _ (on_flush d Slots) c.flush_slots.ensures.flushed (clients_after-query d _ _ c.args.client Slots refl refl))
+            (clients_called ready c.args.client _ _ (on_flush d Slots) c.flush_slots.ensures.flushed
+            (clients_after-query d _ _ c.args.client Slots refl refl))
             (holder_same ready refl);
       };
       stored = stored_none_new c.args.self.now.handler.clients c.flush_slots.new.self _ c.flush_slots.ensures.none_new;

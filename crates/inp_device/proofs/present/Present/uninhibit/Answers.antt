@@ -7,7 +7,8 @@ pub returns : goal.returns
 returns c = record {
   made = made_call refl c.done.ensures.done
       (stands_in_core c.requires.ready refl refl refl refl refl
-      (c.uninhibit.ensures.stands c.args.self.now.caps (reverse c.args.history.now) c.requires.ready.stands.core)
+      (c.uninhibit.ensures.stands c.args.self.now.caps
+      (reverse c.args.history.now) c.requires.ready.stands.core)
       (c.uninhibit.ensures.made c.args.self.now.caps c.requires.ready.stands.made) refl refl refl refl);
   stored = stored_kept c.args.self.now.handler.clients _;
 }
