@@ -3,8 +3,8 @@ use Rattle.std.proofs.Common.{◌≡◌, ◌≤◌, ◌<◌, ℕ, zero, suc, ◌
 use Rattle.std.specs.Prelude.{slice_get, slice_set}
 use Rattle.inp_play.proofs.PlayerSteps.{after_lines-append}
 use Rattle.std.proofs.lemmas.Option.{option_and_then_some}
-use Rattle.inp_script.proofs.Words.{Stamped, Step, Call, Command, Line, Role, RecordView, Job, ActorView, step_of, Description, ring, feedback_room, Source, Client, Tap, Joy, Owner, NO_CLIENT, Talk, EndsWith, talk_with, command_talk, unless_stopped, line_talk}
-use Rattle.inp_play.proofs.Words.{Stop}
+use Rattle.inp_script.proofs.Common.{Stamped, Step, Call, Command, Line, Role, RecordView, Job, ActorView, step_of, Description, ring, feedback_room, Source, Client, Tap, Joy, Owner, NO_CLIENT, Talk, EndsWith, talk_with, command_talk, unless_stopped, line_talk}
+use Rattle.inp_play.proofs.Common.{Stop}
 use Rattle.inp_actors.specs.declared.command.Command.TheVariants.{Event, Open, Follow}
 use Rattle.inp_runs.specs.Play.{Stage, after_line, after_lines}
 use Rattle.inp_runs.proofs.order.Calls.{AreExact, exact-talk}

@@ -1,4 +1,4 @@
-pub mod Words
+pub mod Common
 pub mod OwnQueues
 pub mod Follows
 pub mod Limits

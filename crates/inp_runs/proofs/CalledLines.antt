@@ -1,6 +1,6 @@
 -- Lines that an actor did by calls of an evdev, some after others: the calls are those of the lines' talk.
 use Rattle.std.proofs.Common.{◌≡◌, ℕ, ◌+◌, Bool, true, false, if◌then◌else◌, List, [], ◌∷◌, ◌++◌, map, refl, sym, ap, subst, ◌∙◌, arith, append_assoc, append-nil, zero-add, inl, inr, Option, Some, None}
-use Rattle.inp_runs.proofs.Words.{◌⊎◌, length, same_Some, Stamped, Step, Description, EvdevView, past_at, Answer, IsAnswer, answer_by, done_answer, is_accepted, is_full, Call, place_of, Line, Role, Source, Talk, finish, and_then, EndsWith, finished, Stop, Waiting, Holds, inject_talk, unless_stopped, Job, after_call, call_talk, stop_after, on_job, last_talk, cond_both, Reply}
+use Rattle.inp_runs.proofs.Common.{◌⊎◌, length, same_Some, Stamped, Step, Description, EvdevView, past_at, Answer, IsAnswer, answer_by, done_answer, is_accepted, is_full, Call, place_of, Line, Role, Source, Talk, finish, and_then, EndsWith, finished, Stop, Waiting, Holds, inject_talk, unless_stopped, Job, after_call, call_talk, stop_after, on_job, last_talk, cond_both, Reply}
 use Rattle.inp_model.specs.Injection.{inject_of}
 use Rattle.inp_model.specs.Leaves.{AreCalls}
 use Rattle.inp_model.proofs.Leaves.{AreCalls-append}

@@ -2,7 +2,7 @@
 use Rattle.std.proofs.Common.{◌≡◌, ℕ, List, ◌++◌, Option, Some, None, refl, sym, subst}
 use Rattle.std.proofs.lemmas.Bool.{cond_both}
 use Rattle.inp_model.specs.declared.reply.Reply.TheVariants.{Again as NothingVisible}
-use Rattle.inp_script.proofs.Words.{Description, Call, JoyRead, JoyRecord, Next, next_talk, EndsWith, is_report}
+use Rattle.inp_script.proofs.Common.{Description, Call, JoyRead, JoyRecord, Next, next_talk, EndsWith, is_report}
 use Rattle.inp_joy.specs.declared.joy_read.JoyRead.TheVariants.{Again}
 use Rattle.inp_joy.specs.Joy.{Joying, JoyAnswer, JoyTurn, gives, goes_on, joy_read_of, joy_record_of, record_or_on, stop_or_on, joying_after_next, joying_after_sync, turns, with_reading, with_startup}
 use Rattle.inp_joy.proofs.TurnCases.{Synchronises, TurnCase, of_startup, of_sync, of_loss, of_next, turn-case, turns-all}

@@ -1,6 +1,6 @@
 -- A joystick's job never stops as idle.
 use Rattle.std.proofs.Common.{◌≡◌, ℕ, sym, List, subst, Option, Some, None}
-use Rattle.inp_script.proofs.Words.{Reply, LogFull, Step, Description, Call, Command, JoyRead, Started, EndsWith, Sight, Stop, Job, joying_of, noted, stop_after, stop_after_start, Answer, Refused as StepRefused, JoyAnswer, turns, start_joystick, after_joy_answer}
+use Rattle.inp_script.proofs.Common.{Reply, LogFull, Step, Description, Call, Command, JoyRead, Started, EndsWith, Sight, Stop, Job, joying_of, noted, stop_after, stop_after_start, Answer, Refused as StepRefused, JoyAnswer, turns, start_joystick, after_joy_answer}
 use Rattle.inp_joy.specs.declared.joy_read.JoyRead.TheVariants.{Full}
 use Rattle.inp_reader.specs.declared.started.Started.TheVariants.{Refused}
 use Rattle.inp_script.specs.declared.stop.Stop.TheVariants.{Idle, Full as FullHistory}

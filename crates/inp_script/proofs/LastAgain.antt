@@ -1,6 +1,6 @@
 -- A `next` that answers Again made a call that was answered so last.
 use Rattle.std.proofs.Common.{◌≡◌, ℕ, List, [], ◌∷◌, ◌++◌, refl, sym, ap, ◌∙◌, append_assoc, Option, Some, None}
-use Rattle.inp_script.proofs.Words.{Step, Reply, Description, Answer, Call, View, Mode, Next, Reading, stop_of, next_talk, EndsWith}
+use Rattle.inp_script.proofs.Common.{Step, Reply, Description, Answer, Call, View, Mode, Next, Reading, stop_of, next_talk, EndsWith}
 use Rattle.inp_model.specs.declared.reply.Reply.TheVariants.{Again as NothingVisible}
 use Rattle.inp_reader.specs.declared.next.Next.TheVariants.{Again}
 use Rattle.inp_reader.proofs.Meets.{Any, Runs}

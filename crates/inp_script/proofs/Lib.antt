@@ -1,4 +1,4 @@
-pub mod Words
+pub mod Common
 pub mod Computation
 pub mod TalkCalls
 pub mod IdleTurns

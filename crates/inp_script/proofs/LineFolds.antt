@@ -1,6 +1,6 @@
 -- Each line keeps that a job's view is the fold of its sight.
 use Rattle.std.proofs.Common.{◌≡◌, ℕ, Bool, true, List, [], ◌∷◌, ◌++◌, map, refl, sym, ap, subst, ◌∙◌, Option, Some, None, append-nil, append_assoc}
-use Rattle.inp_script.proofs.Words.{Stamped, Taken, Step, Reply, Description, past_at, Command, Role, is_command_of, RecordView, View, Mode, Next, Started, Reading, start_talk, next_talk, Talk, finish, EndsWith, Sight, Waiting, Job, ActorView, first_job, step_of, after_call, end_talk, after_tap_call, noted, call_sight, again_sight, taken_sight, start_lacks_memory, joystick_talk, EvdevView, BeginsWith, Answer, accepted, IsAnswer, Call, HasPlace, place_of, Source, Client, Tap, Joy, AreCalls, line_talk, DoesLine}
+use Rattle.inp_script.proofs.Common.{Stamped, Taken, Step, Reply, Description, past_at, Command, Role, is_command_of, RecordView, View, Mode, Next, Started, Reading, start_talk, next_talk, Talk, finish, EndsWith, Sight, Waiting, Job, ActorView, first_job, step_of, after_call, end_talk, after_tap_call, noted, call_sight, again_sight, taken_sight, start_lacks_memory, joystick_talk, EvdevView, BeginsWith, Answer, accepted, IsAnswer, Call, HasPlace, place_of, Source, Client, Tap, Joy, AreCalls, line_talk, DoesLine}
 use Rattle.inp_model.specs.declared.reply.Reply.TheVariants.{Again as Nothing}
 use Rattle.inp_actors.specs.declared.command.Command.TheVariants.{Close, Grab, Ungrab, Revoke, Mask, Clock, Write, SetAxis}
 use Rattle.inp_recon.specs.View.{first_view}

@@ -1,6 +1,6 @@
 -- What each line adds to a sight tells of its calls.
 use Rattle.std.proofs.Common.{◌≡◌, ℕ, false, List, [], ◌∷◌, ◌++◌, refl, sym, ap, subst, ◌∙◌, append-nil, Option, Some}
-use Rattle.inp_script.proofs.Words.{Stamped, Step, Reply, Description, Answer, Call, Command, Role, View, Mode, Next, Reading, stop_of, start_talk, next_talk, Talk, EndsWith, Sight, Stop, Waiting, mode_of, after_next, Job, after_call, end_talk, call_sight, sight_of_call, Read, line_talk, is_call_entry}
+use Rattle.inp_script.proofs.Common.{Stamped, Step, Reply, Description, Answer, Call, Command, Role, View, Mode, Next, Reading, stop_of, start_talk, next_talk, Talk, EndsWith, Sight, Stop, Waiting, mode_of, after_next, Job, after_call, end_talk, call_sight, sight_of_call, Read, line_talk, is_call_entry}
 use Rattle.inp_model.specs.declared.reply.Reply.TheVariants.{Again as NothingVisible}
 use Rattle.inp_reader.proofs.Meets.{Listed, listed-run, Meets, Any, meets-ends, meets-keeps, meets-weaker}
 use Rattle.inp_reader.proofs.NextWalk.{sync-meets, Renewed, NextRules, next-meets, stop-cases}

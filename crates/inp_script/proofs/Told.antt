@@ -3,7 +3,7 @@ use Rattle.std.proofs.Common.{◌≡◌, ℕ, inl, inr, Bool, true, false, cond,
 use Rattle.std.specs.Prelude.{filter}
 use Rattle.std.proofs.lemmas.List.Elements.{filter-append}
 use Rattle.std.proofs.lemmas.Bool.{cond_both}
-use Rattle.inp_script.proofs.Words.{Taken, Step, Reply, is_again, Call, Sight, Job, call_sight, again_sight, taken_sight, sight_of_call, noted, Talk, finish, ask, LeadsTo, EndsWith, sight_of_calls, is_call_entry, LeavesOut}
+use Rattle.inp_script.proofs.Common.{Taken, Step, Reply, is_again, Call, Sight, Job, call_sight, again_sight, taken_sight, sight_of_call, noted, Talk, finish, ask, LeadsTo, EndsWith, sight_of_calls, is_call_entry, LeavesOut}
 use Rattle.inp_model.specs.declared.reply.Reply.TheVariants.{Again as NothingVisible}
 use Rattle.inp_script.specs.declared.sight.Sight.TheVariants.{Call as Called, Again}
 use Rattle.inp_reader.proofs.Calls.{finished}

@@ -6,11 +6,11 @@ use Rattle.std.proofs.lemmas.List.{length-reverse, reverse-reverse}
 use Rattle.std.proofs.lemmas.Option.{slice_get-map, same_Some}
 use Rattle.std.proofs.lemmas.Simd.{map-map}
 use mathlib.Core.List.{IsPrefix}
-use Rattle.inp_script.proofs.Words.{Description, IsDescription, ActorText, DeviceText, Role, is_owner, RecordView, IsRecord, UEntry, step_made, HasActor, ActorView, HasDeviceSlots, ended_of, Owner}
+use Rattle.inp_script.proofs.Common.{Description, IsDescription, ActorText, DeviceText, Role, is_owner, RecordView, IsRecord, UEntry, step_made, HasActor, ActorView, HasDeviceSlots, ended_of, Owner}
 use Rattle.inp_script.specs.Runs.{actors_of, is_on_device}
 use Rattle.inp_runs.proofs.Done.{device-promised}
 use Rattle.inp_runs.proofs.Lists.{IsAt, IsImage, eq_same, option_map-some, slice_get-filter}
-use Rattle.inp_threads.proofs.Words.{PassView, OwnsSeen, steps_among, is_step_at, step_places, HasWorked, HasOwnedLines, HasDoneLines, HasFollowed, IsDeviceDone, IsRunAsPromised, calls_at, wait_of, Waiting}
+use Rattle.inp_threads.proofs.Common.{PassView, OwnsSeen, steps_among, is_step_at, step_places, HasWorked, HasOwnedLines, HasDoneLines, HasFollowed, IsDeviceDone, IsRunAsPromised, calls_at, wait_of, Waiting}
 use Rattle.inp_port.proofs.Places.{other_places-begins}
 use Rattle.inp_threads.proofs.CallsAt.{HasAllCalls, all-calls}
 use Rattle.inp_threads.proofs.Counts.{times, sum-places, HasIn, one-has, same-worker, few-numbers}

@@ -4,7 +4,7 @@ use Rattle.std.specs.Prelude.{map, slice_get}
 use Rattle.std.proofs.lemmas.List.{append-nil, map-append, length-replicate, length-set, take_all, take_more}
 use Rattle.std.proofs.lemmas.List.Elements.{filter-append}
 use Rattle.std.proofs.lemmas.Option.{slice_get-get_or, slice_get_within, get_or_from_slice_get}
-use Rattle.inp_script.proofs.Words.{Line, RecordView}
+use Rattle.inp_script.proofs.Common.{Line, RecordView}
 use Rattle.inp_runs.specs.Job.{lines_by}
 use Rattle.inp_runs.proofs.Lists.{eq_true, eq_false, slice_get-set}
 use Rattle.inp_threads.specs.Lines.{AreLinesDealt, HasLineMore}

@@ -1,4 +1,4 @@
-pub mod Words
+pub mod Common
 pub mod DealtLines
 pub mod CallsAt
 pub mod StepPlaces

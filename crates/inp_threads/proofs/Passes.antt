@@ -7,8 +7,8 @@ use Rattle.std.proofs.lemmas.List.Elements.{filter-append, All-nil, All-push, Al
 use Rattle.std.proofs.lemmas.List.FromFn.{length-range_with_len}
 use Rattle.std.proofs.lemmas.List.Sums.{length-filter, count_by-le-length}
 use Rattle.inp_runs.proofs.Lists.{eq_same}
-use Rattle.inp_script.proofs.Words.{UEntry, Description, ActorText, RecordView, HasActor, ActorView, is_on_device}
-use Rattle.inp_threads.proofs.Words.{UdevView, Ghosts, Pass, PassView, view_of, PortOf, IsReadyAt, description_of, Worker, whole_share, view_after_split, actor_number, IsPortOf, IsReadyOn, AreDealtUpTo, view_in, AreJoined, AreWorkersDone, own_of}
+use Rattle.inp_script.proofs.Common.{UEntry, Description, ActorText, RecordView, HasActor, ActorView, is_on_device}
+use Rattle.inp_threads.proofs.Common.{UdevView, Ghosts, Pass, PassView, view_of, PortOf, IsReadyAt, description_of, Worker, whole_share, view_after_split, actor_number, IsPortOf, IsReadyOn, AreDealtUpTo, view_in, AreJoined, AreWorkersDone, own_of}
 use Rattle.inp_reader.proofs.Axes.{range-append}
 use Rattle.std.proofs.lemmas.Grind.{flat_map-append}
 use mathlib.Core.List.{IsPrefix}

@@ -1,6 +1,6 @@
 -- What a line that does not wait leaves of a job: a view of the device's size, and a sight that tells of all calls.
 use Rattle.std.proofs.Common.{◌≡◌, ℕ, Bool, List, [], ◌∷◌, ◌++◌, map, sym, ap, subst, ◌∙◌, append-nil, Option, Some, None, refl}
-use Rattle.inp_runs.proofs.Words.{filter, filter-append, cond_both, Stamped, Step, Description, Answer, answer, Command, Line, Role, IsSizedFor, view_after_answer, IsSizedFor-after_events, Mode, Success, Dropped, Sync, Started, Reading, start_talk, next_talk, is_needed, Talk, finish, and_then, Sight, Took, Made, Record, line_talk, Job, Stick, joying_of, with_joying, is_call_entry, after_call, event_of_taken, after_tap_call, call_sight, again_sight, taken_sight, sight_of_call, noted, start_lacks_memory, stop_after_start, no_calls_taken, call_kept, again_kept, lines_talk, Waiting, Meets, Any, meets-then, meets-weaker, NotedBy, meets-noted, OfJob, OfTurn, OfGoing, read_so, start_job-meets, round-meets, LineRules, line-meets}
+use Rattle.inp_runs.proofs.Common.{filter, filter-append, cond_both, Stamped, Step, Description, Answer, answer, Command, Line, Role, IsSizedFor, view_after_answer, IsSizedFor-after_events, Mode, Success, Dropped, Sync, Started, Reading, start_talk, next_talk, is_needed, Talk, finish, and_then, Sight, Took, Made, Record, line_talk, Job, Stick, joying_of, with_joying, is_call_entry, after_call, event_of_taken, after_tap_call, call_sight, again_sight, taken_sight, sight_of_call, noted, start_lacks_memory, stop_after_start, no_calls_taken, call_kept, again_kept, lines_talk, Waiting, Meets, Any, meets-then, meets-weaker, NotedBy, meets-noted, OfJob, OfTurn, OfGoing, read_so, start_job-meets, round-meets, LineRules, line-meets}
 use Rattle.inp_reader.specs.declared.next.Next.{Next}
 use Rattle.inp_reader.specs.declared.next.Next.TheVariants.{Again}
 use Rattle.inp_reader.specs.declared.started.Started.TheVariants.{Opened, Refused}

@@ -1,6 +1,6 @@
 -- A line whose Open was refused for want of memory leaves no job.
 use Rattle.std.proofs.Common.{◌≡◌, ℕ, zero, suc, Bool, true, false, List, [], ◌∷◌, ◌++◌, length, Option, Some, None, refl, sym, ap, subst, ◌∙◌, inl, inr}
-use Rattle.inp_runs.proofs.Words.{list_any, cond_both, Stamped, Step, Inject, End, Reply, Opened, Refused, Description, is_open_step, past_at, Answer, answer, accepted, alone, is_accepted, Call, HasPlace, IsLegalFrom, place_of, next_place, Command, Stream, Stream16, Skip, Follow, Force, Line, Role, Source, Client, Tap, Joy, Owner, is_command_of, Mode, NO_CLIENT, Started, Reading, ask_each, queries, after_open, after_queries, next_talk, Talk, finish, ask, and_then, EndsWith, Asks, asks-then, Sight, Stop, Waiting, command_talk, unless_stopped, Job, joying_of, step_of, call_if, after_call, stream_numbered, source_talk, end_talk, tap_call_if, noted, call_sight, on_job, last_talk, call_lacks_memory}
+use Rattle.inp_runs.proofs.Common.{list_any, cond_both, Stamped, Step, Inject, End, Reply, Opened, Refused, Description, is_open_step, past_at, Answer, answer, accepted, alone, is_accepted, Call, HasPlace, IsLegalFrom, place_of, next_place, Command, Stream, Stream16, Skip, Follow, Force, Line, Role, Source, Client, Tap, Joy, Owner, is_command_of, Mode, NO_CLIENT, Started, Reading, ask_each, queries, after_open, after_queries, next_talk, Talk, finish, ask, and_then, EndsWith, Asks, asks-then, Sight, Stop, Waiting, command_talk, unless_stopped, Job, joying_of, step_of, call_if, after_call, stream_numbered, source_talk, end_talk, tap_call_if, noted, call_sight, on_job, last_talk, call_lacks_memory}
 use Rattle.inp_model.specs.declared.step.Step.TheVariants.{Open as ToOpen}
 use Rattle.inp_model.specs.declared.reply.Refusal.TheVariants.{NoMemory}
 use Rattle.inp_actors.specs.declared.command.Command.TheVariants.{Open, Read, Next}

@@ -2,7 +2,7 @@
 -- A reader's
 -- talks leave a view of the device's size, and each answer told but Again, which ends them.
 use Rattle.std.proofs.Common.{◌≡◌, List, [], ◌∷◌, ◌++◌, ap, subst, ◌∙◌, append_assoc, append-nil, refl, true, false, sym, inl}
-use Rattle.inp_runs.proofs.Words.{filter, Result, Ok, Err, filter-append, Step, Description, Answer, answer, is_accepted, Call, Talk, EndsWith, Sight, sight_of_calls, is_call_entry, call_sight, again_sight, call_kept, Meets, Any, meets-ends, NotedBy, Reply, is_again, View, IsSizedFor, view_after_event, IsSizedFor-after_event, length-keys_after_answer, length-switches_after_answer, length-leds_after_answer, length-axes_after_answer, Mode, Started, Success, Dropped, Sync, Synced, Closed, Reading, queries, start_talk, stop_of, as_plain, after_failed_sync, next_talk, Each}
+use Rattle.inp_runs.proofs.Common.{filter, Result, Ok, Err, filter-append, Step, Description, Answer, answer, is_accepted, Call, Talk, EndsWith, Sight, sight_of_calls, is_call_entry, call_sight, again_sight, call_kept, Meets, Any, meets-ends, NotedBy, Reply, is_again, View, IsSizedFor, view_after_event, IsSizedFor-after_event, length-keys_after_answer, length-switches_after_answer, length-leds_after_answer, length-axes_after_answer, Mode, Started, Success, Dropped, Sync, Synced, Closed, Reading, queries, start_talk, stop_of, as_plain, after_failed_sync, next_talk, Each}
 use Rattle.inp_runs.proofs.Entries.{call_entries}
 use Rattle.inp_reader.proofs.Meets.{Runs}
 use Rattle.inp_model.specs.declared.step.Step.TheVariants.{Open, Read}

@@ -1,6 +1,6 @@
 -- What comes of a record keeps what is promised.
 use Rattle.std.proofs.Common.{◌≡◌, ℕ, zero, suc, ◌+◌, ◌*◌, ◌<◌, Bool, List, [], ◌∷◌, length, map, reverse, refl, sym, ap, subst, ◌∙◌, arith, Option, Some, None}
-use Rattle.inp_runs.proofs.Words.{filter, option_map, Result, Ok, Err, IfOk, enumerate_from, range_with_len, sum_by, nat_tests, length-map, length-reverse, map-id, get_or_from_slice_get, same_Some, slice_get_within, slice_get-map, cond_both, Step, Description, syn_alone, ActorText, Role, Joy, Owner, RecordView, IsRecord, IsHistory, IsSizedFor, IsSizedFor-first_view, ActorView, first_owning, lines_by, AreDescribed, ArePromised, rooms_of, HasOwned, Stage, description_at, first_actor, first_stage, after_lines, jobs_on, run_of, runs_of, IsPlay}
+use Rattle.inp_runs.proofs.Common.{filter, option_map, Result, Ok, Err, IfOk, enumerate_from, range_with_len, sum_by, nat_tests, length-map, length-reverse, map-id, get_or_from_slice_get, same_Some, slice_get_within, slice_get-map, cond_both, Step, Description, syn_alone, ActorText, Role, Joy, Owner, RecordView, IsRecord, IsHistory, IsSizedFor, IsSizedFor-first_view, ActorView, first_owning, lines_by, AreDescribed, ArePromised, rooms_of, HasOwned, Stage, description_at, first_actor, first_stage, after_lines, jobs_on, run_of, runs_of, IsPlay}
 use Rattle.std.specs.Prelude.{slice_get}
 use Rattle.std.proofs.lemmas.List.FromFn.{length-enumerate_from}
 use Rattle.inp_actors.specs.declared.device_text.DeviceText.{DeviceText}

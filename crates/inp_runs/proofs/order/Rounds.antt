@@ -1,6 +1,6 @@
 -- Where so many rounds are enough for a line, more of them change nothing.
 use Rattle.std.proofs.Common.{◌≡◌, ℕ, zero, suc, ◌+◌, Bool, true, false, if◌then◌else◌, List, [], ◌∷◌, ◌++◌, refl, sym, subst, arith, add_comm, Option, Some, None, ap, ◌∙◌}
-use Rattle.inp_runs.proofs.Words.{Stamped, Description, Call, Command, Skip, Follow, Line, Role, Client, Joy, Talk, finish, and_then, EndsWith, talk_with, calls_with, Stop, Waiting, command_talk, unless_stopped, Job, ActorView, finished, split-and_then, on_job, option_map, option_and_then, Step, feedback_room, RecordView, Stage, first_stage, after_talk, by_command, after_line_of, runs_of}
+use Rattle.inp_runs.proofs.Common.{Stamped, Description, Call, Command, Skip, Follow, Line, Role, Client, Joy, Talk, finish, and_then, EndsWith, talk_with, calls_with, Stop, Waiting, command_talk, unless_stopped, Job, ActorView, finished, split-and_then, on_job, option_map, option_and_then, Step, feedback_room, RecordView, Stage, first_stage, after_talk, by_command, after_line_of, runs_of}
 use Rattle.inp_actors.specs.declared.command.Command.TheVariants.{Next}
 use Rattle.inp_script.specs.Client.{Going, Turn, goes_on, ends_with, is_done, next_round, on_turn, rounds, hand_talk, client_talk}
 use Rattle.inp_script.specs.DoneLine.{line_talk}

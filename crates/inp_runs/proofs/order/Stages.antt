@@ -1,6 +1,6 @@
 -- What is so between two lines: of each actor, of the history of each device, and of its places.
 use Rattle.std.proofs.Common.{◌≡◌, ℕ, suc, ◌+◌, ◌≤◌, Bool, true, false, if◌then◌else◌, nat_eq, List, [], ◌∷◌, ◌++◌, length, map, reverse, refl, sym, ap, subst, ◌∙◌, arith, append_assoc, append-nil, length-set, ◌||◌, ◌⊎◌, inl, inr, Option, Some, None}
-use Rattle.inp_runs.proofs.Words.{filter, slice_set, option_map, list_any, range_with_len, sum_by, slice_get-map, same_Some, option_and_then_some, Step, Description, BeginsWith, Call, IsLegalFrom, IsLegalRun, next_place, ActorText, Line, Role, is_command_of, RecordView, IsHistory, IsSizedFor, EndsWith, line_talk, Job, ActorView, first_job, sight_of_calls, is_call_entry, Owning, sight_of_calls-append, lines_by, lines_talk, call_lacks_memory, Stage, description_at, after_line}
+use Rattle.inp_runs.proofs.Common.{filter, slice_set, option_map, list_any, range_with_len, sum_by, slice_get-map, same_Some, option_and_then_some, Step, Description, BeginsWith, Call, IsLegalFrom, IsLegalRun, next_place, ActorText, Line, Role, is_command_of, RecordView, IsHistory, IsSizedFor, EndsWith, line_talk, Job, ActorView, first_job, sight_of_calls, is_call_entry, Owning, sight_of_calls-append, lines_by, lines_talk, call_lacks_memory, Stage, description_at, after_line}
 use Rattle.std.specs.Prelude.{slice_get}
 use Rattle.inp_script.specs.Runs.{is_on_device}
 use Rattle.inp_model.proofs.Leaves.{HasPlace-longer}

@@ -1,6 +1,6 @@
 -- What an owner was told, as its device goes on.
 use Rattle.std.proofs.Common.{◌≡◌, ℕ, Bool, true, false, if◌then◌else◌, List, [], ◌∷◌, ◌++◌, length, map, reverse, take, refl, sym, ap, subst, ◌∙◌, append_assoc, arith, inl, inr, Some, None}
-use Rattle.inp_runs.proofs.Words.{map-append, Step, Description, Stop, Owning, first_owning, stop_after_answer, after_feedback, EndsFed, false_from_ne_true, cond_both, feedback_calls_after}
+use Rattle.inp_runs.proofs.Common.{map-append, Step, Description, Stop, Owning, first_owning, stop_after_answer, after_feedback, EndsFed, false_from_ne_true, cond_both, feedback_calls_after}
 use Rattle.inp_feedback.specs.declared.fed.Fed.{Fed}
 use Rattle.inp_feedback.specs.declared.fed.Fed.TheVariants.{Took, Full}
 use Rattle.inp_feedback.specs.declared.u_entry.UEntry.{UEntry}

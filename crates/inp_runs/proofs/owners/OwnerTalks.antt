@@ -1,6 +1,6 @@
 -- An owner's lines are no calls of an evdev.
 use Rattle.std.proofs.Common.{◌≡◌, ℕ, List, [], ◌∷◌, refl, sym, ap, subst, ◌∙◌, Option, Some, None}
-use Rattle.inp_runs.proofs.Words.{Stamped, Description, Call, Line, Owner, Talk, finish, and_then, EndsWith, Stop, Waiting, unless_stopped, Job, first_job, finished, last_talk, on_job}
+use Rattle.inp_runs.proofs.Common.{Stamped, Description, Call, Line, Owner, Talk, finish, and_then, EndsWith, Stop, Waiting, unless_stopped, Job, first_job, finished, last_talk, on_job}
 use Rattle.inp_script.specs.DoneLine.{line_talk}
 use Rattle.inp_runs.specs.Job.{lines_talk}
 

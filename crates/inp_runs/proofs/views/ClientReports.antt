@@ -1,7 +1,7 @@
 -- The view of a client's job at each report that it took.
 use Rattle.std.proofs.Common.{◌≡◌, ◌<◌, inl, inr, ℕ, Bool, true, false, ◌&&◌, nat_eq, List, [], ◌∷◌, ◌++◌, length, map, reverse, refl, sym, ap, subst, ◌∙◌, arith, append-nil, append_assoc, Option, Some, None}
 use Rattle.std.specs.Prelude.{slice_get}
-use Rattle.inp_runs.proofs.Words.{true≢false, cond_both, eqb-true, Taken, Step, Reply, Description, past_at, Answer, accepted, Call, HasPlace, place_of, next_place, client_of, is_same, is_open_step, Command, Close, Grab, Ungrab, Revoke, Mask, Clock, Write, SetAxis, Client, is_command_of, eaten, View, first_view, IsHistory, and-right, Mode, Success, Dropped, Sync, NO_CLIENT, Started, Reading, start_talk, next_talk, is_use, is_use_of, Talk, finish, EndsWith, Sight, Took, Made, Stop, Waiting, OfTurn, OfGoing, AfterNext, turn-of, LineRules, OfJob, is_one_call, noted-ends-meet, read_so, Job, first_job, first_reading, after_call, tap_client_after, step_of, noted, call_sight, again_sight, taken_sight, start_lacks_memory, noted_sight, LastRead, IsOwnEvent, reads_as, is_read_as, index_in_history, folded_view, sight_view, IsSeenAt, Any, Meets, Runs, meets-then}
+use Rattle.inp_runs.proofs.Common.{true≢false, cond_both, eqb-true, Taken, Step, Reply, Description, past_at, Answer, accepted, Call, HasPlace, place_of, next_place, client_of, is_same, is_open_step, Command, Close, Grab, Ungrab, Revoke, Mask, Clock, Write, SetAxis, Client, is_command_of, eaten, View, first_view, IsHistory, and-right, Mode, Success, Dropped, Sync, NO_CLIENT, Started, Reading, start_talk, next_talk, is_use, is_use_of, Talk, finish, EndsWith, Sight, Took, Made, Stop, Waiting, OfTurn, OfGoing, AfterNext, turn-of, LineRules, OfJob, is_one_call, noted-ends-meet, read_so, Job, first_job, first_reading, after_call, tap_client_after, step_of, noted, call_sight, again_sight, taken_sight, start_lacks_memory, noted_sight, LastRead, IsOwnEvent, reads_as, is_read_as, index_in_history, folded_view, sight_view, IsSeenAt, Any, Meets, Runs, meets-then}
 use Rattle.inp_model.specs.declared.event.Event.{Event}
 use Rattle.inp_model.specs.declared.event.TheConstants.{EV_SYN, SYN_DROPPED, SYN_REPORT}
 use Rattle.inp_model.specs.declared.reply.Reply.TheVariants.{Again as NothingVisible}

@@ -1,7 +1,7 @@
 -- The view of a job is the fold of its whole sight.
 use Rattle.std.proofs.Common.{◌≡◌, ℕ, suc, true, nat_eq, List, [], ◌∷◌, refl, ap, subst, ◌∙◌, Option, Some, sym}
 use Rattle.std.specs.Prelude.{slice_get}
-use Rattle.inp_runs.proofs.Words.{cond_both, eqb-true, Stamped, Step, Description, Call, IsLegalFrom, IsLegalRun, next_place, ActorText, Line, Role, is_command_of, RecordView, IsRecord, Each, EndsWith, Waiting, line_talk, Job, first_job, lines_by, last_talk, lines_talk, Any, Meets, meets-ends, OfJob, job-ends-meet, End, after_call}
+use Rattle.inp_runs.proofs.Common.{cond_both, eqb-true, Stamped, Step, Description, Call, IsLegalFrom, IsLegalRun, next_place, ActorText, Line, Role, is_command_of, RecordView, IsRecord, Each, EndsWith, Waiting, line_talk, Job, first_job, lines_by, last_talk, lines_talk, Any, Meets, meets-ends, OfJob, job-ends-meet, End, after_call}
 use Rattle.inp_script.specs.Fold.{IsFolded}
 use Rattle.inp_script.proofs.Folds.{ArePlaced, Placed, placed-run, run-placed}
 use Rattle.inp_script.proofs.LineFolds.{line_talk-folds, is_folded-first}

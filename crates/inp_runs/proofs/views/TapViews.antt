@@ -1,6 +1,6 @@
 -- At each report that a tap took, its view is its client's in the history.
 use Rattle.std.proofs.Common.{◌≡◌, ◌≤◌, ◌<◌, ◌⊎◌, inl, inr, ℕ, zero, suc, ◌+◌, ◌-◌, nat_eq, nat_lt, Bool, true, false, ◌&&◌, ◌||◌, not, ℤ, pos, List, [], ◌∷◌, ◌++◌, length, map, take, drop, reverse, refl, sym, ap, subst, ◌∙◌, arith, append-nil, append_assoc, length-append, Option, Some, None}
-use Rattle.inp_runs.proofs.Words.{slice_index_or, All, list_all, list_any, range_with_len, true≢false, false≢true, cond_both, cond-false, cond-true, and_parts, cases_lt, eqb-true, eq-eqb, lt-ltb, length-map, length-reverse, length-take, map-append, take_at, get_or_past, All-take, Taken, Step, GetKeys, GetSwitches, GetLeds, GetAxis, SyncSlots, Reply, Opened, Refused, Description, has_kind, ring, supports, is_multi_touch_code, past_at, opens, Answer, IsAnswer, answer, answer_by, accepted, refused, is_accepted, past_after, taken_of, Call, HasPlace, place_of, next_place, client_of, is_open_step, is_same, Command, Tick, Inhibit, Uninhibit, Stream, Stream16, Skip, Follow, Force, Feedback, Tap, is_command_of, View, IsSizedFor, code_count, first_view, eaten, IsHistory, and-left, and-right, Any, Meets, OfJob, IsSizedFor-after_events, IsSizedFor-after_answer, IsSizedFor-first_view, NO_CLIENT, is_use, is_use_of, is_read, taken_events, Sight, Took, Job, first_job, step_of, tap_client_after, event_of_taken, view_after_call, after_tap_call, tap_call_if, tap_talk, call_sight, again_sight, taken_sight, lacks_memory, reads_as, index_in_history, ShowsAt, IsSeenAt}
+use Rattle.inp_runs.proofs.Common.{slice_index_or, All, list_all, list_any, range_with_len, true≢false, false≢true, cond_both, cond-false, cond-true, and_parts, cases_lt, eqb-true, eq-eqb, lt-ltb, length-map, length-reverse, length-take, map-append, take_at, get_or_past, All-take, Taken, Step, GetKeys, GetSwitches, GetLeds, GetAxis, SyncSlots, Reply, Opened, Refused, Description, has_kind, ring, supports, is_multi_touch_code, past_at, opens, Answer, IsAnswer, answer, answer_by, accepted, refused, is_accepted, past_after, taken_of, Call, HasPlace, place_of, next_place, client_of, is_open_step, is_same, Command, Tick, Inhibit, Uninhibit, Stream, Stream16, Skip, Follow, Force, Feedback, Tap, is_command_of, View, IsSizedFor, code_count, first_view, eaten, IsHistory, and-left, and-right, Any, Meets, OfJob, IsSizedFor-after_events, IsSizedFor-after_answer, IsSizedFor-first_view, NO_CLIENT, is_use, is_use_of, is_read, taken_events, Sight, Took, Job, first_job, step_of, tap_client_after, event_of_taken, view_after_call, after_tap_call, tap_call_if, tap_talk, call_sight, again_sight, taken_sight, lacks_memory, reads_as, index_in_history, ShowsAt, IsSeenAt}
 use Rattle.std.specs.Prelude.{slice_get}
 use Rattle.std.proofs.Math.Bool.{and-false}
 use Rattle.inp_model.specs.declared.event.Event.{Event}

@@ -3,8 +3,8 @@ use Rattle.std.specs.List.{slice_get}
 use Rattle.std.proofs.lemmas.Bool.{cases_lt}
 use Rattle.std.proofs.lemmas.List.{map_more}
 use Rattle.std.proofs.lemmas.Option.{same_Some, slice_get_within, slice_get-get_or}
-use Rattle.inp_script.proofs.Words.{Description, IsDescription, DeviceText}
-use Rattle.inp_play.proofs.Words.{UdevView, first_device}
+use Rattle.inp_script.proofs.Common.{Description, IsDescription, DeviceText}
+use Rattle.inp_play.proofs.Common.{UdevView, first_device}
 use Rattle.inp_play.proofs.player.first_devices.Goals as goal
 
 pub loop-device-preserved : goal.loop-device-preserved

@@ -1,6 +1,6 @@
 use Rattle.std.proofs.Common.{◌≡◌, ◌<◌, ℕ, map, take, Some}
 use Rattle.std.specs.List.{slice_get}
-use Rattle.inp_script.proofs.Words.{IsDescription, DeviceText}
+use Rattle.inp_script.proofs.Common.{IsDescription, DeviceText}
 use Rattle.inp_play.specs.Player.{first_device}
 use Rattle.inp_play.proofs.player.first_devices.Given as goal
 

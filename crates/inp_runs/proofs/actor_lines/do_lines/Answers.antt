@@ -1,5 +1,5 @@
 use Rattle.std.proofs.Common.{◌≡◌, ℕ, List, take, refl, sym, ap, subst, ◌∙◌, arith, take-add}
-use Rattle.inp_runs.proofs.Words.{take_all, Line, is_owner, ActorView, Owning, lines_by}
+use Rattle.inp_runs.proofs.Common.{take_all, Line, is_owner, ActorView, Owning, lines_by}
 use Rattle.std.proofs.lemmas.Result.{on_ok_weaker}
 use Rattle.inp_runs.proofs.DoingAll.{AreDone, acted_on-none, acted_on-next, acted_on-described, done-none, done-more, done-all, own-count}
 use Rattle.inp_runs.proofs.actor_lines.do_lines.Goals as goal

@@ -1,6 +1,6 @@
 use Rattle.std.proofs.Common.{◌≡◌, ℕ, List, not, refl, sym, ap, ◌∙◌, inl, inr}
 use Rattle.std.specs.Prelude.{slice_get}
-use Rattle.inp_runs.proofs.Words.{slice_get_within, ActorText, Source, is_owner}
+use Rattle.inp_runs.proofs.Common.{slice_get_within, ActorText, Source, is_owner}
 use Rattle.std.proofs.lemmas.Result.{on_ok_weaker}
 use Rattle.inp_script.proofs.TalkCalls.{holds-same}
 use Rattle.inp_runs.proofs.DoingAll.{acted_on-none, last-none, last-source, last-reader, its-role}

@@ -1,6 +1,6 @@
 -- What comes of an owner on a short row, computed.
 use Rattle.std.proofs.Common.{pos, refl, [], ◌∷◌, inl, inr}
-use Rattle.inp_runs.proofs.Words.{Inject, Owning, first_owning, after_feedback}
+use Rattle.inp_runs.proofs.Common.{Inject, Owning, first_owning, after_feedback}
 use Rattle.inp_feedback.specs.declared.u_entry.UEntry.TheVariants.{Made, Feedback}
 use Rattle.inp_feedback.specs.declared.fed.Fed.TheVariants.{Took, Full}
 use Rattle.inp_feedback.specs.Examples.{bell}

@@ -1,5 +1,5 @@
 use Rattle.std.proofs.Common.{◌≡◌, refl, ◌∙◌, ◌∷◌, [], List, ◌++◌, ap, sym, append_assoc}
-use Rattle.inp_script.proofs.Words.{Ended, jobs_among, joys_among, owners_among, JobView, JoyJobView, OwnerView}
+use Rattle.inp_script.proofs.Common.{Ended, jobs_among, joys_among, owners_among, JobView, JoyJobView, OwnerView}
 use Rattle.inp_script.specs.declared.end.ended.Ended.TheVariants.{Job as JobEnded, Joy as JoyEnded, Owner as OwnerEnded}
 use Rattle.inp_script.proofs.run.sort_ends.Goals as goal
 

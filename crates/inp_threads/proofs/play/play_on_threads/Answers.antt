@@ -1,8 +1,8 @@
 use Rattle.std.proofs.Common.{◌≡◌, ℕ, ◌<◌, List, length, get_or, sym, ap, subst, ◌∙◌, arith, Option, Some, IfSome}
 use Rattle.std.proofs.lemmas.Result.{IfOk-weaker}
-use Rattle.inp_script.proofs.Words.{played_of}
+use Rattle.inp_script.proofs.Common.{played_of}
 use Rattle.inp_script.specs.declared.run.Played.{Played}
-use Rattle.inp_threads.proofs.Words.{ArePromised, IsPromisedOf, DeviceEnds}
+use Rattle.inp_threads.proofs.Common.{ArePromised, IsPromisedOf, DeviceEnds}
 use Rattle.inp_threads.proofs.DeviceRun.{collected}
 use Rattle.inp_threads.proofs.WorkerRuns.{changed}
 use Rattle.inp_threads.proofs.play.play_on_threads.Goals as goal

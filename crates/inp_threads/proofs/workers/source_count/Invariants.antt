@@ -1,6 +1,6 @@
 use Rattle.std.proofs.Common.{◌≡◌, ◌&&◌, nat_eq, take}
 use Rattle.std.specs.List.{count_by}
-use Rattle.inp_script.proofs.Words.{ActorText, is_source}
+use Rattle.inp_script.proofs.Common.{ActorText, is_source}
 use Rattle.inp_threads.proofs.workers.source_count.Given as goal
 
 -- the sources so far

@@ -1,5 +1,5 @@
 use Rattle.std.proofs.Common.{◌≡◌}
-use Rattle.inp_play.proofs.Words.{runs_of, stage_with}
+use Rattle.inp_play.proofs.Common.{runs_of, stage_with}
 use Rattle.inp_play.proofs.player.Player.finish.Given as goal
 
 abbrev pub invariant-loop-actor : goal.invariant-loop-actor

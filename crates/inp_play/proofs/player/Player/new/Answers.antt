@@ -1,5 +1,5 @@
 use Rattle.std.proofs.Common.{List, map, sym, ap, subst, ◌∙◌}
-use Rattle.inp_play.proofs.Words.{UdevView, stage_with, first_device, HasDevices}
+use Rattle.inp_play.proofs.Common.{UdevView, stage_with, first_device, HasDevices}
 use Rattle.inp_script.specs.Job.{ActorView}
 use Rattle.inp_play.proofs.FirstPlayer.{first_has_devices, first_stage_with}
 use Rattle.inp_play.proofs.player.Player.new.Goals as goal

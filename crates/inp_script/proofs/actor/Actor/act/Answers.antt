@@ -2,7 +2,7 @@ use Rattle.std.proofs.Common.{◌≡◌, ◌∙◌, sym, ap, List}
 use Rattle.std.specs.Prelude.{Some}
 use Rattle.std.specs.List.{slice_get}
 use Rattle.std.proofs.lemmas.Result.{on_ok_weaker}
-use Rattle.inp_script.proofs.Words.{Line, RoleState, IsCommandFor, ActorView, Job, Owner as OwnerRole}
+use Rattle.inp_script.proofs.Common.{Line, RoleState, IsCommandFor, ActorView, Job, Owner as OwnerRole}
 use Rattle.inp_script.specs.declared.role.state.RoleState.TheVariants.{Owner}
 use Rattle.inp_script.specs.RoleState.{role_of, role_description, job_in, owning_in, owning_of}
 use Rattle.inp_script.proofs.ActorLines.{caller-of, owns-done, owns-begun, calls-done, calls-begun, still-actor}

@@ -1,7 +1,7 @@
 use Rattle.std.proofs.Common.{◌∙◌, sym, ap, subst, rules}
 use Rattle.std.specs.Prelude.{Some, is_some}
 use Rattle.inp_model.proofs.Leaves.{left-none, left-one}
-use Rattle.inp_script.proofs.Words.{Begins, Holds, Job, ActorView, end_talk, role_reading, stick_of, job_in}
+use Rattle.inp_script.proofs.Common.{Begins, Holds, Job, ActorView, end_talk, role_reading, stick_of, job_in}
 use Rattle.inp_script.proofs.TalkCalls.{begins-none}
 use Rattle.inp_script.proofs.Lines.{ends-nothing, ends-noted, ends-begun}
 use Rattle.inp_script.proofs.LinesDone.{end-done}

@@ -2,7 +2,7 @@ use Rattle.std.proofs.Common.{◌≡◌, ◌∙◌, sym, ap, subst, rules, true,
 use Rattle.std.specs.Prelude.{Some, not, is_some}
 use Rattle.std.proofs.lemmas.Result.{on_ok_weaker}
 use Rattle.inp_model.proofs.Leaves.{left-none}
-use Rattle.inp_script.proofs.Words.{Reading, Begins, Holds, inject_talk, ActorView, Job, Stick, job_with, stream_talk, role_reading, stick_of}
+use Rattle.inp_script.proofs.Common.{Reading, Begins, Holds, inject_talk, ActorView, Job, Stick, job_with, stream_talk, role_reading, stick_of}
 use Rattle.inp_script.proofs.TalkCalls.{begins-none, begins-left}
 use Rattle.inp_script.proofs.Lines.{injects-nothing, injects-all, injects-begun, source-stick}
 use Rattle.inp_script.proofs.actor.Actor.inject_all.Goals as goal

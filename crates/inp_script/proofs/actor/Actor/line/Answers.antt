@@ -4,7 +4,7 @@ use Rattle.std.specs.List.{slice_get}
 use Rattle.std.proofs.lemmas.Option.{slice_get_within}
 use Rattle.std.proofs.lemmas.Result.{on_ok_weaker}
 use Rattle.inp_model.proofs.Leaves.{left-none}
-use Rattle.inp_script.proofs.Words.{Line, Job, ActorView, job_in, Begins, BeginsLine, DoesCommand, IsCommandFor, command_talk}
+use Rattle.inp_script.proofs.Common.{Line, Job, ActorView, job_in, Begins, BeginsLine, DoesCommand, IsCommandFor, command_talk}
 use Rattle.inp_script.proofs.TalkCalls.{begins-none, begins-left}
 use Rattle.inp_script.proofs.Lines.{begins-line}
 use Rattle.inp_script.proofs.LinesDone.{IsLineDone, command-of, line-stopped, line-went_on}

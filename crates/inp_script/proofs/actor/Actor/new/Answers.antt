@@ -1,6 +1,6 @@
 use Rattle.std.proofs.Common.{◌≡◌, ◌∙◌, sym, ap, [], List}
 use Rattle.std.specs.Prelude.{None}
-use Rattle.inp_script.proofs.Words.{Description, Reading, Role, RoleState, Sight, Job, Stick, first_job, first_reading, stick_of, role_description, job_in, role_of}
+use Rattle.inp_script.proofs.Common.{Description, Reading, Role, RoleState, Sight, Job, Stick, first_job, first_reading, stick_of, role_description, job_in, role_of}
 use Rattle.inp_script.proofs.LineFolds.{is_folded-first}
 use Rattle.inp_script.proofs.actor.Actor.new.Goals as goal
 

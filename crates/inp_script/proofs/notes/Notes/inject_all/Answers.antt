@@ -1,6 +1,6 @@
 use Rattle.std.proofs.Common.{◌+◌, [], ◌++◌, sym, ap, ◌∙◌}
 use Rattle.std.specs.List.{slice_get}
-use Rattle.inp_script.proofs.Words.{Reply, LogFull, Step, Notes, sight_of_call, stop_after, Refused}
+use Rattle.inp_script.proofs.Common.{Reply, LogFull, Step, Notes, sight_of_call, stop_after, Refused}
 use Rattle.inp_script.proofs.Batches.{are-made, all-noted, some-noted}
 use Rattle.inp_script.proofs.notes.Notes.inject_all.Goals as goal
 

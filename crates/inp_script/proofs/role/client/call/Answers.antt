@@ -1,6 +1,6 @@
 use Rattle.std.proofs.Common.{◌≡◌, ◌∙◌, sym, ap, ℕ}
 use Rattle.std.specs.Prelude.{Option, Some, None}
-use Rattle.inp_script.proofs.Words.{Step, call_if, step_of, no_stick, job_of}
+use Rattle.inp_script.proofs.Common.{Step, call_if, step_of, no_stick, job_of}
 use Rattle.inp_script.proofs.TalkCalls.{holds-same, holds-nothing, begins-none}
 use Rattle.inp_script.proofs.Streams.{holds-noted, begins-call_if}
 use Rattle.inp_script.proofs.role.client.call.Goals as goal

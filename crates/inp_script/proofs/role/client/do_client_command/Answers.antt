@@ -1,6 +1,6 @@
 use Rattle.std.proofs.Common.{◌≡◌, ◌∙◌, sym, ap}
 use Rattle.std.specs.Prelude.{Some}
-use Rattle.inp_script.proofs.Words.{Command, finish, job_of, Reading, ReaderView, with_sync_needed, client_talk}
+use Rattle.inp_script.proofs.Common.{Command, finish, job_of, Reading, ReaderView, with_sync_needed, client_talk}
 use Rattle.inp_script.proofs.TalkCalls.{holds-nothing, begins-none}
 use Rattle.inp_script.proofs.role.client.do_client_command.Goals as goal
 

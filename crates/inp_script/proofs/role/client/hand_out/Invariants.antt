@@ -1,5 +1,5 @@
 use Rattle.std.proofs.Common.{◌≡◌, ◌<◌, ◌^◌}
-use Rattle.inp_script.proofs.Words.{total_effort, going, job_of, effort}
+use Rattle.inp_script.proofs.Common.{total_effort, going, job_of, effort}
 use Rattle.inp_script.proofs.Rounds.{Passed}
 use Rattle.inp_script.proofs.role.client.hand_out.Given as goal
 

@@ -1,7 +1,7 @@
 use Rattle.std.proofs.Common.{subst, ℕ}
 use Rattle.std.specs.Prelude.{Some}
 use Rattle.inp_model.specs.declared.step.Step.TheVariants.{Close}
-use Rattle.inp_script.proofs.Words.{Answer, Joying, finish, Begins, Holds, after_call, call_talk, joy_job}
+use Rattle.inp_script.proofs.Common.{Answer, Joying, finish, Begins, Holds, after_call, call_talk, joy_job}
 use Rattle.inp_script.proofs.TalkCalls.{begins-one}
 use Rattle.inp_script.proofs.Streams.{holds-noted}
 use Rattle.inp_script.proofs.role.joystick.close.Goals as goal

@@ -1,5 +1,5 @@
 use Rattle.std.proofs.Common.{◌≡◌}
-use Rattle.inp_script.proofs.Words.{effort, joy_job}
+use Rattle.inp_script.proofs.Common.{effort, joy_job}
 use Rattle.inp_script.proofs.JoyReads.{PassedReads}
 use Rattle.inp_script.proofs.role.joystick.read_on.Given as goal
 

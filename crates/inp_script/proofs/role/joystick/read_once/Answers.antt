@@ -1,6 +1,6 @@
 use Rattle.std.proofs.Common.{◌≡◌, ◌∙◌, ap, List, map, ◌++◌}
 use Rattle.std.proofs.lemmas.Result.{IfOk-weaker}
-use Rattle.inp_script.proofs.Words.{CallMade, Notes, made_sight, effort}
+use Rattle.inp_script.proofs.Common.{CallMade, Notes, made_sight, effort}
 use Rattle.inp_script.specs.declared.role.joystick.AfterRead.{AfterRead}
 use Rattle.inp_script.specs.JoyProgress.{LeavesLess}
 use Rattle.inp_script.proofs.JoyReads.{read-noted, read-begun, read-less}

@@ -1,6 +1,6 @@
 use Rattle.std.proofs.Common.{◌≡◌, ℕ, Option, Some, None, refl, ◌∙◌, sym, ap}
 use Rattle.std.proofs.lemmas.Result.{on_ok_weaker}
-use Rattle.inp_script.proofs.Words.{Step, no_stick, job_of, call_if}
+use Rattle.inp_script.proofs.Common.{Step, no_stick, job_of, call_if}
 use Rattle.inp_script.proofs.Lines.{source_talk-single, source_talk-stream}
 use Rattle.inp_script.proofs.TalkCalls.{holds-same, begins-same}
 use Rattle.inp_script.proofs.Streams.{holds-noted, begins-call_if}

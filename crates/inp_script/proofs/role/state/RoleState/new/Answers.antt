@@ -1,6 +1,6 @@
 use Rattle.std.proofs.Common.{◌∙◌, ◌*◌, sym, ap, length}
 use Rattle.inp_model.specs.declared.multi_touch.TheConstants.{SLOT_VALUES}
-use Rattle.inp_script.proofs.Words.{Description, View}
+use Rattle.inp_script.proofs.Common.{Description, View}
 use Rattle.inp_recon.proofs.Sizes.{IsSizedFor-first_view}
 use Rattle.inp_script.proofs.role.state.RoleState.new.Goals as goal
 

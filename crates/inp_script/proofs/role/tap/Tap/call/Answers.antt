@@ -1,7 +1,7 @@
 use Rattle.std.proofs.Common.{◌≡◌, ◌∙◌, sym, ap, refl, take, drop, length, List, ℕ}
 use Rattle.std.proofs.lemmas.List.{take_at}
 use Rattle.std.proofs.lemmas.Result.{on_ok_weaker}
-use Rattle.inp_script.proofs.Words.{Taken, Reading, job_of, count_taken}
+use Rattle.inp_script.proofs.Common.{Taken, Reading, job_of, count_taken}
 use Rattle.inp_script.specs.Tap.{tap_reading}
 use Rattle.inp_script.proofs.TapCalls.{tap-noted, tap-begun}
 use Rattle.inp_script.proofs.role.tap.Tap.call.Goals as goal
