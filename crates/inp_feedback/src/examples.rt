@@ -3,6 +3,7 @@ ghost use Rattle.inp_feedback.specs.Examples.{SendsAChangeOnce, KeepsFifteen, Se
 
 /// What the definitions of this crate compute on short kept lists that were worked out by hand. It does nothing: its
 /// contract is the point.
+#[tactic(auto, unfolding(crate::proofs::Computation::computing))]
 pub fn examples()
     ensures once { SendsAChangeOnce }
     ensures fifteen { KeepsFifteen }

@@ -3,6 +3,7 @@ ghost use Rattle.inp_filter.specs.Examples.{LeavesAll, EatsACode, EatsNoReport, 
 
 /// What the definitions of this crate compute on short frames that were worked out by hand. It does nothing: its
 /// contract is the point.
+#[tactic(auto, unfolding(crate::proofs::Computation::computing))]
 pub fn examples()
     ensures none { LeavesAll }
     ensures code { EatsACode }

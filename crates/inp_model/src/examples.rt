@@ -10,6 +10,7 @@ ghost use Rattle.inp_model.specs.examples.Repeats.{RepeatsAKey, StopsAtARelease,
 
 /// What the definitions of this crate compute on short histories that were worked out by hand. It does nothing: its
 /// contract is the point.
+#[tactic(auto, unfolding(crate::proofs::Computation::computing))]
 pub fn examples()
     ensures ring { RingOf128 }
     ensures frame { ReadsAFrame }
@@ -38,6 +39,7 @@ pub fn examples()
 {}
 
 /// The same of queries, and of a history at its limit.
+#[tactic(auto, unfolding(crate::proofs::Computation::computing))]
 pub fn query_examples()
     ensures keys { TellsTheKeys }
     ensures removed { RemovesQueuedKeys }
@@ -47,6 +49,7 @@ pub fn query_examples()
 {}
 
 /// The same of devices with slots, and of full batches.
+#[tactic(auto, unfolding(crate::proofs::Computation::computing))]
 pub fn slot_examples()
     ensures named { NamesTheSlot }
     ensures all { TellsAllSlots }
@@ -64,6 +67,7 @@ pub fn slot_examples()
 
 /// The same of clients: of rings that are full, of clients that discard, close, mask, grab, write and change clocks,
 /// and of those that are revoked.
+#[tactic(auto, unfolding(crate::proofs::Computation::computing))]
 pub fn client_examples()
     ensures full { LosesASmallRing }
     ensures in_frame { LosesBeforeTheReport }
@@ -82,6 +86,7 @@ pub fn client_examples()
 {}
 
 /// The same of the autorepeat, of inhibitions, and of sources that are done.
+#[tactic(auto, unfolding(crate::proofs::Computation::computing))]
 pub fn repeat_examples()
     ensures repeats { RepeatsAKey }
     ensures stops { StopsAtARelease }
@@ -93,6 +98,7 @@ pub fn repeat_examples()
 {}
 
 /// The same of axes that are described anew.
+#[tactic(auto, unfolding(crate::proofs::Computation::computing))]
 pub fn axis_examples()
     ensures described { DescribesAnAxis }
     ensures moves { MovesByTheNewFuzz }
@@ -103,6 +109,7 @@ pub fn axis_examples()
 {}
 
 /// The same of devices with filters.
+#[tactic(auto, unfolding(crate::proofs::Computation::computing))]
 pub fn filter_examples()
     ensures chord { EatsAChord }
     ensures bounce { EatsABounce }

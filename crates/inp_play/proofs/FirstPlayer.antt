@@ -9,10 +9,12 @@ use Rattle.std.proofs.lemmas.Option.{slice_get-map, slice_get_within, get_or_fro
 use Rattle.inp_script.proofs.Common.{steps_in, Step, Description, ActorText, DeviceText, RecordView, IsRecord, HasActor, ActorView, first_job}
 use Rattle.inp_feedback.specs.declared.feedback_call.FeedbackCall.{FeedbackCall}
 use Rattle.inp_feedback.specs.Kept.{calls_in}
-use Rattle.inp_runs.proofs.Lists.{slice_get-numbered}
+use Rattle.inp_runs.proofs.Lists.{slice_get-numbered, there-is}
 use Rattle.inp_script.specs.Owner.{first_owning}
-use Rattle.inp_play.proofs.Common.{UdevView, description_at, first_actor, first_stage, feedback_calls_of, stage_with, first_device, first_actors, HasDevices, HasActors}
-use Rattle.inp_runs.proofs.order.Promised.{there-is, description_is}
+use Rattle.inp_runs.specs.Play.{description_at, first_actor, first_stage}
+use Rattle.inp_play.specs.Player.{feedback_calls_of, first_actors}
+use Rattle.inp_play.proofs.Common.{UdevView, stage_with, first_device, HasDevices, HasActors}
+use Rattle.inp_runs.proofs.order.Promised.{description_is}
 use Rattle.inp_play.proofs.PlayerLines.{same_item}
 
 -- Actors

@@ -2,8 +2,9 @@
 use Rattle.std.proofs.Common.{◌≡◌, ◌≤◌, ◌<◌, ℕ, zero, suc, ◌+◌, ◌-◌, ◌*◌, Bool, true, false, nat_eq, List, [], ◌∷◌, length, refl, sym, ap, subst, ◌∙◌, arith, ◌⊎◌, inl, inr, Option, Some, None}
 use Rattle.std.specs.Prelude.{Result, Ok, Err}
 use Rattle.std.proofs.lemmas.Bool.{cond_both, cond-true, cond-false}
-use Rattle.inp_script.proofs.Common.{Taken, Step, Reply, View, Mode, Phase, Next, Reading, queries, start_talk, next_talk, stop_of, lacks_memory, Description, ring, Answer, answer, past_after, is_accepted, Job, call_if, tap_call_if, Event, Plain, Needed, Talk, finish, ask, talk_with, Going, turn_after, after_next, mode_of, next_round, hand_talk, start_job, start_joystick}
-use Rattle.inp_play.proofs.Common.{Sight}
+use Rattle.inp_script.specs.Client.{hand_talk}
+use Rattle.inp_script.proofs.Common.{Taken, Step, Reply, View, Mode, Phase, Next, Reading, queries, start_talk, next_talk, stop_of, lacks_memory, Description, ring, Answer, answer, past_after, is_accepted, Job, call_if, tap_call_if, Event, Plain, Needed, Talk, finish, ask, talk_with, Going, turn_after, after_next, mode_of, next_round, start_job, start_joystick}
+use Rattle.inp_script.specs.declared.sight.Sight.{Sight}
 use Rattle.inp_model.specs.declared.step.Step.TheVariants.{Open, Read, Discard}
 use Rattle.inp_model.specs.Queue.{event_of, visible, queue}
 use Rattle.inp_model.proofs.Allowed.{allowed}

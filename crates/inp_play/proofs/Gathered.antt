@@ -7,10 +7,15 @@ use Rattle.std.proofs.lemmas.List.{length-map, map-append}
 use Rattle.std.proofs.lemmas.List.Elements.{filter-append}
 use Rattle.std.proofs.lemmas.List.FromFn.{length-enumerate_from}
 use Rattle.std.proofs.lemmas.Option.{slice_get-map, slice_get_read, slice_get_within}
-use Rattle.inp_script.proofs.Common.{Step, ActorText, RecordView, IsRecord, steps_in, HasActor, ActorView, ended_of, is_on_device}
-use Rattle.inp_play.proofs.Common.{UdevView, pasts_of, stage_with, HasDevices, HasActors, Stage, jobs_on, run_of, runs_of, first_ends, with_end, HasEndMore, Ended, DeviceEnds}
-use Rattle.inp_runs.proofs.order.Promised.{there-is}
-use Rattle.inp_runs.proofs.Lists.{slice_get-numbered}
+use Rattle.inp_script.specs.Runs.{is_on_device}
+use Rattle.inp_script.proofs.Common.{Step, ActorText, RecordView, IsRecord, steps_in, HasActor, ActorView, ended_of}
+use Rattle.inp_play.specs.Player.{pasts_of}
+use Rattle.inp_runs.specs.Play.{jobs_on, run_of}
+use Rattle.inp_play.specs.GatheredRuns.{first_ends, with_end, HasEndMore}
+use Rattle.inp_script.specs.declared.end.ended.Ended.{Ended}
+use Rattle.inp_script.specs.declared.run.DeviceEnds.{DeviceEnds}
+use Rattle.inp_play.proofs.Common.{UdevView, stage_with, HasDevices, HasActors, Stage, runs_of}
+use Rattle.inp_runs.proofs.Lists.{slice_get-numbered, there-is}
 use Rattle.inp_play.proofs.PlayerLines.{same_item, length-devices}
 
 -- before the first actor

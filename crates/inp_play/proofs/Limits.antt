@@ -2,8 +2,11 @@
 use Rattle.std.proofs.Common.{◌≡◌, ◌≤◌, ◌<◌, ℕ, Bool, true, false, List, [], ◌∷◌, length, refl, arith, Option, None}
 use Rattle.std.proofs.lemmas.Bool.Decides.{nat_tests}
 use Rattle.std.proofs.lemmas.Bool.{cond_both}
-use Rattle.inp_script.proofs.Common.{Step, Reply, Description, View, Mode, Started, Next, stop_after, stop_after_start, Answer, Case, answer, answer_by, accepted, first_reply, refusals, is_full, past_after, is_accepted, Reading, queries, start_stop_of, start_talk, stop_of, next_talk, Job, call_if, tap_call_if, Refused as StepRefused, Talk, finish, ask, talk_with, Going, start_job, handed as handed_out, one_less, is_done, with_sight, turn_after, after_next, mode_of, next_round, hand_talk, start_joystick}
-use Rattle.inp_play.proofs.Common.{Sight}
+use Rattle.inp_model.specs.Reply.{Case, first_reply, refusals, is_full}
+use Rattle.inp_reader.specs.Reader.{start_stop_of}
+use Rattle.inp_script.specs.Client.{handed as handed_out, one_less, is_done, hand_talk}
+use Rattle.inp_script.proofs.Common.{Step, Reply, Description, View, Mode, Started, Next, stop_after, stop_after_start, Answer, answer, answer_by, accepted, past_after, is_accepted, Reading, queries, start_talk, stop_of, next_talk, Job, call_if, tap_call_if, Refused as StepRefused, Talk, finish, ask, talk_with, Going, start_job, with_sight, turn_after, after_next, mode_of, next_round, start_joystick}
+use Rattle.inp_script.specs.declared.sight.Sight.{Sight}
 use Rattle.inp_model.specs.declared.step.Step.TheVariants.{Open}
 use Rattle.inp_model.specs.declared.reply.Refusal.TheVariants.{NoDevice as Revoked, LogFull}
 use Rattle.inp_model.specs.Left.{eaten}

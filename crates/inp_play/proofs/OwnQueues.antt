@@ -1,7 +1,8 @@
 -- How many events a client's own calls leave visible in its queue.
 use Rattle.std.proofs.Common.{eq-eqb, ◌≡◌, ◌≤◌, ℕ, zero, suc, ◌-◌, Bool, true, false, ◌&&◌, if◌then◌else◌, nat_eq, min, List, [], ◌∷◌, ◌++◌, length, map, drop, refl, ap, ◌∙◌, Option, Some, None, arith}
 use Rattle.std.proofs.lemmas.Bool.Decides.{nat_tests}
-use Rattle.inp_script.proofs.Common.{Step, Description, ring, Event, Read, Discard, GetKeys, SyncSlots, is_report}
+use Rattle.inp_model.specs.declared.step.Step.TheVariants.{Discard, GetKeys, SyncSlots}
+use Rattle.inp_script.proofs.Common.{Step, Description, ring, Event, Read, is_report}
 use Rattle.inp_model.specs.Step.{Query, client_of, is_open_step, is_same, is_part_of, query_of}
 use Rattle.inp_model.specs.Past.{opens, is_call_of}
 use Rattle.inp_model.specs.RawItem.{Cut}

@@ -4,7 +4,8 @@ use Rattle.std.specs.Prelude.{map, slice_get, slice_set, option_map}
 use Rattle.std.proofs.lemmas.List.{map-set, length-map}
 use Rattle.std.proofs.lemmas.Option.{slice_get-map, slice_get_read, same_Some}
 use Rattle.std.proofs.lemmas.Bool.{cond_both}
-use Rattle.inp_script.proofs.Common.{Stamped, Step, Description, ActorText, DeviceText, Line, Command, Role, Source, RecordView, IsRecord, UEntry, steps_in, Job, ActorView, is_command_of, is_owner, feedback_room, Event, Fed, FEEDBACK_MAX, Talk, talk_with, HasActor, Holds, IsLineOf, unless_stopped, line_talk, inject_talk, stream_talk}
+use Rattle.inp_script.specs.DoneLine.{IsLineOf}
+use Rattle.inp_script.proofs.Common.{Stamped, Step, Description, ActorText, DeviceText, Line, Command, Role, Source, RecordView, IsRecord, UEntry, steps_in, Job, ActorView, is_command_of, is_owner, feedback_room, Event, Fed, FEEDBACK_MAX, Talk, talk_with, HasActor, Holds, unless_stopped, line_talk, inject_talk, stream_talk}
 use Rattle.inp_model.proofs.Leaves.{description-kept}
 use Rattle.inp_actors.specs.declared.command.Command.TheVariants.{Feedback as ToFeed}
 use Rattle.inp_feedback.specs.declared.u_entry.UEntry.TheVariants.{Feedback}
@@ -19,7 +20,9 @@ use Rattle.inp_uinput.specs.OwnedFeeds.{IsFeedbackOf}
 use Rattle.inp_uinput.proofs.Tied.{untied-calls, tied-calls}
 use Rattle.inp_script.specs.ActorLine.{ActsLine}
 use Rattle.inp_script.specs.Owner.{Owning, after_feedback, FeedsUnless, FeedsLine}
-use Rattle.inp_play.proofs.Common.{Stage, feedback_calls_after, after_talk, unless_owner_stopped, by_command, after_line, after_lines, after_line_of, stage_with, pasts_of, feedback_calls_of, HasDevices, HasActors, inject_line, Stop}
+use Rattle.inp_runs.specs.Play.{feedback_calls_after, after_talk, unless_owner_stopped, by_command, after_line_of}
+use Rattle.inp_play.specs.Player.{pasts_of, feedback_calls_of}
+use Rattle.inp_play.proofs.Common.{Stage, after_line, after_lines, stage_with, HasDevices, HasActors, inject_line, Stop}
 use Rattle.inp_runs.proofs.order.Alone.{device-alone}
 use Rattle.inp_runs.proofs.Lists.{map-set_same, slice_get-set}
 use Rattle.inp_runs.proofs.order.LineDone.{set_same}

@@ -6,7 +6,9 @@ use Rattle.std.proofs.lemmas.Option.{get_or_from_slice_get, slice_get_within}
 use Rattle.std.proofs.lemmas.List.{take_all}
 use Rattle.inp_script.proofs.Common.{ActorText, Line, RecordView, IsRecord, played_of, ActorView}
 use Rattle.inp_script.specs.declared.run.Played.{Played}
-use Rattle.inp_play.proofs.Common.{UdevView, Player, Stage, first_stage, after_line, after_lines, runs_of, play, IsPlay, stage_of, IsPlayer, DoesOn, HasDone}
+use Rattle.inp_runs.specs.Play.{first_stage, play, IsPlay}
+use Rattle.inp_play.specs.Player.{IsPlayer, DoesOn, HasDone}
+use Rattle.inp_play.proofs.Common.{UdevView, Player, Stage, after_line, after_lines, runs_of, stage_of}
 use Rattle.inp_play.proofs.PlayerLines.{IsFound, found}
 use Rattle.inp_runs.proofs.order.Rounds.{after_lines-more}
 

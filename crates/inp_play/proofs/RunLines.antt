@@ -3,10 +3,12 @@ use Rattle.std.proofs.Common.{◌≡◌, ◌≤◌, ℕ, ◌+◌, Bool, true, fa
 use Rattle.std.specs.Prelude.{slice_get, slice_set, option_map, option_and_then}
 use Rattle.std.proofs.lemmas.List.{set-set}
 use Rattle.std.proofs.lemmas.Option.{slice_get-map}
-use Rattle.inp_script.proofs.Common.{Stamped, Step, LogFull, ActorText, Line, Role, Source, RecordView, IsRecord, Job, ActorView, Answer, answer_by, done_answer, is_accepted, is_full, past_after, Refused, Talk, finish, talk_with, unless_stopped, inject_talk, line_talk, after_call, call_talk, stream_talk}
+use Rattle.inp_model.specs.Reply.{done_answer, is_full}
+use Rattle.inp_script.proofs.Common.{Stamped, Step, LogFull, ActorText, Line, Role, Source, RecordView, IsRecord, Job, ActorView, Answer, answer_by, is_accepted, past_after, Refused, Talk, finish, talk_with, unless_stopped, inject_talk, line_talk, after_call, call_talk, stream_talk}
 use Rattle.inp_model.specs.Injection.{AreInTime, inject_of}
 use Rattle.inp_script.specs.declared.stop.Stop.TheVariants.{Full}
-use Rattle.inp_play.proofs.Common.{Stage, after_talk, after_line, after_line_of, after_lines, inject_line, Stop}
+use Rattle.inp_runs.specs.Play.{after_talk, after_line_of}
+use Rattle.inp_play.proofs.Common.{Stage, after_line, after_lines, inject_line, Stop}
 use Rattle.inp_runs.proofs.order.LineDone.{set_same}
 use Rattle.inp_runs.proofs.EventLines.{dropped, event-in_time, event-source, taken}
 use Rattle.inp_runs.proofs.Lists.{slice_get-set_same}

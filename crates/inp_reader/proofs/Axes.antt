@@ -7,7 +7,7 @@ use Rattle.inp_model.specs.declared.event.TheConstants.{EV_ABS}
 use Rattle.inp_model.specs.declared.step.Step.TheVariants.{GetAxis}
 use Rattle.inp_model.specs.Description.{Description, supports}
 use Rattle.inp_reader.specs.Reader.{axes_among, axis_queries, only_if, plain_axes}
-pub use Rattle.inp_model.proofs.Injection.{range-append}
+use Rattle.inp_model.proofs.Injection.{range-append}
 
 pub axis_queries-append : (d : Description) (client first n m : ℕ) → axis_queries client (axes_among d first (n + m)) ≡ axis_queries client (axes_among d first n) ++ axis_queries client (axes_among d (first + n) m)
 unfolding axes_among

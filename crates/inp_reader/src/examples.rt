@@ -4,6 +4,7 @@ ghost use Rattle.inp_reader.specs.StandingExamples.{FollowsItsClient, StandsAfte
 
 /// What the definitions of this crate compute on short histories that were worked out by hand. It does nothing: its
 /// contract is the point.
+#[tactic(auto, unfolding(inp_model::proofs::Computation::computing, crate::proofs::Computation::computing_reader))]
 pub fn examples()
     ensures loss { SynchronisesAfterALoss }
     ensures contact { EndsAContactFirst }

@@ -4,6 +4,7 @@ ghost use Rattle.inp_recon.specs.Examples.{BeginsWithoutContacts, TakesNoRepeat,
 
 /// What the definitions of this crate compute of a few events and answers that were worked out by hand. It does
 /// nothing: its contract is the point.
+#[tactic(auto, unfolding(crate::proofs::Computation::computing))]
 pub fn examples()
     ensures unseen { BeginsWithoutContacts }
     ensures repeat { TakesNoRepeat }
@@ -20,6 +21,7 @@ pub fn examples()
 /// When the view of a client is the device's state, and what each condition for it is good for. It is what the
 /// definitions of this crate compute of short histories that were worked out by hand. It does nothing: its contract is
 /// the point.
+#[tactic(auto, unfolding(crate::proofs::Computation::computing))]
 pub fn faithful_examples()
     ensures follows { FollowsTheDevice }
     ensures law { MeetsTheLaw }

@@ -33,7 +33,8 @@ use Rattle.inp_actors.specs.declared.command.Command as command
 use Rattle.inp_record.specs.declared.keyword.Keyword as keyword
 use Rattle.inp_record.specs.declared.keyword.Keyword.TheVariants as keywords
 use Rattle.inp_record.proofs.Sayable.{keyword_for, keyword_for_role, keyword_for_device, keyword_for_filter, is_later_role, is_header_item, is_action_item, is_later_item, acts, IsSayableAction, IsSayable, IsAccepted, after_all, AreAccepted}
-use Rattle.inp_record.proofs.CanonLines.{is_plain, IsPlainLine, ArePlainLines, line_of, lines_cut, line_read, empty_read}
+use Rattle.inp_record.proofs.CanonLines.{line_read, empty_read}
+use Rattle.inp_record.proofs.PlainLines.{is_plain, IsPlainLine, ArePlainLines, line_of, lines_cut}
 use Rattle.inp_record.proofs.WordsAgain.{is_plain-name}
 use Rattle.inp_record.proofs.Fields.{version_read}
 use Rattle.inp_record.proofs.Lines.{of_line, plain_read, plain_line}

@@ -2,7 +2,7 @@
 use Rattle.std.proofs.Common.{◌≡◌, Ok, [], ◌∷◌, refl, ap}
 use Rattle.inp_record.specs.canon.Words.{Words}
 use Rattle.inp_record.proofs.PlainLines.{further_line, no_comment, line_printed, printed_text, words_kept}
-pub use Rattle.inp_record.proofs.PlainLines.{is_plain, line_begins_small, IsPlainLine, ArePlainLines, line_of, lines_cut}
+use Rattle.inp_record.proofs.PlainLines.{is_plain, line_begins_small, IsPlainLine, ArePlainLines, line_of, lines_cut}
 use Rattle.inp_record.specs.Past.{Past}
 use Rattle.inp_record.specs.Meaning.{behind_words, behind_line}
 

@@ -33,7 +33,8 @@ use Rattle.inp_record.specs.Meaning.{device_count, has_all, behind_lines, record
 use Rattle.inp_record.proofs.CanonPasts.{all_accepted}
 use Rattle.inp_record.proofs.Inversions.{row_fits}
 use Rattle.inp_record.proofs.Options.{push_at, push_get, front_get}
-use Rattle.inp_record.proofs.Sayable.{keyword_for_role, IsPlainWord, IsAccepted, WereAccepted, always, describes_place}
+use Rattle.inp_record.proofs.Sayable.{keyword_for_role, IsAccepted, WereAccepted, always, describes_place}
+use Rattle.inp_record.proofs.PlainLines.{IsPlainWord}
 use Rattle.inp_record.specs.declared.place.Place.TheVariants.{Describing}
 
 -- a device that is closed is one of those that are

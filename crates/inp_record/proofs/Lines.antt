@@ -18,8 +18,8 @@ use Rattle.inp_record.specs.Words.{word, is_action, plain_item}
 use Rattle.inp_record.specs.Spelling.{item_words}
 use Rattle.inp_record.proofs.FieldFits.{is_sound, Values, FitsFields, of_values, written}
 use Rattle.inp_record.proofs.Fields.{made_read, made_fits, written_plain}
-use Rattle.inp_record.proofs.CanonLines.{is_plain, line_begins_small, IsPlainLine}
-use Rattle.inp_record.proofs.Sayable.{IsPlainWord, IsSayable, keyword_for}
+use Rattle.inp_record.proofs.PlainLines.{is_plain, line_begins_small, IsPlainLine, IsPlainWord}
+use Rattle.inp_record.proofs.Sayable.{IsSayable, keyword_for}
 
 abbrev pub line_item : (row : LineRow) → Values row.fields → Item
 line_item row vs = of_values Item row.fields row.make vs

@@ -11,7 +11,7 @@ use Rattle.inp_actors.specs.declared.command.Command as command
 use Rattle.inp_actors.specs.declared.record.TheConstants.{VERSION_MAX}
 use Rattle.inp_actors.specs.Name.{is_name}
 use Rattle.inp_actors.specs.Command.{is_joy, is_owner}
-pub use Rattle.inp_record.proofs.PlainLines.{is_visible, IsPlainWord}
+use Rattle.inp_record.proofs.PlainLines.{is_visible, IsPlainWord}
 use Rattle.inp_record.specs.declared.item.Item.{Item}
 use Rattle.inp_record.specs.declared.item.Item.TheVariants.{Header, Device, Hint, Log, Realtime, Boottime, Slots, Kind, Code, Axis, Filter, Actor, Action}
 use Rattle.inp_record.specs.declared.keyword.Keyword as keyword

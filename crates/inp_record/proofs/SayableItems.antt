@@ -24,7 +24,8 @@ use Rattle.inp_record.specs.Words.{word, has_micros, command_of, actor_from, act
 use Rattle.inp_record.proofs.Inversions.{of_row, action_of_is, act_is, read_as}
 use Rattle.inp_record.proofs.Texts.{words_all}
 use Rattle.inp_record.proofs.Rows.{verb_found}
-use Rattle.inp_record.proofs.Sayable.{is_visible, keyword_for, IsPlainWord, IsSayable}
+use Rattle.inp_record.proofs.Sayable.{keyword_for, IsSayable}
+use Rattle.inp_record.proofs.PlainLines.{is_visible, IsPlainWord}
 use Rattle.inp_record.proofs.Lines.{plain_keyword, plain_said}
 
 -- the words of a line of text

@@ -6,7 +6,7 @@ use Rattle.std.proofs.lemmas.List.Elements.{filter-append}
 use Rattle.inp_model.specs.declared.event.TheConstants.{EV_ABS}
 use Rattle.inp_model.specs.Description.{Description, supports}
 use Rattle.inp_reader.specs.Reader.{axes_among}
-use Rattle.inp_reader.proofs.Axes.{range-append}
+use Rattle.inp_model.proofs.Injection.{range-append}
 
 abbrev one_if : Bool → ℕ
 one_if true = 1

@@ -1,13 +1,16 @@
 -- Lines that an actor did by calls of an evdev, some after others: the calls are those of the lines' talk.
 use Rattle.std.proofs.Common.{◌≡◌, ℕ, ◌+◌, Bool, true, false, if◌then◌else◌, List, [], ◌∷◌, ◌++◌, map, refl, sym, ap, subst, ◌∙◌, arith, append_assoc, append-nil, zero-add, inl, inr, Option, Some, None}
-use Rattle.inp_runs.proofs.Common.{◌⊎◌, length, same_Some, Stamped, Step, Description, EvdevView, past_at, Answer, IsAnswer, answer_by, done_answer, is_accepted, is_full, Call, place_of, Line, Role, Source, Talk, finish, and_then, EndsWith, finished, Stop, Waiting, Holds, inject_talk, unless_stopped, Job, after_call, call_talk, stop_after, on_job, last_talk, cond_both, Reply}
+use Rattle.std.specs.Prelude.{◌⊎◌, length}
+use Rattle.inp_model.specs.Reply.{done_answer, is_full}
+use Rattle.inp_script.specs.Sight.{stop_after}
+use Rattle.inp_runs.proofs.Common.{same_Some, Stamped, Step, Description, EvdevView, past_at, Answer, IsAnswer, answer_by, is_accepted, Call, place_of, Line, Role, Source, Talk, finish, and_then, EndsWith, finished, Stop, Waiting, unless_stopped, Job, after_call, on_job, last_talk, cond_both, Reply}
 use Rattle.inp_model.specs.Injection.{inject_of}
 use Rattle.inp_model.specs.Leaves.{AreCalls}
 use Rattle.inp_model.proofs.Leaves.{AreCalls-append}
 use Rattle.inp_reader.specs.Talk.{LeadsTo}
 use Rattle.inp_script.specs.declared.stop.Stop.TheVariants.{Full}
-use Rattle.inp_script.specs.DoneLine.{line_talk}
-use Rattle.inp_script.specs.Line.{stream_talk}
+use Rattle.inp_script.specs.DoneLine.{line_talk, Holds, inject_talk}
+use Rattle.inp_script.specs.Line.{stream_talk, call_talk}
 use Rattle.inp_runs.specs.EventLines.{inject_line}
 use Rattle.inp_runs.specs.Job.{lines_talk}
 use Rattle.inp_runs.proofs.order.Rounds.{lines-next}

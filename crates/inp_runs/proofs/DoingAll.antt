@@ -1,7 +1,9 @@
 -- The lines of an actor, one after another, over any device.
 use Rattle.std.proofs.Common.{◌≡◌, ℕ, zero, suc, Bool, true, false, nat_eq, List, [], ◌∷◌, ◌++◌, length, take, drop, refl, sym, ap, subst, ◌∙◌, inl, inr, Option, Some, None}
-use Rattle.inp_runs.proofs.Common.{is_some, min, option_map, ◌⊎◌, length-map, same_Some, slice_get-map, EvdevView, ActorText, Line, Role, Source, Client, Tap, Joy, Owner, is_owner, RecordView, finish, Waiting, HasActor, Holds, line_talk, ActorView, Job, end_talk, MayHaveFed, lines_by, last_talk}
-use Rattle.std.specs.Prelude.{slice_get}
+use Rattle.inp_script.specs.DoneLine.{HasActor, Holds}
+use Rattle.inp_script.specs.Owner.{MayHaveFed}
+use Rattle.inp_runs.proofs.Common.{option_map, length-map, same_Some, slice_get-map, EvdevView, ActorText, Line, Role, Source, Client, Tap, Joy, Owner, is_owner, RecordView, finish, Waiting, line_talk, ActorView, Job, end_talk, lines_by, last_talk}
+use Rattle.std.specs.Prelude.{slice_get, is_some, min, ◌⊎◌}
 use Rattle.inp_model.proofs.Leaves.{left-none, left-then}
 use Rattle.inp_feedback.specs.declared.fed.TheConstants.{FEEDBACK_MAX}
 use Rattle.inp_feedback.specs.Feeds.{Feeding}

@@ -1,6 +1,11 @@
 -- What comes of a device whose actors did all their lines is promised.
 use Rattle.std.proofs.Common.{◌≡◌, ℕ, ◌<◌, ◌≤◌, Bool, true, not, ◌||◌, if◌then◌else◌, nat_lt, List, [], ◌∷◌, length, map, reverse, refl, sym, ap, subst, ◌∙◌, arith, inl, inr, Option, Some, None}
-use Rattle.inp_runs.proofs.Common.{filter, option_map, range_with_len, sum_by, cases_lt, nat_tests, same_Some, slice_get-map, slice_get_within, Step, Description, IsDescription, eaten, IsHistory, past_at, Call, HasPlace, IsLegalFrom, place_of, next_place, ActorText, Line, Role, Joy, Owner, is_joy, is_owner, RecordView, IsRecord, IsSizedFor, Talk, EndsWith, Waiting, ActorView, Job, JobView, JoyJobView, OwnerView, first_job, job_end, joy_end, owner_end, sight_of_calls, lines_by, lines_talk, entries_at, AreTold, IsJob, IsJoyJob, IsRun, wait_of, AreReportsSeen, rooms_of, HasOwned, IsOwner}
+use Rattle.inp_model.specs.Description.{IsDescription}
+use Rattle.inp_script.specs.Job.{job_end, joy_end, owner_end}
+use Rattle.inp_runs.specs.Job.{IsJob, IsJoyJob, IsRun, wait_of}
+use Rattle.inp_runs.specs.JobViews.{AreReportsSeen}
+use Rattle.inp_runs.specs.Owner.{HasOwned, IsOwner}
+use Rattle.inp_runs.proofs.Common.{filter, option_map, range_with_len, sum_by, cases_lt, nat_tests, same_Some, slice_get-map, slice_get_within, Step, Description, eaten, IsHistory, past_at, Call, HasPlace, IsLegalFrom, place_of, next_place, ActorText, Line, Role, Joy, Owner, is_joy, is_owner, RecordView, IsRecord, IsSizedFor, Talk, EndsWith, Waiting, ActorView, Job, JobView, JoyJobView, OwnerView, first_job, sight_of_calls, lines_by, lines_talk, entries_at, AreTold, rooms_of}
 use Rattle.std.specs.Prelude.{slice_get}
 use Rattle.inp_actors.specs.declared.device_text.DeviceText.{DeviceText}
 use Rattle.inp_recon.proofs.FaithfulHistories.{faithful_by_reads}

@@ -1,6 +1,9 @@
 -- How many entries of a sight are accepted calls at a place.
 use Rattle.std.proofs.Common.{◌≡◌, ℕ, ◌+◌, true, ◌&&◌, if◌then◌else◌, nat_eq, nat_lt, List, [], ◌∷◌, ◌++◌, refl, sym, ap, ◌∙◌, zero-add, inl, inr, Option, Some, None}
-use Rattle.inp_runs.proofs.Common.{filter, count_by, Step, Reply, is_again, is_accepted, Call, place_of, Sight, Waiting, sight_of_calls, is_call_entry, LeavesOut, call_sight, again_sight, is_entry_at, AreTold}
+use Rattle.std.specs.List.{count_by}
+use Rattle.inp_script.specs.Legal.{LeavesOut}
+use Rattle.inp_runs.specs.Job.{is_entry_at}
+use Rattle.inp_runs.proofs.Common.{filter, Step, Reply, is_again, is_accepted, Call, place_of, Sight, Waiting, sight_of_calls, is_call_entry, call_sight, again_sight, AreTold}
 use Rattle.std.proofs.lemmas.List.Sums.{sum_by-cons, sum_by-append}
 use Rattle.inp_model.specs.declared.reply.Reply.TheVariants.{Again as NothingVisible}
 use Rattle.inp_script.specs.declared.sight.Sight.TheVariants.{Call as Called, Again}

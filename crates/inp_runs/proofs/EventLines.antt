@@ -1,7 +1,9 @@
 -- Lines that each inject an event: whose lines they are, and what a record keeps of them.
 use Rattle.std.proofs.Common.{◌≡◌, ◌≤◌, ◌<◌, ◌+◌, ◌-◌, ℕ, zero, suc, true, List, [], ◌∷◌, length, map, take, drop, Option, Some, refl, sym, ap, subst, ◌∙◌, arith}
-use Rattle.inp_runs.proofs.Common.{option_map, nat_le, take-map, drop-map, take_all, length-drop, nat_tests, slice_get-map, slice_get_within, Stamped, ActorText, Line, Role, Source, is_source, RecordView, IsRecord, lines_by}
-use Rattle.std.specs.Prelude.{slice_get}
+use Rattle.std.proofs.lemmas.List.{take-map, drop-map, length-drop}
+use Rattle.inp_actors.specs.Command.{is_source}
+use Rattle.inp_runs.proofs.Common.{option_map, take_all, nat_tests, slice_get-map, slice_get_within, Stamped, ActorText, Line, Role, Source, RecordView, IsRecord, lines_by}
+use Rattle.std.specs.Prelude.{slice_get, nat_le}
 use Rattle.inp_model.specs.declared.stamped.TheConstants.{MOMENT_MAX}
 use Rattle.inp_model.specs.Injection.{AreInTime}
 use Rattle.inp_runs.specs.DoingAll.{AreNumbersOf}

@@ -1,6 +1,8 @@
 -- What came of a device's actors, apart: its jobs, its joysticks' jobs, and its owners.
 use Rattle.std.proofs.Common.{◌≡◌, ℕ, suc, ◌+◌, Bool, true, not, ◌||◌, if◌then◌else◌, cond, List, [], ◌∷◌, map, refl, sym, ap, ◌∙◌, arith, Some}
-use Rattle.inp_runs.proofs.Common.{filter, sum_by, slice_get-map, Role, Joy, Owner, is_joy, is_owner, ActorView, JobView, JoyJobView, OwnerView, job_end, joy_end, owner_end, entries_at, joy_entries_at}
+use Rattle.inp_script.specs.Job.{job_end, joy_end, owner_end}
+use Rattle.inp_runs.specs.Job.{joy_entries_at}
+use Rattle.inp_runs.proofs.Common.{filter, sum_by, slice_get-map, Role, Joy, Owner, is_joy, is_owner, ActorView, JobView, JoyJobView, OwnerView, entries_at}
 use Rattle.std.specs.Prelude.{slice_get}
 use Rattle.std.proofs.lemmas.List.Sums.{sum_by-cons}
 use Rattle.inp_script.specs.Ended.{ended_as, ended_of, jobs_among, joys_among, owners_among}

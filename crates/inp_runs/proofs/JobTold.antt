@@ -1,6 +1,8 @@
 -- What the sight of a job tells of its calls.
 use Rattle.std.proofs.Common.{◌≡◌, ℕ, List, [], ◌∷◌, ◌++◌, refl, sym, ap, subst, ◌∙◌, Option, Some, None}
-use Rattle.inp_runs.proofs.Common.{filter, Stamped, Description, Call, Line, Role, IsSizedFor-first_view, Talk, EndsWith, Sight, Waiting, line_talk, Job, first_job, is_call_entry, Tells, tells-then, tells-call, tells-none, lines_talk, AreTold, Any, Listed, Meets, listed-run, run-listed, meets-ends, OfJob, job-ends-meet, End, after_call, Answer}
+use Rattle.inp_script.proofs.Told.{Tells, tells-then, tells-call, tells-none}
+use Rattle.inp_reader.proofs.Meets.{run-listed}
+use Rattle.inp_runs.proofs.Common.{filter, Stamped, Description, Call, Line, Role, IsSizedFor-first_view, Talk, EndsWith, Sight, Waiting, line_talk, Job, first_job, is_call_entry, lines_talk, AreTold, Any, Listed, Meets, listed-run, meets-ends, OfJob, job-ends-meet, End, after_call, Answer}
 use Rattle.inp_script.proofs.LineTold.{line-told}
 use Rattle.inp_runs.proofs.memory.ReaderTalks.{AreAnswered, leaves-ends}
 use Rattle.inp_runs.proofs.memory.LineTalks.{IsKept, IsKeptIfSome, leaves-lines}

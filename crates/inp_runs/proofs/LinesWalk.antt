@@ -1,8 +1,9 @@
 -- The talks of an actor's lines, walked once: what has to be shown of one line, of a source's step, and of
 -- its end.
 use Rattle.std.proofs.Common.{◌≡◌, ℕ, List, [], ◌∷◌, refl, subst, Option, Some, None, Bool, false, true, cond, nat_eq, ◌++◌, sym, ap, ◌∙◌, append_assoc, append-nil}
-use Rattle.inp_runs.proofs.Common.{cond_both, Step, Inject, End, Stamped, Description, Answer, is_accepted, Command, Stream, Stream16, Line, Role, Source, Each, NO_CLIENT, Talk, finish, and_then, EndsWith, Any, Meets, meets-then, Stop, Waiting, line_talk, unless_stopped, Job, step_of, after_call, stream_numbered, source_talk, end_talk, OfJob, call_if-meets, on_job, last_talk, lines_by, is_open_step, filter-append, Call, finished, split-and_then}
-use Rattle.inp_script.specs.Line.{stream_talk}
+use Rattle.inp_script.proofs.LineWalk.{call_if-meets}
+use Rattle.inp_runs.proofs.Common.{cond_both, Step, Inject, End, Stamped, Description, Answer, is_accepted, Command, Stream, Stream16, Line, Role, Source, Each, NO_CLIENT, Talk, finish, and_then, EndsWith, Any, Meets, meets-then, Stop, Waiting, line_talk, unless_stopped, Job, step_of, after_call, source_talk, end_talk, OfJob, on_job, last_talk, lines_by, is_open_step, filter-append, Call, finished, split-and_then}
+use Rattle.inp_script.specs.Line.{stream_talk, stream_numbered}
 use Rattle.inp_runs.specs.Job.{lines_talk}
 use Rattle.inp_reader.proofs.Talks.{LeadsTo-append, LeadsTo-and_then}
 

@@ -1,6 +1,8 @@
 -- Lists by their elements: one that is replaced, those that a test keeps, and sums over them.
 use Rattle.std.proofs.Common.{◌≡◌, ℕ, zero, suc, ◌+◌, Bool, true, false, if◌then◌else◌, cond, nat_eq, List, [], ◌∷◌, map, refl, sym, ap, ◌∙◌, arith, zero-add, ◌⊎◌, inl, inr, Option, Some, None, ◌<◌, length}
-use Rattle.inp_runs.proofs.Common.{filter, slice_set, option_map, enumerate_from, range_with_len, sum_by, nat_tests, get_or_from_slice_get, slice_get_within, same_Some, eqb-true, cases_eq, false_from_ne_true}
+use Rattle.std.specs.List.{enumerate_from}
+use Rattle.std.proofs.lemmas.Bool.{cases_eq}
+use Rattle.inp_runs.proofs.Common.{filter, slice_set, option_map, range_with_len, sum_by, nat_tests, get_or_from_slice_get, slice_get_within, same_Some, eqb-true, false_from_ne_true}
 use Rattle.std.specs.Prelude.{slice_get}
 use Rattle.std.proofs.lemmas.List.Sums.{sum_by-cons, sum_by-set}
 

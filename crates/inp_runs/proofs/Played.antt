@@ -1,7 +1,9 @@
 -- What came of a record is what came of its devices, and each joystick and each owner is found again on its device.
 use Rattle.std.proofs.Common.{◌≡◌, ℕ, zero, suc, ◌+◌, ◌<◌, Bool, true, false, List, [], ◌∷◌, ◌++◌, length, map, refl, sym, ap, subst, ◌∙◌, arith, add-zero, zero-add, append-nil, ◌⊎◌, inl, inr, Option, Some, None}
-use Rattle.inp_runs.proofs.Common.{filter, flat_map, option_map, range_with_len, length-map, map-append, filter-append, same_Some, slice_get-map, slice_get_within, ActorText, RecordView, JoyJobView, OwnerView, lines_by, IsRun, ArePromised, joys_on, wait_of, rooms_of, IsOwner, eqb-true}
-use Rattle.std.specs.Prelude.{slice_get}
+use Rattle.inp_runs.specs.Job.{IsRun, ArePromised, joys_on, wait_of}
+use Rattle.inp_runs.specs.Owner.{IsOwner}
+use Rattle.inp_runs.proofs.Common.{filter, option_map, range_with_len, length-map, map-append, filter-append, same_Some, slice_get-map, slice_get_within, ActorText, RecordView, JoyJobView, OwnerView, lines_by, rooms_of, eqb-true}
+use Rattle.std.specs.Prelude.{slice_get, flat_map}
 use Rattle.inp_actors.specs.declared.device_text.DeviceText.{DeviceText}
 use Rattle.inp_script.specs.declared.run.DeviceEnds.{DeviceEnds}
 use Rattle.inp_script.specs.declared.run.Run.{Run}

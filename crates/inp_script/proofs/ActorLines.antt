@@ -2,7 +2,8 @@
 use Rattle.std.proofs.Common.{◌≡◌, ℕ, true, false, refl, sym, ap, subst, ◌∙◌, inl, inr, Option, Some}
 use Rattle.std.specs.Prelude.{min}
 use Rattle.std.specs.List.{slice_get}
-use Rattle.inp_script.proofs.Common.{Description, EvdevView, Command, Line, Role, RecordView, RoleState, Waiting, ActorView, role_of, is_command_of, is_owner, feedback_room, BeginsLine, DoesLine, IsCommandFor, Owner as OwnerRole, FEEDBACK_MAX, Feeding}
+use Rattle.inp_feedback.specs.Feeds.{Feeding}
+use Rattle.inp_script.proofs.Common.{Description, EvdevView, Command, Line, Role, RecordView, RoleState, Waiting, ActorView, role_of, is_command_of, is_owner, feedback_room, BeginsLine, DoesLine, IsCommandFor, Owner as OwnerRole, FEEDBACK_MAX}
 use Rattle.inp_actors.specs.declared.command.Command.TheVariants.{Feedback}
 use Rattle.inp_script.specs.declared.role.state.RoleState.TheVariants.{Owner}
 use Rattle.inp_script.specs.declared.role.owner.Owner as owner

@@ -4,7 +4,8 @@ use Rattle.std.specs.Prelude.{min}
 use Rattle.std.specs.List.{slice_get}
 use Rattle.std.proofs.lemmas.Bool.Decides.{nat_tests}
 use Rattle.std.proofs.lemmas.List.{take_more, take_all, length-take-le}
-use Rattle.inp_script.proofs.Common.{Stamped, EvdevView, Call, Notes, notes_after, entered_calls, AreMade, AreNoted, AreCalls}
+use Rattle.inp_script.specs.Notes.{entered_calls, AreMade}
+use Rattle.inp_script.proofs.Common.{Stamped, EvdevView, Call, Notes, notes_after, AreNoted, AreCalls}
 use Rattle.inp_model.specs.declared.injected.Injected.{Injected}
 use Rattle.inp_model.specs.Injection.{AreInTime, IsInjectAll, entered_call, full_call, calls_of}
 use Rattle.inp_model.proofs.Injection.{injected-calls}

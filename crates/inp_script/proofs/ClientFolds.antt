@@ -2,7 +2,9 @@
 use Rattle.std.proofs.Common.{◌≡◌, ℕ, Bool, false, if◌then◌else◌, List, [], ◌∷◌, ◌++◌, refl, sym, ap, subst, ◌∙◌}
 use Rattle.std.specs.Prelude.{Result, Ok, Err}
 use Rattle.std.proofs.lemmas.Bool.{cond-true, cond-false, cond_both}
-use Rattle.inp_script.proofs.Common.{Step, Reply, Description, is_again, past_at, Answer, is_accepted, IsAnswer, Call, place_of, View, Mode, Next, Started, Reading, queries, start_talk, stop_of, next_talk, EndsWith, Sight, call_sight, Opened, Success, Dropped, Sync}
+use Rattle.inp_model.specs.declared.reply.Reply.TheVariants.{Opened}
+use Rattle.inp_reader.specs.declared.next.Next.TheVariants.{Sync}
+use Rattle.inp_script.proofs.Common.{Step, Reply, Description, is_again, past_at, Answer, is_accepted, IsAnswer, Call, place_of, View, Mode, Next, Started, Reading, queries, start_talk, stop_of, next_talk, EndsWith, Sight, call_sight, Success, Dropped}
 use Rattle.inp_model.specs.declared.step.Step.TheVariants.{Open, Read, Discard}
 use Rattle.inp_recon.proofs.Each.{Each}
 use Rattle.inp_reader.proofs.AgainCounts.{IsNoRead, no_read-queries, not_again}

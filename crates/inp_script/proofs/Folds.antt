@@ -1,6 +1,7 @@
 -- The view of a tap is the fold of its sight.
 use Rattle.std.proofs.Common.{◌≡◌, ℕ, List, [], ◌∷◌, ◌++◌, map, refl, sym, ap, subst, ◌∙◌, inl, inr, ℤ}
-use Rattle.inp_script.proofs.Common.{Taken, Step, Reply, Description, past_at, Answer, answer, IsAnswer, View, Sight, Job, call_sight, again_sight, taken_sight, Call, HasPlace, place_of, event_of_taken, after_tap_call}
+use Rattle.inp_script.specs.Line.{event_of_taken}
+use Rattle.inp_script.proofs.Common.{Taken, Step, Reply, Description, past_at, Answer, answer, IsAnswer, View, Sight, Job, call_sight, again_sight, taken_sight, Call, HasPlace, place_of, after_tap_call}
 use Rattle.inp_model.specs.declared.step.Step.TheVariants.{Open, GetKeys, GetSwitches, GetLeds, GetAxis, SyncSlots}
 use Rattle.inp_model.specs.declared.reply.Reply.TheVariants.{Again as NothingVisible}
 use Rattle.inp_recon.specs.View.{view_after_answer, view_after_event, view_after_events}

@@ -3,7 +3,9 @@ use Rattle.std.proofs.Common.{◌≡◌, ℕ, true, List, [], ◌∷◌, ◌++�
 use Rattle.std.specs.Prelude.{filter}
 use Rattle.std.proofs.lemmas.List.Elements.{filter-append}
 use Rattle.std.proofs.lemmas.Bool.{cond_both}
-use Rattle.inp_script.proofs.Common.{Step, Reply, Description, Call, Sight, Holds, DoesLine, Job, ActorView, end_talk, call_sight, again_sight, Waiting, RecordView, EvdevView, is_again, own_after, AreCalls, places_of, sight_of_calls, is_call_entry, places_in, IsLegalSight, LeavesOut, GainsPlaces}
+use Rattle.inp_model.specs.Evdev.{own_after}
+use Rattle.inp_script.specs.Legal.{places_in, IsLegalSight, GainsPlaces}
+use Rattle.inp_script.proofs.Common.{Step, Reply, Description, Call, Sight, Holds, DoesLine, Job, ActorView, end_talk, call_sight, again_sight, Waiting, RecordView, EvdevView, is_again, AreCalls, places_of, sight_of_calls, is_call_entry, LeavesOut}
 use Rattle.inp_model.specs.declared.reply.Reply.TheVariants.{Again as NothingVisible}
 use Rattle.inp_model.proofs.Leaves.{own-grown}
 use Rattle.inp_script.specs.declared.sight.Sight.TheVariants.{Call as Called}

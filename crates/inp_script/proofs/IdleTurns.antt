@@ -1,7 +1,11 @@
 -- A job that stops as idle made as many calls that were answered Again as it says.
 use Rattle.std.proofs.Common.{◌≡◌, ℕ, suc, ◌+◌, ◌-◌, ◌^◌, ◌≤◌, ◌⊎◌, inl, inr, ◌&&◌, Bool, true, false, if◌then◌else◌, List, [], ◌∷◌, refl, sym, ap, subst, ◌∙◌, arith, Option, Some, None, nat_lt}
 use Rattle.std.proofs.lemmas.Bool.Decides.{nat_tests}
-use Rattle.inp_script.proofs.Common.{Stamped, Step, Reply, Description, Call, Command, Role, Next, Started, EndsWith, Sight, Stop, Waiting, Going, job_after_start, turn_after, after_next, mode_of, Job, ActorView, stop_after, stop_after_start, RecordView, Answer, View, Mode, joystick_talk, EvdevView, is_again, agains_after, Reading, stop_of, after_failed_sync, start_talk, next_talk, AreCalls, DoesLine, line_talk, CountsTurns, Read}
+use Rattle.inp_script.specs.Client.{job_after_start}
+use Rattle.inp_model.specs.Evdev.{agains_after}
+use Rattle.inp_reader.specs.Reader.{after_failed_sync}
+use Rattle.inp_script.specs.Legal.{CountsTurns}
+use Rattle.inp_script.proofs.Common.{Stamped, Step, Reply, Description, Call, Command, Role, Next, Started, EndsWith, Sight, Stop, Waiting, Going, turn_after, after_next, mode_of, Job, ActorView, stop_after, stop_after_start, RecordView, Answer, View, Mode, joystick_talk, EvdevView, is_again, Reading, stop_of, start_talk, next_talk, AreCalls, DoesLine, line_talk, Read}
 use Rattle.inp_reader.specs.declared.next.Next.TheVariants.{Again}
 use Rattle.inp_script.specs.declared.stop.Stop.TheVariants.{Idle, Full as FullHistory}
 use Rattle.inp_reader.proofs.Meets.{Any, Runs, meets-ends, meets-always, meets-weaker}

@@ -2,7 +2,8 @@
 use Rattle.std.proofs.Common.{◌≡◌, ℕ, Bool, true, false, if◌then◌else◌, List, [], ◌∷◌, ◌++◌, map, refl, sym, ap, subst, ◌∙◌, append-nil, append_assoc, Option, Some, None}
 use Rattle.std.specs.Prelude.{Result, Ok, Err}
 use Rattle.std.proofs.lemmas.Bool.{true≢false, cond_both, cond-true, cond-false}
-use Rattle.inp_script.proofs.Common.{Taken, Step, Reply, Description, is_again, past_at, Answer, is_accepted, IsAnswer, Call, place_of, Command, Joy, is_command_of, JoyRead, JoyRecord, View, Next, Success, Dropped, Started, Talk, finish, EndsWith, Sight, with_sight, Job, joying_of, after_call, step_of, call_sight, again_sight, taken_sight, sight_of_call, Reading, queries, start_talk, after_queries, start_stop_of, stop_of as reader_stop, hand_synthesised, after_full_sync, next_talk, is_report, Needed, start_joystick, record_sight, after_joy_answer, joystick_talk}
+use Rattle.inp_reader.specs.Reader.{after_queries, start_stop_of, hand_synthesised, after_full_sync}
+use Rattle.inp_script.proofs.Common.{Taken, Step, Reply, Description, is_again, past_at, Answer, is_accepted, IsAnswer, Call, place_of, Command, Joy, is_command_of, JoyRead, JoyRecord, View, Next, Success, Dropped, Started, Talk, finish, EndsWith, Sight, with_sight, Job, joying_of, after_call, step_of, call_sight, again_sight, taken_sight, sight_of_call, Reading, queries, start_talk, stop_of as reader_stop, next_talk, is_report, Needed, start_joystick, record_sight, after_joy_answer, joystick_talk}
 use Rattle.inp_model.specs.declared.step.Step.TheVariants.{Open as ToOpen, Read as ToRead, Discard, Close as ToClose}
 use Rattle.inp_model.specs.declared.reply.Reply.TheVariants.{Opened, Again as NothingVisible, Refused as StepRefused}
 use Rattle.inp_actors.specs.declared.command.Command.TheVariants.{Close}

@@ -1,6 +1,7 @@
 -- Where so many rounds are enough for a line of a joystick, more of them change nothing, whatever is answered.
 use Rattle.std.proofs.Common.{◌≡◌, ℕ, zero, suc, ◌≤◌, List, ◌++◌, map, refl, sym, subst, ◌∙◌, arith, Option, Some, None}
-use Rattle.inp_script.proofs.Common.{Description, Call, Command, JoyRead, Talk, finish, and_then, EndsWith, Sight, Job, joying_of, made_sight, noted, Joying, JoyAnswer, turns, calls_kept, Reach, handed_out, line_ends, after_joy_answer, after_joy_read, after_turns, read_on, on_reach, read_records, joystick_talk}
+use Rattle.inp_reader.specs.Says.{calls_kept}
+use Rattle.inp_script.proofs.Common.{Description, Call, Command, JoyRead, Talk, finish, and_then, EndsWith, Sight, Job, joying_of, made_sight, noted, Joying, JoyAnswer, turns, Reach, handed_out, line_ends, after_joy_answer, after_joy_read, after_turns, read_on, on_reach, read_records, joystick_talk}
 use Rattle.inp_actors.specs.declared.command.Command.TheVariants.{Open, Read}
 use Rattle.inp_joy.specs.declared.joy_read.JoyRead.TheVariants.{Frame, More}
 use Rattle.inp_joy.proofs.MoreTurns.{turns-longer}

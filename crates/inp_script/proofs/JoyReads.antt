@@ -1,6 +1,7 @@
 -- The reads of a joystick's line, and the records that it reads, one after another.
 use Rattle.std.proofs.Common.{◌≡◌, ℕ, suc, ◌+◌, ◌-◌, ◌<◌, ◌≤◌, List, [], ◌∷◌, ◌++◌, map, refl, sym, ap, subst, ◌∙◌, append-nil, arith, Option, Some, None}
-use Rattle.inp_script.proofs.Common.{Description, EvdevView, JoyRead, JoyRecord, CallMade, Notes, Sight, Stop, Holds, Begins, Job, joy_job, made_sight, noted, AreCalls, Joying, JoyAnswer, turns, calls_kept, Talk, finish, and_then, LeadsTo, EndsWith, Reach, handed_out, line_ends, record_sight, after_joy_read, after_turns, read_on, on_reach, read_records}
+use Rattle.inp_reader.specs.Says.{calls_kept}
+use Rattle.inp_script.proofs.Common.{Description, EvdevView, JoyRead, JoyRecord, CallMade, Notes, Sight, Stop, Holds, Begins, Job, joy_job, made_sight, noted, AreCalls, Joying, JoyAnswer, turns, Talk, finish, and_then, LeadsTo, EndsWith, Reach, handed_out, line_ends, record_sight, after_joy_read, after_turns, read_on, on_reach, read_records}
 use Rattle.inp_model.proofs.Leaves.{AreCalls-append, description-kept}
 use Rattle.inp_script.proofs.TalkCalls.{holds-begins, begins-first}
 use Rattle.inp_joy.specs.declared.joy_read.JoyRead.TheVariants.{Record as HandedOut, Frame, More}

@@ -1,6 +1,7 @@
 -- What each line of a joystick adds to a sight tells of its calls.
 use Rattle.std.proofs.Common.{◌≡◌, ℕ, List, [], ◌∷◌, ◌++◌, refl, sym, ap, subst, ◌∙◌, append-nil, Option, Some, None}
-use Rattle.inp_script.proofs.Common.{Description, Call, Command, JoyRead, JoyRecord, Started, Talk, finish, EndsWith, Sight, sight_of_call, noted, start_lacks_memory, stop_after_start, Job, joying_of, with_joying, Joying, JoyAnswer, joy_start, turns, after_joy_start, start_joystick, record_sight, after_joy_answer}
+use Rattle.inp_script.specs.Job.{with_joying}
+use Rattle.inp_script.proofs.Common.{Description, Call, Command, JoyRead, JoyRecord, Started, Talk, finish, EndsWith, Sight, sight_of_call, noted, start_lacks_memory, stop_after_start, Job, joying_of, Joying, JoyAnswer, joy_start, turns, after_joy_start, start_joystick, record_sight, after_joy_answer}
 use Rattle.inp_joy.specs.declared.joy_read.JoyRead.TheVariants.{Again}
 use Rattle.inp_joy.specs.JoyRecord.{bytes_of_record}
 use Rattle.inp_joy.proofs.Records.{HandsOutAsSaid, turns-said}

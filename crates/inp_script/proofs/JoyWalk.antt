@@ -1,6 +1,9 @@
 -- What a joystick does at a line, walked once: what has to be shown of a start, of a read and of a single call, for `Meets` of the whole.
 use Rattle.std.proofs.Common.{◌≡◌, ℕ, zero, suc, Bool, true, false, List, ◌++◌, refl, Option, Some, None}
-use Rattle.inp_script.proofs.Common.{Step, Description, Answer, Command, JoyRead, EndsWith, Call, Sight, Job, joying_of, step_of, after_call, noted, with_sight, with_stop, start_talk, Talk, finish, and_then, after_joy_start, with_joying, start_lacks_memory, stop_after_start, Started, Reading, Joying, JoyAnswer, joy_start, joy_started, turns, Reach, handed_out, line_ends, start_joystick, after_joy_answer, after_joy_read, after_turns, read_on, on_reach, read_records, joystick_talk}
+use Rattle.inp_script.specs.Client.{with_stop}
+use Rattle.inp_script.specs.Job.{with_joying}
+use Rattle.inp_joy.specs.Joy.{joy_started}
+use Rattle.inp_script.proofs.Common.{Step, Description, Answer, Command, JoyRead, EndsWith, Call, Sight, Job, joying_of, step_of, after_call, noted, with_sight, start_talk, Talk, finish, and_then, after_joy_start, start_lacks_memory, stop_after_start, Started, Reading, Joying, JoyAnswer, joy_start, turns, Reach, handed_out, line_ends, start_joystick, after_joy_answer, after_joy_read, after_turns, read_on, on_reach, read_records, joystick_talk}
 use Rattle.inp_actors.specs.declared.command.Command.TheVariants.{Open, Read}
 use Rattle.inp_joy.specs.declared.joy_read.JoyRead.TheVariants.{Frame, Again, Full, More}
 use Rattle.std.proofs.lemmas.Bool.{cond_both}

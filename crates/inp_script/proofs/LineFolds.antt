@@ -13,10 +13,9 @@ use Rattle.inp_script.proofs.ClientFolds.{client_fold-append, start-folds, next-
 use Rattle.inp_script.proofs.Folds.{Placed, placed-run, run-placed, ArePlaced, call-folds}
 use Rattle.inp_script.proofs.JoyFolds.{joystick-folds}
 use Rattle.inp_reader.proofs.Calls.{finished, split-and_then}
-use Rattle.inp_script.proofs.LineTold.{memory_there}
 use Rattle.inp_script.proofs.Replies.{is_answer_has}
 use Rattle.inp_model.proofs.Leaves.{BeginsWith-trans, HasPlace-longer, seen-kept}
-use Rattle.inp_script.proofs.Told.{noted-back, noted_sight}
+use Rattle.inp_script.proofs.Told.{noted-back, noted_sight, memory_there}
 use Rattle.inp_reader.proofs.Meets.{Meets, Any, AnyAnswer, meets-ends, meets-then, any-run}
 use Rattle.inp_script.proofs.LineWalk.{job-ends-meet, noted-ends-meet, OfJob, OfTurn, OfGoing, AfterNext, read_so, is_one_call, LineRules, turn-of, line-meets, end-meets}
 

@@ -1,7 +1,9 @@
 -- The talks of lines, walked once: what has to be shown of one call, of a start and of a `next`, for `Meets` of a whole line.
 use Rattle.std.proofs.Common.{◌≡◌, ℕ, zero, suc, Bool, true, false, List, [], ◌∷◌, ◌++◌, refl, sym, subst, Option, Some, None, nat_le}
 use Rattle.std.proofs.lemmas.Bool.{cond_both}
-use Rattle.inp_script.proofs.Common.{Stamped, Step, Description, Answer, is_accepted, Command, Role, Next, Started, Reading, start_talk, next_talk, Talk, finish, ask, EndsWith, Sight, Stop, Waiting, Job, joystick_talk, noted, call_sight, lacks_memory, start_lacks_memory, Call, Inject, End, Source, Client, Tap, Joy, Owner, NO_CLIENT, command_talk, unless_stopped, line_talk, step_of, after_call, call_if, stream_talk, stream_numbered, source_talk, end_talk, after_tap_call, tap_call_if}
+use Rattle.inp_model.specs.declared.step.Step.TheVariants.{Inject, End}
+use Rattle.inp_script.specs.Line.{stream_numbered, source_talk}
+use Rattle.inp_script.proofs.Common.{Stamped, Step, Description, Answer, is_accepted, Command, Role, Next, Started, Reading, start_talk, next_talk, Talk, finish, ask, EndsWith, Sight, Stop, Waiting, Job, joystick_talk, noted, call_sight, lacks_memory, start_lacks_memory, Call, Source, Client, Tap, Joy, Owner, NO_CLIENT, command_talk, unless_stopped, line_talk, step_of, after_call, call_if, stream_talk, end_talk, after_tap_call, tap_call_if}
 use Rattle.inp_actors.specs.declared.command.Command.TheVariants.{Stream, Stream16, Open, Next as ToNext, Skip, Follow, Force}
 use Rattle.inp_reader.specs.declared.next.Next.TheVariants.{Success, Dropped, Sync, Again, Synced, Full}
 use Rattle.inp_reader.proofs.Meets.{Meets, Any, meets-then, meets-if, Runs, ends-meet}

@@ -4,9 +4,15 @@ use Rattle.std.specs.Prelude.{is_some}
 use Rattle.std.specs.List.{Contains, slice_get, range_with_len}
 use Rattle.std.proofs.lemmas.List.Elements.{Contains-append_left, Contains-append_right, Contains-push}
 use Rattle.std.proofs.lemmas.List.FromFn.{get_or-range_with_len, length-range_with_len}
-use Rattle.inp_script.proofs.Common.{Stamped, Reply, EvdevView, ActorText, Command, Line, Role, Source as SourceRole, AreInTime, Reading, Talk, finish, Notes, Stop, Waiting, RoleState, Job, Stick, ActorView, no_stick, role_of, stick_of, End, is_command_of, is_in_range, stream_of, RecordView, IsRecord, streams_of, job_with, IsStepMade, IsNoted, Stream, Stream16, Holds, Begins, DoesCommand, DoesLine, BeginsLine, IsCommandFor, HasStream, command_talk, unless_stopped, line_talk, inject_talk, stream_numbered, stream_talk, end_talk, call_talk, Description, Joy, joystick_talk, first_of, NO_CLIENT, step_of, source_talk, call_if}
-use Rattle.inp_model.specs.declared.step.Step.TheVariants.{Close as ToClose}
-use Rattle.inp_actors.specs.declared.command.Command.TheVariants.{Open, Close, Read}
+use Rattle.inp_model.specs.Injection.{AreInTime}
+use Rattle.inp_actors.specs.Command.{is_in_range, stream_of, first_of}
+use Rattle.inp_actors.specs.Record.{streams_of}
+use Rattle.inp_script.specs.Notes.{IsNoted}
+use Rattle.inp_script.specs.DoneLine.{HasStream}
+use Rattle.inp_script.specs.Line.{stream_numbered, source_talk}
+use Rattle.inp_script.proofs.Common.{Stamped, Reply, EvdevView, ActorText, Command, Line, Role, Source as SourceRole, Reading, Talk, finish, Notes, Stop, Waiting, RoleState, Job, Stick, ActorView, no_stick, role_of, stick_of, is_command_of, RecordView, IsRecord, job_with, IsStepMade, Holds, Begins, DoesCommand, DoesLine, BeginsLine, IsCommandFor, command_talk, unless_stopped, line_talk, inject_talk, stream_talk, end_talk, call_talk, Description, Joy, joystick_talk, NO_CLIENT, step_of, call_if}
+use Rattle.inp_model.specs.declared.step.Step.TheVariants.{Close as ToClose, End}
+use Rattle.inp_actors.specs.declared.command.Command.TheVariants.{Open, Close, Read, Stream, Stream16}
 use Rattle.inp_script.specs.declared.role.state.RoleState.TheVariants.{Source}
 use Rattle.std.proofs.lemmas.Option.{same_Some, slice_get_within}
 use Rattle.inp_script.proofs.TalkCalls.{holds-nothing, holds-same, begins-same}

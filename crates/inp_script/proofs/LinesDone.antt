@@ -2,7 +2,9 @@
 use Rattle.std.proofs.Common.{◌≡◌, ℕ, List, sym, ap, subst, ◌∙◌, true, false, Some}
 use Rattle.std.specs.Prelude.{is_some, Option}
 use Rattle.std.specs.List.{slice_get}
-use Rattle.inp_script.proofs.Common.{EvdevView, Call, Line, Source, is_command_of, RecordView, IsRecord, Waiting, ActorView, Job, end_talk, DoesCommand, DoesLine, HasActor, Holds, IsCommandFor, IsLineOf, CountsTurns, GainsPlaces, StaysLegal}
+use Rattle.inp_script.specs.DoneLine.{IsLineOf}
+use Rattle.inp_script.specs.Legal.{CountsTurns, GainsPlaces, StaysLegal}
+use Rattle.inp_script.proofs.Common.{EvdevView, Call, Line, Source, is_command_of, RecordView, IsRecord, Waiting, ActorView, Job, end_talk, DoesCommand, DoesLine, HasActor, Holds, IsCommandFor}
 use Rattle.inp_script.specs.Fold.{StaysFolded}
 use Rattle.inp_script.proofs.Gains.{gains-places, stays-legal, line-tells, end-tells}
 use Rattle.inp_script.proofs.IdleTurns.{counts-turns}

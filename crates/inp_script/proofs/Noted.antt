@@ -1,7 +1,8 @@
 -- What the calls of a reader add to a sight.
 use Rattle.std.proofs.Common.{◌≡◌, List, [], ◌∷◌, ◌++◌, map, refl, sym, ap, subst, ◌∙◌, append_assoc, append-nil, Bool, true, false, if◌then◌else◌, Option, Some, None, ℕ}
 use Rattle.std.proofs.lemmas.List.{map-append}
-use Rattle.inp_script.proofs.Common.{Step, Reply, Description, EvdevView, is_again, Call, CallMade, Mode, Next, Started, Reading, start_talk, next_talk, Notes, Sight, Waiting, Holds, Begins, Job, no_stick, call_sight, made_sight, noted, stop_after_start, start_lacks_memory, job_of, joy_job, IsStartNoted, Joying, joy_start, Talk, finish, ask, LeadsTo, EndsWith, after_joy_start, start_joystick}
+use Rattle.inp_script.specs.Notes.{IsStartNoted}
+use Rattle.inp_script.proofs.Common.{Step, Reply, Description, EvdevView, is_again, Call, CallMade, Mode, Next, Started, Reading, start_talk, next_talk, Notes, Sight, Waiting, Holds, Begins, Job, no_stick, call_sight, made_sight, noted, stop_after_start, start_lacks_memory, job_of, joy_job, Joying, joy_start, Talk, finish, ask, LeadsTo, EndsWith, after_joy_start, start_joystick}
 use Rattle.inp_reader.specs.Says.{Says, kept_call, calls_kept}
 use Rattle.inp_script.specs.declared.sight.Sight.TheVariants.{Call as Called}
 use Rattle.inp_script.specs.Client.{Going, Turn, start_job, start_ends, job_after_start, unless_start_lacks, next_round, after_next, mode_of}

@@ -2,7 +2,11 @@
 use Rattle.std.proofs.Common.{◌≡◌, ◌≤◌, ◌<◌, ℕ, zero, suc, ◌+◌, ◌-◌, Bool, true, false, ◌||◌, nat_eq, List, [], ◌∷◌, ◌++◌, length, map, drop, if◌then◌else◌, Option, Some, None, refl, sym, ap, subst, ◌∙◌, arith, append_assoc, append-nil, length-append}
 use Rattle.std.proofs.lemmas.Bool.{cond_both, cond-true, cond-false}
 use Rattle.std.proofs.lemmas.Bool.Decides.{nat_tests}
-use Rattle.inp_script.proofs.Common.{Taken, Description, EvdevView, Mode, Next, Success, Dropped, Phase, Notes, Sight, Waiting, Job, job_of, noted, taken_sight, Event, AreCalls, Normal, Plain, Needed, effort, held_back, Talk, finish, and_then, LeadsTo, Took, total_effort, Shrinks}
+use Rattle.inp_reader.specs.declared.mode.Mode.TheVariants.{Normal}
+use Rattle.inp_reader.specs.Effort.{held_back}
+use Rattle.inp_script.specs.declared.sight.Sight.TheVariants.{Took}
+use Rattle.inp_script.specs.Effort.{Shrinks}
+use Rattle.inp_script.proofs.Common.{Taken, Description, EvdevView, Mode, Next, Success, Dropped, Phase, Notes, Sight, Waiting, Job, job_of, noted, taken_sight, Event, AreCalls, Plain, Needed, effort, Talk, finish, and_then, LeadsTo, total_effort}
 use Rattle.inp_recon.specs.View.{view_after_event, view_after_events}
 use Rattle.inp_recon.specs.Synchronised.{is_dropped}
 use Rattle.inp_reader.specs.Reader.{Reading, first_run, queued_run, after_run, has_loss, hand_out_event, next_talk, is_plain_phase}

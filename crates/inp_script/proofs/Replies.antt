@@ -1,7 +1,8 @@
 -- What the answers of a device have in common, of refused steps and of accepted ones.
 use Rattle.std.proofs.Common.{◌≡◌, ℕ, Bool, true, false, if◌then◌else◌, List, [], ◌∷◌, length, Some, None, refl, sym, ap, subst, ◌∙◌, inl, inr}
 use Rattle.std.proofs.lemmas.List.{length-map}
-use Rattle.inp_script.proofs.Common.{Step, Reply, Description, lacks_memory, Answer, Case, answer, answer_by, refused, first_reply, refusals, accepted, alone, taken_of, is_accepted, IsAnswer, count_taken}
+use Rattle.inp_model.specs.Reply.{Case, refused, first_reply, refusals, alone, taken_of}
+use Rattle.inp_script.proofs.Common.{Step, Reply, Description, lacks_memory, Answer, answer, answer_by, accepted, is_accepted, IsAnswer, count_taken}
 use Rattle.inp_model.specs.declared.step.Step.TheVariants.{Open, Read}
 use Rattle.inp_model.specs.declared.reply.Reply.TheVariants.{Again, Refused}
 use Rattle.inp_model.specs.declared.reply.Refusal.{Refusal}

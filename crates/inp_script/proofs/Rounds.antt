@@ -1,6 +1,8 @@
 -- The rounds of a line that hands out events, one after another.
 use Rattle.std.proofs.Common.{◌≡◌, ℕ, suc, ◌+◌, List, [], ◌++◌, refl, sym, ap, subst, arith, Bool, true, false, if◌then◌else◌, Option, Some}
-use Rattle.inp_script.proofs.Common.{Description, EvdevView, Call, Waiting, IsAdvanced, Job, Holds, Begins, HandsOut, AreCalls, Talk, finish, LeadsTo, EndsWith}
+use Rattle.inp_script.specs.Rounds.{IsAdvanced}
+use Rattle.inp_script.specs.DoneLine.{HandsOut}
+use Rattle.inp_script.proofs.Common.{Description, EvdevView, Call, Waiting, Job, Holds, Begins, AreCalls, Talk, finish, LeadsTo, EndsWith}
 use Rattle.inp_model.proofs.Leaves.{AreCalls-append}
 use Rattle.inp_reader.proofs.Talks.{LeadsTo-append, LeadsTo-and_then}
 use Rattle.inp_script.specs.Client.{Going, Turn, goes_on, ends_with, is_done, next_round, on_turn, rounds, hand_talk}

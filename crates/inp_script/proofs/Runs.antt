@@ -2,7 +2,8 @@
 use Rattle.std.proofs.Common.{◌≡◌, ℕ, suc, ◌≤◌, inl, inr, Bool, true, false, if◌then◌else◌, List, [], ◌∷◌, ◌++◌, length, refl, sym, ap, subst, ◌∙◌, arith, Some, IsTrue}
 use Rattle.std.specs.List.{slice_get}
 use Rattle.std.proofs.lemmas.Option.{slice_get_within}
-use Rattle.inp_script.proofs.Common.{Step, Reply, Description, is_accepted, EvdevView, BeginsWith, is_again, Call, HasPlace, IsLegalFrom, IsLegalRun, place_of, next_place, AreCalls, LeavesOut}
+use Rattle.inp_model.specs.Run.{IsLegalRun, next_place}
+use Rattle.inp_script.proofs.Common.{Step, Reply, Description, is_accepted, EvdevView, BeginsWith, is_again, Call, HasPlace, IsLegalFrom, place_of, AreCalls, LeavesOut}
 use Rattle.inp_model.proofs.Leaves.{HasPlace-longer, calls-legal, description-kept, seen-kept}
 
 legal-weaker : (d : Description) (h : List Step) (least lower : ℕ) (calls : List Call) → lower ≤ least → IsLegalFrom d h least calls → IsLegalFrom d h lower calls

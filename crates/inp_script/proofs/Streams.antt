@@ -1,7 +1,8 @@
 -- Injecting a stream, some events at a time, and single calls that are noted.
 use Rattle.std.proofs.Common.{◌≡◌, ℕ, suc, ◌+◌, ◌-◌, ◌<◌, ◌≤◌, nat_lt, nat_le, List, [], ◌∷◌, ◌++◌, length, refl, sym, ap, subst, Bool, true, false, if◌then◌else◌, Option, Some, arith}
 use Rattle.std.proofs.lemmas.Bool.Decides.{nat_tests}
-use Rattle.inp_script.proofs.Common.{Stamped, Step, Reply, EvdevView, Answer, Call, Reading, Notes, Holds, Begins, Job, Stick, job_of, job_with, IsStepMade, IsNoted, notes_after, AreMade, AreNoted, AreCalls, Talk, finish, LeadsTo, after_call, call_talk, call_if, stream_talk}
+use Rattle.inp_script.specs.Notes.{IsNoted, AreMade}
+use Rattle.inp_script.proofs.Common.{Stamped, Step, Reply, EvdevView, Answer, Call, Reading, Notes, Holds, Begins, Job, Stick, job_of, job_with, IsStepMade, notes_after, AreNoted, AreCalls, Talk, finish, LeadsTo, after_call, call_talk, call_if, stream_talk}
 use Rattle.inp_model.specs.Injection.{AreInTime, entered_call, full_call, calls_of}
 use Rattle.inp_model.proofs.Leaves.{AreCalls-append}
 use Rattle.inp_reader.proofs.Talks.{LeadsTo-append}

@@ -1,6 +1,7 @@
 -- Calls on an evdev that are those of a talk, or its first ones: one call, and one part of a talk after another.
 use Rattle.std.proofs.Common.{◌≡◌, [], ◌∷◌, ◌++◌, refl, subst}
-use Rattle.inp_script.proofs.Common.{Step, Answer, Holds, Begins, EvdevView, IsCall, IsStepMade, AreCalls, IsLeft, Talk, finish, ask, and_then, LeadsTo}
+use Rattle.inp_model.specs.Leaves.{IsLeft}
+use Rattle.inp_script.proofs.Common.{Step, Answer, Holds, Begins, EvdevView, IsCall, IsStepMade, AreCalls, Talk, finish, ask, and_then, LeadsTo}
 use Rattle.inp_model.proofs.Leaves.{AreCalls-append, calls-left}
 use Rattle.inp_reader.proofs.Talks.{LeadsTo-append, LeadsTo-and_then}
 

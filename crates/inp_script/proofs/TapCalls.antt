@@ -1,7 +1,9 @@
 -- What one call of a tap leaves.
 use Rattle.std.proofs.Common.{◌≡◌, ℕ, ◌*◌, ◌≤◌, List, ◌++◌, length, take, drop, map, refl, sym, ap, subst, ◌∙◌, arith, Bool, false, if◌then◌else◌, Option, Some, None, ℤ}
 use Rattle.std.proofs.lemmas.List.{take_at, length-append}
-use Rattle.inp_script.proofs.Common.{Taken, Step, Reply, past_at, Answer, place_of, View, Reading, finish, Notes, Holds, Begins, Job, no_stick, lacks_memory, sight_of_call, stop_after, EvdevView, IsCall, IsEvdevCall, event_of_taken, view_after_call, tap_client_after, after_tap_call, tap_call, unless_lacking, job_of, count_taken}
+use Rattle.inp_model.specs.Evdev.{IsEvdevCall}
+use Rattle.inp_script.specs.Line.{event_of_taken, view_after_call, tap_client_after, tap_call, unless_lacking}
+use Rattle.inp_script.proofs.Common.{Taken, Step, Reply, past_at, Answer, place_of, View, Reading, finish, Notes, Holds, Begins, Job, no_stick, lacks_memory, sight_of_call, stop_after, EvdevView, IsCall, after_tap_call, job_of, count_taken}
 use Rattle.inp_recon.specs.View.{view_after_answer, view_after_events}
 use Rattle.inp_reader.proofs.QueryAnswers.{view-answered}
 use Rattle.inp_script.specs.Tap.{IsTapCall}

@@ -3,7 +3,8 @@ use Rattle.std.proofs.Common.{◌≡◌, ℕ, suc, ◌+◌, ◌<◌, ◌≤◌, 
 use Rattle.std.proofs.lemmas.Bool.Decides.{nat_tests}
 use Rattle.std.proofs.Math.Nat.{mul-le-mul_right}
 use Rattle.std.proofs.lemmas.Bool.{cond_both}
-use Rattle.inp_script.proofs.Common.{Next, Waiting, Phase, going, turn_of, Job, Plain, IsLess, is_idle}
+use Rattle.inp_reader.specs.Effort.{IsLess, is_idle}
+use Rattle.inp_script.proofs.Common.{Next, Waiting, Phase, going, turn_of, Job, Plain}
 use Rattle.inp_reader.specs.declared.next.Next.TheVariants.{Success, Dropped, Sync, Again, Synced}
 use Rattle.inp_script.specs.declared.role.client.Progress.{Progress}
 use Rattle.inp_script.specs.declared.role.client.Turn.{Turn as KeptTurn}

@@ -3,6 +3,7 @@ ghost use Rattle.inp_script.specs.Examples.{ReadsByHand, FollowsToTheEnd, HandsO
 
 /// What the definitions of this crate compute on short records that were worked out by hand. It does nothing: its
 /// contract is the point.
+#[tactic(auto, unfolding(inp_model::proofs::Computation::computing, inp_reader::proofs::Computation::computing_reader, crate::proofs::Computation::computing_jobs, crate::proofs::Computation::computing_joysticks))]
 pub fn examples_of_jobs()
     ensures tap { ReadsByHand }
     ensures follow { FollowsToTheEnd }

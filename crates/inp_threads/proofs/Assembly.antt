@@ -10,7 +10,10 @@ use Rattle.inp_script.proofs.Common.{Description, IsDescription, ActorText, Devi
 use Rattle.inp_script.specs.Runs.{actors_of, is_on_device}
 use Rattle.inp_runs.proofs.Done.{device-promised}
 use Rattle.inp_runs.proofs.Lists.{IsAt, IsImage, eq_same, option_map-some, slice_get-filter}
-use Rattle.inp_threads.proofs.Common.{PassView, OwnsSeen, steps_among, is_step_at, step_places, HasWorked, HasOwnedLines, HasDoneLines, HasFollowed, IsDeviceDone, IsRunAsPromised, calls_at, wait_of, Waiting}
+use Rattle.inp_port.specs.Entries.{is_step_at}
+use Rattle.inp_runs.specs.Done.{HasFollowed, IsDeviceDone, calls_at}
+use Rattle.inp_runs.specs.Job.{wait_of}
+use Rattle.inp_threads.proofs.Common.{PassView, OwnsSeen, steps_among, step_places, HasWorked, HasOwnedLines, HasDoneLines, IsRunAsPromised, Waiting}
 use Rattle.inp_port.proofs.Places.{other_places-begins}
 use Rattle.inp_threads.proofs.CallsAt.{HasAllCalls, all-calls}
 use Rattle.inp_threads.proofs.Counts.{times, sum-places, HasIn, one-has, same-worker, few-numbers}

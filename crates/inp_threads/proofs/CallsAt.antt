@@ -8,7 +8,9 @@ use Rattle.std.proofs.lemmas.List.Elements.{All-nil, All-push, All-weaker}
 use Rattle.inp_recon.proofs.ReadEntries.{get-front}
 use mathlib.Core.List.{IsPrefix}
 use Rattle.inp_script.proofs.Common.{Description, UEntry, step_made, steps_in}
-use Rattle.inp_threads.proofs.Common.{PassView, steps_among, is_step_at, step_places, HasCallsAt, HasFedLines}
+use Rattle.inp_port.specs.Entries.{is_step_at}
+use Rattle.inp_threads.specs.Owner.{HasCallsAt}
+use Rattle.inp_threads.proofs.Common.{PassView, steps_among, step_places, HasFedLines}
 use Rattle.inp_turn.proofs.Places.{here-other, count-cons, count-append}
 use Rattle.inp_port.proofs.Places.{slice_get-seam, step_places-append, step_places-begins}
 use Rattle.inp_feedback.specs.declared.u_entry.UEntry.TheVariants.{Made, Feedback}

@@ -6,7 +6,8 @@ use Rattle.std.proofs.lemmas.Bool.{cases_lt}
 use Rattle.inp_turn.proofs.Places.{count-append, count-behind, count-cons, count-within}
 use Rattle.std.proofs.lemmas.Bool.Decides.{nat_tests}
 use Rattle.std.proofs.lemmas.List.Sums.{sum_by-cons}
-use Rattle.inp_script.proofs.Common.{Reply, is_accepted, Call, place_of, ActorView, own_after, places_of, sight_of_calls}
+use Rattle.inp_model.specs.Evdev.{own_after}
+use Rattle.inp_script.proofs.Common.{Reply, is_accepted, Call, place_of, ActorView, places_of, sight_of_calls}
 use Rattle.inp_runs.specs.Done.{calls_at}
 use Rattle.inp_runs.proofs.Entries.{entries, entries-cons_call}
 

@@ -6,7 +6,12 @@ use Rattle.std.proofs.lemmas.Option.{get_or_from_slice_get, slice_get_within, sl
 use Rattle.std.proofs.lemmas.Simd.{map-map}
 use mathlib.Core.List.{IsPrefix}
 use Rattle.inp_script.proofs.Common.{UEntry, step_made, Description, IsDescription, DeviceText, RecordView, IsRecord, ActorView, HasDeviceSlots, ended_of, played_of}
-use Rattle.inp_threads.proofs.Common.{UdevView, IsRunAsPromised, PassView, Ghosts, Pass, PortOf, steps_among, description_of, Worker, wait_of, IsEachAddedOnce, OwnsSeen, view_in, actor_number, HasPass, HasDoneLines, IsWorked, AreJoined, AreWorkersDone, IsSizedWorker, AreSized, ends_of_workers, own_of, ArePromised, IsPromisedOf, Waiting, Ended, DeviceEnds}
+use Rattle.inp_runs.specs.Job.{wait_of, ArePromised}
+use Rattle.inp_turn.specs.PassView.{IsEachAddedOnce}
+use Rattle.inp_threads.specs.Worker.{view_in, IsWorked}
+use Rattle.inp_threads.specs.Joined.{IsSizedWorker, AreSized, own_of}
+use Rattle.inp_threads.specs.Promise.{IsPromisedOf}
+use Rattle.inp_threads.proofs.Common.{UdevView, IsRunAsPromised, PassView, Ghosts, Pass, PortOf, steps_among, description_of, Worker, OwnsSeen, actor_number, HasPass, HasDoneLines, AreJoined, AreWorkersDone, ends_of_workers, Waiting, Ended, DeviceEnds}
 use Rattle.inp_script.specs.Runs.{actors_of}
 use Rattle.inp_threads.proofs.Assembly.{AreAllDone, HasDoneAllLines, done-promised}
 use Rattle.std.proofs.lemmas.List.{length-map}

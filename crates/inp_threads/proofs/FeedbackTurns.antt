@@ -4,8 +4,11 @@ use Rattle.std.specs.Prelude.{min}
 use Rattle.std.specs.List.{cons_option}
 use Rattle.std.proofs.lemmas.List.{append-nil, length-reverse, reverse-append}
 use Rattle.std.proofs.Math.Seq.{take-append_seam}
-use Rattle.inp_script.proofs.Common.{Description, Line, UEntry, steps_in, ActorView, written, Event, Fed, FEEDBACK_MAX}
-use Rattle.inp_threads.proofs.Common.{PassView, rooms_of, IsFedTurn, HasCallsAt, HasFedLines, Stop}
+use Rattle.inp_model.specs.Reply.{written}
+use Rattle.inp_script.proofs.Common.{Description, Line, UEntry, steps_in, ActorView, Event, Fed, FEEDBACK_MAX}
+use Rattle.inp_threads.specs.Owner.{IsFedTurn, HasCallsAt}
+use Rattle.inp_script.specs.declared.stop.Stop.{Stop}
+use Rattle.inp_threads.proofs.Common.{PassView, rooms_of, HasFedLines}
 use Rattle.inp_feedback.specs.declared.u_entry.UEntry.TheVariants.{Feedback}
 use Rattle.inp_feedback.specs.declared.fed.Fed.TheVariants.{Took, Full}
 use Rattle.inp_feedback.specs.Feeds.{Feeding, taken_count}

@@ -4,9 +4,12 @@ use Rattle.std.specs.Prelude.{slice_get}
 use Rattle.std.specs.List.{count_by}
 use Rattle.std.proofs.lemmas.List.{reverse-reverse}
 use mathlib.Core.List.{IsPrefix}
-use Rattle.inp_script.proofs.Common.{Step, Description, ActorText, Role, is_owner, RecordView, IsRecord, UEntry, step_made, ActorView, Job, first_job, BeginsWith, Call, IsLegalFrom, next_place, HasDeviceSlots, ended_of, Owner, LeadsTo, EndsWith, finish}
+use Rattle.inp_model.specs.Run.{next_place}
+use Rattle.inp_script.proofs.Common.{Step, Description, ActorText, Role, is_owner, RecordView, IsRecord, UEntry, step_made, ActorView, Job, first_job, BeginsWith, Call, IsLegalFrom, HasDeviceSlots, ended_of, Owner, LeadsTo, EndsWith, finish}
 use Rattle.inp_model.proofs.Leaves.{HasPlace-longer}
-use Rattle.inp_threads.proofs.Common.{rooms_of, PassView, OwnsSeen, steps_among, step_places, HasWorked, HasOwnedLines, HasFollowed, calls_at, is_entry_at, lines_by, lines_talk, Waiting}
+use Rattle.inp_runs.specs.Done.{HasFollowed, calls_at}
+use Rattle.inp_runs.specs.Job.{is_entry_at, lines_by, lines_talk}
+use Rattle.inp_threads.proofs.Common.{rooms_of, PassView, OwnsSeen, steps_among, step_places, HasWorked, HasOwnedLines, Waiting}
 use Rattle.inp_runs.proofs.Done.{followed-told}
 use Rattle.inp_runs.proofs.DoingAll.{no-owner}
 use Rattle.inp_runs.proofs.Entries.{told-counts}

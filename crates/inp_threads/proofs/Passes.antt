@@ -7,9 +7,14 @@ use Rattle.std.proofs.lemmas.List.Elements.{filter-append, All-nil, All-push, Al
 use Rattle.std.proofs.lemmas.List.FromFn.{length-range_with_len}
 use Rattle.std.proofs.lemmas.List.Sums.{length-filter, count_by-le-length}
 use Rattle.inp_runs.proofs.Lists.{eq_same}
-use Rattle.inp_script.proofs.Common.{UEntry, Description, ActorText, RecordView, HasActor, ActorView, is_on_device}
-use Rattle.inp_threads.proofs.Common.{UdevView, Ghosts, Pass, PassView, view_of, PortOf, IsReadyAt, description_of, Worker, whole_share, view_after_split, actor_number, IsPortOf, IsReadyOn, AreDealtUpTo, view_in, AreJoined, AreWorkersDone, own_of}
-use Rattle.inp_reader.proofs.Axes.{range-append}
+use Rattle.inp_script.specs.Runs.{is_on_device}
+use Rattle.inp_script.proofs.Common.{UEntry, Description, ActorText, RecordView, HasActor, ActorView}
+use Rattle.inp_port.specs.Port.{IsReadyAt}
+use Rattle.inp_turn.specs.PassView.{whole_share, view_after_split}
+use Rattle.inp_threads.specs.Worker.{IsPortOf, AreDealtUpTo, view_in}
+use Rattle.inp_threads.specs.Joined.{own_of}
+use Rattle.inp_threads.proofs.Common.{UdevView, Ghosts, Pass, PassView, view_of, PortOf, description_of, Worker, actor_number, IsReadyOn, AreJoined, AreWorkersDone}
+use Rattle.inp_model.proofs.Injection.{range-append}
 use Rattle.std.proofs.lemmas.Grind.{flat_map-append}
 use mathlib.Core.List.{IsPrefix}
 use Rattle.inp_turn.proofs.Prefixes.{prefix-trans}

@@ -2,8 +2,11 @@
 use Rattle.std.proofs.Common.{◌≡◌, ℕ, suc, ◌<◌, ◌≤◌, List, [], ◌∷◌, ◌++◌, length, get_or, take, drop, refl, sym, ap, subst, ◌∙◌, arith, drop_of_length-le}
 use Rattle.std.specs.Prelude.{map, All}
 use Rattle.std.proofs.lemmas.List.{append-nil, take_all}
-use Rattle.inp_script.proofs.Common.{UEntry, RecordView, source_count}
-use Rattle.inp_threads.proofs.Common.{UdevView, PortOf, Worker, AreLinesDealt, actor_number, IsReadyOn, IsReadyToWork, Waiting}
+use Rattle.inp_script.specs.DoneLine.{source_count}
+use Rattle.inp_script.proofs.Common.{UEntry, RecordView}
+use Rattle.inp_threads.specs.Lines.{AreLinesDealt}
+use Rattle.inp_threads.specs.Worker.{IsReadyToWork}
+use Rattle.inp_threads.proofs.Common.{UdevView, PortOf, Worker, actor_number, IsReadyOn, Waiting}
 
 module _ (port : PortOf UdevView UEntry) (r : RecordView) (lists : List (List ℕ)) (dealt : AreLinesDealt r lists) (device : ℕ) (waiting : Waiting) (sources : waiting.sources ≡ source_count r device) where
   pub ready-to-work : (workers : List Worker) → All (IsReadyOn port r device) workers → 1 ≤ waiting.idle

@@ -5,13 +5,21 @@ use Rattle.std.specs.Result.{is_ok}
 use Rattle.std.proofs.lemmas.List.{append-nil}
 use Rattle.std.proofs.lemmas.List.Sums.{sum_by-cons}
 use Rattle.std.proofs.lemmas.Option.{same_Some}
-use Rattle.inp_script.proofs.Common.{Step, Description, Line, Role, is_owner, RecordView, UEntry, step_made, EndsWith, HasActor, ActorView, Job, first_job, Owning, EvdevView, IsCall, TurnsRise, TurnsStand, Call, IsLegalRun, IsLegalFrom, Event, IsLeft, AreCalls, places_of, Owner, Fed, Feeding}
+use Rattle.inp_script.specs.Owner.{Owning}
+use Rattle.inp_model.specs.Evdev.{TurnsRise, TurnsStand}
+use Rattle.inp_model.specs.Run.{IsLegalRun}
+use Rattle.inp_model.specs.Leaves.{IsLeft}
+use Rattle.inp_feedback.specs.Feeds.{Feeding}
+use Rattle.inp_script.proofs.Common.{Step, Description, Line, Role, is_owner, RecordView, UEntry, step_made, EndsWith, HasActor, ActorView, Job, first_job, EvdevView, IsCall, Call, IsLegalFrom, Event, AreCalls, places_of, Owner, Fed}
 use Rattle.inp_model.specs.Step.{is_inject}
 use Rattle.inp_model.proofs.Leaves.{calls-legal, own-grown}
 use Rattle.inp_script.specs.ActorLine.{IsActedOn}
 use Rattle.inp_runs.specs.DoingAll.{ActsAll, DoesAll}
 use Rattle.inp_runs.proofs.DoingAll.{all-called, all-owned}
-use Rattle.inp_threads.proofs.Common.{Ghosts, Pass, PassView, view_of, PortOf, UdevView, rooms_of, lines_by, lines_talk, IsFedBy, HasFedLines, IsAtStart, IsFreshPass, HasPass, HasWorked, HasOwnedLines, HasDoneLines, asking_count, Waiting}
+use Rattle.inp_runs.specs.Job.{lines_by, lines_talk}
+use Rattle.inp_threads.specs.Owner.{IsFedBy}
+use Rattle.inp_threads.specs.Worker.{IsAtStart, IsFreshPass, asking_count}
+use Rattle.inp_threads.proofs.Common.{Ghosts, Pass, PassView, view_of, PortOf, UdevView, rooms_of, HasFedLines, HasPass, HasWorked, HasOwnedLines, HasDoneLines, Waiting}
 use Rattle.inp_turn.specs.Shared.{shared_id}
 use Rattle.inp_port.specs.Entries.{steps_among, step_places, other_places}
 use Rattle.inp_port.specs.Port.{IsReadyAt, description_of, told_by}

@@ -302,7 +302,7 @@ when_made words r w end p number count asked no_write =
       | inr told ↦
           let promised = told.came.promised in
           let full = asked-not_full words number count (played_by end) asked (told.came.in_order refl)
-              promised.joys_of promised.owners_of in
+          promised.joys_of promised.owners_of in
           inr (record {
             told = told;
             status = told.status ∙ ap (λ (full : Bool). if full then 6 else 0) full;

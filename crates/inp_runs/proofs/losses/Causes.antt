@@ -1,6 +1,11 @@
 -- Each loss in a queue has its cause, since none comes in a frame.
 use Rattle.std.proofs.Common.{◌≡◌, ◌⊎◌, ℕ, ℤ, Bool, true, false, if◌then◌else◌, List, [], ◌∷◌, ◌++◌, length, map, filter, nat_le, refl, sym, subst, inl, inr, Option, Some, None, option_to_list, option_map, ◌≤◌, ◌<◌, zero, suc, ◌*◌, ◌&&◌, ◌||◌, nat_eq, nat_lt, min, ap, ◌∙◌, arith, append_assoc, length-append, length-drop}
-use Rattle.inp_runs.proofs.Common.{cond_both, true≢false, eqb-true, Step, Description, doubled, ring, admits, is_call_of, is_opening, clock_of, eaten, left, Each, Each-append, Each-weaker, Each-take, Each-drop, nat_tests, Discard, Query, client_of, is_same, query_of, is_part_of}
+use Rattle.inp_model.specs.Description.{doubled, ring}
+use Rattle.inp_model.specs.Past.{admits, is_call_of, is_opening, clock_of}
+use Rattle.inp_model.specs.Left.{left}
+use Rattle.inp_recon.proofs.Each.{Each-append, Each-weaker, Each-take, Each-drop}
+use Rattle.inp_model.specs.Step.{Query, query_of, is_part_of}
+use Rattle.inp_runs.proofs.Common.{cond_both, true≢false, eqb-true, Step, Description, eaten, Each, nat_tests, client_of, is_same}
 use Rattle.inp_model.specs.declared.event.Event.{Event}
 use Rattle.inp_model.specs.RawItem.{RawItem, Occurred, Described, Cut}
 use Rattle.inp_model.specs.Event.{is_report, slot_event}
@@ -15,7 +20,7 @@ use Rattle.inp_recon.proofs.FrameEntries.{Each-left_from}
 use Rattle.inp_recon.proofs.Cuts.{NoCut, OneCut, cut_cases}
 use Rattle.std.specs.List.{slice_get}
 use Rattle.inp_model.specs.declared.clock.Clock.{Clock}
-use Rattle.inp_model.specs.declared.step.Step.TheVariants.{Open, Read, Clock as ToClock}
+use Rattle.inp_model.specs.declared.step.Step.TheVariants.{Open, Read, Clock as ToClock, Discard}
 use Rattle.inp_model.specs.Raw.{raw, raw_of_step}
 use Rattle.inp_model.proofs.Removal.{flush-length}
 use Rattle.inp_recon.proofs.QueuedValues.{put_all-append, flush-each}

@@ -1,6 +1,14 @@
 -- What a line that does not wait leaves of a job: a view of the device's size, and a sight that tells of all calls.
 use Rattle.std.proofs.Common.{◌≡◌, ℕ, Bool, List, [], ◌∷◌, ◌++◌, map, sym, ap, subst, ◌∙◌, append-nil, Option, Some, None, refl}
-use Rattle.inp_runs.proofs.Common.{filter, filter-append, cond_both, Stamped, Step, Description, Answer, answer, Command, Line, Role, IsSizedFor, view_after_answer, IsSizedFor-after_events, Mode, Success, Dropped, Sync, Started, Reading, start_talk, next_talk, is_needed, Talk, finish, and_then, Sight, Took, Made, Record, line_talk, Job, Stick, joying_of, with_joying, is_call_entry, after_call, event_of_taken, after_tap_call, call_sight, again_sight, taken_sight, sight_of_call, noted, start_lacks_memory, stop_after_start, no_calls_taken, call_kept, again_kept, lines_talk, Waiting, Meets, Any, meets-then, meets-weaker, NotedBy, meets-noted, OfJob, OfTurn, OfGoing, read_so, start_job-meets, round-meets, LineRules, line-meets}
+use Rattle.inp_recon.specs.View.{view_after_answer}
+use Rattle.inp_reader.specs.ReaderPlace.{is_needed}
+use Rattle.inp_script.specs.Job.{Stick, with_joying}
+use Rattle.inp_script.specs.Line.{event_of_taken, after_tap_call}
+use Rattle.inp_script.specs.Sight.{sight_of_call, start_lacks_memory, stop_after_start}
+use Rattle.inp_script.proofs.Told.{no_calls_taken, call_kept, again_kept}
+use Rattle.inp_reader.proofs.Meets.{meets-weaker}
+use Rattle.inp_script.proofs.LineWalk.{meets-noted, start_job-meets, round-meets}
+use Rattle.inp_runs.proofs.Common.{filter, filter-append, cond_both, Stamped, Step, Description, Answer, answer, Command, Line, Role, IsSizedFor, IsSizedFor-after_events, Mode, Success, Dropped, Sync, Started, Reading, start_talk, next_talk, Talk, finish, and_then, Sight, Took, line_talk, Job, joying_of, is_call_entry, after_call, call_sight, again_sight, taken_sight, noted, lines_talk, Waiting, Meets, Any, meets-then, NotedBy, OfJob, OfTurn, OfGoing, read_so, LineRules, line-meets}
 use Rattle.inp_reader.specs.declared.next.Next.{Next}
 use Rattle.inp_reader.specs.declared.next.Next.TheVariants.{Again}
 use Rattle.inp_reader.specs.declared.started.Started.TheVariants.{Opened, Refused}
@@ -11,7 +19,7 @@ use Rattle.inp_joy.specs.JoyRecord.{bytes_of_record}
 use Rattle.inp_joy.specs.Joy as joy
 use Rattle.inp_joy.specs.Joy.{Joying, JoyAnswer, with_reading, joy_started, joy_start, turns}
 use Rattle.inp_joy.proofs.TurnsWalk.{OfAnswer, TurnRules, turns-meets}
-use Rattle.inp_script.specs.declared.sight.Sight.TheVariants.{Again as AgainSight}
+use Rattle.inp_script.specs.declared.sight.Sight.TheVariants.{Again as AgainSight, Made, Record}
 use Rattle.inp_script.specs.Client.{job_after_start, Going, Turn, handed, one_less, is_done, turn_after, after_next, mode_of, with_sight, next_round}
 use Rattle.inp_script.specs.Joystick.{record_sight, after_joy_start, start_joystick, after_joy_answer}
 use Rattle.inp_runs.proofs.Entries.{call_entries}

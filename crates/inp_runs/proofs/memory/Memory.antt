@@ -1,11 +1,13 @@
 -- A line whose Open was refused for want of memory leaves no job.
 use Rattle.std.proofs.Common.{◌≡◌, ℕ, zero, suc, Bool, true, false, List, [], ◌∷◌, ◌++◌, length, Option, Some, None, refl, sym, ap, subst, ◌∙◌, inl, inr}
-use Rattle.inp_runs.proofs.Common.{list_any, cond_both, Stamped, Step, Inject, End, Reply, Opened, Refused, Description, is_open_step, past_at, Answer, answer, accepted, alone, is_accepted, Call, HasPlace, IsLegalFrom, place_of, next_place, Command, Stream, Stream16, Skip, Follow, Force, Line, Role, Source, Client, Tap, Joy, Owner, is_command_of, Mode, NO_CLIENT, Started, Reading, ask_each, queries, after_open, after_queries, next_talk, Talk, finish, ask, and_then, EndsWith, Asks, asks-then, Sight, Stop, Waiting, command_talk, unless_stopped, Job, joying_of, step_of, call_if, after_call, stream_numbered, source_talk, end_talk, tap_call_if, noted, call_sight, on_job, last_talk, call_lacks_memory}
+use Rattle.inp_model.specs.Reply.{alone}
+use Rattle.inp_reader.proofs.Meets.{Asks, asks-then}
+use Rattle.inp_runs.proofs.Common.{list_any, cond_both, Stamped, Step, Inject, End, Reply, Opened, Refused, Description, is_open_step, past_at, Answer, answer, accepted, is_accepted, Call, HasPlace, IsLegalFrom, place_of, next_place, Command, Stream, Stream16, Skip, Follow, Force, Line, Role, Source, Client, Tap, Joy, Owner, is_command_of, Mode, NO_CLIENT, Started, Reading, queries, next_talk, Talk, finish, ask, and_then, EndsWith, Sight, Stop, Waiting, unless_stopped, Job, joying_of, step_of, after_call, source_talk, end_talk, tap_call_if, noted, call_sight, on_job, last_talk, call_lacks_memory}
 use Rattle.inp_model.specs.declared.step.Step.TheVariants.{Open as ToOpen}
 use Rattle.inp_model.specs.declared.reply.Refusal.TheVariants.{NoMemory}
 use Rattle.inp_actors.specs.declared.command.Command.TheVariants.{Open, Read, Next}
 use Rattle.inp_reader.specs.declared.next.Next.{Next as Answered}
-use Rattle.inp_reader.specs.Reader.{start_talk}
+use Rattle.inp_reader.specs.Reader.{start_talk, ask_each, after_open, after_queries}
 use Rattle.inp_joy.specs.declared.joy_read.JoyRead.{JoyRead}
 use Rattle.inp_joy.specs.declared.joy_read.JoyRead.TheVariants.{Frame, More}
 use Rattle.inp_joy.specs.Joy.{Joying, JoyAnswer, joy_started, joy_start, turns}
@@ -13,10 +15,10 @@ use Rattle.inp_joy.proofs.TurnsWalk.{turns-ask}
 use Rattle.inp_reader.specs.Talk.{LeadsTo}
 use Rattle.inp_reader.proofs.NextWalk.{OfQueries, each-query, asks-each, next-asks}
 use Rattle.inp_script.specs.Client.{Going, Turn, goes_on, ends_with, is_done, mode_of, start_ends, start_job, after_next, next_round, on_turn, rounds, hand_talk, client_talk}
-use Rattle.inp_script.specs.DoneLine.{line_talk}
+use Rattle.inp_script.specs.DoneLine.{line_talk, command_talk}
 use Rattle.inp_script.specs.Sight as script
 use Rattle.inp_script.specs.Joystick.{Reach, handed_out, line_ends, after_joy_start, start_joystick, after_joy_answer, after_joy_read, after_turns, read_on, on_reach, read_records, joystick_talk}
-use Rattle.inp_script.specs.Line.{stream_talk}
+use Rattle.inp_script.specs.Line.{stream_talk, call_if, stream_numbered}
 use Rattle.inp_script.proofs.Replies.{answer_has}
 use Rattle.inp_runs.specs.Job.{lines_talk}
 use Rattle.inp_runs.proofs.views.Folded.{AreOfRole}

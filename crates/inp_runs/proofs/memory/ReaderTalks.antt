@@ -2,16 +2,19 @@
 -- A reader's
 -- talks leave a view of the device's size, and each answer told but Again, which ends them.
 use Rattle.std.proofs.Common.{◌≡◌, List, [], ◌∷◌, ◌++◌, ap, subst, ◌∙◌, append_assoc, append-nil, refl, true, false, sym, inl}
-use Rattle.inp_runs.proofs.Common.{filter, Result, Ok, Err, filter-append, Step, Description, Answer, answer, is_accepted, Call, Talk, EndsWith, Sight, sight_of_calls, is_call_entry, call_sight, again_sight, call_kept, Meets, Any, meets-ends, NotedBy, Reply, is_again, View, IsSizedFor, view_after_event, IsSizedFor-after_event, length-keys_after_answer, length-switches_after_answer, length-leds_after_answer, length-axes_after_answer, Mode, Started, Success, Dropped, Sync, Synced, Closed, Reading, queries, start_talk, stop_of, as_plain, after_failed_sync, next_talk, Each}
+use Rattle.inp_script.proofs.Told.{call_kept}
+use Rattle.inp_recon.proofs.Sizes.{IsSizedFor-after_event, length-keys_after_answer, length-switches_after_answer, length-leds_after_answer, length-axes_after_answer}
+use Rattle.inp_reader.specs.Reader.{as_plain, after_failed_sync}
+use Rattle.inp_runs.proofs.Common.{filter, Result, Ok, Err, filter-append, Step, Description, Answer, answer, is_accepted, Call, Talk, EndsWith, Sight, sight_of_calls, is_call_entry, call_sight, again_sight, Meets, Any, meets-ends, NotedBy, Reply, is_again, View, IsSizedFor, Mode, Started, Success, Dropped, Sync, Reading, queries, start_talk, stop_of, next_talk, Each}
 use Rattle.inp_runs.proofs.Entries.{call_entries}
 use Rattle.inp_reader.proofs.Meets.{Runs}
 use Rattle.inp_model.specs.declared.step.Step.TheVariants.{Open, Read}
 use Rattle.inp_model.specs.declared.reply.Reply.TheVariants.{Again as NothingVisible, Refused as StepRefused}
 use Rattle.inp_model.specs.declared.reply.Refusal.TheVariants.{NoDevice as Revoked, LogFull}
-use Rattle.inp_recon.specs.View.{view_after_answer}
+use Rattle.inp_recon.specs.View.{view_after_answer, view_after_event}
 use Rattle.inp_reader.specs.declared.phase.Phase.TheVariants.{Needed}
 use Rattle.inp_reader.specs.declared.next.Next.{Next}
-use Rattle.inp_reader.specs.declared.next.Next.TheVariants.{Again}
+use Rattle.inp_reader.specs.declared.next.Next.TheVariants.{Again, Synced, Closed}
 use Rattle.inp_script.specs.declared.sight.Sight.TheVariants.{Again as AgainSight}
 use Rattle.inp_reader.proofs.AgainCounts.{IsNoRead, not_again, no_read-queries, no_read-sync}
 use Rattle.inp_reader.proofs.NextWalk.{AskRules, asked-meets, sync-meets, Queried, start-meets, Renewed, NextRules, next-meets}

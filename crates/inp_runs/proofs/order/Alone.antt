@@ -1,6 +1,8 @@
 -- Calls on a device of which each place is the caller's are those of the one-thread device, one after another.
 use Rattle.std.proofs.Common.{◌≡◌, ℕ, suc, ◌+◌, ◌≤◌, Bool, true, false, if◌then◌else◌, List, [], ◌∷◌, ◌++◌, length, reverse, take, refl, sym, ap, subst, ◌∙◌, arith, inl, inr, Option, Some, None, length-append, IsTrue}
-use Rattle.inp_runs.proofs.Common.{range_with_len, length-reverse, reverse-reverse, reverse-append, append-nil, Step, Description, EvdevView, IsCall, past_at, Answer, IsAnswer, answer, is_accepted, past_after, Call, place_of, Talk, finish, ask, EndsWith, Job}
+use Rattle.std.proofs.lemmas.List.{reverse-reverse, append-nil}
+use Rattle.inp_model.specs.Evdev.{IsCall}
+use Rattle.inp_runs.proofs.Common.{range_with_len, length-reverse, reverse-append, Step, Description, EvdevView, past_at, Answer, IsAnswer, answer, is_accepted, past_after, Call, place_of, Talk, finish, ask, EndsWith, Job}
 use Rattle.std.specs.List.{slice_get}
 use Rattle.std.proofs.Math.Seq.{take-append_seam}
 use Rattle.std.proofs.lemmas.List.FromFn.{length-range_with_len}

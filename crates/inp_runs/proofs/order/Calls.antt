@@ -1,7 +1,8 @@
 -- The calls that a talk makes of the one-thread device: what they leave of its past, and at which places they
 -- are entered.
 use Rattle.std.proofs.Common.{◌≡◌, ℕ, ◌≤◌, Bool, true, false, if◌then◌else◌, List, [], ◌∷◌, ◌++◌, length, reverse, refl, sym, ap, subst, ◌∙◌, arith, inl, None, ◌+◌, ◌&&◌, nat_eq, zero-add}
-use Rattle.inp_runs.proofs.Common.{list_any, Step, Reply, Description, EvdevView, BeginsWith, agains_after, Answer, answer, refused, past_after, is_accepted, Call, IsLegalRun, place_of, Talk, finish, ask, EndsWith, IsHistory, call_lacks_memory, filter, nat_tests, Sight, sight_of_calls, is_call_entry, cond_both}
+use Rattle.inp_model.specs.Evdev.{BeginsWith, agains_after}
+use Rattle.inp_runs.proofs.Common.{list_any, Step, Reply, Description, EvdevView, Answer, answer, refused, past_after, is_accepted, Call, IsLegalRun, place_of, Talk, finish, ask, EndsWith, IsHistory, call_lacks_memory, filter, nat_tests, Sight, sight_of_calls, is_call_entry, cond_both}
 use Rattle.inp_model.specs.DeviceView.{evdev_view}
 use Rattle.inp_model.proofs.Told.{called_by, given_place}
 use Rattle.inp_model.specs.Leaves.{AreCalls}

@@ -1,14 +1,15 @@
 -- What a line of a record changes: the past of its device, the feedback calls that the device keeps, and its actor.
 use Rattle.std.proofs.Common.{◌≡◌, ℕ, zero, suc, true, List, [], ◌∷◌, ◌++◌, refl, sym, ap, subst, ◌∙◌, append-nil, Option, Some, None}
-use Rattle.inp_runs.proofs.Common.{slice_set, option_map, option_and_then_some, Stamped, Step, Description, Call, ActorText, Command, Feedback, Line, Role, Owner, is_command_of, feedback_room, RecordView, Talk, finish, EndsWith, talk_with, calls_with, Sight, Stop, Job, ActorView, sight_of_calls, Owning, after_feedback, Stage, feedback_calls_after, after_talk, unless_owner_stopped, by_command, after_line_of}
+use Rattle.std.proofs.lemmas.Option.{option_and_then_some}
+use Rattle.inp_runs.proofs.Common.{slice_set, option_map, Stamped, Step, Description, Call, ActorText, Command, Feedback, Line, Role, Owner, is_command_of, feedback_room, RecordView, Talk, finish, EndsWith, Sight, Stop, Job, ActorView, sight_of_calls, Owning, after_feedback, Stage, feedback_calls_after}
 use Rattle.std.specs.Prelude.{slice_get}
 use Rattle.inp_feedback.specs.declared.feedback_call.FeedbackCall.{FeedbackCall}
 use Rattle.inp_feedback.specs.declared.u_entry.UEntry.{UEntry}
 use Rattle.inp_feedback.specs.Feedback.{taken_by_feedback, fed}
 use Rattle.inp_feedback.specs.Kept.{kept_of}
-use Rattle.inp_reader.specs.Talk.{LeadsTo}
+use Rattle.inp_reader.specs.Talk.{LeadsTo, talk_with, calls_with}
 use Rattle.inp_script.specs.DoneLine.{line_talk}
-use Rattle.inp_runs.specs.Play.{after_line}
+use Rattle.inp_runs.specs.Play.{after_line, after_talk, unless_owner_stopped, by_command, after_line_of}
 use Rattle.inp_runs.proofs.order.Calls.{AreExact, talk_with-ends, talk_with-exact, exact-answered}
 use Rattle.inp_runs.proofs.memory.ReaderTalks.{leaves-ends}
 use Rattle.inp_runs.proofs.memory.LineTalks.{IsKept, IsKeptIfSome, leaves-line}

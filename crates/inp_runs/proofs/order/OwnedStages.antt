@@ -1,6 +1,9 @@
 -- What is so of owners between two lines.
 use Rattle.std.proofs.Common.{◌≡◌, ℕ, List, [], ◌∷◌, ◌++◌, length, refl, sym, ap, subst, ◌∙◌, arith, append-nil, append_assoc, length-set, length-append, ◌⊎◌, inl, inr, Option, Some, None}
-use Rattle.inp_runs.proofs.Common.{slice_set, cons_option, filter_map-append, same_Some, Step, Description, is_accepted, past_after, Call, ActorText, Line, Owner, feedback_room, RecordView, Stop, ActorView, Owning, after_feedback, lines_by, rooms_of, Stage, description_at, feedback_calls_after, after_lines, cond_both}
+use Rattle.std.specs.List.{cons_option}
+use Rattle.std.proofs.lemmas.List.Elements.{filter_map-append}
+use Rattle.inp_runs.specs.Play.{after_lines}
+use Rattle.inp_runs.proofs.Common.{slice_set, same_Some, Step, Description, is_accepted, past_after, Call, ActorText, Line, Owner, feedback_room, RecordView, Stop, ActorView, Owning, after_feedback, lines_by, rooms_of, Stage, description_at, feedback_calls_after, cond_both}
 use Rattle.std.specs.Prelude.{slice_get}
 use Rattle.inp_feedback.specs.declared.feedback_call.FeedbackCall.{FeedbackCall}
 use Rattle.inp_feedback.specs.Feedback.{taken_by_feedback, fed}

@@ -1,7 +1,11 @@
 -- What comes of a record keeps what is promised.
 use Rattle.std.proofs.Common.{◌≡◌, ℕ, zero, suc, ◌+◌, ◌*◌, ◌<◌, Bool, List, [], ◌∷◌, length, map, reverse, refl, sym, ap, subst, ◌∙◌, arith, Option, Some, None}
-use Rattle.inp_runs.proofs.Common.{filter, option_map, Result, Ok, Err, IfOk, enumerate_from, range_with_len, sum_by, nat_tests, length-map, length-reverse, map-id, get_or_from_slice_get, same_Some, slice_get_within, slice_get-map, cond_both, Step, Description, syn_alone, ActorText, Role, Joy, Owner, RecordView, IsRecord, IsHistory, IsSizedFor, IsSizedFor-first_view, ActorView, first_owning, lines_by, AreDescribed, ArePromised, rooms_of, HasOwned, Stage, description_at, first_actor, first_stage, after_lines, jobs_on, run_of, runs_of, IsPlay}
-use Rattle.std.specs.Prelude.{slice_get}
+use Rattle.std.specs.List.{enumerate_from}
+use Rattle.std.proofs.lemmas.List.{map-id}
+use Rattle.inp_model.specs.Description.{syn_alone}
+use Rattle.inp_runs.specs.Owner.{HasOwned}
+use Rattle.inp_runs.proofs.Common.{filter, option_map, Result, Ok, Err, range_with_len, sum_by, nat_tests, length-map, length-reverse, get_or_from_slice_get, same_Some, slice_get_within, slice_get-map, cond_both, Step, Description, ActorText, Role, Joy, Owner, RecordView, IsRecord, IsHistory, IsSizedFor, IsSizedFor-first_view, ActorView, first_owning, lines_by, rooms_of, Stage, description_at}
+use Rattle.std.specs.Prelude.{slice_get, IfOk}
 use Rattle.std.proofs.lemmas.List.FromFn.{length-enumerate_from}
 use Rattle.inp_actors.specs.declared.device_text.DeviceText.{DeviceText}
 use Rattle.inp_feedback.specs.declared.u_entry.UEntry.{UEntry}
@@ -14,8 +18,8 @@ use Rattle.inp_script.specs.declared.run.Played.{Played}
 use Rattle.inp_script.specs.Ended.{HasDeviceSlots, ended_as, played_of}
 use Rattle.inp_script.specs.Runs.{is_on_device}
 use Rattle.inp_runs.specs.Done.{IsDeviceDone, IsRunAsPromised, calls_at}
-use Rattle.inp_runs.specs.Job.{lines_talk}
-use Rattle.inp_runs.specs.Play.{play}
+use Rattle.inp_runs.specs.Job.{lines_talk, AreDescribed, ArePromised}
+use Rattle.inp_runs.specs.Play.{play, first_actor, first_stage, after_lines, jobs_on, run_of, runs_of, IsPlay}
 use Rattle.inp_runs.proofs.Done.{device-promised}
 use Rattle.inp_runs.proofs.Lists.{option_map-some, slice_get-filter, slice_get-numbered, map-filter, sum_by-kept, sum_by-none}
 use Rattle.inp_runs.proofs.Entries.{entries, below}
@@ -23,7 +27,7 @@ use Rattle.inp_runs.proofs.Played.{all-promised, on_this}
 use Rattle.inp_runs.proofs.owners.OwnerLaws.{IsToldByLines, told-nothing}
 use Rattle.inp_runs.proofs.order.OwnedStages.{AreOwned, owned-stages}
 use Rattle.inp_runs.proofs.order.Stages.{IsSoFar, IsStage, weight, number_is, stages}
-pub use Rattle.inp_runs.proofs.Lists.{there-is}
+use Rattle.inp_runs.proofs.Lists.{there-is}
 
 -- Before the first line
 

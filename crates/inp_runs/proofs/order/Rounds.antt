@@ -1,15 +1,16 @@
 -- Where so many rounds are enough for a line, more of them change nothing.
 use Rattle.std.proofs.Common.{◌≡◌, ℕ, zero, suc, ◌+◌, Bool, true, false, if◌then◌else◌, List, [], ◌∷◌, ◌++◌, refl, sym, subst, arith, add_comm, Option, Some, None, ap, ◌∙◌}
-use Rattle.inp_runs.proofs.Common.{Stamped, Description, Call, Command, Skip, Follow, Line, Role, Client, Joy, Talk, finish, and_then, EndsWith, talk_with, calls_with, Stop, Waiting, command_talk, unless_stopped, Job, ActorView, finished, split-and_then, on_job, option_map, option_and_then, Step, feedback_room, RecordView, Stage, first_stage, after_talk, by_command, after_line_of, runs_of}
+use Rattle.inp_reader.specs.Talk.{talk_with, calls_with}
+use Rattle.inp_runs.proofs.Common.{Stamped, Description, Call, Command, Skip, Follow, Line, Role, Client, Joy, Talk, finish, and_then, EndsWith, Stop, Waiting, unless_stopped, Job, ActorView, finished, split-and_then, on_job, option_map, Step, feedback_room, RecordView, Stage}
 use Rattle.inp_actors.specs.declared.command.Command.TheVariants.{Next}
 use Rattle.inp_script.specs.Client.{Going, Turn, goes_on, ends_with, is_done, next_round, on_turn, rounds, hand_talk, client_talk}
-use Rattle.inp_script.specs.DoneLine.{line_talk}
+use Rattle.inp_script.specs.DoneLine.{line_talk, command_talk}
 use Rattle.inp_script.proofs.JoyLonger.{ends-then, joystick-longer}
 use Rattle.inp_runs.specs.Job.{lines_talk}
-use Rattle.std.specs.Prelude.{slice_get}
+use Rattle.std.specs.Prelude.{slice_get, option_and_then}
 use Rattle.inp_script.specs.declared.run.Played.{Played}
 use Rattle.inp_script.specs.Ended.{played_of}
-use Rattle.inp_runs.specs.Play.{after_line, after_lines, play}
+use Rattle.inp_runs.specs.Play.{after_line, after_lines, play, first_stage, after_talk, by_command, after_line_of, runs_of}
 use Rattle.inp_runs.proofs.order.Calls.{exact-talk, talk_with-ends, talk_with-exact}
 use Rattle.inp_runs.proofs.LinesWalk.{on_job-ends}
 

@@ -1,10 +1,13 @@
 -- What is so between two lines: of each actor, of the history of each device, and of its places.
 use Rattle.std.proofs.Common.{◌≡◌, ℕ, suc, ◌+◌, ◌≤◌, Bool, true, false, if◌then◌else◌, nat_eq, List, [], ◌∷◌, ◌++◌, length, map, reverse, refl, sym, ap, subst, ◌∙◌, arith, append_assoc, append-nil, length-set, ◌||◌, ◌⊎◌, inl, inr, Option, Some, None}
-use Rattle.inp_runs.proofs.Common.{filter, slice_set, option_map, list_any, range_with_len, sum_by, slice_get-map, same_Some, option_and_then_some, Step, Description, BeginsWith, Call, IsLegalFrom, IsLegalRun, next_place, ActorText, Line, Role, is_command_of, RecordView, IsHistory, IsSizedFor, EndsWith, line_talk, Job, ActorView, first_job, sight_of_calls, is_call_entry, Owning, sight_of_calls-append, lines_by, lines_talk, call_lacks_memory, Stage, description_at, after_line}
+use Rattle.std.proofs.lemmas.Option.{option_and_then_some}
+use Rattle.inp_model.specs.Evdev.{BeginsWith}
+use Rattle.inp_script.proofs.Told.{sight_of_calls-append}
+use Rattle.inp_runs.proofs.Common.{filter, slice_set, option_map, list_any, range_with_len, sum_by, slice_get-map, same_Some, Step, Description, Call, IsLegalFrom, IsLegalRun, next_place, ActorText, Line, Role, is_command_of, RecordView, IsHistory, IsSizedFor, EndsWith, line_talk, Job, ActorView, first_job, sight_of_calls, is_call_entry, Owning, lines_by, lines_talk, call_lacks_memory, Stage, description_at}
 use Rattle.std.specs.Prelude.{slice_get}
 use Rattle.inp_script.specs.Runs.{is_on_device}
 use Rattle.inp_model.proofs.Leaves.{HasPlace-longer}
-use Rattle.inp_runs.specs.Play.{after_lines}
+use Rattle.inp_runs.specs.Play.{after_lines, after_line}
 use Rattle.inp_runs.proofs.order.Calls.{AreExact, exact-grows, exact-legal, exact-memory, exact-within, exact-history, entries-gained}
 use Rattle.inp_runs.proofs.order.LineDone.{IsLinePlayed, MayDo, line-done}
 use Rattle.inp_runs.proofs.LinesWalk.{lines_talk-more, lines_by-more, lines_by-other}

@@ -1,6 +1,7 @@
 -- What an owner was told, as its device goes on.
 use Rattle.std.proofs.Common.{◌≡◌, ℕ, Bool, true, false, if◌then◌else◌, List, [], ◌∷◌, ◌++◌, length, map, reverse, take, refl, sym, ap, subst, ◌∙◌, append_assoc, arith, inl, inr, Some, None}
-use Rattle.inp_runs.proofs.Common.{map-append, Step, Description, Stop, Owning, first_owning, stop_after_answer, after_feedback, EndsFed, false_from_ne_true, cond_both, feedback_calls_after}
+use Rattle.inp_script.specs.Owner.{stop_after_answer}
+use Rattle.inp_runs.proofs.Common.{map-append, Step, Description, Stop, Owning, first_owning, after_feedback, false_from_ne_true, cond_both, feedback_calls_after}
 use Rattle.inp_feedback.specs.declared.fed.Fed.{Fed}
 use Rattle.inp_feedback.specs.declared.fed.Fed.TheVariants.{Took, Full}
 use Rattle.inp_feedback.specs.declared.u_entry.UEntry.{UEntry}
@@ -9,7 +10,7 @@ use Rattle.inp_feedback.specs.UEntry.{steps_in}
 use Rattle.inp_feedback.specs.Feedback.{feedback_queue, is_full_of_feedback, taken_by_feedback, fed, kept_after_feedback}
 use Rattle.inp_feedback.proofs.Lists.{reverse-cons, steps_in-kept_of, kept_of-fed}
 use Rattle.inp_script.specs.declared.stop.Stop.TheVariants.{Full as FullList}
-use Rattle.inp_runs.specs.Owner.{HasFed}
+use Rattle.inp_runs.specs.Owner.{HasFed, EndsFed}
 use Rattle.inp_feedback.specs.declared.feedback_call.FeedbackCall.{FeedbackCall}
 use Rattle.inp_feedback.specs.Kept.{kept_of, StandsWithin}
 use Rattle.inp_feedback.proofs.Woven.{kept-longer}

@@ -1,7 +1,11 @@
 -- Each step of a device's history that names a client is a call of the job that opened it.
 use Rattle.std.proofs.Common.{◌≡◌, ◌⊎◌, ℕ, zero, suc, ◌+◌, ◌<◌, ◌≤◌, Bool, true, false, ◌&&◌, ◌||◌, if◌then◌else◌, nat_eq, nat_lt, List, [], ◌∷◌, ◌++◌, length, take, reverse, refl, sym, ap, subst, ◌∙◌, arith, inl, inr, Option, Some, None}
 use Rattle.std.specs.Prelude.{slice_get}
-use Rattle.inp_runs.proofs.Common.{list_any, sum_by, true≢false, cases_lt, cond-true, lt-ltb, eqb-true, and_from, and_parts, cases_Bool, reverse-append, length-reverse, length-take, take_all, slice_get_within, same_Some, get_or_from_slice_get, Stamped, Step, Reply, Opened, Refused, Description, IsDescription, past_at, opens, is_open, Answer, IsAnswer, answer_by, accepted, refused, is_accepted, is_bad_client, Call, HasPlace, IsLegalFrom, IsLegalRun, place_of, next_place, client_of, is_same, Line, Role, IsHistory, NO_CLIENT, EndsWith, Waiting, Job, JobView, first_job, sight_of_calls, tap_client_after, lines_talk, entries_at, AreTold, is_use, is_use_of}
+use Rattle.std.proofs.lemmas.Bool.{and_from, and_parts, cases_Bool}
+use Rattle.inp_model.specs.Description.{IsDescription}
+use Rattle.inp_model.specs.Past.{is_open}
+use Rattle.inp_model.specs.Reply.{is_bad_client}
+use Rattle.inp_runs.proofs.Common.{list_any, sum_by, true≢false, cases_lt, cond-true, lt-ltb, eqb-true, reverse-append, length-reverse, length-take, take_all, slice_get_within, same_Some, get_or_from_slice_get, Stamped, Step, Reply, Opened, Refused, Description, past_at, opens, Answer, IsAnswer, answer_by, accepted, refused, is_accepted, Call, HasPlace, IsLegalFrom, IsLegalRun, place_of, next_place, client_of, is_same, Line, Role, IsHistory, NO_CLIENT, EndsWith, Waiting, Job, JobView, first_job, sight_of_calls, tap_client_after, lines_talk, entries_at, AreTold, is_use, is_use_of}
 use Rattle.std.proofs.lemmas.List.Sums.{sum_by-cons, get_or-le-sum_by}
 use Rattle.inp_model.specs.declared.limits.TheConstants.{LOG_MAX}
 use Rattle.inp_model.specs.declared.step.Step.TheVariants.{Open}

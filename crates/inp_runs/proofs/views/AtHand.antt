@@ -1,10 +1,13 @@
 -- The events that a reader has at hand are the last ones that its client took, and the index of the next is its own.
 use Rattle.std.proofs.Common.{◌≡◌, ℕ, suc, ◌+◌, Bool, true, false, ◌&&◌, if◌then◌else◌, List, [], ◌∷◌, ◌++◌, length, map, refl, ap, ◌∙◌, arith, Option, Some, ◌⊎◌, inl, inr, subst, ◌-◌, drop, reverse, sym, append-nil, append_assoc, length-append, None}
-use Rattle.inp_runs.proofs.Common.{option_map, Result, Ok, Err, true≢false, false≢true, eq-eqb, Taken, Step, Reply, is_accepted, Answer, IsAnswer, answer, refused, taken_of, place_of, Call, HasPlace, next_place, client_of, is_use, is_read, is_use_of, Sight, Took, call_sight, again_sight, taken_sight, LastRead, is_read_as, read_after_entry, IsOwnEvent, reads_as, index_behind, index_in_history, ShowsAt, Description, View, Mode, Success, Dropped, Reading, stop_of, sync_talk, next_talk, EndsWith, Any, Listed, listed-run, meets-always, length-map, map-append, past_at, eaten, noted_sight}
+use Rattle.std.proofs.lemmas.Bool.{false≢true}
+use Rattle.inp_reader.specs.Reader.{sync_talk}
+use Rattle.inp_reader.proofs.Meets.{meets-always}
+use Rattle.inp_runs.proofs.Common.{option_map, Result, Ok, Err, true≢false, eq-eqb, Taken, Step, Reply, is_accepted, Answer, IsAnswer, answer, refused, taken_of, place_of, Call, HasPlace, next_place, client_of, is_use, is_read, is_use_of, Sight, Took, call_sight, again_sight, taken_sight, LastRead, is_read_as, reads_as, index_in_history, ShowsAt, Description, View, Mode, Success, Dropped, Reading, stop_of, next_talk, EndsWith, Any, Listed, listed-run, length-map, map-append, past_at, eaten, noted_sight}
 use Rattle.std.specs.Prelude.{slice_get}
 use Rattle.inp_model.specs.declared.step.Step.TheVariants.{Read}
 use Rattle.inp_model.specs.declared.reply.Reply.TheVariants.{Again as NothingVisible}
-use Rattle.inp_runs.specs.JobViews.{read_after_sight}
+use Rattle.inp_runs.specs.JobViews.{read_after_sight, read_after_entry, IsOwnEvent, index_behind}
 use Rattle.inp_reader.specs.declared.next.Next.{Next}
 use Rattle.inp_reader.proofs.NextWalk.{Renewed, NextRules, next-ends, stop-cases}
 use Rattle.inp_model.specs.Queue.{Entry, taken_by, took, took_with}

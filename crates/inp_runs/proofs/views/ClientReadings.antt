@@ -1,6 +1,7 @@
 -- Where a client's reader stands in the history of its device, and what an event shows that it hands out.
 use Rattle.std.proofs.Common.{◌≡◌, ◌<◌, ◌⊎◌, inl, inr, ℕ, suc, true, false, List, [], ◌∷◌, ◌++◌, length, map, take, reverse, refl, sym, ap, subst, ◌∙◌, arith, append-nil, Option, Some, None}
-use Rattle.inp_runs.proofs.Common.{Result, Ok, Err, true≢false, cond-true, false_from_ne_true, length-reverse, length-take, Taken, Step, Reply, Opened, Description, past_at, opens, Answer, is_accepted, refused, taken_of, Call, HasPlace, IsLegalFrom, place_of, next_place, client_of, View, eaten, IsHistory, Each, Mode, Success, Dropped, NO_CLIENT, Started, Reading, ask_each, queries, after_queries, after_open, start_stop_of, stop_of, next_talk, is_use_of, calls_since, Talk, finish, EndsWith, finished, split-and_then, Any, Sight, call_sight, noted_sight, LastRead, AgreesIn, ShowsAt, is_read_as}
+use Rattle.inp_reader.specs.ReaderPlace.{calls_since}
+use Rattle.inp_runs.proofs.Common.{Result, Ok, Err, true≢false, cond-true, false_from_ne_true, length-reverse, length-take, Taken, Step, Reply, Opened, Description, past_at, opens, Answer, is_accepted, refused, taken_of, Call, HasPlace, IsLegalFrom, place_of, next_place, client_of, View, eaten, IsHistory, Each, Mode, Success, Dropped, NO_CLIENT, Started, Reading, queries, stop_of, next_talk, is_use_of, Talk, finish, EndsWith, finished, split-and_then, Any, Sight, call_sight, noted_sight, LastRead, AgreesIn, ShowsAt, is_read_as}
 use Rattle.std.specs.Prelude.{slice_get}
 use Rattle.inp_model.specs.declared.step.Step.TheVariants.{Open}
 use Rattle.inp_model.specs.Queue.{took}
@@ -8,7 +9,7 @@ use Rattle.inp_recon.specs.ClientView.{view_at}
 use Rattle.inp_recon.proofs.ReadEntries.{HasEntry, entry-of}
 use Rattle.inp_model.proofs.Opens.{is_open-lt, opens-le}
 use Rattle.inp_reader.specs.declared.next.Next.{Next}
-use Rattle.inp_reader.specs.Reader.{start_talk}
+use Rattle.inp_reader.specs.Reader.{start_talk, ask_each, after_queries, after_open, start_stop_of}
 use Rattle.inp_reader.specs.TrueView.{index_handed_out}
 use Rattle.inp_reader.specs.Spare.{IsSpare, HasSpare}
 use Rattle.inp_reader.specs.Talk.{LeadsTo}

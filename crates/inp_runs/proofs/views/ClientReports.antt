@@ -1,7 +1,14 @@
 -- The view of a client's job at each report that it took.
 use Rattle.std.proofs.Common.{◌≡◌, ◌<◌, inl, inr, ℕ, Bool, true, false, ◌&&◌, nat_eq, List, [], ◌∷◌, ◌++◌, length, map, reverse, refl, sym, ap, subst, ◌∙◌, arith, append-nil, append_assoc, Option, Some, None}
 use Rattle.std.specs.Prelude.{slice_get}
-use Rattle.inp_runs.proofs.Common.{true≢false, cond_both, eqb-true, Taken, Step, Reply, Description, past_at, Answer, accepted, Call, HasPlace, place_of, next_place, client_of, is_same, is_open_step, Command, Close, Grab, Ungrab, Revoke, Mask, Clock, Write, SetAxis, Client, is_command_of, eaten, View, first_view, IsHistory, and-right, Mode, Success, Dropped, Sync, NO_CLIENT, Started, Reading, start_talk, next_talk, is_use, is_use_of, Talk, finish, EndsWith, Sight, Took, Made, Stop, Waiting, OfTurn, OfGoing, AfterNext, turn-of, LineRules, OfJob, is_one_call, noted-ends-meet, read_so, Job, first_job, first_reading, after_call, tap_client_after, step_of, noted, call_sight, again_sight, taken_sight, start_lacks_memory, noted_sight, LastRead, IsOwnEvent, reads_as, is_read_as, index_in_history, folded_view, sight_view, IsSeenAt, Any, Meets, Runs, meets-then}
+use Rattle.inp_actors.specs.declared.command.Command.TheVariants.{Close, Grab, Ungrab, Revoke, Mask, Clock, Write, SetAxis}
+use Rattle.inp_recon.specs.View.{first_view}
+use Rattle.inp_recon.proofs.Each.{and-right}
+use Rattle.inp_script.proofs.LineWalk.{AfterNext, turn-of, is_one_call, noted-ends-meet}
+use Rattle.inp_script.specs.Job.{first_reading}
+use Rattle.inp_script.specs.Sight.{start_lacks_memory}
+use Rattle.inp_reader.proofs.Meets.{Runs}
+use Rattle.inp_runs.proofs.Common.{true≢false, cond_both, eqb-true, Taken, Step, Reply, Description, past_at, Answer, accepted, Call, HasPlace, place_of, next_place, client_of, is_same, is_open_step, Command, Client, is_command_of, eaten, View, IsHistory, Mode, Success, Dropped, Sync, NO_CLIENT, Started, Reading, start_talk, next_talk, is_use, is_use_of, Talk, finish, EndsWith, Sight, Took, Stop, Waiting, OfTurn, OfGoing, LineRules, OfJob, read_so, Job, first_job, after_call, tap_client_after, step_of, noted, call_sight, again_sight, taken_sight, noted_sight, LastRead, reads_as, is_read_as, index_in_history, Any, Meets, meets-then}
 use Rattle.inp_model.specs.declared.event.Event.{Event}
 use Rattle.inp_model.specs.declared.event.TheConstants.{EV_SYN, SYN_DROPPED, SYN_REPORT}
 use Rattle.inp_model.specs.declared.reply.Reply.TheVariants.{Again as NothingVisible}
@@ -14,13 +21,13 @@ use Rattle.inp_recon.specs.Synchronised.{is_dropped}
 use Rattle.inp_reader.specs.TrueView.{index_handed_out}
 use Rattle.inp_reader.proofs.StandsByCalls.{client-next}
 use Rattle.inp_reader.proofs.TalksKeepSpare.{new-spare}
-use Rattle.inp_script.specs.declared.sight.Sight.TheVariants.{Again as AgainSight}
+use Rattle.inp_script.specs.declared.sight.Sight.TheVariants.{Again as AgainSight, Made}
 use Rattle.inp_script.specs.Client.{Going, Turn, start_job, start_ends, job_after_start, after_next, mode_of, with_sight, with_stop, next_round, forced}
 use Rattle.inp_script.specs.Fold.{settled, after_first_call, client_fold}
 use Rattle.inp_script.proofs.ClientFolds.{next-folds, entries_of_next, start-folds}
 use Rattle.inp_script.proofs.Folds.{ArePlaced}
 use Rattle.inp_script.proofs.LineFolds.{folds-on, IsSilent, no_events, silent-fold}
-use Rattle.inp_runs.specs.JobViews.{client_after_sight, read_after_sight}
+use Rattle.inp_runs.specs.JobViews.{client_after_sight, read_after_sight, IsOwnEvent, folded_view, sight_view, IsSeenAt}
 use Rattle.inp_runs.proofs.views.AtHand.{AreAtHand, IsRest, hand-first, hand-took, hand-index, hand-taken, taken-later, index-took, next-hand, read_after-append, read_after-took, read_after-told, unused-unread, with_handed, next-sources}
 use Rattle.inp_runs.proofs.views.ClientReadings.{IsReadingAt, NextReads, HandsAt, next-reads, start-reads, quiet-reads, quiet-hand, start-hand, legal-first}
 use Rattle.inp_runs.proofs.views.Folded.{legal-placed}

@@ -1,7 +1,11 @@
 -- Which clients the calls of a job name: each names none, or the one that the job opened last.
 use Rattle.std.proofs.Common.{◌≡◌, ◌⊎◌, ℕ, true, false, List, [], ◌∷◌, ◌++◌, refl, sym, ap, subst, ◌∙◌, inl, inr, Option, Some, None}
-use Rattle.inp_runs.proofs.Common.{Result, Ok, Err, true≢false, cond_both, same_Some, Stamped, Step, Inject, GetKeys, GetSwitches, GetLeds, GetAxis, End, Reply, Opened, Description, Answer, Call, client_of, is_open_step, Command, Tick, Inhibit, Uninhibit, Stream, Stream16, Skip, Follow, Force, Feedback, Line, Role, Source, Client, Tap, Joy, Owner, View, Each, Mode, Dropped, Started, NO_CLIENT, Reading, queries, start_talk, stop_of, next_talk, Meets, Any, Listed, meets-weaker, meets-ends, listed-run, Talk, finish, EndsWith, Sight, Waiting, Job, Stick, first_job, joying_of, step_of, after_call, source_talk, tap_client_after, tap_call_if, tap_talk, lacks_memory, NotedBy, meets-noted, note-meets, OfJob, OfTurn, OfGoing, AfterNext, read_so, is_one_call, start_job-meets, round-meets, turn-of, LineRules, line-meets, last_talk, lines_talk}
-use Rattle.inp_model.specs.declared.step.Step.TheVariants.{Open as ToOpen, Read as ToRead, Discard as ToDiscard, SyncSlots as ToSyncSlots}
+use Rattle.inp_reader.proofs.Meets.{meets-weaker}
+use Rattle.inp_script.specs.Job.{Stick}
+use Rattle.inp_script.specs.Sight.{lacks_memory}
+use Rattle.inp_script.proofs.LineWalk.{meets-noted, note-meets, AfterNext, is_one_call, start_job-meets, round-meets, turn-of}
+use Rattle.inp_runs.proofs.Common.{Result, Ok, Err, true≢false, cond_both, same_Some, Stamped, Step, Inject, GetKeys, GetSwitches, GetLeds, End, Reply, Opened, Description, Answer, Call, client_of, is_open_step, Command, Tick, Inhibit, Uninhibit, Stream, Stream16, Skip, Follow, Force, Feedback, Line, Role, Source, Client, Tap, Joy, Owner, View, Each, Mode, Dropped, Started, NO_CLIENT, Reading, queries, start_talk, stop_of, next_talk, Meets, Any, Listed, meets-ends, listed-run, Talk, finish, EndsWith, Sight, Waiting, Job, first_job, joying_of, step_of, after_call, source_talk, tap_client_after, tap_call_if, tap_talk, NotedBy, OfJob, OfTurn, OfGoing, read_so, LineRules, line-meets, last_talk, lines_talk}
+use Rattle.inp_model.specs.declared.step.Step.TheVariants.{Open as ToOpen, Read as ToRead, Discard as ToDiscard, SyncSlots as ToSyncSlots, GetAxis}
 use Rattle.inp_actors.specs.declared.command.Command.TheVariants.{Event as ToEvent, Open, Next as ToNext}
 use Rattle.inp_reader.specs.declared.next.Next.{Next}
 use Rattle.inp_reader.specs.declared.next.Next.TheVariants.{Again}

@@ -1,8 +1,10 @@
 -- At each report that a job took, its view is its client's in the history, and each loss that it took has its cause.
 use Rattle.std.proofs.Common.{◌≡◌, ◌<◌, inl, inr, ℕ, Bool, true, false, ◌||◌, List, [], ◌∷◌, ◌++◌, length, take, reverse, suc, refl, sym, ap, subst, ◌∙◌, arith, append-nil, Option, Some, None, not}
 use Rattle.std.specs.Prelude.{slice_get}
-use Rattle.inp_runs.proofs.Common.{list_any, eq-eqb, Stamped, Taken, Step, End, Opened, Description, past_at, Answer, IsAnswer, Call, IsLegalRun, place_of, HasPlace, ActorText, Command, Tick, Inhibit, Uninhibit, Stream, Stream16, Close, Line, Role, Source, Client, Tap, Joy, Owner, is_command_of, is_joy, is_owner, RecordView, IsRecord, IsHistory, Each, NO_CLIENT, is_read, Talk, finish, EndsWith, Sight, Record, Waiting, Job, JobView, first_job, joying_of, step_of, after_call, source_talk, tap_talk, Any, meets-ends, Meets, OfJob, job-ends-meet, OfGoing, line-meets, noted-ends-meet, noted_sight, lines_by, last_talk, lines_talk, AreTold, AreEventsOwn, AreReportsSeen, sight_view, IsSizedFor, IsSizedFor-first_view}
-use Rattle.inp_actors.specs.declared.command.Command.TheVariants.{Event as ToEvent}
+use Rattle.inp_script.proofs.LineWalk.{noted-ends-meet}
+use Rattle.inp_runs.specs.JobViews.{AreEventsOwn, AreReportsSeen, sight_view}
+use Rattle.inp_runs.proofs.Common.{list_any, eq-eqb, Stamped, Taken, Step, End, Opened, Description, past_at, Answer, IsAnswer, Call, IsLegalRun, place_of, HasPlace, ActorText, Command, Tick, Inhibit, Uninhibit, Stream, Stream16, Line, Role, Source, Client, Tap, Joy, Owner, is_command_of, is_joy, is_owner, RecordView, IsRecord, IsHistory, Each, NO_CLIENT, is_read, Talk, finish, EndsWith, Sight, Waiting, Job, JobView, first_job, joying_of, step_of, after_call, source_talk, tap_talk, Any, meets-ends, Meets, OfJob, job-ends-meet, OfGoing, line-meets, noted_sight, lines_by, last_talk, lines_talk, AreTold, IsSizedFor, IsSizedFor-first_view}
+use Rattle.inp_actors.specs.declared.command.Command.TheVariants.{Event as ToEvent, Close}
 use Rattle.inp_joy.specs.declared.joy_read.JoyRead.{JoyRead}
 use Rattle.inp_joy.specs.declared.joy_read.JoyRead.TheVariants.{Again as NothingToRead}
 use Rattle.inp_joy.specs.declared.joy_record.JoyRecord.{JoyRecord}
@@ -10,7 +12,7 @@ use Rattle.inp_joy.specs.JoyRecord.{bytes_of_record}
 use Rattle.inp_joy.specs.Joy.{JoyAnswer, turns}
 use Rattle.inp_reader.proofs.ClientViews.{no_read-takes}
 use Rattle.inp_reader.proofs.PastsAtCalls.{AreAllOwn}
-use Rattle.inp_script.specs.declared.sight.Sight.TheVariants.{Again as AgainSight}
+use Rattle.inp_script.specs.declared.sight.Sight.TheVariants.{Again as AgainSight, Record}
 use Rattle.inp_script.specs.DoneLine.{line_talk}
 use Rattle.inp_script.specs.Joystick.{record_sight, start_joystick, after_joy_answer, joystick_talk}
 use Rattle.inp_script.proofs.JoyTold.{starts}

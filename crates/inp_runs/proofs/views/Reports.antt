@@ -1,15 +1,23 @@
 -- What holds at each event that a sight took, and what a client took and saw where its history grows.
 use Rattle.std.proofs.Common.{◌≡◌, ◌≤◌, ◌<◌, inl, inr, ℕ, zero, suc, ◌+◌, ◌-◌, nat_eq, nat_lt, Bool, true, false, not, if◌then◌else◌, ℤ, List, [], ◌∷◌, ◌++◌, length, map, take, drop, reverse, replicate, refl, sym, ap, subst, ◌∙◌, arith, append-nil, append_assoc, take-append-drop, Option, Some, None}
 use Rattle.std.specs.Prelude.{slice_get}
-use Rattle.inp_runs.proofs.Common.{All, true≢false, cond-false, cases_lt, lt-ltb, false_from_ne_true, cond_both, cases_Bool, ext_get_or, length-replicate, length-take, nil_from_length, reverse-append, get_or-replicate, All-nil, All-head, All-tail, All-take, Taken, Step, GetKeys, GetSwitches, GetLeds, Reply, Opened, Bits, Description, has_kind, is_again, past_at, Answer, IsAnswer, answer, answer_by, accepted, refused, is_accepted, past_after, bitmap_of, code_on, Call, IsLegalFrom, HasPlace, place_of, next_place, View, IsSizedFor, key_count, code_count, with_flag, flags_after_reply, keys_after_answer, switches_after_answer, leds_after_answer, eaten, IsHistory, Each, IsSizedFor-after_events, is_use_of, taken_events, IsPlaceOf, place-least, Sight, Took, call_sight, again_sight, taken_sight, Job, after_call, noted_sight, AgreesIn, ShowsAt}
+use Rattle.std.specs.List.{All}
+use Rattle.std.proofs.lemmas.Bool.{cond-false, cases_Bool}
+use Rattle.std.proofs.lemmas.List.{ext_get_or, length-replicate, nil_from_length, get_or-replicate}
+use Rattle.std.proofs.lemmas.List.Elements.{All-nil, All-head, All-tail, All-take}
+use Rattle.inp_model.specs.Description.{has_kind}
+use Rattle.inp_model.specs.Reply.{bitmap_of, code_on}
+use Rattle.inp_reader.specs.ReaderPlace.{taken_events}
+use Rattle.inp_reader.proofs.Calls.{IsPlaceOf, place-least}
+use Rattle.inp_runs.proofs.Common.{true≢false, cases_lt, lt-ltb, false_from_ne_true, cond_both, length-take, reverse-append, Taken, Step, GetKeys, GetSwitches, GetLeds, Reply, Opened, Description, is_again, past_at, Answer, IsAnswer, answer, answer_by, accepted, refused, is_accepted, past_after, Call, IsLegalFrom, HasPlace, place_of, next_place, View, IsSizedFor, eaten, IsHistory, Each, IsSizedFor-after_events, is_use_of, Sight, Took, call_sight, again_sight, taken_sight, Job, after_call, noted_sight, AgreesIn, ShowsAt}
 use Rattle.std.proofs.lemmas.List.FromFn.{length-map-range_with_len}
 use Rattle.inp_model.specs.declared.event.Event.{Event}
 use Rattle.inp_model.specs.declared.event.TheConstants.{EV_KEY, EV_SW, EV_LED}
-use Rattle.inp_model.specs.declared.reply.Reply.TheVariants.{Again as NothingVisible}
+use Rattle.inp_model.specs.declared.reply.Reply.TheVariants.{Again as NothingVisible, Bits}
 use Rattle.inp_model.specs.Event.{is_repeat}
 use Rattle.inp_model.specs.Queue.{Entry, event_of, taken_by, took}
 use Rattle.inp_model.specs.Raw.{raw}
-use Rattle.inp_recon.specs.View.{bits_in, first_view, view_after_event, view_after_events, view_after_answer}
+use Rattle.inp_recon.specs.View.{bits_in, first_view, view_after_event, view_after_events, view_after_answer, key_count, code_count, with_flag, flags_after_reply, keys_after_answer, switches_after_answer, leds_after_answer}
 use Rattle.inp_recon.specs.ClientView.{ReadEntry, client_view, client_view_with, read_entries, read_entries_with, view_at}
 use Rattle.inp_recon.proofs.ReadEntries.{entry-before, entry-kept}
 use Rattle.inp_recon.proofs.ToldBits.{told_flag}

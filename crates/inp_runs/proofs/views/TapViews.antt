@@ -1,17 +1,27 @@
 -- At each report that a tap took, its view is its client's in the history.
 use Rattle.std.proofs.Common.{◌≡◌, ◌≤◌, ◌<◌, ◌⊎◌, inl, inr, ℕ, zero, suc, ◌+◌, ◌-◌, nat_eq, nat_lt, Bool, true, false, ◌&&◌, ◌||◌, not, ℤ, pos, List, [], ◌∷◌, ◌++◌, length, map, take, drop, reverse, refl, sym, ap, subst, ◌∙◌, arith, append-nil, append_assoc, length-append, Option, Some, None}
-use Rattle.inp_runs.proofs.Common.{slice_index_or, All, list_all, list_any, range_with_len, true≢false, false≢true, cond_both, cond-false, cond-true, and_parts, cases_lt, eqb-true, eq-eqb, lt-ltb, length-map, length-reverse, length-take, map-append, take_at, get_or_past, All-take, Taken, Step, GetKeys, GetSwitches, GetLeds, GetAxis, SyncSlots, Reply, Opened, Refused, Description, has_kind, ring, supports, is_multi_touch_code, past_at, opens, Answer, IsAnswer, answer, answer_by, accepted, refused, is_accepted, past_after, taken_of, Call, HasPlace, place_of, next_place, client_of, is_open_step, is_same, Command, Tick, Inhibit, Uninhibit, Stream, Stream16, Skip, Follow, Force, Feedback, Tap, is_command_of, View, IsSizedFor, code_count, first_view, eaten, IsHistory, and-left, and-right, Any, Meets, OfJob, IsSizedFor-after_events, IsSizedFor-after_answer, IsSizedFor-first_view, NO_CLIENT, is_use, is_use_of, is_read, taken_events, Sight, Took, Job, first_job, step_of, tap_client_after, event_of_taken, view_after_call, after_tap_call, tap_call_if, tap_talk, call_sight, again_sight, taken_sight, lacks_memory, reads_as, index_in_history, ShowsAt, IsSeenAt}
-use Rattle.std.specs.Prelude.{slice_get}
+use Rattle.std.specs.List.{All, list_all}
+use Rattle.std.proofs.lemmas.Bool.{false≢true, cond-false, and_parts}
+use Rattle.std.proofs.lemmas.List.{take_at, get_or_past}
+use Rattle.std.proofs.lemmas.List.Elements.{All-take}
+use Rattle.inp_model.specs.Description.{has_kind, ring, supports, is_multi_touch_code}
+use Rattle.inp_recon.proofs.Each.{and-left, and-right}
+use Rattle.inp_recon.proofs.Sizes.{IsSizedFor-after_answer}
+use Rattle.inp_reader.specs.ReaderPlace.{taken_events}
+use Rattle.inp_script.specs.Line.{event_of_taken, view_after_call, after_tap_call}
+use Rattle.inp_script.specs.Sight.{lacks_memory}
+use Rattle.inp_runs.proofs.Common.{list_any, range_with_len, true≢false, cond_both, cond-true, cases_lt, eqb-true, eq-eqb, lt-ltb, length-map, length-reverse, length-take, map-append, Taken, Step, GetKeys, GetSwitches, GetLeds, Reply, Opened, Refused, Description, past_at, opens, Answer, IsAnswer, answer, answer_by, accepted, refused, is_accepted, past_after, taken_of, Call, HasPlace, place_of, next_place, client_of, is_open_step, is_same, Command, Tick, Inhibit, Uninhibit, Stream, Stream16, Skip, Follow, Force, Feedback, Tap, is_command_of, View, IsSizedFor, eaten, IsHistory, Any, Meets, OfJob, IsSizedFor-after_events, IsSizedFor-first_view, NO_CLIENT, is_use, is_use_of, is_read, Sight, Took, Job, first_job, step_of, tap_client_after, tap_call_if, tap_talk, call_sight, again_sight, taken_sight, reads_as, index_in_history, ShowsAt}
+use Rattle.std.specs.Prelude.{slice_get, slice_index_or}
 use Rattle.std.proofs.Math.Bool.{and-false}
 use Rattle.inp_model.specs.declared.event.Event.{Event}
 use Rattle.inp_model.specs.declared.event.TheConstants.{EV_KEY, EV_ABS, EV_SW, EV_LED, ABS_MAX}
-use Rattle.inp_model.specs.declared.step.Step.TheVariants.{Open as ToOpen, Read}
+use Rattle.inp_model.specs.declared.step.Step.TheVariants.{Open as ToOpen, Read, GetAxis, SyncSlots}
 use Rattle.inp_model.specs.declared.reply.Reply.TheVariants.{Again as NothingVisible}
 use Rattle.inp_model.specs.declared.reply.Refusal.{Refusal}
 use Rattle.inp_model.specs.Queue.{Entry, taken_by, took, took_with}
 use Rattle.inp_model.proofs.Opens.{is_open-lt, opens-le}
 use Rattle.inp_actors.specs.declared.command.Command.TheVariants.{Event as ToEvent, Open, Next}
-use Rattle.inp_recon.specs.View.{view_after_events, view_after_answer}
+use Rattle.inp_recon.specs.View.{view_after_events, view_after_answer, code_count, first_view}
 use Rattle.inp_recon.specs.ClientView.{client_view, client_view_with, view_at}
 use Rattle.inp_recon.proofs.ReadEntries.{IsOfRead, HasEntry, of-read, entry-behind, entry-of}
 use Rattle.inp_recon.specs.Synchronised.{Part, AllKeys, AllSwitches, AllLeds, OneAxis, AllSlots, asks_for, has_asked, has_asked_where, has_axis, is_synchronised, is_start}
@@ -27,7 +37,7 @@ use Rattle.inp_reader.proofs.Supported.{events-of}
 use Rattle.inp_script.specs.declared.sight.Sight.TheVariants.{Call as CallSight}
 use Rattle.inp_script.specs.Fold.{tap_fold}
 use Rattle.inp_script.proofs.Folds.{tap_fold-append, call-folds, entries-fold, fold-taken, again_sets_nothing}
-use Rattle.inp_runs.specs.JobViews.{client_after_sight}
+use Rattle.inp_runs.specs.JobViews.{client_after_sight, IsSeenAt}
 use Rattle.inp_runs.proofs.views.AtHand.{accepted-exact, index-read, read-as}
 use Rattle.inp_runs.proofs.LinesWalk.{OfStep}
 use Rattle.inp_runs.proofs.views.Reports.{AtEach, at_each-told, Coming, Comes, shows-as, shows-later, history-at, whole-past, HasNoOthers, no-others-first, no-others-events, no-others-answer, no-others-at, agrees-had, sized-at, AreToCome, quiet-before, past-entered}

@@ -1,6 +1,9 @@
 use Rattle.std.proofs.Common.{◌≡◌, ◌≤◌, ℕ, ◌-◌, List, length, map, take, drop, sym, ap, subst, ◌∙◌, arith, inr, Some}
 use Rattle.std.specs.Prelude.{slice_get}
-use Rattle.inp_runs.proofs.Common.{length-take-le, slice_get-get_or, Stamped, Source, is_owner, RecordView, IsRecord, HasActor, ActorView}
+use Rattle.std.proofs.lemmas.List.{length-take-le}
+use Rattle.std.proofs.lemmas.Option.{slice_get-get_or}
+use Rattle.inp_script.specs.DoneLine.{HasActor}
+use Rattle.inp_runs.proofs.Common.{Stamped, Source, is_owner, RecordView, IsRecord, ActorView}
 use Rattle.inp_runs.specs.EventLines.{AreEventLines, inject_line}
 use Rattle.inp_runs.proofs.DoingAll.{acted-line, acted_on-begun, own-line}
 use Rattle.inp_runs.proofs.EventLines.{events-in_time, events-source, own-events, own-within, whole}

@@ -1,5 +1,6 @@
 use Rattle.std.proofs.Common.{◌≡◌, ℕ, ◌+◌, ap, Some, add_comm}
-use Rattle.inp_runs.proofs.Common.{RecordView, IsPlay, play}
+use Rattle.inp_runs.specs.Play.{IsPlay, play}
+use Rattle.inp_runs.proofs.Common.{RecordView}
 use Rattle.inp_script.specs.declared.run.Played.{Played}
 use Rattle.inp_runs.proofs.order.Rounds.{play-more}
 use Rattle.inp_runs.proofs.laws.at_most_one_play.Goals as goal

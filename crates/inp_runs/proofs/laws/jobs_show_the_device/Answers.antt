@@ -1,6 +1,8 @@
 -- A job's view at a report is its client's there, and so the device's.
 use Rattle.std.proofs.Common.{ℕ, Bool, false, List, reverse, ap, ◌∙◌, Option}
-use Rattle.inp_runs.proofs.Common.{slice_index_or, Taken, Step, Description, View, AgreesIn, ShowsAt, ShowsTheState}
+use Rattle.std.specs.Prelude.{slice_index_or}
+use Rattle.inp_runs.specs.JobViews.{ShowsTheState}
+use Rattle.inp_runs.proofs.Common.{Taken, Step, Description, View, AgreesIn, ShowsAt}
 use Rattle.inp_model.specs.RawItem.{RawItem}
 use Rattle.inp_recon.specs.Faithful.{IsFaithful, IsDeviceState}
 use Rattle.inp_runs.proofs.laws.jobs_show_the_device.Goals as goal

@@ -1,6 +1,7 @@
 -- The lines of an owner are feedback calls, since a record's are of the roles of their actors.
 use Rattle.std.proofs.Common.{◌≡◌, true, List, [], ◌∷◌, map, refl, ap, subst}
-use Rattle.inp_runs.proofs.Common.{cons_option, Command, Feedback, Line, Role, Owner, is_command_of, feedback_room, lines_by, rooms_of}
+use Rattle.std.specs.List.{cons_option}
+use Rattle.inp_runs.proofs.Common.{Command, Feedback, Line, Role, Owner, is_command_of, feedback_room, lines_by, rooms_of}
 use Rattle.inp_runs.proofs.views.Folded.{AreOfRole, its_lines}
 use Rattle.inp_runs.proofs.laws.owners_lines_are_calls.Goals as goal
 

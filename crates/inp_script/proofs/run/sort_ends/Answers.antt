@@ -1,5 +1,7 @@
 use Rattle.std.proofs.Common.{◌≡◌, refl, ◌∙◌, ◌∷◌, [], List, ◌++◌, ap, sym, append_assoc}
-use Rattle.inp_script.proofs.Common.{Ended, jobs_among, joys_among, owners_among, JobView, JoyJobView, OwnerView}
+use Rattle.inp_script.specs.declared.end.ended.Ended.{Ended}
+use Rattle.inp_script.specs.Ended.{jobs_among, joys_among, owners_among}
+use Rattle.inp_script.specs.Job.{JobView, JoyJobView, OwnerView}
 use Rattle.inp_script.specs.declared.end.ended.Ended.TheVariants.{Job as JobEnded, Joy as JoyEnded, Owner as OwnerEnded}
 use Rattle.inp_script.proofs.run.sort_ends.Goals as goal
 

@@ -3,7 +3,8 @@ use Rattle.std.specs.Prelude.{reverse, slice_get}
 use Rattle.std.proofs.lemmas.Option.{same_Some}
 use lib.ListN.{length-map}
 use Rattle.inp_script.proofs.Common.{Step, IsDescription, UEntry, step_made, DeviceText}
-use Rattle.inp_threads.proofs.Common.{steps_among, UdevView, IsRunAsPromised, view_of, actor_number, IsEachAddedOnce, Ended, DeviceEnds}
+use Rattle.inp_turn.specs.PassView.{IsEachAddedOnce}
+use Rattle.inp_threads.proofs.Common.{steps_among, UdevView, IsRunAsPromised, view_of, actor_number, Ended, DeviceEnds}
 use Rattle.inp_uinput.proofs.ServedEntries.{steps-reverse}
 use Rattle.inp_port.specs.Port.{description_of, start_value}
 use Rattle.inp_threads.proofs.DeviceRun.{IsLeftOf, left-promised}

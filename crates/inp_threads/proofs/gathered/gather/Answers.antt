@@ -4,7 +4,8 @@ use Rattle.std.proofs.lemmas.Iterator.Consumers.{YieldsList-turn}
 use Rattle.std.proofs.lemmas.List.{map-append}
 use Rattle.std.proofs.lemmas.List.Elements.{All-push}
 use Rattle.inp_script.proofs.Common.{ended_of}
-use Rattle.inp_threads.proofs.Common.{Ended, view_of, Worker, IsBack, IsSizedWorker, ends_of_workers}
+use Rattle.inp_threads.specs.Joined.{IsBack, IsSizedWorker}
+use Rattle.inp_threads.proofs.Common.{Ended, view_of, Worker, ends_of_workers}
 use Rattle.inp_threads.proofs.Passes.{done-more, joined-more}
 use Rattle.inp_threads.proofs.gathered.gather.Goals as goal
 

@@ -2,7 +2,9 @@ use Rattle.std.proofs.Common.{◌≡◌, ℕ, ◌<◌, List, length, get_or, sym
 use Rattle.std.proofs.lemmas.Result.{IfOk-weaker}
 use Rattle.inp_script.proofs.Common.{played_of}
 use Rattle.inp_script.specs.declared.run.Played.{Played}
-use Rattle.inp_threads.proofs.Common.{ArePromised, IsPromisedOf, DeviceEnds}
+use Rattle.inp_runs.specs.Job.{ArePromised}
+use Rattle.inp_threads.specs.Promise.{IsPromisedOf}
+use Rattle.inp_threads.proofs.Common.{DeviceEnds}
 use Rattle.inp_threads.proofs.DeviceRun.{collected}
 use Rattle.inp_threads.proofs.WorkerRuns.{changed}
 use Rattle.inp_threads.proofs.play.play_on_threads.Goals as goal

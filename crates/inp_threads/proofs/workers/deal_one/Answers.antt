@@ -1,5 +1,6 @@
 use Rattle.std.proofs.Common.{◌+◌, Some, refl, sym, ap, subst, ◌∙◌, arith, false}
-use Rattle.inp_threads.proofs.Common.{Worker, IsReadyOn, AreDealtUpTo}
+use Rattle.inp_threads.specs.Worker.{AreDealtUpTo}
+use Rattle.inp_threads.proofs.Common.{Worker, IsReadyOn}
 use Rattle.inp_threads.proofs.Passes.{dealt-few, dealt-more, its-device, its-description}
 use Rattle.inp_threads.proofs.workers.deal_one.Goals as goal
 

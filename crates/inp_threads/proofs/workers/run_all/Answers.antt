@@ -1,6 +1,7 @@
 use Rattle.std.proofs.Common.{◌≡◌, ℕ, ◌<◌, List, length, get_or, map, sym, ap, subst, ◌∙◌, arith}
 use Rattle.std.specs.Prelude.{All}
-use Rattle.inp_threads.proofs.Common.{Worker, actor_number, IsReadyOn, IsWorkedFrom}
+use Rattle.inp_threads.specs.Worker.{IsWorkedFrom}
+use Rattle.inp_threads.proofs.Common.{Worker, actor_number, IsReadyOn}
 use Rattle.inp_threads.proofs.WorkerRuns.{ready-to-work, changed, same-numbers}
 use Rattle.inp_threads.proofs.workers.run_all.Goals as goal
 

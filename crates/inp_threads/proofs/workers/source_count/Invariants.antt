@@ -1,6 +1,7 @@
 use Rattle.std.proofs.Common.{◌≡◌, ◌&&◌, nat_eq, take}
 use Rattle.std.specs.List.{count_by}
-use Rattle.inp_script.proofs.Common.{ActorText, is_source}
+use Rattle.inp_actors.specs.Command.{is_source}
+use Rattle.inp_script.proofs.Common.{ActorText}
 use Rattle.inp_threads.proofs.workers.source_count.Given as goal
 
 -- the sources so far

@@ -4,7 +4,6 @@ use Rattle.inp_joy.specs.Joy.{next_in_startup}
 use Rattle.inp_joy.specs.Kept.{kept_joying, turn_of_end, ReaderCalls, TurnEndPictures}
 use Rattle.inp_joy.proofs.ReaderCalls.{calls-none, calls-weaker}
 use Rattle.inp_joy.proofs.Outcomes.{hand_out_record-pictures, shows-pictures, startup-less}
-
 use Rattle.inp_joy.proofs.TurnEnds.{over-none, startup_over, record-pictured, turn-pictured, outcome-pictured, IsTurnPictured}
 use Rattle.inp_joy.proofs.TurnCases.{says-turn, says-startup}
 use Rattle.inp_joy.proofs.joy_state.JoyState.turn.Goals as goal

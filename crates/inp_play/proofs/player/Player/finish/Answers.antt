@@ -5,7 +5,10 @@ use Rattle.std.proofs.lemmas.Iterator.Consumers.{YieldsList-end, YieldsList-turn
 use Rattle.std.proofs.lemmas.List.{map-id}
 use Rattle.std.proofs.lemmas.Option.{slice_get_within}
 use Rattle.inp_script.proofs.Common.{ActorText, ended_of, played_of, ActorView}
-use Rattle.inp_play.proofs.Common.{runs_of, stage_of, stage_with, HasEndMore, Ended, DeviceEnds}
+use Rattle.inp_play.specs.GatheredRuns.{HasEndMore}
+use Rattle.inp_script.specs.declared.end.ended.Ended.{Ended}
+use Rattle.inp_script.specs.declared.run.DeviceEnds.{DeviceEnds}
+use Rattle.inp_play.proofs.Common.{runs_of, stage_of, stage_with}
 use Rattle.inp_play.proofs.Gathered.{IsNext, is_next, next-device, no_ends, one_more_end}
 use Rattle.inp_play.proofs.player.Player.finish.Goals as goal
 

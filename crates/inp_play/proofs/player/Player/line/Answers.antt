@@ -5,7 +5,8 @@ use Rattle.std.proofs.lemmas.Result.{on_ok_weaker}
 use Rattle.inp_model.specs.declared.no_memory.NoMemory.{NoMemory}
 use Rattle.inp_script.proofs.Common.{ActorText, Line, RecordView, IsRecord, ActorView}
 use Rattle.inp_script.specs.ActorLine.{Acts, ActsLine}
-use Rattle.inp_play.proofs.Common.{UdevView, owned_view, Player, stage_of, stage_with, HasDevices, HasActors}
+use Rattle.inp_uinput.specs.UdevView.{owned_view}
+use Rattle.inp_play.proofs.Common.{UdevView, Player, stage_of, stage_with, HasDevices, HasActors}
 use Rattle.inp_uinput.specs.OwnedFeeds.{IsFeedbackOf}
 use Rattle.inp_play.proofs.PlayerLines.{IsFound, found-line, found-description, same_item, act_does, act_described, devices_stay, actors_stay}
 use Rattle.inp_play.proofs.PlayerSteps.{IsDone, found_by, one-line}

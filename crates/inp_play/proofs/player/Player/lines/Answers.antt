@@ -3,7 +3,8 @@ use Rattle.std.specs.Prelude.{slice_set}
 use Rattle.std.proofs.lemmas.List.{take_all, length-drop, length-take-le}
 use Rattle.inp_script.proofs.Common.{Stamped, ActorText, Line, Source, RecordView, Holds, inject_talk, ActorView}
 use Rattle.inp_model.proofs.Leaves.{description-kept}
-use Rattle.inp_play.proofs.Common.{UdevView, owned_view, Player, stage_of, stage_with, HasDevices, HasActors, inject_line, after_lines}
+use Rattle.inp_uinput.specs.UdevView.{owned_view}
+use Rattle.inp_play.proofs.Common.{UdevView, Player, stage_of, stage_with, HasDevices, HasActors, inject_line, after_lines}
 use Rattle.inp_play.proofs.PlayerLines.{IsFound, found-same_role, inject_does, devices_stay, actors_stay}
 use Rattle.inp_play.proofs.PlayerSteps.{IsDone, found_by}
 use Rattle.inp_play.proofs.RunLines.{AreInjects, injects-in_time, injects-source}

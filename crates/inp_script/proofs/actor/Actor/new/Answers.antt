@@ -1,6 +1,8 @@
 use Rattle.std.proofs.Common.{◌≡◌, ◌∙◌, sym, ap, [], List}
 use Rattle.std.specs.Prelude.{None}
-use Rattle.inp_script.proofs.Common.{Description, Reading, Role, RoleState, Sight, Job, Stick, first_job, first_reading, stick_of, role_description, job_in, role_of}
+use Rattle.inp_script.specs.Job.{first_reading}
+use Rattle.inp_script.specs.RoleState.{role_description}
+use Rattle.inp_script.proofs.Common.{Description, Reading, Role, RoleState, Sight, Job, Stick, first_job, stick_of, job_in, role_of}
 use Rattle.inp_script.proofs.LineFolds.{is_folded-first}
 use Rattle.inp_script.proofs.actor.Actor.new.Goals as goal
 

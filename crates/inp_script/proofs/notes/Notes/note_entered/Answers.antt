@@ -1,7 +1,8 @@
 use Rattle.std.proofs.Common.{get_or, refl, ap, ◌∙◌, arith, List}
 use Rattle.std.specs.Prelude.{None}
 use Rattle.std.proofs.lemmas.List.{take_all}
-use Rattle.inp_script.proofs.Common.{Stamped, Notes, Sight, notes_after, entered_calls}
+use Rattle.inp_script.specs.Notes.{entered_calls}
+use Rattle.inp_script.proofs.Common.{Stamped, Notes, Sight, notes_after}
 use Rattle.inp_script.proofs.Batches.{no_stamped, entered-more}
 use Rattle.inp_script.proofs.notes.Notes.note_entered.Goals as goal
 

@@ -1,7 +1,9 @@
 use Rattle.std.proofs.Common.{◌≡◌, ℕ, subst}
 use Rattle.std.specs.Prelude.{IfSome, IfNone, Option}
 use Rattle.std.proofs.lemmas.Result.{IfOk-weaker}
-use Rattle.inp_script.proofs.Common.{EvdevView, Notes, Begins, going, turn_of, job_of, ReaderView, rounds}
+use Rattle.inp_reader.specs.Reader.{ReaderView}
+use Rattle.inp_script.specs.Client.{rounds}
+use Rattle.inp_script.proofs.Common.{EvdevView, Notes, Begins, going, turn_of, job_of}
 use Rattle.inp_script.specs.declared.role.client.Turn.{Turn}
 use Rattle.inp_script.specs.Rounds.{HandsRun, IsAdvanced}
 use Rattle.inp_script.proofs.TalkCalls.{begins-none}

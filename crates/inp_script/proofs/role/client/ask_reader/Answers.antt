@@ -1,6 +1,8 @@
 use Rattle.std.proofs.Common.{◌≡◌, ◌∙◌, ap, subst, ℕ, List, map, ◌++◌, false}
 use Rattle.std.proofs.lemmas.Result.{IfOk-weaker}
-use Rattle.inp_script.proofs.Common.{Description, EvdevView, CallMade, Mode, Phase, Reading, next_talk, mode_of, turn_of, job_of, made_sight, effort, is_idle, total_effort, Shrinks}
+use Rattle.inp_reader.specs.Effort.{is_idle}
+use Rattle.inp_script.specs.Effort.{Shrinks}
+use Rattle.inp_script.proofs.Common.{Description, EvdevView, CallMade, Mode, Phase, Reading, next_talk, mode_of, turn_of, job_of, made_sight, effort, total_effort}
 use Rattle.inp_reader.specs.Says.{Says}
 use Rattle.inp_script.specs.declared.role.client.Turn.{Turn}
 use Rattle.inp_script.proofs.Noted.{round-noted, round-begun}

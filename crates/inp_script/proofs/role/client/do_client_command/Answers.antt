@@ -1,6 +1,8 @@
 use Rattle.std.proofs.Common.{◌≡◌, ◌∙◌, sym, ap}
 use Rattle.std.specs.Prelude.{Some}
-use Rattle.inp_script.proofs.Common.{Command, finish, job_of, Reading, ReaderView, with_sync_needed, client_talk}
+use Rattle.inp_reader.specs.Reader.{ReaderView, with_sync_needed}
+use Rattle.inp_script.specs.Client.{client_talk}
+use Rattle.inp_script.proofs.Common.{Command, finish, job_of, Reading}
 use Rattle.inp_script.proofs.TalkCalls.{holds-nothing, begins-none}
 use Rattle.inp_script.proofs.role.client.do_client_command.Goals as goal
 

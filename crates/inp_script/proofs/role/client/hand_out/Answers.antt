@@ -1,5 +1,6 @@
 use Rattle.std.proofs.Common.{◌∙◌, sym, subst, refl, arith}
-use Rattle.inp_script.proofs.Common.{Description, IsAdvanced, job_of}
+use Rattle.inp_script.specs.Rounds.{IsAdvanced}
+use Rattle.inp_script.proofs.Common.{Description, job_of}
 use Rattle.inp_model.proofs.Leaves.{description-kept}
 use Rattle.inp_script.specs.declared.role.client.Turn.{Turn}
 use Rattle.inp_script.specs.Progress.{going, turn_of, IsPatient}

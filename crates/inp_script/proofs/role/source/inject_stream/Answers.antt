@@ -1,7 +1,8 @@
 use Rattle.std.proofs.Common.{sym, subst, arith}
 use Rattle.std.proofs.lemmas.Bool.Decides.{nat_tests}
 use Rattle.std.proofs.lemmas.List.{nil_from_length}
-use Rattle.inp_script.proofs.Common.{AreInTime, AreNoted}
+use Rattle.inp_model.specs.Injection.{AreInTime}
+use Rattle.inp_script.proofs.Common.{AreNoted}
 use Rattle.inp_script.proofs.Batches.{take-in_time, drop-in_time}
 use Rattle.inp_script.proofs.Streams.{injected-none, injected-more, injected-refused, injected-so_far, injected-begun, injected-all}
 use Rattle.inp_script.proofs.role.source.inject_stream.Goals as goal

@@ -1,6 +1,7 @@
 use Rattle.std.proofs.Common.{Some, sym, ap, subst, ◌∙◌}
 use Rattle.inp_script.proofs.Common.{HasActor, ActorView}
-use Rattle.inp_threads.proofs.Common.{view_of, description_of, IsFreshPass, IsAtStart, HasPass, HasDoneLines}
+use Rattle.inp_threads.specs.Worker.{IsFreshPass, IsAtStart}
+use Rattle.inp_threads.proofs.Common.{view_of, description_of, HasPass, HasDoneLines}
 use Rattle.inp_threads.proofs.WorkerThread.{worked-back, worked-done, has_actor-still, on-ok}
 use Rattle.inp_threads.proofs.worker.Worker.work_by.Goals as goal
 

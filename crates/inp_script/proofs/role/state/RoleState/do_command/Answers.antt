@@ -1,7 +1,8 @@
 use Rattle.std.proofs.Common.{sym, subst, ap}
 use Rattle.std.specs.Prelude.{Some}
 use Rattle.std.proofs.lemmas.Result.{on_ok_weaker}
-use Rattle.inp_script.proofs.Common.{RoleState, Begins, Holds, command_talk, job_with, role_of, role_description, role_reading, stick_of, job_in}
+use Rattle.inp_script.specs.RoleState.{role_description}
+use Rattle.inp_script.proofs.Common.{RoleState, Begins, Holds, command_talk, job_with, role_of, role_reading, stick_of, job_in}
 use Rattle.inp_script.proofs.TalkCalls.{holds-nothing, begins-none}
 use Rattle.inp_script.proofs.role.state.RoleState.do_command.Goals as goal
 
