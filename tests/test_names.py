@@ -28,6 +28,9 @@ CITED_HERE = re.compile(r"\(\"([A-Z][^\"]+)\"(?: below)?\)")
 QUOTED_CODE = re.compile(r"From\s`([^`]+)`,[^:]*:\n\n```rust\n(.*?)^```$", re.M | re.S)
 # `name`, or several, in a file of proofs or definitions, maybe of another crate.
 LEMMAS = re.compile(r"((?:`[\w-]+`,?\s+)+)(?:in\s+|of\s+|\(|)`(?:(inp_\w+)/)?(proofs|specs)/(\w+)\.antt`")
+# What a file of proofs hands on, and what a file takes from one that does.
+HANDED_ON = re.compile(r"^(?:unfoldable )?pub use Rattle\.[\w.]+\.\{(.*)\}$", re.M)
+FROM_COMMON = re.compile(r"^use Rattle\.(\w+)\.proofs\.Common\.\{(.*)\}$", re.M)
 # A row of a table of crates.
 CRATE_ROW = re.compile(r"^\| `(inp_\w+)` \| (.*) \|$", re.M)
 COMMENTED = re.compile(r"^\s*(?:--|//[/!]?)(?: (.*))?$", re.M)
@@ -259,6 +262,48 @@ def table(page, heading):
 def anchor(name):
     """How a link within a page names a section."""
     return re.sub(r"[^a-z0-9 -]", "", name.lower()).replace(" ", "-")
+
+
+def names_of(braces):
+    """The names that an import brings in, by those that they have there."""
+    return [name.split(" as ")[-1].strip() for name in braces.split(",") if name.strip()]
+
+
+def takers(commons, crates):
+    """How many files of proofs take each name from a file of common words: (crate, name) -> how many."""
+    counts = {(crate, name): 0 for crate, text in commons.items() for braces in HANDED_ON.findall(text) for name in names_of(braces)}
+    for text in crates:
+        for crate, braces in FROM_COMMON.findall(text):
+            if crate not in commons:
+                continue
+            for name in braces.split(","):
+                counts[crate, name.split(" as ")[0].strip()] += 1
+    return counts
+
+
+class CommonWords(unittest.TestCase):
+    """A word has one path; only `proofs/Common.antt` of a crate hands words on, as that of the toolchain's std does."""
+
+    def setUp(self):
+        self.proofs = {path: path.read_text() for path in TOP.glob("crates/*/proofs/**/*.antt")}
+
+    def test_each_is_taken_by_three_files(self):
+        commons = {path.parent.parent.name: text for path, text in self.proofs.items() if path.name == "Common.antt"}
+        self.assertEqual([], [word for word, count in takers(commons, self.proofs.values()).items() if count < 3])
+
+    def test_nothing_else_hands_words_on(self):
+        others = [path for path, text in self.proofs.items() if path.name != "Common.antt" and HANDED_ON.search(text)]
+        self.assertEqual([], others)
+        for path, text in self.proofs.items():
+            if path.name == "Common.antt":
+                lines = [line for line in text.splitlines() if line and not line.startswith("--")]
+                self.assertEqual([], [line for line in lines if not HANDED_ON.match(line)], path)
+
+    def test_what_it_finds(self):
+        common = "pub use Rattle.inp_a.specs.X.{one, two as three}\nunfoldable pub use Rattle.inp_a.specs.Y.{four}\n"
+        files = ["use Rattle.inp_b.proofs.Common.{one, three as other}\n", "use Rattle.inp_b.proofs.Common.{one}\n"]
+        counts = {("inp_b", "one"): 2, ("inp_b", "three"): 1, ("inp_b", "four"): 0}
+        self.assertEqual(counts, takers({"inp_b": common}, files))
 
 
 class Names(unittest.TestCase):

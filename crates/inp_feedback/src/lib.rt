@@ -13,7 +13,7 @@
 //!
 //! For the crates above it is proved that a kept list is that of its own steps and calls (`proofs/Woven.antt`). No more
 //! than 15 events wait, so that more room takes no more (`proofs/Few.antt`), and the numbers of the calls tell the
-//! calls (`proofs/Numbers.antt`).
+//! calls (`proofs/Woven.antt`).
 //!
 //! [`laws`] has what waits where no feedback call was made yet: the last 15 of all that was sent. [`examples`] shows
 //! what is sent and taken on short lists, among them an autorepeat, an inhibition, an open batch, settings, small
