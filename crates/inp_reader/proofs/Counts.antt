@@ -5,7 +5,6 @@ use Rattle.std.proofs.lemmas.List.{length-map}
 use Rattle.std.proofs.lemmas.List.Elements.{filter-append}
 use Rattle.std.proofs.lemmas.List.FromFn.{length-range_with_len}
 use Rattle.std.proofs.lemmas.List.Sums.{length-filter, count_by-le-length}
-use Rattle.inp_bits.proofs.Indices.{filter_none}
 use Rattle.inp_model.proofs.Injection.{range-append}
 use Rattle.inp_model.specs.Event.{slot_event}
 use Rattle.std.proofs.lemmas.Bool.{false_from_ne_true, cond_both, true_from_ne_false, true≢false}
@@ -109,6 +108,15 @@ length-classes old new =
 
 length-bit_changes : (kind count : ℕ) (old new : List Bool) → length (bit_changes kind count old new) ≤ count
 length-bit_changes kind count old new = omega (arith, length-map (where_below count (bits_differ_at old new)) (bit_event kind new), length-where_below count (bits_differ_at old new))
+
+-- where no number of a range passes, none is kept
+filter_none : (p : ℕ → Bool) (a n : ℕ) → ((k : ℕ) → a ≤ k → k < a + n → p k ≡ false)
+    → filter p (range_with_len a n) ≡ []
+filter_none p a zero h = refl
+filter_none p a (suc n) h =
+    let rest : List ℕ = filter p (range_with_len (a + 1) n) in
+    ap (λ (b : Bool). cond b (a ∷ rest) rest) (h a (omega arith) (omega arith))
+    ∙ filter_none p (a + 1) n (λ k l m. h k (omega arith) (omega arith))
 
 -- of a range of axes without its middle
 length-axis_changes_by : (first same last : ℕ) (old new : List ℤ) → ((k : ℕ) → first ≤ k → k < first + same → differs_at old new k ≡ false)
