@@ -4,10 +4,11 @@ import os
 import pty
 import shutil
 import subprocess
+import unittest.mock
 
 from desk_cases import PROGRAM, TOOLS, TOP, DeskCase, needs_program
 from desk.building import needed_crates
-from desk.unproved import file_of
+from desk.unproved import Second, file_of
 
 # A toolchain that says what it was asked for, and builds programs that say their words.
 TOOLCHAIN = """#!/bin/sh
@@ -141,6 +142,17 @@ class Inputplay(TreeCase):
         # with other words the toolchain plays
         self.run_tree("bin/inputplay", "--unproved", "--threads", "x.rec")
         self.assertEqual([f"inp_main: try --data x.rec={self.folder}/x.rec -- --threads ./x.rec"], self.asked_for())
+
+    def test_broken_second_program(self):
+        """It is told by its own name, whatever INPUTPLAY names."""
+        model = self.tree / "bench" / "model"
+        model.mkdir(parents=True)
+        (model / "outcome.py").write_text("import sys\nsys.exit(1)\n")
+        (self.folder / "x.rec").write_text("inputrecord 1\ndevice d\nend\n")
+        told = "inputplay: the second program (bench/model) is not inputplay, or is broken: it wrote nothing"
+        self.assertEqual((2, "", [told]), self.run_tree("bin/inputplay", "--unproved", "x.rec"))
+        with unittest.mock.patch.dict(os.environ, {"INPUTPLAY": "another"}):
+            self.assertEqual("the second program (bench/model)", Second().who())
 
     def test_help(self):
         status, written, _ = self.run_tree("bin/inputplay", "--help")

@@ -105,6 +105,8 @@ class Player:
         """The program's name, where it is to be told that something is wrong with it."""
         if self.by_toolchain:
             return "the toolchain (rt)"
+        if self.by_second:
+            return self.name
         return f"{self.name}, which INPUTPLAY names," if os.environ.get("INPUTPLAY") else self.name
 
     def lines_beside(self):

@@ -60,4 +60,5 @@ def play(words):
     process = player.start(path or "", folder_of(path or "record"), flags)
     written, _ = process.communicate()
     status = player.status(process)
+    player.check_begin(written[:64], path or "")
     return write_bytes("inputplay", written) or status
