@@ -16,9 +16,9 @@ use Rattle.inp_client.specs.Client.{ClientView, new_client}
 use Rattle.inp_client.specs.Clients.{distinct}
 use Rattle.inp_client.specs.Member.{Member, client_in, numbers_in, HasFewer}
 use Rattle.inp_client.specs.Locations.{client_at, clients_in}
-use Rattle.inp_client.specs.Kept.{kept_view, AreKept}
+use Rattle.inp_client.specs.Kept.{kept_view}
 use Rattle.inp_client.specs.Numbers.{stored_of, loses, admitted_numbers, IsPutBehind, IsStoredOnce}
-use Rattle.inp_client.specs.Offered.{IsOffered, after_frame, seen_at, ring_at}
+use Rattle.inp_client.specs.Offered.{IsOffered, seen_at, ring_at}
 use Rattle.inp_client.proofs.CellCounts.{distinct_few, distinct_there, times-numbers_in}
 use Rattle.inp_client.proofs.Numbers.{stored_few}
 use Rattle.inp_client.proofs.OfferedCells.{seen_is}
@@ -81,20 +81,6 @@ module _ {f : Frame} (k : Inside) (slab : Slab Member) (store : StoreView) (is :
 
   client_is : (i : ℕ) → i < length k.locations.items → get_or (kept_view k).list i (new_client 0 0) ≡ seen_at k.store k.locations.items k.slab i
   client_is i in_i = seen_is k.store k.locations.items k.slab i in_i
-
-  pub kept_after_offer : AreKept k → AreKept next
-  kept_after_offer kept = record {
-    located = is.shared.located;
-    few = kept.few;
-    slab_room = omega (arith, kept.slab_room, is.capacity);
-    location_room = kept.location_room;
-    stored = is.shared.stored;
-    none_idle = is.shared.none_idle;
-    counted = kept.counted ∙ sym is.wanted;
-  }
-
-  pub list_after_offer : (kept_view next).list ≡ map (after_frame f) (kept_view k).list
-  list_after_offer = is.clients
 
   pub once_after_offer : IsStoredOnce f.events.now f.moment f.place f.holder (kept_view k) (kept_view next)
   once_after_offer = record {

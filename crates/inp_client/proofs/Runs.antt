@@ -2,7 +2,7 @@
 use Rattle.std.proofs.Common.{◌≡◌, ◌≢◌, ◌≤◌, ◌<◌, ℕ, suc, ◌+◌, Bool, true, false, ◌&&◌, ◌||◌, not, if◌then◌else◌, nat_lt, List, [], ◌∷◌, ◌++◌, length, map, take, get_or, Option, Some, None, refl, sym, ap, ◌∙◌, subst, inl, inr, arith}
 use Rattle.std.specs.Prelude.{filter, sum_by, All}
 use Rattle.std.proofs.lemmas.Bool.{false≢true, cond_both, cases_lt, cond-true, cond-false, lt-ltb, le-ltb}
-use Rattle.std.proofs.lemmas.List.{take_more, length-map, length_push, length-append, get_or-map, append_assoc, append-nil, map_push, map-append}
+use Rattle.std.proofs.lemmas.List.{take_more, take_all, length-map, length_push, length-append, get_or-map, append_assoc, append-nil, map_push, map-append}
 use Rattle.std.proofs.lemmas.List.Sums.{sum_by-cons, sum_by-le, get_or-le-sum_by, count_by_more_no, count_by_more_yes}
 use Rattle.std.proofs.lemmas.List.Elements.{All-map, All-from_get_or, All-get_or, All-append, All-push}
 use Rattle.slab.specs.Slab.{Slab, get, with_value}
@@ -13,7 +13,7 @@ use Rattle.inp_model.specs.Queue.{is_empty, ends_in_report, put, put_all}
 use Rattle.inp_ring.specs.declared.cell.Cell.{Cell}
 use Rattle.inp_ring.specs.declared.cell.Held.{Held}
 use Rattle.inp_ring.specs.Store.{StoreView, held_under, held_cell, holders, holders_of, cell_count, held_by, event_of_cell, dropped_cell, IsIdleSlot, IsPut}
-use Rattle.inp_ring.specs.Ring.{times, cell_at, some_cell, AreFit, AreDifferent, IsRing}
+use Rattle.inp_ring.specs.Ring.{times, cell_at, some_cell, queue_in, AreFit, AreDifferent, IsRing}
 use Rattle.inp_ring.proofs.Times.{at_each, times-append, times_push, once_same, once_other, AreDifferent_push}
 use Rattle.inp_ring.proofs.Moves.{idle_none}
 use Rattle.inp_ring.proofs.Rings.{queue_stays}
@@ -24,7 +24,7 @@ use Rattle.inp_client.specs.Client.{ClientView, new_client, with_events, is_offe
 use Rattle.inp_client.specs.Member.{Member, ring_of, client_in, cells_in, times_in, wanted, after_event, AreStored}
 use Rattle.inp_client.specs.Numbers.{loses, admitted_numbers, IsPutBehind}
 use Rattle.inp_client.specs.Locations.{client_at, clients_in, AreLocated}
-use Rattle.inp_client.specs.Offered.{AreShared, FitsInOneRun, AreAdded, IsOffered, TakesFrame, cells_of, takers_in, with_run, are_reports_apart, member_at, seen_at, ring_at}
+use Rattle.inp_client.specs.Offered.{AreShared, FitsInOneRun, IsOffered, TakesFrame, takers_in, with_run, are_reports_apart, member_at, seen_at, ring_at}
 use Rattle.inp_client.proofs.MaskBits.{admits_of-full_masks}
 use Rattle.inp_client.proofs.Lists.{flag_other, map_over}
 use Rattle.inp_client.proofs.Numbers.{after_event-cases, put_behind, put_same, admitted_all}
@@ -115,6 +115,20 @@ loses_none (e ∷ frame) now place holder c not_to =
 
 -- Cells that are added one by one
 
+-- the cells of a frame's events
+abbrev pub cells_of : Frame → List Cell
+cells_of f = map (cell_of_event f.moment f.place) f.events.now
+
+-- cells were added, each with so many holders, under numbers that had no cell
+pub record AreAdded (old new : StoreView) (cells : List Cell) (count : ℕ) (numbers : List ℕ) : Type 0 where
+  pub long : length numbers ≡ length cells
+  pub fresh : (n : ℕ) → 1 ≤ times n numbers → held_under old n ≡ None
+  pub different : AreDifferent numbers
+  pub there : queue_in new numbers ≡ cells
+  pub held : (n : ℕ) → 1 ≤ times n numbers → holders new n ≡ count
+  pub others : (n : ℕ) → times n numbers ≡ 0 → held_under new n ≡ held_under old n
+  pub room : cell_count new + new.spare ≡ cell_count old + old.spare
+
 pub added_none : (s : StoreView) (count : ℕ) → AreAdded s s [] count []
 added_none s count = record {
   long = refl;
@@ -153,6 +167,13 @@ added_more {first} {s} {cells} {count} {numbers} to some x cell new none put roo
 
     apart : (n : ℕ) → 1 ≤ times n numbers → n ≢ x
     apart n there e = omega (arith, there, absent, ap (λ (k : ℕ). times k numbers) e)
+
+-- for each event of a frame
+pub added_all : {first s : StoreView} {count : ℕ} (f : Frame) (at : ℕ) (numbers : List ℕ) → at ≡ length f.events.now → AreAdded first s (map (cell_of_event f.moment f.place) (take at f.events.now)) count (take at numbers)
+    → AreAdded first s (cells_of f) count (take (length f.events.now) numbers)
+added_all {first} {s} {count} f at numbers all to =
+    let P : List Event → ℕ → Type 0 = λ es n. AreAdded first s (map (cell_of_event f.moment f.place) es) count (take n numbers) in
+    subst (P f.events.now) all (subst (λ (es : List Event). P es at) (take_all at f.events.now (omega (arith, all))) to)
 
 -- Numbers that are put into one ring after the other
 

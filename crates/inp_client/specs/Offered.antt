@@ -1,24 +1,20 @@
 -- A frame is offered event by event: a cell for each, whose number comes into one ring after the other. A
 -- short frame that each of its clients admits whole, with room for it, may go in one run (`FitsInOneRun`).
 -- First comes a cell for each event, and then all their numbers enter each ring.
-use Rattle.std.specs.Prelude.{◌≡◌, ◌≤◌, ◌<◌, ◌+◌, ◌&&◌, ◌++◌, ℕ, Bool, true, not, if◌then◌else◌, nat_eq, nat_lt, List, [], ◌∷◌, length, map, count_by, get_or, All, Option, None}
+use Rattle.std.specs.Prelude.{◌≡◌, ◌≤◌, ◌<◌, ◌+◌, ◌&&◌, ◌++◌, ℕ, Bool, true, not, if◌then◌else◌, nat_eq, nat_lt, List, [], ◌∷◌, length, map, count_by, get_or, All, Option}
 use Rattle.slab.specs.Slab.{Slab}
 use Rattle.inp_ring.specs.declared.cell.Cell.{Cell}
-use Rattle.inp_ring.specs.Store.{StoreView, held_under, holders, cell_count, held_by, IsIdle}
-use Rattle.inp_ring.specs.Ring.{times, queue_in, AreDifferent}
+use Rattle.inp_ring.specs.Store.{StoreView, held_under, held_by, IsIdle}
+use Rattle.inp_ring.specs.Ring.{times}
 use Rattle.inp_client.specs.declared.frame.Frame.{Frame}
 use Rattle.inp_client.specs.declared.location.Location.{Location}
 use Rattle.inp_model.specs.declared.event.Event.{Event}
 use Rattle.inp_model.specs.Event.{is_report}
 use Rattle.inp_client.specs.Masks.{full_masks}
-use Rattle.inp_client.specs.Client.{ClientView, new_client, with_events, is_offered_to, cell_of_event, after_offer}
+use Rattle.inp_client.specs.Client.{ClientView, new_client, with_events, is_offered_to, after_offer}
 use Rattle.inp_client.specs.Member.{Member, client_in, cells_in, wanted, after_event, AreStored}
 use Rattle.inp_client.specs.Numbers.{loses_event, loses, admitted_number, admitted_numbers, IsPutBehind}
 use Rattle.inp_client.specs.Locations.{clients_in, AreLocated}
-
--- the cells of a frame's events
-abbrev pub cells_of : Frame → List Cell
-cells_of f = map (cell_of_event f.moment f.place) f.events.now
 
 -- a client that was offered it
 abbrev pub after_frame : Frame → ClientView Cell → ClientView Cell
@@ -52,16 +48,6 @@ pub record FitsInOneRun (locations : List Location) (slab : Slab Member) (store 
   pub some : 0 < takers
   pub takers_are : takers ≡ takers_in f.holder (clients_in locations slab)
   pub all : All (TakesFrame f.holder (length f.events.now)) (clients_in locations slab)
-
--- cells were added, each with so many holders, under numbers that had no cell
-pub record AreAdded (old new : StoreView) (cells : List Cell) (count : ℕ) (numbers : List ℕ) : Type 0 where
-  pub long : length numbers ≡ length cells
-  pub fresh : (n : ℕ) → 1 ≤ times n numbers → held_under old n ≡ None
-  pub different : AreDifferent numbers
-  pub there : queue_in new numbers ≡ cells
-  pub held : (n : ℕ) → 1 ≤ times n numbers → holders new n ≡ count
-  pub others : (n : ℕ) → times n numbers ≡ 0 → held_under new n ≡ held_under old n
-  pub room : cell_count new + new.spare ≡ cell_count old + old.spare
 
 -- a client whose ring has the numbers of a frame's cells, where it was offered the frame
 abbrev pub with_run : Option ℕ → List ℕ → Member → Member

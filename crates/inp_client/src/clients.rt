@@ -18,7 +18,7 @@ ghost use Rattle.inp_client.specs.Numbers.{held_numbers, stored_of, held_places,
 ghost use Rattle.inp_client.specs.declared.open_refused.OpenRefused.TheVariants.{TooMany};
 
 use crate::client::Client;
-use crate::frame::{Frame, offer_frame};
+use crate::frame::{Frame, offer_events, offer_run, takers_of_all};
 use crate::location::{Location, index_of, place_for};
 use crate::open_refused::OpenRefused;
 use inp_caps::Caps;
@@ -275,7 +275,11 @@ impl Clients {
             place,
             holder,
         };
-        offer_frame(&self.locations, &mut self.slab, &mut self.store, &frame);
+        let locations = self.locations.as_slice();
+        match takers_of_all(locations, &self.slab, &self.store, &frame) {
+            Some(takers) => offer_run(locations, &mut self.slab, &mut self.store, &frame, takers),
+            None => offer_events(locations, &mut self.slab, &mut self.store, &frame),
+        }
     }
 }
 

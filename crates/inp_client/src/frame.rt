@@ -1,12 +1,12 @@
 //! A frame, and how it comes into the rings of clients.
-ghost use Rattle.std.specs.Prelude.{◌≡◌, ℕ, ◌≤◌, ◌<◌, ◌++◌, true, length, map, take, All, IfSome};
+ghost use Rattle.std.specs.Prelude.{◌≡◌, ℕ, ◌≤◌, ◌<◌, ◌++◌, true, length, map, All, IfSome};
 ghost use Rattle.inp_model.specs.declared.limits.TheConstants.{CLIENTS_MAX};
 ghost use Rattle.inp_model.specs.declared.stamped.TheConstants.{MOMENT_MAX};
 ghost use Rattle.inp_ring.specs.Ring.{AreDifferent};
 ghost use Rattle.inp_ring.specs.Store.{held_under, held_by, IsIdle};
 ghost use Rattle.inp_client.specs.Locations.{clients_in, AreLocated};
 ghost use Rattle.inp_client.specs.Member.{AreStored};
-ghost use Rattle.inp_client.specs.Offered.{AreShared, IsOffered, IsEventOffered, IsEnteredTo, FitsInOneRun, AreAdded, TakesFrame, cells_of, takers_in, with_run, are_reports_apart};
+ghost use Rattle.inp_client.specs.Offered.{AreShared, IsOffered, IsEventOffered, IsEnteredTo, FitsInOneRun, TakesFrame, takers_in, with_run, are_reports_apart};
 
 use crate::client::Client;
 use crate::location::Location;
@@ -29,27 +29,8 @@ pub struct Frame<'a> {
 /// A frame of at most so many events is put into the rings in one run.
 const RUN_MAX: usize = 64;
 
-/// Offers a frame to the client in each location, in one run where it can be. There must be a client.
-pub fn offer_frame(
-    locations: &[Location],
-    slab: &mut Slab<Client>,
-    store: &mut Store,
-    frame: &Frame<'_>,
-)
-    requires before { AreShared locations.now slab.old store.old }
-    requires some { 0 < length locations.now }
-    requires few { length locations.now ≤ CLIENTS_MAX }
-    requires moment { frame.now.moment ≤ MOMENT_MAX }
-    ensures { IsOffered frame.now locations.now slab.old slab.new store.old store.new }
-{
-    match takers_of_all(locations, slab, store, frame) {
-        Some(takers) => offer_run(locations, slab, store, frame, takers),
-        None => offer_events(locations, slab, store, frame),
-    }
-}
-
 /// How many clients take a frame, where each that is offered it takes all of it. None tells nothing.
-fn takers_of_all(
+pub fn takers_of_all(
     locations: &[Location],
     slab: &Slab<Client>,
     store: &Store,
@@ -114,8 +95,9 @@ fn takers_of(
     Some(takers)
 }
 
-/// Puts a frame in one run into the ring of each client that is offered it, which all take all of it.
-fn offer_run(
+/// Puts a frame in one run into the ring of each client that is offered it: so many, which all take all of it. First
+/// comes a cell for each event, and then all their numbers enter each ring.
+pub fn offer_run(
     locations: &[Location],
     slab: &mut Slab<Client>,
     store: &mut Store,
@@ -128,32 +110,20 @@ fn offer_run(
     ensures { IsOffered frame.now locations.now slab.old slab.new store.old store.new }
 {
     let mut numbers = [0; RUN_MAX];
-    add_cells(store, frame, takers, &mut numbers);
-    append_each(
-        locations,
-        slab,
-        &numbers[..frame.events.len()],
-        frame.holder,
-    );
-}
-
-/// Adds a cell for each event of a frame, which so many rings hold, and writes their numbers to the front of a buffer.
-fn add_cells(store: &mut Store, frame: &Frame<'_>, holders: u32, numbers: &mut [u32])
-    requires spare { length frame.now.events.now ≤ store.old.spare }
-    requires room { length frame.now.events.now ≤ length numbers.old }
-    requires some { 0 < holders }
-    ensures added { AreAdded store.old store.new (cells_of frame.now) holders
-        (take (length frame.now.events.now) numbers.new) }
-    ensures long { length numbers.new ≡ length numbers.old }
-{
     for at in 0..frame.events.len() {
         let cell = Cell {
             event: frame.events[at],
             now: frame.moment,
             place: frame.place,
         };
-        numbers[at] = store.add_held_by(cell, holders);
+        numbers[at] = store.add_held_by(cell, takers);
     }
+    append_each(
+        locations,
+        slab,
+        &numbers[..frame.events.len()],
+        frame.holder,
+    );
 }
 
 /// Puts the numbers of a frame's cells into the ring of each client that the frame is offered to.
@@ -179,7 +149,7 @@ fn append_each(
 }
 
 /// Offers the events of a frame to the client in each location, one by one. There must be a client.
-fn offer_events(
+pub fn offer_events(
     locations: &[Location],
     slab: &mut Slab<Client>,
     store: &mut Store,

@@ -1,9 +1,0 @@
-use Rattle.std.proofs.Common.{◌≡◌, ◌+◌, map, take}
-use Rattle.inp_client.specs.Client.{cell_of_event}
-use Rattle.inp_client.specs.Offered.{AreAdded}
-use Rattle.inp_client.proofs.frame.add_cells.Given as goal
-
-abbrev pub invariant-loop-at : goal.invariant-loop-at
-invariant-loop-at l =
-    AreAdded l.initial.store l.store (map (cell_of_event l.frame.moment l.frame.place) (take l.at l.frame.events.now)) l.holders (take l.at l.numbers)
-    × (l.store.spare + l.at ≡ l.initial.store.spare)
