@@ -303,8 +303,8 @@ next-asks P d mode r of =
 -- ---- the rows that the code follows
 
 -- in phase Plain a Sync call asks for nothing
-pub plain-synced : (d : Description) (mode : Mode) (r : Reading) → mode ≡ Synchronising → talk_in d mode Plain r ≡ finish (Synced, r)
-plain-synced d mode r is = ap (λ (m : Mode). talk_in d m Plain r) is
+pub plain-synced : (d : Description) (mode : Mode) (r : Reading) → r.phase ≡ Plain → mode ≡ Synchronising → next_talk d mode r ≡ finish (Synced, r)
+plain-synced d mode r plain is = ap (λ (p : Phase). talk_in d mode p r) plain ∙ ap (λ (m : Mode). talk_in d m Plain r) is
 
 -- in phase Handing it hands out the next synthesised event
 pub handing-made : (d : Description) (mode : Mode) (r : Reading) → mode ≡ Synchronising → talk_in d mode Handing r ≡ finish (handing r)

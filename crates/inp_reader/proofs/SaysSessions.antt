@@ -51,27 +51,27 @@ says-by_read before after old new r answer reply result empty call replied kept 
     subst (λ (t : Talk (Next × Reading)). Says before after old new t result) (sym talk) s
 
 -- a read that took events
-pub says-took : (before after : EvdevView) (old new : List CallMade) (r s : Reading) (reply : Reply) (queue : List Taken) (result : Next × Reading) → r.queue ≡ [] → MakesRead before after r.client reply queue → new ≡ old ++ kept_call (Read r.client 64) reply
-    → s ≡ record r { queue = queue } → is_accepted reply ≡ true → result ≡ hand_out s queue → Says before after old new (read_talk r) result
-says-took before after old new r s reply queue result empty reads kept mid accepted handed =
+pub says-took : (before after : EvdevView) (old new : List CallMade) (r : Reading) (reply : Reply) (queue : List Taken) (result : Next × Reading) → r.queue ≡ [] → MakesRead before after r.client reply queue → new ≡ old ++ kept_call (Read r.client 64) reply
+    → is_accepted reply ≡ true → result ≡ hand_out (record r { queue = queue }) queue → Says before after old new (read_talk r) result
+says-took before after old new r reply queue result empty reads kept accepted handed =
     let a : Answer = reads.answer in
     let is : is_accepted a.reply ≡ true = ap is_accepted (sym reads.replied) ∙ accepted in
     let queued : queue ≡ a.events = reads.queued ∙ ap (λ (b : Bool). if b then a.events else []) is in
-    let out : result ≡ hand_out r a.events = handed ∙ ap (λ (t : Reading). hand_out t queue) mid ∙ hand_out-queue r queue queue ∙ ap (λ (q : List Taken). hand_out r q) queued in
+    let out : result ≡ hand_out r a.events = handed ∙ hand_out-queue r queue queue ∙ ap (λ (q : List Taken). hand_out r q) queued in
     let after_it : after_read r a ≡ hand_out r a.events = ap (λ (b : Bool). if b then hand_out r a.events else (stop_of a.reply, r)) is in
     says-by_read before after old new r a reply result empty reads.is_call reads.replied kept (after_it ∙ sym out)
 
 -- a read that was not accepted
-pub says-read_nothing : (before after : EvdevView) (old new : List CallMade) (r s : Reading) (reply : Reply) (queue : List Taken) (next : Next) → r.queue ≡ [] → MakesRead before after r.client reply queue → new ≡ old ++ kept_call (Read r.client 64) reply
-    → s ≡ record r { queue = queue } → is_accepted reply ≡ false → next ≡ stop_of reply → Says before after old new (read_talk r) (next, s)
-says-read_nothing before after old new r s reply queue next empty reads kept mid refused stopped =
+pub says-read_nothing : (before after : EvdevView) (old new : List CallMade) (r : Reading) (reply : Reply) (queue : List Taken) (next : Next) → r.queue ≡ [] → MakesRead before after r.client reply queue → new ≡ old ++ kept_call (Read r.client 64) reply
+    → is_accepted reply ≡ false → next ≡ stop_of reply → Says before after old new (read_talk r) (next, record r { queue = queue })
+says-read_nothing before after old new r reply queue next empty reads kept refused stopped =
     let a : Answer = reads.answer in
     let is : is_accepted a.reply ≡ false = ap is_accepted (sym reads.replied) ∙ refused in
     let queued : queue ≡ r.queue = reads.queued ∙ ap (λ (b : Bool). if b then a.events else []) is ∙ sym empty in
-    let same : s ≡ r = mid ∙ ap (λ (q : List Taken). record r { queue = q }) queued in
+    let same : record r { queue = queue } ≡ r = ap (λ (q : List Taken). record r { queue = q }) queued in
     let stop : stop_of a.reply ≡ next = ap (λ (rep : Reply). stop_of rep) (sym reads.replied) ∙ sym stopped in
     let after_it : after_read r a ≡ (stop_of a.reply, r) = ap (λ (b : Bool). if b then hand_out r a.events else (stop_of a.reply, r)) is in
-    let result : Next × Reading = (next, s) in
+    let result : Next × Reading = (next, record r { queue = queue }) in
     says-by_read before after old new r a reply result empty reads.is_call reads.replied kept
     (after_it ∙ ap (λ (n : Next). (n, r)) stop ∙ ap (λ (t : Reading). (next, t)) (sym same))
 

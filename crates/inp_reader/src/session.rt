@@ -1,14 +1,13 @@
 //! What a reader keeps, and what it does.
-ghost use Rattle.std.specs.Prelude.{◌≡◌, ◌≤◌, ◌<◌, ◌+◌, false, [], ◌++◌, length};
-ghost use Rattle.inp_model.specs.declared.step.Step.TheVariants.{Read};
-ghost use Rattle.inp_reader.specs.declared.phase.Phase.TheVariants.{Plain, Needed, Handing};
-ghost use Rattle.inp_reader.specs.ReaderCalls.{MakesRead, asked_result};
-ghost use Rattle.inp_reader.specs.Reader.{ask_each, queries, start_talk, after_queries, after_read, queued_run, after_run, read_talk, hand_out, handing, as_plain, after_sync, sync_talk, talk_in, next_talk, with_sync_needed};
-ghost use Rattle.inp_reader.specs.Says.{Says, kept_call};
+ghost use Rattle.std.specs.Prelude.{◌≡◌, ◌≤◌, ◌<◌, ◌+◌, false, length};
+ghost use Rattle.inp_reader.specs.declared.phase.Phase.TheVariants.{Needed, Handing};
+ghost use Rattle.inp_reader.specs.ReaderCalls.{asked_result};
+ghost use Rattle.inp_reader.specs.Reader.{ask_each, queries, start_talk, after_queries, queued_run, after_run, read_talk, hand_out, handing, as_plain, after_sync, sync_talk, talk_in, next_talk, with_sync_needed};
+ghost use Rattle.inp_reader.specs.Says.{Says};
 ghost use Rattle.inp_reader.specs.Session.{reading_of, IsSession};
 ghost use Rattle.inp_reader.specs.Spare.{IsSpare};
 ghost use Rattle.inp_reader.specs.ReaderPlace.{is_needed};
-ghost use Rattle.inp_reader.specs.Talk.{ask, finish, and_then};
+ghost use Rattle.inp_reader.specs.Talk.{finish, and_then};
 
 use crate::asker::Asker;
 use crate::queue::Queue;
@@ -92,40 +91,6 @@ impl Session {
         }
     }
 
-    // Reads into the queue, which is empty.
-    fn read_queue<E: Evdev>(&mut self, dev: &mut E) -> Reply
-        requires empty { self.old.queue ≡ [] }
-        requires few { length self.old.asker.made < 64 }
-        ensures reads { MakesRead (E.told dev.old) (E.told dev.new) self.old.client result self.new.queue }
-        ensures asker { let made = self.old.asker.made ++ kept_call (Read self.old.client 64) result in
-            self.new.asker ≡ record self.old.asker { made = made } }
-        ensures reading { reading_of self.new
-            ≡ record (reading_of self.old) { queue = self.new.queue } }
-        ensures room { self.new.left.room ≡ self.old.left.room }
-    {
-        let call = self.queue.read(dev, self.client);
-        self.asker.keep(call.step, call.reply);
-        call.reply
-    }
-
-    // Reads, and hands out the first event.
-    fn read<E: Evdev>(&mut self, dev: &mut E, caps: &Caps) -> Next
-        requires empty { self.old.queue ≡ [] }
-        requires session { IsSession caps.now (E.told dev.old) self.old }
-        requires few { length self.old.asker.made < 64 }
-        ensures says { Says (E.told dev.old) (E.told dev.new) self.old.asker.made self.new.asker.made
-            (read_talk (reading_of self.old)) (result, reading_of self.new) }
-        ensures session { IsSession caps.now (E.told dev.new) self.new }
-        ensures few { length self.new.asker.made ≤ length self.old.asker.made + 1 }
-    {
-        let reply = self.read_queue(dev);
-        if reply.is_accepted() {
-            self.hand_out()
-        } else {
-            stop_of(reply)
-        }
-    }
-
     // In phase Plain: the next event, read where none is queued.
     fn next_event<E: Evdev>(&mut self, dev: &mut E, caps: &Caps) -> Next
         requires session { IsSession caps.now (E.told dev.old) self.old }
@@ -135,10 +100,15 @@ impl Session {
         ensures session { IsSession caps.now (E.told dev.new) self.new }
         ensures few { length self.new.asker.made ≤ length self.old.asker.made + 1 }
     {
-        if self.queue.is_empty() {
-            self.read(dev, caps)
-        } else {
+        if !self.queue.is_empty() {
+            return self.hand_out();
+        }
+        let call = self.queue.read(dev, self.client);
+        self.asker.keep(call.step, call.reply);
+        if call.reply.is_accepted() {
             self.hand_out()
+        } else {
+            stop_of(call.reply)
         }
     }
 
@@ -241,21 +211,6 @@ impl Session {
         }
     }
 
-    // In phase Plain.
-    fn next_in_plain<E: Evdev>(&mut self, dev: &mut E, caps: &Caps, mode: Mode) -> Next
-        requires session { IsSession caps.now (E.told dev.old) self.old }
-        requires few { length self.old.asker.made < 64 }
-        ensures says { Says (E.told dev.old) (E.told dev.new) self.old.asker.made self.new.asker.made
-            (talk_in caps.now mode Plain (reading_of self.old)) (result, reading_of self.new) }
-        ensures session { IsSession caps.now (E.told dev.new) self.new }
-        ensures few { length self.new.asker.made ≤ length self.old.asker.made + 1 }
-    {
-        match mode {
-            Mode::Normal => self.next_event(dev, caps),
-            Mode::Sync => Next::Synced,
-        }
-    }
-
     // The next event in a mode.
     pub(crate) fn next<E: Evdev>(&mut self, dev: &mut E, caps: &Caps, mode: Mode) -> Next
         requires session { IsSession caps.now (E.told dev.old) self.old }
@@ -268,10 +223,11 @@ impl Session {
         ensures one { is_needed self.old.phase ≡ false
             → length self.new.asker.made ≤ length self.old.asker.made + 1 }
     {
-        match self.phase {
-            Phase::Plain => self.next_in_plain(dev, caps, mode),
-            Phase::Needed => self.next_after_loss(dev, caps, mode),
-            Phase::Handing => self.go_on(dev, caps, mode),
+        match (self.phase, mode) {
+            (Phase::Plain, Mode::Normal) => self.next_event(dev, caps),
+            (Phase::Plain, Mode::Sync) => Next::Synced,
+            (Phase::Needed, _) => self.next_after_loss(dev, caps, mode),
+            (Phase::Handing, _) => self.go_on(dev, caps, mode),
         }
     }
 

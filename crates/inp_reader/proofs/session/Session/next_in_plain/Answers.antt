@@ -1,8 +1,0 @@
-use Rattle.std.proofs.Common.{refl}
-use Rattle.inp_reader.specs.Session.{reading_of}
-use Rattle.inp_reader.proofs.NextWalk.{plain-synced}
-use Rattle.inp_reader.proofs.SaysSessions.{says-still}
-use Rattle.inp_reader.proofs.session.Session.next_in_plain.Goals as goal
-
-pub returns-in-Sync-clause-says : goal.returns-in-Sync-clause-says
-returns-in-Sync-clause-says g c = says-still _ _ _ _ _ refl (plain-synced c.args.caps.now c.args.mode (reading_of c.args.self.now) c.in-Sync.is)
