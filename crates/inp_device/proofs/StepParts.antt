@@ -18,7 +18,7 @@ use Rattle.inp_model.specs.Left.{given_in, eaten}
 use Rattle.inp_model.specs.Queue as model
 use Rattle.inp_model.specs.Queue.{Entry, visible, queue}
 use Rattle.inp_model.specs.Reply.{Answer, alone, accepted, done_answer, bits_answer, cells_answer, took_answer, taken_of, written, is_bad_client, is_no_device, finds_nothing}
-use Rattle.inp_frames.specs.Core.{CoreStandsFor, IsFor, IsEntered}
+use Rattle.inp_frames.specs.Core.{CoreStandsFor, IsFor, IsEntered, sends}
 use Rattle.inp_frames.proofs.KeptCore.{makes_no_events}
 use Rattle.inp_handles.specs.Handles.{HandleState}
 use Rattle.inp_device.specs.declared.handler.Handler.{Handler}
@@ -400,6 +400,6 @@ stands_first d p caps core made handler grab opened ended = record {
 }
 
 -- what is seen of the device then
-pub first_value : (p : Present) (d : Description) (steps : List Step) → p.caps ≡ d → steps ≡ [] → stored_of p.handler.clients ≡ 0
-    → (let seen : StoringView = record { description = p.caps; past = reverse steps; agains = 0; stored = stored_of p.handler.clients } in seen ≡ record { description = d; past = []; agains = 0; stored = 0 })
-first_value p d steps caps none stored = λ i. record { description = caps i; past = reverse (none i); agains = 0; stored = stored i }
+pub first_value : (p : Present) (d : Description) (steps : List Step) → p.caps ≡ d → steps ≡ [] → stored_of p.handler.clients ≡ 0 → sends p.core ≡ false
+    → (let seen : StoringView = record { description = p.caps; past = reverse steps; agains = 0; stored = stored_of p.handler.clients; sent = sends p.core } in seen ≡ record { description = d; past = []; agains = 0; stored = 0; sent = false })
+first_value p d steps caps none stored sent = λ i. record { description = caps i; past = reverse (none i); agains = 0; stored = stored i; sent = sent i }

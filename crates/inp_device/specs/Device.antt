@@ -1,26 +1,31 @@
 -- What a contract sees of a device, and how many events a step may add to those that it keeps.
-use Rattle.std.specs.Prelude.{ℕ, zero, suc, ◌+◌, Bool, ◌&&◌, nat_eq, List, [], ◌∷◌, length, sum_by, count_by}
+use Rattle.std.specs.Prelude.{◌≡◌, ℕ, zero, suc, ◌+◌, Bool, ◌&&◌, not, nat_eq, List, [], ◌∷◌, length, sum_by, count_by, Option, Some, None}
 use Rattle.std.specs.List.{list_any}
 use Rattle.inp_model.specs.declared.event.TheConstants.{EV_SYN, SYN_DROPPED}
 use Rattle.inp_model.specs.declared.taken.Taken.{Taken}
 use Rattle.inp_model.specs.declared.step.Step.{Step}
-use Rattle.inp_model.specs.declared.step.Step.TheVariants.{Clock as ToClock}
+use Rattle.inp_model.specs.declared.event.Event.{Event}
+use Rattle.inp_model.specs.declared.step.Step.TheVariants.{Inject, Write, Clock as ToClock}
 use Rattle.inp_model.specs.Description.{Description}
 use Rattle.inp_model.specs.DeviceView.{DeviceView}
 use Rattle.inp_model.specs.Frame.{frames_of_step}
 use Rattle.inp_model.specs.Left.{eaten, left}
-use Rattle.inp_model.specs.Past.{open_clients}
+use Rattle.inp_model.specs.Passed.{goes_to_device}
+use Rattle.inp_model.specs.Past.{is_inhibited, open_clients}
 use Rattle.inp_model.specs.Queue.{queue}
+use Rattle.inp_model.specs.Raw.{raw}
 
 -- its description, which never changes, the steps that it accepted, newest first, how many calls were
--- answered Again, and how many events are kept for its clients
+-- answered Again, how many events are kept for its clients, and what became of the last event from outside
 pub record StoringView : Type 0 where
   pub description : Description
   pub past : List Step
   pub agains : ℕ
   pub stored : ℕ
+  -- whether the event that a step brought from outside last goes to the device itself
+  pub sent : Bool
 
--- the same without what is kept for its clients
+-- the same without the last two
 abbrev pub plain_view : StoringView → DeviceView
 plain_view d = record { description = d.description; past = d.past; agains = d.agains }
 
@@ -51,3 +56,19 @@ abbrev pub stored_since : Description → ℕ → List Step → ℕ
 stored_since d zero past = 0
 stored_since d (suc n) [] = 0
 stored_since d (suc n) (x ∷ past) = stored_most d past x + stored_since d n past
+
+-- the event that a step brings from outside, if it does
+abbrev pub event_brought : Step → Option Event
+event_brought (Inject e now) = Some e
+event_brought (Write client e now) = Some e
+event_brought _ = None
+
+-- an event from outside goes to the device itself: to its lights, sounds and settings
+abbrev pub goes_out : Description → List Step → Event → Bool
+goes_out d past e = goes_to_device d (raw d past) e && not (is_inhibited past)
+
+-- where a step after a past brings an event, `sent` says whether that goes to the device itself
+abbrev pub TellsSent : Description → List Step → Step → Bool → Type 0
+TellsSent d past (Inject e now) sent = sent ≡ goes_out d past e
+TellsSent d past (Write client e now) sent = sent ≡ goes_out d past e
+TellsSent d past _ sent = Unit {0}

@@ -1,19 +1,16 @@
 //! The device.
-ghost use Rattle.std.specs.Prelude.{◌≡◌, ◌≤◌, ◌<◌, ◌+◌, ◌&&◌, not, ℤ, false, List, [], ◌∷◌, length, reverse, IfOk, ◌↔◌, sum_by, All};
-ghost use Rattle.inp_model.specs.declared.taken.Taken.{Taken as TakenEvent};
+ghost use Rattle.std.specs.Prelude.{◌≡◌, ◌≤◌, ◌<◌, ◌+◌, true, false, [], ◌∷◌, length, reverse, IfOk, ◌↔◌, sum_by, All};
 ghost use Rattle.inp_model.specs.declared.limits.TheConstants.{LOG_MAX};
 ghost use Rattle.inp_model.specs.declared.stamped.TheConstants.{MOMENT_MAX};
 ghost use Rattle.inp_model.specs.declared.step.Step.TheVariants.{Inject};
 ghost use Rattle.inp_model.specs.History.{IsHistory};
 ghost use Rattle.inp_model.specs.Injection.{AreInTime, entered_count, history_with};
-ghost use Rattle.inp_model.specs.Passed.{goes_to_device};
-ghost use Rattle.inp_model.specs.Past.{is_inhibited, open_clients};
+ghost use Rattle.inp_model.specs.Past.{open_clients};
 ghost use Rattle.inp_model.specs.Queue.{queue};
-ghost use Rattle.inp_model.specs.Raw.{raw};
 ghost use Rattle.inp_model.specs.Step.{moment_of};
 ghost use Rattle.inp_model.specs.Reply.{HasRoom, IsDeviceStep, is_accepted};
 ghost use Rattle.inp_model.specs.Evdev.{agains_after};
-ghost use Rattle.inp_device.specs.Device.{plain_view, stored_most, stored_since};
+ghost use Rattle.inp_device.specs.Device.{plain_view, stored_most, stored_since, goes_out, TellsSent};
 ghost use Rattle.inp_device.specs.Present.{queued_places};
 
 use crate::present::Present;
@@ -28,7 +25,7 @@ use std::mem::size_of;
 const _: () = prove!(size_of::<Step>() <= 40);
 
 /// A device, seen as its description, its past (the steps that it accepted, newest first), how many calls it answered
-/// `Again`, and how many events it keeps for its clients.
+/// `Again`, how many events it keeps for its clients, and whether the last event from outside goes to the device.
 ///
 /// It keeps the present state and never looks back at its history. It takes memory when it is made, for what it keeps
 /// and for the whole history, and when a client is opened, and at no other step.
@@ -46,6 +43,7 @@ impl Model for Device {
     ghost Value = { StoringView };
 
     ghost use Rattle.std.specs.Prelude.{reverse, vec_capacity};
+    ghost use Rattle.inp_frames.specs.Core.{sends};
     ghost use Rattle.inp_client.specs.Numbers.{stored_of};
     ghost use Rattle.inp_device.specs.Present.{IsKeptWith};
 
@@ -54,6 +52,7 @@ impl Model for Device {
       past = reverse d.steps.items;
       agains = d.agains;
       stored = stored_of d.present.value.handler.clients;
+      sent = sends d.present.value.core;
     } };
 
     ghost invariant = { λ d. IsKeptWith d.steps.items (vec_capacity d.steps) d.present.value };
@@ -64,7 +63,7 @@ impl Device {
     /// steps as its log limit says.
     pub fn new(alloc: Global, caps: Caps) -> Result<Device, NoMemory>
         ensures fresh { IfOk result (λ device.
-            device ≡ record { description = caps; past = []; agains = 0; stored = 0 }) }
+            device ≡ record { description = caps; past = []; agains = 0; stored = 0; sent = false }) }
     {
         let steps = Vec::with_capacity(alloc, caps.log() as usize)?;
         let present = Box::new(alloc, Present::new(alloc, caps)?)?;
@@ -129,14 +128,21 @@ impl Device {
         ensures stored { self.new.stored
             ≤ self.old.stored + stored_most self.old.description self.old.past step }
         ensures stored_stays { is_accepted result ≡ false → self.new.stored ≡ self.old.stored }
+        ensures sent { is_accepted result ≡ true
+            → TellsSent self.old.description self.old.past step self.new.sent }
     {
-        match step {
-            Step::Inject { event, now } => self.inject(event, now),
-            _ => self.make(step, out, cells),
+        let Step::Inject { event, now } = step else {
+            return self.make(step, out, cells);
+        };
+        let at = self.steps.len() as u32;
+        if at >= self.present.caps.log() {
+            return refuse(&self.steps, Refusal::LogFull);
         }
+        self.enter(event, now);
+        Reply::Done { at }
     }
 
-    // Makes a step of any kind. An injected event has a shorter way, `inject`.
+    // Makes a step of any kind. Nothing but a full history refuses an injected event, which has a shorter way.
     #[inline(never)]
     fn make(&mut self, step: Step, out: &mut [Taken], cells: &mut [i32]) -> Reply
         requires moment { moment_of step ≤ MOMENT_MAX }
@@ -154,6 +160,8 @@ impl Device {
         ensures stored { self.new.stored
             ≤ self.old.stored + stored_most self.old.description self.old.past step }
         ensures stored_stays { is_accepted result ≡ false → self.new.stored ≡ self.old.stored }
+        ensures sent { is_accepted result ≡ true
+            → TellsSent self.old.description self.old.past step self.new.sent }
     {
         if let Some(reply) = self.present.refusal(&self.steps, step) {
             self.agains = count_again(reply, self.agains);
@@ -166,28 +174,6 @@ impl Device {
             }
             Err(NoMemory) => refuse(&self.steps, Refusal::NoMemory),
         }
-    }
-
-    // Injects one event, which nothing but a full history refuses.
-    fn inject(&mut self, event: Event, now: u64) -> Reply
-        requires moment { now ≤ MOMENT_MAX }
-        ensures step { (out : List TakenEvent) (cells : List ℤ) → IsDeviceStep self.old.description
-            self.old.past (Inject event now) result out out cells cells self.new.past }
-        ensures description { self.new.description ≡ self.old.description }
-        ensures agains { self.new.agains ≡ agains_after result self.old.agains }
-        ensures accepted { IsHistory self.new.description self.new.past }
-        ensures before { IsHistory self.old.description self.old.past }
-        ensures past_stays { is_accepted result ≡ false → self.new.past ≡ self.old.past }
-        ensures stored { self.new.stored ≤ self.old.stored
-            + stored_most self.old.description self.old.past (Inject event now) }
-        ensures stored_stays { is_accepted result ≡ false → self.new.stored ≡ self.old.stored }
-    {
-        let at = self.steps.len() as u32;
-        if at >= self.present.caps.log() {
-            return refuse(&self.steps, Refusal::LogFull);
-        }
-        self.enter(event, now);
-        Reply::Done { at }
     }
 
     /// Injects events, each at its own moment, as many of them as the log limit leaves room for. They are entered in
@@ -233,20 +219,19 @@ impl Device {
         ensures stored { self.new.stored ≤ self.old.stored
             + stored_most self.old.description self.old.past (Inject event now) }
         ensures accepted { IsHistory self.new.description self.new.past }
+        ensures sent { self.new.sent ≡ goes_out self.old.description self.old.past event }
     {
         self.present.inject(&self.steps, event, now);
         self.steps.push(Step::Inject { event, now }).unwrap();
     }
 
-    /// Whether an event, injected or written by a step that is accepted now, would go to the device itself: its lights,
-    /// sounds and settings. Nothing changes.
+    /// Whether the event that was injected or written last goes to the device itself too: to its lights, sounds and
+    /// settings.
     #[inline(always)]
-    pub fn is_for_device(&self, event: Event) -> bool
-        ensures goes { result
-            ≡ (goes_to_device self.now.description (raw self.now.description self.now.past) event
-            && not (is_inhibited self.now.past)) }
+    pub fn sent(&self) -> bool
+        ensures sent { result ≡ self.now.sent }
     {
-        self.present.core.is_for_device(&self.present.caps, event)
+        self.present.core.sends()
     }
 
     /// How many events are kept: each event of a frame that at least one queue holds, once, and each SYN_DROPPED.

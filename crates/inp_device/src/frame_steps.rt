@@ -1,7 +1,9 @@
 //! The steps that come to the core: what is injected, written or repeated, inhibitions, and axes described anew.
-ghost use Rattle.std.specs.Prelude.{◌≤◌, []};
+ghost use Rattle.std.specs.Prelude.{◌≡◌, ◌≤◌, [], reverse};
 ghost use Rattle.inp_model.specs.declared.stamped.TheConstants.{MOMENT_MAX};
 ghost use Rattle.inp_model.specs.declared.step.Step.TheVariants.{Inject, Tick, Write, Inhibit, Uninhibit, SetAxis};
+ghost use Rattle.inp_frames.specs.Core.{sends};
+ghost use Rattle.inp_device.specs.Device.{goes_out};
 ghost use Rattle.inp_device.specs.Present.{IsReadyFor, IsAcceptedStep, StoresFew};
 
 use crate::present::Present;
@@ -15,6 +17,7 @@ impl Present {
         requires ready { IsReadyFor history.now (Inject event now) self.old }
         ensures made { IsAcceptedStep history.now (Inject event now) self.old result [] [] [] [] self.new }
         ensures stored { StoresFew history.now (Inject event now) self.old self.new }
+        ensures sent { sends self.new.core ≡ goes_out self.old.caps (reverse history.now) event }
     {
         self.handler
             .begin(history.len() as u32, self.handles.holder());
@@ -29,6 +32,7 @@ impl Present {
         ensures made { IsAcceptedStep history.now (Write client event now) self.old result [] [] [] []
             self.new }
         ensures stored { StoresFew history.now (Write client event now) self.old self.new }
+        ensures sent { sends self.new.core ≡ goes_out self.old.caps (reverse history.now) event }
     {
         self.handler
             .begin(history.len() as u32, self.handles.holder());

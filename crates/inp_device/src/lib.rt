@@ -19,8 +19,8 @@
 //! A step adds to the events that are kept (`stored`) at most those that it offers, each once whoever gets it. It adds
 //! one SYN_DROPPED for each client that loses its queue (`stored_most` in `specs/Device.antt`).
 //!
-//! Whether an event that comes now would go to the device's own lights, sounds and settings is asked by
-//! `Device::is_for_device`, which changes nothing. `Device::enter` injects one event where the history has room.
+//! After an event from outside `Device::sent` says whether it goes to the device's own lights, sounds and settings too
+//! (`goes_out` in `specs/Device.antt`). `Device::enter` injects one event where the history has room.
 //!
 //! `Device::inject_all` says from which place on it entered events and how many of them. They are no more than the log
 //! limit leaves room for, and the history is longer by these, in order.

@@ -1,9 +1,11 @@
 //! What a device keeps of its past, and what a step makes of it that nothing refuses.
-ghost use Rattle.std.specs.Prelude.{◌≡◌, ◌≤◌, [], IfOk};
+ghost use Rattle.std.specs.Prelude.{◌≡◌, ◌≤◌, false, [], reverse, IfOk};
 ghost use Rattle.inp_model.specs.declared.stamped.TheConstants.{MOMENT_MAX};
 ghost use Rattle.inp_model.specs.Step.{moment_of};
 ghost use Rattle.inp_model.specs.Reply.{HasRoom};
 ghost use Rattle.inp_client.specs.Numbers.{stored_of};
+ghost use Rattle.inp_frames.specs.Core.{sends};
+ghost use Rattle.inp_device.specs.Device.{TellsSent};
 ghost use Rattle.inp_device.specs.Present.{PresentStandsFor, IsReadyFor, IsMadeOrLacks, StoresFewOrLacks};
 
 use crate::handler::Handler;
@@ -32,6 +34,7 @@ impl Present {
     pub fn new(alloc: Global, caps: Caps) -> Result<Present, NoMemory>
         ensures fresh { IfOk result (λ present. PresentStandsFor caps [] present) }
         ensures stored { IfOk result (λ present. stored_of present.handler.clients ≡ 0) }
+        ensures sent { IfOk result (λ present. sends present.core ≡ false) }
     {
         let core = Core::new(alloc, &caps)?;
         let handler = Handler::new(alloc, &caps)?;
@@ -59,6 +62,8 @@ impl Present {
         ensures made { IsMadeOrLacks history.now step self.old result out.old out.new cells.old
             cells.new self.new }
         ensures stored { StoresFewOrLacks history.now step self.old result self.new }
+        ensures sent { IfOk result
+            (λ _. TellsSent self.old.caps (reverse history.now) step (sends self.new.core)) }
     {
         match step {
             Step::Inject { event, now } => Ok(self.inject(history, event, now)),

@@ -1,9 +1,8 @@
 -- What is sent to a device: the passed events that set its lights, sounds and the like (docs/RULES.md, "What
 -- is passed").
-use Rattle.std.specs.Prelude.{List, [], ◌∷◌, ◌++◌, filter, Option, Some, None}
+use Rattle.std.specs.Prelude.{List, [], ◌∷◌, ◌++◌, filter}
 use Rattle.inp_model.specs.declared.event.Event.{Event}
 use Rattle.inp_model.specs.declared.step.Step.{Step}
-use Rattle.inp_model.specs.declared.step.Step.TheVariants.{Inject, Write}
 use Rattle.inp_model.specs.Description.{Description}
 use Rattle.inp_model.specs.RawItem.{RawItem}
 use Rattle.inp_model.specs.Passed.{passed_for, is_output}
@@ -26,9 +25,3 @@ sent_at_step d past x = sent_for_all d (raw d past) (raw_of_step d past x)
 unfoldable pub sent : Description → List Step → List Event
 sent d [] = []
 sent d (x ∷ past) = sent d past ++ sent_at_step d past x
-
--- the event that a step brings from outside, if it does
-abbrev pub event_brought : Step → Option Event
-event_brought (Inject e now) = Some e
-event_brought (Write client e now) = Some e
-event_brought _ = None

@@ -17,8 +17,7 @@ use Rattle.inp_model.specs.Past.{is_inhibited}
 use Rattle.inp_model.specs.Raw.{raw, timer, raw_and_timer}
 use Rattle.inp_state.specs.State.{Values, StateStandsFor}
 use Rattle.inp_slots.specs.Slots.{SlotValues, SlotsStandFor}
-use Rattle.inp_frames.specs.declared.passed.Passed.{Passed}
-use Rattle.inp_frames.specs.Batch.{Waiting, passed_events, are_frame}
+use Rattle.inp_frames.specs.Batch.{Waiting, are_frame}
 
 raw_after-append : (r xs ys : List RawItem) → raw_after r (xs ++ ys) ≡ raw_after (raw_after r xs) ys
 raw_after-append r [] ys = refl
@@ -155,7 +154,7 @@ module _ (d : Description) (r : List RawItem) (e : Event) (frame : Bool) (is : a
 
 -- before any step nothing waits, no key is held and the device is not inhibited
 pub stands-first : (d : Description) (state : Values) (slots : SlotValues) (w : Waiting) (t : Timer) → StateStandsFor d [] state → SlotsStandFor d [] slots → slots.at_frame ≡ pos 0 → w.events ≡ [] → w.hint ≡ d.hint → t ≡ first_timer
-    → CoreStandsFor d [] (record { state = state; slots = slots; batch = w.events; hint = w.hint; timer = t; inhibited = false })
+    → CoreStandsFor d [] (record { state = state; slots = slots; batch = w.events; hint = w.hint; timer = t; inhibited = false; goes = false })
 unfolding pending at_frame raw timer raw_and_timer is_inhibited
 stands-first d state slots w t s k f e h first = record {
   raw_events = record {
@@ -176,19 +175,19 @@ pub record Adds (d : Description) (r : List RawItem) (e : Event) (new : Values) 
   pub at_frame : touched.at_frame ≡ at_frame d r
   pub waits : WaitsBehind d r e w
 
-pub adds : (d : Description) (r : List RawItem) (e : Event) (old : CoreValues) (state : Values) (slots : SlotValues) (given : Passed) (w : Waiting) → StandsAfter d r old
+pub adds : (d : Description) (r : List RawItem) (e : Event) (old : CoreValues) (state : Values) (slots : SlotValues) (given : List Event) (w : Waiting) → StandsAfter d r old
     → ((q : List RawItem) → StateStandsFor d q old.state → StateStandsFor d (Occurred e ∷ q) state)
     → ((q : List RawItem) → SlotsStandFor d q old.slots → SlotsStandFor d (Occurred e ∷ q) slots)
-    → ((q : List RawItem) → StateStandsFor d q old.state → SlotsStandFor d q old.slots → passed_events given ≡ passed d q e)
+    → given ≡ passed d r e
     → slots.at_frame ≡ old.slots.at_frame
-    → w.events ≡ old.batch ++ passed_events given → w.hint ≡ old.hint
+    → w.events ≡ old.batch ++ given → w.hint ≡ old.hint
     → Adds d r e state slots w
 adds d r e old state slots given w h moves touches passes same added hint = record {
   state = moves r h.state;
   slots = touches r h.slots;
   at_frame = same ∙ h.at_frame;
   waits = record {
-    events = added ∙ ap (λ x. x ++ passed_events given) h.batch ∙ ap (λ x. pending d r ++ x) (passes r h.state h.slots);
+    events = added ∙ ap (λ x. x ++ given) h.batch ∙ ap (λ x. pending d r ++ x) passes;
     hint = hint ∙ h.made.hint;
   };
 }
@@ -197,9 +196,9 @@ frame_is : (d : Description) (r : List RawItem) (e : Event) (w : Waiting) (repor
 frame_is d r e w report frame h p f = sym (f ∙ ap (λ b. are_frame b w) p ∙ ap (are_frame (is_report e)) (is_waiting d r e w h))
 
 -- the core waits for more
-pub handles-more : {T : Type 0} (d : Description) (r : List RawItem) (e : Event) (now : ℕ) (takes : T → List Event → ℕ → T → Type 0) (old : CoreValues) (to : T) (state : Values) (slots : SlotValues) (w left : Waiting) (report frame : Bool) → Adds d r e state slots w → report ≡ is_report e → frame ≡ are_frame report w → frame ≡ false → left.events ≡ (if report then [] else w.events) → left.hint ≡ w.hint
-    → Handles d r (e ∷ []) now takes old (record { state = state; slots = slots; batch = left.events; hint = left.hint; timer = old.timer; inhibited = old.inhibited }) to to
-handles-more d r e now takes old to state slots w left report frame h p f off events hint =
+pub handles-more : {T : Type 0} (d : Description) (r : List RawItem) (e : Event) (now : ℕ) (takes : T → List Event → ℕ → T → Type 0) (old : CoreValues) (to : T) (state : Values) (slots : SlotValues) (w left : Waiting) (goes report frame : Bool) → Adds d r e state slots w → report ≡ is_report e → frame ≡ are_frame report w → frame ≡ false → left.events ≡ (if report then [] else w.events) → left.hint ≡ w.hint
+    → Handles d r (e ∷ []) now takes old (record { state = state; slots = slots; batch = left.events; hint = left.hint; timer = old.timer; inhibited = old.inhibited; goes = goes }) to to
+handles-more d r e now takes old to state slots w left goes report frame h p f off events hint =
     let none : are_frame (is_report e) (waiting d r e) ≡ false = frame_is d r e w report frame h.waits p f ∙ off in
     record {
       stands_after = record {
@@ -229,16 +228,16 @@ timer-ends d r e now s given t h g c =
     ∙ ap (λ (cs : List Cut). timer_after_cuts d now cs t) (sym c)
 
 -- the frame was passed on, and nothing waits
-pub handles-cut : {T : Type 0} (d : Description) (r : List RawItem) (e : Event) (now : ℕ) (takes : T → List Event → ℕ → T → Type 0) (old : CoreValues) (to_old to_new : T) (state : Values) (slots after : SlotValues) (w passed_on left : Waiting) (timer : Timer) (report frame : Bool) → Adds d r e state slots w → report ≡ is_report e → frame ≡ are_frame report w → frame ≡ true
-    → passed_on.events ≡ (if report then w.events else w.events ++ core_report ∷ [])
-    → timer ≡ timer_at_frame d now state passed_on.events old.timer
-    → takes to_old passed_on.events now to_new
+pub handles-cut : {T : Type 0} (d : Description) (r : List RawItem) (e : Event) (now : ℕ) (takes : T → List Event → ℕ → T → Type 0) (old : CoreValues) (to_old to_new : T) (state : Values) (slots after : SlotValues) (w left : Waiting) (passed_on : List Event) (timer : Timer) (goes report frame : Bool) → Adds d r e state slots w → report ≡ is_report e → frame ≡ are_frame report w → frame ≡ true
+    → passed_on ≡ (if report then w.events else w.events ++ core_report ∷ [])
+    → timer ≡ timer_at_frame d now state passed_on old.timer
+    → takes to_old passed_on now to_new
     → left.events ≡ [] → left.hint ≡ w.hint → after ≡ record slots { at_frame = slots.announced }
-    → Handles d r (e ∷ []) now takes old (record { state = state; slots = after; batch = left.events; hint = left.hint; timer = timer; inhibited = old.inhibited }) to_old to_new
-handles-cut d r e now takes old to_old to_new state slots after w passed_on left timer report frame h p f on given armed took events hint told =
+    → Handles d r (e ∷ []) now takes old (record { state = state; slots = after; batch = left.events; hint = left.hint; timer = timer; inhibited = old.inhibited; goes = goes }) to_old to_new
+handles-cut d r e now takes old to_old to_new state slots after w left passed_on timer goes report frame h p f on given armed took events hint told =
     let some : are_frame (is_report e) (waiting d r e) ≡ true = frame_is d r e w report frame h.waits p f ∙ on in
     let ends : cuts d r (Occurred e ∷ []) ≡ cut_of e r (frame_events d r e) ∷ [] = cuts_are d r e true some in
-    let same : passed_on.events ≡ frame_events d r e = framed d r e w report passed_on.events h.waits p given in
+    let same : passed_on ≡ frame_events d r e = framed d r e w report passed_on h.waits p given in
     let frames_at : SlotsStandFor d (Occurred e ∷ r) after = subst (SlotsStandFor d (Occurred e ∷ r)) (sym told) (record { count = h.slots.count; staged = h.slots.staged; announced = h.slots.announced; values = h.slots.values }) in
     record {
       stands_after = record {
@@ -249,6 +248,6 @@ handles-cut d r e now takes old to_old to_new state slots after w passed_on left
         batch = events ∙ sym (pending_is d r e true some);
       };
       takes_all = subst (λ (cs : List Cut). TakesAll takes now cs to_old to_new) (sym ends) (to_new, subst (λ (x : List Event). takes to_old x now to_new) same took, refl);
-      timer = armed ∙ timer-ends d r e now state passed_on.events old.timer h.state same ends;
+      timer = armed ∙ timer-ends d r e now state passed_on old.timer h.state same ends;
       inhibited = refl;
     }

@@ -15,8 +15,7 @@ use Rattle.inp_model.specs.Passed.{passes_as, passes_slot_value, goes_to_device,
 use Rattle.inp_caps.specs.Disposition.{flags, flags_after}
 use Rattle.inp_state.proofs.Steps.{at_kind}
 use Rattle.inp_slots.specs.Slots.{touch}
-use Rattle.inp_frames.specs.declared.passed.Passed.{Passed}
-use Rattle.inp_frames.specs.Batch.{passed_events}
+use Rattle.inp_frames.specs.Batch.{events_by}
 use Rattle.inp_slots.proofs.Steps.{announced-tells}
 
 is_axis : (e : Event) → is_multi_touch e ≡ true → e.kind ≡ EV_ABS
@@ -53,6 +52,10 @@ flag_1 : (passes device slot flush : Bool) → (bit_and (flags passes device slo
 flag_1 p d s f = same_flag _ p
     (each_flags (λ p d s f. let x = bit_and (flags p d s f) 1 == 1 in if p then x else not x) refl p d s f)
 
+flag_2 : (passes device slot flush : Bool) → (bit_and (flags passes device slot flush) 2 == 2) ≡ device
+flag_2 p d s f = same_flag _ d
+    (each_flags (λ p d s f. let x = bit_and (flags p d s f) 2 == 2 in if d then x else not x) refl p d s f)
+
 flag_4 : (passes device slot flush : Bool) → (bit_and (flags passes device slot flush) 4 == 4) ≡ slot
 flag_4 p d s f = same_flag _ s
     (each_flags (λ p d s f. let x = bit_and (flags p d s f) 4 == 4 in if s then x else not x) refl p d s f)
@@ -69,20 +72,26 @@ slot_by : (slot told : ℤ) (announces : Bool) → (announces ≡ true → slot 
 slot_by slot told true h = ap (λ (x : ℤ). slot_event x ∷ []) (h refl)
 slot_by slot told false h = refl
 
--- what is passed by the flags, the value and the slot announced after the event is what the model passes
-pub passed-by : (d : Description) (r : List RawItem) (e : Event) (given : Passed) (n : ℕ) (v slot : ℤ) → n ≡ flags_after d r e → v ≡ unwrap_or (passes_as d r e) e.value → slot ≡ announced d (Occurred e ∷ r)
-    → given.announcement ≡ (if bit_and n 4 == 4 then Some (slot_event slot) else None)
-    → (let new : Event = record e { value = v } in given.event ≡ (if bit_and n 1 == 1 then Some new else None))
-    → passed_events given ≡ passed d r e
-passed-by d r e given n v slot flags_are value told before itself =
+-- by the flags, the value and the slot announced after the event that is passed which the model passes
+pub passed-by : (d : Description) (r : List RawItem) (e : Event) (n : ℕ) (v slot : ℤ) → n ≡ flags_after d r e → v ≡ unwrap_or (passes_as d r e) e.value → slot ≡ announced d (Occurred e ∷ r)
+    → events_by n slot (record e { value = v }) ≡ passed d r e
+passed-by d r e n v slot flags_are value told =
     let passes : Bool = is_some (passes_as d r e) in
     let new : Event = record e { value = v } in
     let has_1 : (bit_and n 1 == 1) ≡ passes = ap (λ (m : ℕ). bit_and m 1 == 1) flags_are ∙ flag_1 passes (goes_to_device d r e) (announces d r e) (passes && is_report e) in
     let has_4 : (bit_and n 4 == 4) ≡ announces d r e = ap (λ (m : ℕ). bit_and m 4 == 4) flags_are ∙ flag_4 passes (goes_to_device d r e) (announces d r e) (passes && is_report e) in
-    let of_slot : option_to_list given.announcement ≡ announcement d r e =
-    ap option_to_list (before ∙ ap (λ b. if b then Some (slot_event slot) else None) has_4)
+    let before : List Event = option_to_list (if bit_and n 4 == 4 then Some (slot_event slot) else None) in
+    let itself : List Event = option_to_list (if bit_and n 1 == 1 then Some new else None) in
+    let of_slot : before ≡ announcement d r e =
+    ap (λ b. option_to_list (if b then Some (slot_event slot) else None)) has_4
     ∙ slot_by slot (staged d r) (announces d r e) (λ h. told ∙ announced-tells d r e (and_parts (passes_slot_value d r e) (not (int_eq (staged d r) (announced d r))) h).0) in
-    let of_event : option_to_list given.event ≡ option_to_list (option_map (λ w. record e { value = w }) (passes_as d r e)) =
-    ap option_to_list (itself ∙ ap (λ b. if b then Some new else None) has_1)
+    let of_event : itself ≡ option_to_list (option_map (λ w. record e { value = w }) (passes_as d r e)) =
+    ap (λ b. option_to_list (if b then Some new else None)) has_1
     ∙ event_by (passes_as d r e) e v value in
-    ap (λ x. x ++ option_to_list given.event) of_slot ∙ ap (λ x. announcement d r e ++ x) of_event
+    ap (λ x. x ++ itself) of_slot ∙ ap (λ x. announcement d r e ++ x) of_event
+
+-- so is whether it goes to the device
+pub goes-by : (d : Description) (r : List RawItem) (e : Event) (n : ℕ) → n ≡ flags_after d r e → (bit_and n 2 == 2) ≡ goes_to_device d r e
+goes-by d r e n flags_are =
+    let passes : Bool = is_some (passes_as d r e) in
+    ap (λ (m : ℕ). bit_and m 2 == 2) flags_are ∙ flag_2 passes (goes_to_device d r e) (announces d r e) (passes && is_report e)

@@ -1,6 +1,6 @@
 -- What the core keeps, and which histories it stands for. Inside a definition a history is a past, written
 -- newest first.
-use Rattle.std.specs.Prelude.{◌≡◌, ℕ, Bool, List, ◌∷◌, length}
+use Rattle.std.specs.Prelude.{◌≡◌, ℕ, Bool, ◌&&◌, not, List, ◌∷◌, length}
 use Rattle.inp_model.specs.declared.event.Event.{Event}
 use Rattle.inp_model.specs.declared.step.Step.{Step}
 use Rattle.inp_model.specs.declared.timer.Timer.{Timer}
@@ -28,6 +28,12 @@ pub record CoreValues : Type 0 where
   pub timer : Timer
   -- whether raw events are ignored
   pub inhibited : Bool
+  -- whether the raw event that was handled last goes to the device itself
+  pub goes : Bool
+
+-- the raw event that came last goes to the device itself: to its lights, sounds and settings
+abbrev pub sends : CoreValues → Bool
+sends core = core.goes && not core.inhibited
 
 -- it was made for a device with this description
 pub record IsFor (d : Description) (core : CoreValues) : Type 0 where

@@ -4,10 +4,12 @@ ghost use Rattle.inp_model.specs.declared.event.Event.{Event};
 ghost use Rattle.inp_model.specs.declared.limits.TheConstants.{HINT_MAX};
 ghost use Rattle.inp_model.specs.Event.{core_report};
 ghost use Rattle.inp_frames.specs.declared.frames.TheConstants.{FRAME_MAX};
-ghost use Rattle.inp_frames.specs.Batch.{passed_events, are_frame};
+ghost use Rattle.inp_caps.specs.Disposition.{flags_of};
+ghost use Rattle.inp_frames.specs.Batch.{events_by, are_frame};
 
-use crate::passed::Passed;
 use crate::raw_events::core_report;
+use bitflags::Flags;
+use inp_caps::Disposition;
 use inp_model::{Event, HINT_MAX, NoMemory};
 use std::alloc::Global;
 use std::marker::Model;
@@ -55,14 +57,18 @@ impl Batch {
         &self.events
     }
 
-    /// Puts what is passed for a raw event after the others.
-    pub fn add(&mut self, passed: Passed)
+    /// Puts what is passed for a raw event after the others, by what is done with it: the slot that its value belongs
+    /// to, where the clients were not told, and the event itself.
+    pub fn add(&mut self, disposition: Disposition, slot: i32, event: Event)
         requires room { length self.old.events < self.old.hint }
-        ensures added { self.new.events ≡ self.old.events ++ passed_events passed }
+        ensures added { self.new.events
+            ≡ self.old.events ++ events_by (flags_of disposition) slot event }
         ensures hint { self.new.hint ≡ self.old.hint }
     {
-        self.push(passed.announcement);
-        self.push(passed.event);
+        let announces = disposition.contains(Disposition::SLOT);
+        self.push(announces.then_some(Event::of_slot(slot)));
+        let passes = disposition.contains(Disposition::TO_HANDLERS);
+        self.push(passes.then_some(event));
     }
 
     // Puts an event after the others, if there is one.

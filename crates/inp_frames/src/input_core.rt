@@ -14,17 +14,18 @@ ghost use Rattle.inp_model.specs.Past.{is_inhibited};
 ghost use Rattle.inp_bits.specs.Bits.{true_indices};
 ghost use Rattle.inp_slots.specs.Slots.{SlotValues};
 ghost use Rattle.inp_frames.specs.declared.frames.TheConstants.{FRAME_MAX};
-ghost use Rattle.inp_frames.specs.Core.{IsFor, StandsAfter, CoreStandsFor, IsEntered};
+ghost use Rattle.inp_frames.specs.Core.{IsFor, StandsAfter, CoreStandsFor, IsEntered, sends};
 ghost use Rattle.inp_frames.specs.HandledEvents.{Handles, may_repeat, lift_events, release_events};
 
 use crate::Frames;
 use crate::autorepeat::{first_timer, micros, timer_at_frame, timer_disarmed, timer_rearmed};
 use crate::batch::Batch;
 use crate::contacts::contacts_of;
-use crate::passed::handle;
+use crate::disposition::apply;
 use crate::raw_events::{core_report, key_release, key_repeat, lift_event, slot_event};
+use bitflags::Flags;
 use inp_bits::Bits;
-use inp_caps::Caps;
+use inp_caps::{Caps, Disposition};
 use inp_model::{ABS_MAX, AxisInfo, Event, KEY_MAX, NoMemory, Timer};
 use inp_slots::Slots;
 use inp_state::State;
@@ -42,6 +43,8 @@ pub struct Core {
     batch: Batch,
     timer: Timer,
     inhibited: bool,
+    // Whether the raw event that was handled last goes to the device itself.
+    goes: bool,
 }
 
 impl Model for Core {
@@ -56,6 +59,7 @@ impl Model for Core {
       hint = c.batch.hint;
       timer = c.timer;
       inhibited = c.inhibited;
+      goes = c.goes;
     } };
 
     ghost use Rattle.std.specs.Prelude.{◌<◌, length};
@@ -70,6 +74,7 @@ impl Core {
     pub fn new(alloc: Global, caps: &Caps) -> Result<Core, NoMemory>
         ensures fresh { IfOk result (λ core. CoreStandsFor caps.now [] core) }
         ensures made { IfOk result (λ core. IsFor caps.now core) }
+        ensures sends { IfOk result (λ core. sends core ≡ false) }
     {
         Ok(Core {
             state: State::new(caps),
@@ -77,6 +82,7 @@ impl Core {
             batch: Batch::new(alloc, caps.hint() as usize)?,
             timer: first_timer(),
             inhibited: false,
+            goes: false,
         })
     }
 
@@ -87,6 +93,8 @@ impl Core {
     /// with the value 1 is put after it. The moment of the frame is `now`, in microseconds, at most `MOMENT_MAX`. A key
     /// that is pressed in the frame arms the timer of the autorepeat, and one that is released disarms it. While the
     /// device is inhibited the event is ignored.
+    ///
+    /// [`Core::sends`] says then whether the event goes to the device itself too.
     pub fn inject<F: Frames>(&mut self, caps: &Caps, event: Event, now: u64, to: &mut F)
         requires timely { now ≤ MOMENT_MAX }
         requires made { IsFor caps.now self.old }
@@ -95,6 +103,9 @@ impl Core {
         ensures enters_write { (past : List Step) (client : ℕ)
             → CoreStandsFor caps.now past self.old
             → IsEntered caps.now past (Write client event now) self.new F.takes to.old to.new }
+        ensures sends { (past : List Step) → CoreStandsFor caps.now past self.old
+            → sends self.new ≡ (goes_to_device caps.now (raw caps.now past) event
+            && not (is_inhibited past)) }
         ensures made { IsFor caps.now self.new }
     {
         let ignored = self.inhibited;
@@ -102,6 +113,14 @@ impl Core {
             return;
         }
         self.gather(caps, event, now, to);
+    }
+
+    /// Whether the event that was injected last goes to the device itself too: to its lights, sounds and settings.
+    #[inline(always)]
+    pub fn sends(&self) -> bool
+        ensures sends { result ≡ sends self.now }
+    {
+        self.goes && !self.inhibited
     }
 
     /// Lets the timer of the autorepeat fire, where it is due (the kernel's `input_repeat_key`).
@@ -171,16 +190,6 @@ impl Core {
         self.state.describe(code, info);
     }
 
-    /// Whether a raw event, injected or written, would go to the device itself. Nothing changes.
-    #[inline(always)]
-    pub fn is_for_device(&self, caps: &Caps, event: Event) -> bool
-        ensures goes { (past : List Step) → CoreStandsFor caps.now past self.now
-            → result ≡ (goes_to_device caps.now (raw caps.now past) event
-            && not (is_inhibited past)) }
-    {
-        self.state.is_for_device(caps, event) && !self.inhibited
-    }
-
     /// Keys, switches, LEDs, sounds, axes and the settings of the autorepeat.
     pub fn state(&self) -> &State
         ensures state { result.now ≡ self.now.state }
@@ -201,15 +210,21 @@ impl Core {
         requires made { IsFor caps.now self.old }
         ensures handled { (r : List RawItem) → StandsAfter caps.now r self.old
             → Handles caps.now r (event ∷ []) now F.takes self.old self.new to.old to.new }
+        ensures goes { (r : List RawItem) → StandsAfter caps.now r self.old
+            → self.new.goes ≡ goes_to_device caps.now r event }
         ensures made { IsFor caps.now self.new }
     {
-        let passed = handle(&mut self.state, &mut self.slots, caps, event);
-        self.batch.add(passed);
+        let (disposition, value) = apply(&mut self.state, &mut self.slots, caps, event);
+        self.goes = disposition.contains(Disposition::TO_DEVICE);
+        let slot = self.slots.announced();
+        self.batch.add(disposition, slot, Event { value, ..event });
         if !self.batch.cut(event.is_report()) {
             return;
         }
         self.timer = timer_at_frame(self.timer, caps, &self.state, self.batch.events(), now);
-        pass_on(&mut self.batch, &mut self.slots, now, to);
+        to.pass(self.batch.events(), now);
+        self.batch.clear();
+        self.slots.frame_passed();
     }
 
     // Handles two raw events, one after the other.
@@ -325,18 +340,4 @@ fn is_down(keys: &Bits<12>, key: u16) -> bool
 {
     let nearest = key.min(KEY_MAX);
     keys.get(u32::from(nearest)) && nearest == key
-}
-
-// Passes the batch on as a frame, and lets it go.
-fn pass_on<F: Frames>(batch: &mut Batch, slots: &mut Slots, now: u64, to: &mut F)
-    requires fits { length batch.old.events ≤ FRAME_MAX }
-    requires timely { now ≤ MOMENT_MAX }
-    ensures taken { F.takes to.old batch.old.events now to.new }
-    ensures empty { batch.new.events ≡ [] }
-    ensures hint { batch.new.hint ≡ batch.old.hint }
-    ensures at_frame { slots.new ≡ record slots.old { at_frame = slots.old.announced } }
-{
-    to.pass(batch.events(), now);
-    batch.clear();
-    slots.frame_passed();
 }

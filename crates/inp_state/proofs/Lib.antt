@@ -2,4 +2,3 @@ pub mod Steps
 pub mod Passes
 pub mod Arms
 pub mod Flags
-pub mod Outputs

@@ -43,7 +43,7 @@ pub(crate) fn set_bit(bits: &mut Bits<1>, event: Event) -> Option<i32>
 }
 
 // Whether the event turns it on or off.
-pub(crate) fn is_turned(bits: &Bits<1>, event: Event) -> bool
+fn is_turned(bits: &Bits<1>, event: Event) -> bool
     requires { event.code < 64 }
     ensures turned { result ≡ differ (slice_index_or bits.now event.code false) (is_set event) }
     ensures len { length bits.now ≡ 64 }
@@ -81,7 +81,7 @@ pub(crate) fn set_setting(setting: &mut i32, event: Event) -> Option<i32>
 }
 
 // Whether the event changes the setting.
-pub(crate) fn is_changed(setting: i32, event: Event) -> bool
+fn is_changed(setting: i32, event: Event) -> bool
     ensures { result
         ≡ not (int_eq setting (if is_negative event then setting else event.value)) }
 {

@@ -5,11 +5,11 @@ ghost use Rattle.inp_model.specs.RawItem.{RawItem, Occurred, Described};
 ghost use Rattle.inp_model.specs.Description.{Description, info, no_info};
 ghost use Rattle.inp_model.specs.Event.{is_multi_touch};
 ghost use Rattle.inp_model.specs.State.{key_down, switch_on, led_on, sound_on, axis_info, axis_value, repeat_setting};
-ghost use Rattle.inp_model.specs.Passed.{passes_as, goes_to_device};
+ghost use Rattle.inp_model.specs.Passed.{passes_as};
 ghost use Rattle.inp_caps.specs.Disposition.{flags_of, flags_after};
 ghost use Rattle.inp_state.specs.State.{StateStandsFor, flags_by};
 
-use crate::changes::{is_changed, is_turned, move_axis, passed_if, set_bit, set_key, set_setting};
+use crate::changes::{move_axis, passed_if, set_bit, set_key, set_setting};
 use bitflags::Flags;
 use inp_bits::Bits;
 use inp_caps::{Caps, Disposition};
@@ -94,24 +94,6 @@ impl State {
             disposition(event, passed.is_some()),
             passed.unwrap_or(event.value),
         )
-    }
-
-    /// Whether a raw event would go to the device itself, as [`State::apply`] says of it. Nothing changes.
-    #[inline(always)]
-    pub fn is_for_device(&self, caps: &Caps, event: Event) -> bool
-        ensures goes { (r : List RawItem) → StateStandsFor caps.now r self.now
-            → result ≡ goes_to_device caps.now r event }
-    {
-        match event.kind {
-            EV_SYN => event.code == SYN_CONFIG,
-            EV_LED => caps.supports(event.kind, event.code) && is_turned(&self.leds, event),
-            EV_SND | EV_MSC => caps.supports(event.kind, event.code),
-            EV_REP if event.code == REP_DELAY => {
-                caps.supports(event.kind, event.code) && is_changed(self.delay, event)
-            }
-            EV_REP => caps.supports(event.kind, event.code) && is_changed(self.period, event),
-            _ => false,
-        }
     }
 
     // Takes a raw event, and gives the value under which it is passed, if it is.

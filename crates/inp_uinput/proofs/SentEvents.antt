@@ -1,5 +1,5 @@
 -- What a step sends.
-use Rattle.std.proofs.Common.{◌≡◌, ℕ, ◌+◌, Bool, true, false, ◌&&◌, if◌then◌else◌, pos, List, [], ◌∷◌, ◌++◌, refl, sym, ap, subst, ◌∙◌, map, flat_map, is_some, Some, None, option_to_list}
+use Rattle.std.proofs.Common.{◌≡◌, ℕ, ◌+◌, Bool, true, false, ◌&&◌, if◌then◌else◌, pos, List, [], ◌∷◌, ◌++◌, refl, sym, ap, ◌∙◌, map, flat_map, is_some, Option, Some, None, option_to_list}
 use Rattle.std.specs.Prelude.{not}
 use Rattle.std.specs.Bool.{then_some}
 use Rattle.std.specs.List.{range_with_len}
@@ -14,7 +14,8 @@ use Rattle.inp_model.specs.State.{key_down}
 use Rattle.inp_model.specs.Passed.{passes_as, is_output, goes_to_device}
 use Rattle.inp_model.specs.Past.{is_inhibited}
 use Rattle.inp_model.specs.Raw.{raw, raw_of_step, raw_and_timer, repeat_of, has_contact, lift_event, slot_release, slot_releases, key_event, key_release, key_releases, releases, fires}
-use Rattle.inp_feedback.specs.Sent.{sent_for, sent_for_all, sent_at_step, event_brought}
+use Rattle.inp_feedback.specs.Sent.{sent_for, sent_for_all, sent_at_step}
+use Rattle.inp_device.specs.Device.{event_brought, goes_out, TellsSent}
 use Rattle.inp_uinput.proofs.PassedOutputs.{sent_for-event}
 
 -- items that are no outputs
@@ -81,12 +82,12 @@ of_step d past (Inhibit now) h = of_inhibit d _ (is_inhibited past)
 of_step d past (SetAxis client code axis) h = (tt, tt)
 of_step d past _ h = tt
 
-pub nothing_sent : (d : Description) (past : List Step) (x : Step) → event_brought x ≡ None → [] ≡ sent_at_step d past x
+nothing_sent : (d : Description) (past : List Step) (x : Step) → event_brought x ≡ None → [] ≡ sent_at_step d past x
 nothing_sent d past x h = sym (sent-none d (raw d past) (raw_of_step d past x) (of_step d past x h))
 
 -- One that brings an event sends it, where the event goes to the device and the device is not inhibited
 
-gated : (e : Event) (goes inhibited : Bool) → option_to_list (then_some (goes && not inhibited) e) ≡ (if inhibited then [] else (if goes then e ∷ [] else []) ++ [])
+gated : (e : Event) (goes inhibited : Bool) → option_to_list (if goes && not inhibited then Some e else None) ≡ (if inhibited then [] else (if goes then e ∷ [] else []) ++ [])
 gated e true true = refl
 gated e true false = refl
 gated e false true = refl
@@ -97,15 +98,23 @@ unfolding sent_for_all
 heard d r e true = refl
 heard d r e false = ap (λ es. es ++ []) (sym (sent_for-event d r e))
 
-heard_as : (d : Description) (past : List Step) (e f : Event) → Some e ≡ Some f
-    → option_to_list (then_some (goes_to_device d (raw d past) f && not (is_inhibited past)) f) ≡ sent_for_all d (raw d past) (map Occurred (if is_inhibited past then [] else e ∷ []))
-heard_as d past e f h =
-    let same : e ≡ f = cc h in
-    subst (λ (g : Event). option_to_list (then_some (goes_to_device d (raw d past) g && not (is_inhibited past)) g) ≡ sent_for_all d (raw d past) (map Occurred (if is_inhibited past then [] else e ∷ []))) same
-    (gated e (goes_to_device d (raw d past) e) (is_inhibited past) ∙ heard d (raw d past) e (is_inhibited past))
+one_sent : (d : Description) (past : List Step) (e : Event) (sent : Bool) → sent ≡ goes_out d past e
+    → option_to_list (if sent then Some e else None) ≡ sent_for_all d (raw d past) (map Occurred (if is_inhibited past then [] else e ∷ []))
+one_sent d past e sent h =
+    ap (λ b. option_to_list (if b then Some e else None)) h
+    ∙ gated e (goes_to_device d (raw d past) e) (is_inhibited past) ∙ heard d (raw d past) e (is_inhibited past)
 
-pub one_sent : (d : Description) (past : List Step) (x : Step) (e : Event) → event_brought x ≡ Some e → option_to_list (then_some (goes_to_device d (raw d past) e && not (is_inhibited past)) e) ≡ sent_at_step d past x
+no_event : (sent : Bool) → (let none : Option Event = if sent then None else None in option_to_list none ≡ [])
+no_event true = refl
+no_event false = refl
+
+pub some_if : (b : Bool) (e : Event) → then_some b e ≡ (if b then Some e else None)
+some_if true e = refl
+some_if false e = refl
+
+-- what a step sends: the event that it brings, if that goes to the device
+pub sends : (d : Description) (past : List Step) (x : Step) (sent : Bool) → TellsSent d past x sent → option_to_list (if sent then event_brought x else None) ≡ sent_at_step d past x
 unfolding raw_of_step
-one_sent d past (Inject f now) e h = heard_as d past f e h
-one_sent d past (Write client f now) e h = heard_as d past f e h
-one_sent d past _ e h = absurd (cc h)
+sends d past (Inject e now) sent h = one_sent d past e sent h
+sends d past (Write client e now) sent h = one_sent d past e sent h
+sends d past x sent h = no_event sent ∙ nothing_sent d past x refl

@@ -17,7 +17,6 @@ use Rattle.inp_feedback.specs.declared.u_entry.UEntry.TheVariants.{Made, Feedbac
 use Rattle.inp_feedback.specs.declared.fed.Fed.TheVariants.{Took, Full}
 use Rattle.inp_feedback.specs.declared.fed.TheConstants.{FEEDBACK_MAX}
 use Rattle.inp_feedback.specs.declared.feedback_call.FeedbackCall.{FeedbackCall}
-use Rattle.inp_uinput.specs.declared.outputs.Outputs.{Outputs}
 use Rattle.inp_feedback.specs.UEntry.{steps_in, kept_after_step, kept_after_events}
 use Rattle.inp_feedback.specs.Sent.{sent_at_step}
 use Rattle.inp_uinput.specs.UdevView.{UdevView}
@@ -91,17 +90,17 @@ step_kept past new calls x reply within e = kept_by past new calls x (is_accepte
 
 -- What is kept beside the steps
 
-pub beside_same : (d new_d : Description) (past new : List Step) (calls : List FeedbackCall) (capacity : ℕ) (o : Outputs) → new_d ≡ d → new ≡ past → IsKeptBeside d past calls capacity o → IsKeptBeside new_d new calls capacity o
-beside_same d new_d past new calls capacity o same e k =
-    subst (λ (d : Description). IsKeptBeside d new calls capacity o) (sym same) (subst (λ (p : List Step). IsKeptBeside d p calls capacity o) (sym e) k)
+pub beside_same : (d new_d : Description) (past new : List Step) (calls : List FeedbackCall) (capacity : ℕ) (w : Buffer Event) → new_d ≡ d → new ≡ past → IsKeptBeside d past calls capacity w → IsKeptBeside new_d new calls capacity w
+beside_same d new_d past new calls capacity w same e k =
+    subst (λ (d : Description). IsKeptBeside d new calls capacity w) (sym same) (subst (λ (p : List Step). IsKeptBeside d p calls capacity w) (sym e) k)
 
-pub beside_made : (d : Description) (past : List Step) (calls : List FeedbackCall) (capacity : ℕ) (x : Step) (sent : Option Event) (old lent after : Outputs) → IsKeptBeside d past calls capacity old → lent ≡ old
-    → option_to_list sent ≡ sent_at_step d past x → after.waiting ≡ with_sent sent lent.waiting → IsKeptBeside d (x ∷ past) calls capacity after
+pub beside_made : (d : Description) (past : List Step) (calls : List FeedbackCall) (capacity : ℕ) (x : Step) (sent : Option Event) (old lent after : Buffer Event) → IsKeptBeside d past calls capacity old → lent ≡ old
+    → option_to_list sent ≡ sent_at_step d past x → after ≡ with_sent sent lent → IsKeptBeside d (x ∷ past) calls capacity after
 beside_made d past calls capacity x sent old lent after k is sends keeps =
     let kept : List UEntry = kept_of past calls in
     let sent_here : option_to_list sent ≡ sent_at_step d (steps_in kept) x = sends ∙ ap (λ (p : List Step). sent_at_step d p x) (sym (steps_in-kept_of past calls)) in
     record {
-      waiting = keeps ∙ ap (λ (o : Outputs). with_sent sent o.waiting) is ∙ waits_made d kept x sent old.waiting k.waiting sent_here
+      waits = keeps ∙ ap (with_sent sent) is ∙ waits_made d kept x sent old k.waits sent_here
           ∙ ap (λ (kept : List UEntry). buffer (feedback_queue d kept) FEEDBACK_MAX) (sym (kept_of-made past calls x k.within));
       within = within-more (length past) calls k.within;
       few = k.few;
@@ -161,10 +160,10 @@ module _ (d : Description) (past : List Step) (calls : List FeedbackCall) (room 
 pub calls_pushed : (calls : List FeedbackCall) (call : FeedbackCall) → call ∷ reverse calls ≡ reverse (calls ++ call ∷ [])
 calls_pushed calls call = sym (reverse-append calls (call ∷ []))
 
-pub beside_fed : (d : Description) (past : List Step) (calls : List FeedbackCall) (call : FeedbackCall) (capacity wider : ℕ) (old : Outputs) → IsKeptBeside d past calls capacity old → call.at ≡ length past → length calls < d.log_limit → capacity ≤ wider
-    → IsKeptBeside d past (call ∷ calls) wider (record old { waiting = buffer (drop call.count old.waiting.items) old.waiting.capacity })
+pub beside_fed : (d : Description) (past : List Step) (calls : List FeedbackCall) (call : FeedbackCall) (capacity wider : ℕ) (old : Buffer Event) → IsKeptBeside d past calls capacity old → call.at ≡ length past → length calls < d.log_limit → capacity ≤ wider
+    → IsKeptBeside d past (call ∷ calls) wider (buffer (drop call.count old.items) old.capacity)
 beside_fed d past calls call capacity wider old k at few wide = record {
-  waiting = waits_fed d (kept_of past calls) call.count old.waiting k.waiting ∙ ap (λ (kept : List UEntry). buffer (feedback_queue d kept) FEEDBACK_MAX) (sym (kept_of-fed past calls call at));
+  waits = waits_fed d (kept_of past calls) call.count old k.waits ∙ ap (λ (kept : List UEntry). buffer (feedback_queue d kept) FEEDBACK_MAX) (sym (kept_of-fed past calls call at));
   within = omega (arith, at);
   few = omega (arith, few);
   room = omega (arith, k.room, wide);
@@ -172,12 +171,12 @@ beside_fed d past calls call capacity wider old k at few wide = record {
 
 -- A device that keeps nothing
 
-pub first_beside : (caps d : Description) (past : List Step) (agains : ℕ) (calls : List FeedbackCall) (capacity : ℕ) (made o : Outputs) → (let device : DeviceView = record { description = d; past = past; agains = agains } in device ≡ record { description = caps; past = []; agains = 0 })
-    → calls ≡ [] → caps.log_limit ≤ capacity → made.waiting ≡ buffer [] FEEDBACK_MAX → o ≡ made → IsKeptBeside d past (reverse calls) capacity o
-first_beside caps d past agains calls capacity made o device none room fresh is =
-    subst (λ (v : DeviceView). IsKeptBeside v.description v.past (reverse calls) capacity o) (sym device)
-    (subst (λ (calls : List FeedbackCall). IsKeptBeside caps [] (reverse calls) capacity o) (sym none) (record {
-      waiting = ap (λ (o : Outputs). o.waiting) is ∙ fresh ∙ waits_first caps ∙ ap (λ (kept : List UEntry). buffer (feedback_queue caps kept) FEEDBACK_MAX) (sym kept_of-nothing);
+pub first_beside : (caps d : Description) (past : List Step) (agains : ℕ) (calls : List FeedbackCall) (capacity : ℕ) (made w : Buffer Event) → (let device : DeviceView = record { description = d; past = past; agains = agains } in device ≡ record { description = caps; past = []; agains = 0 })
+    → calls ≡ [] → caps.log_limit ≤ capacity → made ≡ buffer [] FEEDBACK_MAX → w ≡ made → IsKeptBeside d past (reverse calls) capacity w
+first_beside caps d past agains calls capacity made w device none room fresh is =
+    subst (λ (v : DeviceView). IsKeptBeside v.description v.past (reverse calls) capacity w) (sym device)
+    (subst (λ (calls : List FeedbackCall). IsKeptBeside caps [] (reverse calls) capacity w) (sym none) (record {
+      waits = is ∙ fresh ∙ waits_first caps ∙ ap (λ (kept : List UEntry). buffer (feedback_queue caps kept) FEEDBACK_MAX) (sym kept_of-nothing);
       within = tt;
       few = omega arith;
       room = room;

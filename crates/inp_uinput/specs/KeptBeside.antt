@@ -8,16 +8,16 @@ use Rattle.inp_feedback.specs.declared.feedback_call.FeedbackCall.{FeedbackCall}
 use Rattle.inp_feedback.specs.declared.fed.TheConstants.{FEEDBACK_MAX}
 use Rattle.inp_feedback.specs.Feedback.{feedback_queue}
 use Rattle.inp_feedback.specs.Kept.{kept_of, StandsWithin}
-use Rattle.inp_uinput.specs.declared.outputs.Outputs.{Outputs}
 
 -- a ring with an event that was sent, if one was: after the others, of which the last ones stay that fit
 abbrev pub with_sent : Option Event → Buffer Event → Buffer Event
 with_sent None waiting = waiting
 with_sent (Some e) waiting = buffer (keep_last waiting.capacity (waiting.items ++ e ∷ [])) waiting.capacity
 
--- all that is kept beside the steps, with the feedback calls newest first and room for as many as there may be
-pub record IsKeptBeside (d : Description) (past : List Step) (calls : List FeedbackCall) (capacity : ℕ) (o : Outputs) : Type 0 where
-  pub waiting : o.waiting ≡ buffer (feedback_queue d (kept_of past calls)) FEEDBACK_MAX
+-- all that is kept beside the steps: the feedback calls, newest first, with room for as many as there may be, and the
+-- sent events that wait for the owner
+pub record IsKeptBeside (d : Description) (past : List Step) (calls : List FeedbackCall) (capacity : ℕ) (waiting : Buffer Event) : Type 0 where
+  pub waits : waiting ≡ buffer (feedback_queue d (kept_of past calls)) FEEDBACK_MAX
   pub within : StandsWithin (length past) calls
   pub few : length calls ≤ d.log_limit
   pub room : d.log_limit ≤ capacity

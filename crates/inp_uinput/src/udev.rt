@@ -12,10 +12,11 @@ ghost use Rattle.inp_feedback.specs.declared.u_entry.UEntry.TheVariants.{Made};
 ghost use Rattle.inp_feedback.specs.UEntry.{steps_in, kept_after_step, kept_after_events};
 ghost use Rattle.inp_feedback.specs.Feedback.{taken_by_feedback, fed, kept_after_feedback};
 
-use crate::outputs::{Outputs, sent_by};
+use crate::outputs::{keep, sent_by};
+use circular_buffer::HeapCircularBuffer;
 use inp_caps::Caps;
 use inp_device::Device;
-use inp_feedback::{Fed, FeedbackCall};
+use inp_feedback::{FEEDBACK_MAX, Fed, FeedbackCall};
 use inp_model::{Evdev, Event, History, Injected, NoMemory, Reply, Stamped, Step, Taken};
 use std::alloc::Global;
 use std::marker::Model;
@@ -29,8 +30,8 @@ use std::marker::Model;
 #[derive(Drop)]
 pub struct Udev {
     device: Device,
-    // On the heap, so that a device is moved in some words.
-    outputs: Box<Outputs>,
+    // The sent events that wait for the owner, oldest first. On the heap, so that a device is moved in some words.
+    waiting: Box<HeapCircularBuffer<Event>>,
     feedbacks: Vec<FeedbackCall>,
 }
 
@@ -50,7 +51,7 @@ impl Model for Udev {
     } };
 
     ghost invariant = { λ u. IsKeptBeside u.device.description u.device.past (reverse u.feedbacks.items)
-        (vec_capacity u.feedbacks) u.outputs.value };
+        (vec_capacity u.feedbacks) u.waiting.value };
 }
 
 impl Udev {
@@ -61,11 +62,12 @@ impl Udev {
             udev ≡ record { description = caps; kept = []; agains = 0 }) }
     {
         let feedbacks = Vec::with_capacity(alloc, caps.log() as usize)?;
-        let outputs = Box::new(alloc, Outputs::new(alloc)?)?;
+        let ring = HeapCircularBuffer::with_capacity(alloc, FEEDBACK_MAX)?;
+        let waiting = Box::new(alloc, ring)?;
         let device = Device::new(alloc, caps)?;
         Ok(Udev {
             device,
-            outputs,
+            waiting,
             feedbacks,
         })
     }
@@ -96,10 +98,10 @@ impl Udev {
         ensures accepted { IsHistory self.new.description (steps_in self.new.kept) }
         ensures before { IsHistory self.old.description (steps_in self.old.kept) }
     {
-        let sent = sent_by(&self.device, step);
         let reply = self.device.step(step, out, cells);
         if reply.is_accepted() {
-            self.outputs.keep(sent);
+            let sent = sent_by(step, self.device.sent());
+            keep(&mut self.waiting, sent);
         }
         reply
     }
@@ -141,9 +143,9 @@ impl Udev {
         } }
         ensures accepted { IsHistory self.new.description (steps_in self.new.kept) }
     {
-        let sent = sent_by(&self.device, Step::Inject { event, now });
         self.device.enter(event, now);
-        self.outputs.keep(sent);
+        let sent = self.device.sent().then_some(event);
+        keep(&mut self.waiting, sent);
     }
 
     /// Moves the first of the events that wait for the owner to the front of `out`, as many as fit, and keeps the call.
@@ -164,7 +166,7 @@ impl Udev {
         if self.feedbacks.len() >= self.device.caps().log() as usize {
             return Fed::Full { at };
         }
-        let count = self.outputs.take(out) as u32;
+        let count = self.waiting.read_into(out) as u32;
         self.feedbacks.push(FeedbackCall { at, count }).unwrap();
         Fed::Took { at, count }
     }

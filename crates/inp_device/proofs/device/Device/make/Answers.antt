@@ -1,6 +1,9 @@
-use Rattle.std.proofs.Common.{[], ◌∷◌, ◌++◌, ◌<◌, length, if◌then◌else◌, ap, ◌∙◌, arith}
+use Rattle.std.proofs.Common.{◌≡◌, Some, sym, reverse, [], ◌∷◌, ◌++◌, ◌<◌, length, if◌then◌else◌, ap, ◌∙◌, arith}
 use Rattle.std.specs.Prelude.{Ok, is_ok, vec_capacity}
 use Rattle.inp_device.specs.declared.present.Present.{Present}
+use Rattle.std.proofs.lemmas.Bool.{true≢false}
+use Rattle.inp_model.specs.Reply.{is_accepted, refused}
+use Rattle.inp_model.proofs.Refused.{refused-not_accepted}
 use Rattle.inp_client.specs.Numbers.{stored_of}
 use Rattle.inp_device.proofs.EnteredSteps.{device_stored, told_of, made_of, refused_step, ready, room, entered_kept, device_made, device_lacks}
 use Rattle.inp_device.proofs.device.Device.make.Goals as goal
@@ -51,3 +54,17 @@ returns-in-Err-clause-stored_stays c refused = rw (← c.self.view_is)
 
 pub returns-in-Err-clause-stored : goal.returns-in-Err-clause-stored
 returns-in-Err-clause-stored c = rw (← c.self.view_is) (omega (arith, c.in-Err.ensures.stored ∙ ap (λ (p : Present). stored_of p.handler.clients) c.deref_mut.ensures.value))
+
+pub returns-in-Some-clause-sent : goal.returns-in-Some-clause-sent
+returns-in-Some-clause-sent c accepted =
+    let caps = c.self.inside.present.value.caps in
+    let past = reverse c.self.inside.steps.items in
+    let refuses : refused caps past c.args.step ≡ Some c.in-Some.reply =
+    told_of c.deref.result.now _ c.deref-2.result.now _ c.args.step c.refusal.result c.deref.ensures c.deref-2.ensures.value c.refusal.ensures.exact ∙ c.in-Some.is in
+    absurd (true≢false (sym accepted ∙ refused-not_accepted caps past c.args.step c.in-Some.reply refuses))
+
+pub returns-in-Ok-clause-sent : goal.returns-in-Ok-clause-sent
+returns-in-Ok-clause-sent c accepted = rw (← c.self.view_is) (rw (c.deref_mut.ensures.value, c.deref-3.ensures.value) at c.in-Ok.ensures.sent)
+
+pub returns-in-Err-clause-sent : goal.returns-in-Err-clause-sent
+returns-in-Err-clause-sent c accepted = absurd (true≢false (sym accepted ∙ ap is_accepted c.refuse.ensures.refused))

@@ -8,4 +8,5 @@ pub returns : goal.returns
 returns c = record {
   fresh = stands_first c.args.caps _ refl c.in_ok-core.ensures.fresh c.in_ok-core.ensures.made c.in_ok-handler.ensures.fresh (ap (λ (h : HandleState). h.holder) c.new-3.ensures.free) refl refl;
   stored = ap stored_of c.in_ok-handler.ensures.fresh.clients;
+  sent = c.in_ok-core.ensures.sends;
 }

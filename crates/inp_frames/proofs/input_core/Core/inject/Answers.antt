@@ -1,5 +1,7 @@
-use Rattle.std.proofs.Common.{◌≡◌, Bool, false, true, if◌then◌else◌, [], ◌∷◌, sym, ap, ◌∙◌}
+use Rattle.std.proofs.Common.{◌≡◌, Bool, false, true, ◌&&◌, not, if◌then◌else◌, [], ◌∷◌, sym, ap, ◌∙◌}
+use Rattle.std.proofs.Math.Bool.{and-false}
 use Rattle.inp_model.specs.declared.event.Event.{Event}
+use Rattle.inp_model.specs.Passed.{goes_to_device}
 use Rattle.inp_model.specs.Raw.{raw}
 use Rattle.inp_frames.specs.Core.{CoreValues}
 use Rattle.inp_frames.proofs.HandledEvents.{Handles-none}
@@ -33,3 +35,16 @@ returns-clause-enters_write g c = λ past client h.
     enters-write c.args.caps.now past client c.args.event c.args.now (c.args.event ∷ []) g.F.Frames.takes c.args.self.now c.gather.new.self c.args.to.now c.gather.new.to h
     (unless c.args.event c.args.self.now c.self.inside.inhibited false c.if-ignored.false (ap (λ (core : CoreValues). core.inhibited) c.self.view_is))
     (c.gather.ensures.handled (raw c.args.caps.now past) h.raw_events)
+
+pub returns-then-ignored-clause-sends : goal.returns-then-ignored-clause-sends
+returns-then-ignored-clause-sends g c = λ past h.
+    let goes = goes_to_device c.args.caps.now (raw c.args.caps.now past) c.args.event in
+    let here : c.args.self.now.inhibited ≡ true = sym (ap (λ (core : CoreValues). core.inhibited) c.self.view_is) ∙ c.if-ignored.true in
+    ap (λ (b : Bool). c.args.self.now.goes && not b) here ∙ and-false c.args.self.now.goes
+    ∙ sym (ap (λ (b : Bool). goes && not b) (sym h.inhibited ∙ here) ∙ and-false goes)
+
+pub returns-clause-sends : goal.returns-clause-sends
+returns-clause-sends g c = λ past h.
+    let handled = c.gather.ensures.handled (raw c.args.caps.now past) h.raw_events in
+    ap (λ (b : Bool). b && not c.gather.new.self.inhibited) (c.gather.ensures.goes (raw c.args.caps.now past) h.raw_events)
+    ∙ ap (λ (b : Bool). goes_to_device c.args.caps.now (raw c.args.caps.now past) c.args.event && not b) (handled.inhibited ∙ h.inhibited)

@@ -1,4 +1,4 @@
-use Rattle.std.proofs.Common.{◌<◌, ◌∷◌, List, length, reverse, ap, ◌∙◌, subst, sym, arith}
+use Rattle.std.proofs.Common.{◌<◌, ◌∷◌, List, length, reverse, ap, ◌∙◌, subst, sym, arith, if◌then◌else◌, Some, None, option_to_list}
 use Rattle.std.specs.Prelude.{vec_capacity}
 use Rattle.inp_model.specs.declared.step.Step.{Step}
 use Rattle.inp_model.specs.declared.step.Step.TheVariants.{Inject}
@@ -10,6 +10,7 @@ use Rattle.inp_feedback.specs.Kept.{kept_of}
 use Rattle.inp_feedback.proofs.Lists.{steps_in-kept_of, kept_of-made}
 use Rattle.inp_uinput.specs.UdevView.{UdevView}
 use Rattle.inp_uinput.proofs.Udevs.{history_over, beside_same, beside_made}
+use Rattle.inp_uinput.proofs.SentEvents.{some_if, sends}
 use Rattle.inp_uinput.proofs.udev.Udev.enter.Goals as goal
 
 pub enter-requires-clause-room : goal.enter-requires-clause-room
@@ -24,10 +25,13 @@ invariant_of-self c =
     let new = c.enter.new.self in
     let calls = reverse c.self.inside.feedbacks.items in
     let room = vec_capacity c.self.inside.feedbacks in
-    beside_same c.self.inside.device.description new.description (Inject c.args.event c.args.now ∷ c.self.inside.device.past) new.past calls room c.keep.new.self
+    let x : Step = Inject c.args.event c.args.now in
+    let sent = ap option_to_list (c.then_some-sent.ensures ∙ some_if c.sent.result c.args.event ∙ ap (λ b. if b then Some c.args.event else None) c.sent.ensures.sent)
+    ∙ sends c.self.inside.device.description c.self.inside.device.past x new.sent c.enter.ensures.sent in
+    beside_same c.self.inside.device.description new.description (x ∷ c.self.inside.device.past) new.past calls room c.keep.new.waiting
     (ap (λ (v : DeviceView). v.description) c.enter.ensures.entered) (ap (λ (v : DeviceView). v.past) c.enter.ensures.entered)
-    (beside_made c.self.inside.device.description c.self.inside.device.past calls room (Inject c.args.event c.args.now) c.sent_by-sent.result c.self.inside.outputs.value c.deref_mut.result.now c.keep.new.self
-    c.self.invariant c.deref_mut.ensures.value c.sent_by-sent.ensures.sent c.keep.ensures.kept)
+    (beside_made c.self.inside.device.description c.self.inside.device.past calls room x c.then_some-sent.result c.self.inside.waiting.value c.deref_mut.result.now c.keep.new.waiting
+    c.self.invariant c.deref_mut.ensures.value sent c.keep.ensures.kept)
 
 pub returns-clause-entered : goal.returns-clause-entered
 returns-clause-entered c =

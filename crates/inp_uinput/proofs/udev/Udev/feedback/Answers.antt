@@ -8,7 +8,6 @@ use Rattle.inp_model.specs.Reply.{written}
 use Rattle.inp_feedback.specs.declared.u_entry.UEntry.{UEntry}
 use Rattle.inp_feedback.specs.declared.fed.Fed.TheVariants.{Took, Full}
 use Rattle.inp_feedback.specs.declared.feedback_call.FeedbackCall.{FeedbackCall}
-use Rattle.inp_uinput.specs.declared.outputs.Outputs.{Outputs}
 use Rattle.inp_feedback.specs.declared.fed.TheConstants.{FEEDBACK_MAX}
 use Rattle.inp_feedback.specs.Feedback.{feedback_queue, is_full_of_feedback}
 use Rattle.inp_feedback.specs.Kept.{kept_of}
@@ -37,8 +36,8 @@ overflow_cast-count c =
     let past = c.self.inside.device.past in
     let calls = reverse c.self.inside.feedbacks.items in
     let room = length c.args.out.now in
-    let waits : c.deref_mut.result.now.waiting ≡ buffer (feedback_queue d (kept_of past calls)) FEEDBACK_MAX = ap (λ (o : Outputs). o.waiting) c.deref_mut.ensures.value ∙ c.self.invariant.waiting in
-    let count : c.take-count.result ≡ min room (length (feedback_queue d (kept_of past calls))) = c.take-count.ensures.count ∙ ap (λ (w : Buffer Event). min room (length w.items)) waits in
+    let waits : c.deref_mut.result.now ≡ buffer (feedback_queue d (kept_of past calls)) FEEDBACK_MAX = c.deref_mut.ensures.value ∙ c.self.invariant.waits in
+    let count : c.read_into-count.result ≡ min room (length (feedback_queue d (kept_of past calls))) = c.read_into-count.ensures.count ∙ ap (λ (w : Buffer Event). min room (length w.items)) waits in
     let few = queue_within d (kept_of past calls) in
     search rules
 
@@ -49,14 +48,14 @@ invariant_of-self c =
     let calls = reverse c.self.inside.feedbacks.items in
     let below : length calls < d.log_limit = omega (arith, length-reverse c.self.inside.feedbacks.items, c.log.ensures.log, ap (λ (d : Description). d.log_limit) c.caps.ensures.description) in
     let place : length c.history.result.now ≡ length past = ap length c.history.ensures.history ∙ length-reverse past in
-    let call : FeedbackCall = record { at = length c.history.result.now; count = c.take-count.result } in
+    let call : FeedbackCall = record { at = length c.history.result.now; count = c.read_into-count.result } in
     let pushed : c.push.new.self.items ≡ c.self.inside.feedbacks.items ++ call ∷ [] = c.push.ensures.items ∙ ap (λ r. if is_ok r then c.self.inside.feedbacks.items ++ call ∷ [] else c.self.inside.feedbacks.items) c.unwrap.ensures in
     let turned : call ∷ calls ≡ reverse c.push.new.self.items = calls_pushed c.self.inside.feedbacks.items call ∙ ap reverse (sym pushed) in
-    let old : Outputs = c.self.inside.outputs.value in
-    let left : record old { waiting = buffer (drop c.take-count.result old.waiting.items) old.waiting.capacity } ≡ c.take-count.new.self =
-    ap (λ (o : Outputs). record o { waiting = buffer (drop c.take-count.result o.waiting.items) o.waiting.capacity }) (sym c.deref_mut.ensures.value) ∙ sym c.take-count.ensures.left in
-    subst (λ (o : Outputs). IsKeptBeside d past (reverse c.push.new.self.items) (vec_capacity c.push.new.self) o) left
-    (subst (λ (calls : List FeedbackCall). IsKeptBeside d past calls (vec_capacity c.push.new.self) (record old { waiting = buffer (drop c.take-count.result old.waiting.items) old.waiting.capacity })) turned
+    let old : Buffer Event = c.self.inside.waiting.value in
+    let left : buffer (drop c.read_into-count.result old.items) old.capacity ≡ c.read_into-count.new.self =
+    ap (λ (w : Buffer Event). buffer (drop c.read_into-count.result w.items) w.capacity) (sym c.deref_mut.ensures.value) ∙ sym c.read_into-count.ensures.items in
+    subst (IsKeptBeside d past (reverse c.push.new.self.items) (vec_capacity c.push.new.self)) left
+    (subst (λ (calls : List FeedbackCall). IsKeptBeside d past calls (vec_capacity c.push.new.self) (buffer (drop c.read_into-count.result old.items) old.capacity)) turned
     (beside_fed d past calls call (vec_capacity c.self.inside.feedbacks) (vec_capacity c.push.new.self) old c.self.invariant place below c.push.ensures.capacity))
 
 pub returns : goal.returns
@@ -68,15 +67,15 @@ returns c =
     let below : length calls < d.log_limit = omega (arith, length-reverse c.self.inside.feedbacks.items, c.log.ensures.log, ap (λ (d : Description). d.log_limit) c.caps.ensures.description) in
     let some : is_full_of_feedback d (kept_of past calls) ≡ false = below_limit d past calls room below in
     let place : length c.history.result.now ≡ length past = ap length c.history.ensures.history ∙ length-reverse past in
-    let waits : c.deref_mut.result.now.waiting ≡ buffer (feedback_queue d (kept_of past calls)) FEEDBACK_MAX = ap (λ (o : Outputs). o.waiting) c.deref_mut.ensures.value ∙ c.self.invariant.waiting in
-    let count : c.take-count.result ≡ min room (length (feedback_queue d (kept_of past calls))) = c.take-count.ensures.count ∙ ap (λ (w : Buffer Event). min room (length w.items)) waits in
-    let call : FeedbackCall = record { at = length c.history.result.now; count = c.take-count.result } in
+    let waits : c.deref_mut.result.now ≡ buffer (feedback_queue d (kept_of past calls)) FEEDBACK_MAX = c.deref_mut.ensures.value ∙ c.self.invariant.waits in
+    let count : c.read_into-count.result ≡ min room (length (feedback_queue d (kept_of past calls))) = c.read_into-count.ensures.count ∙ ap (λ (w : Buffer Event). min room (length w.items)) waits in
+    let call : FeedbackCall = record { at = length c.history.result.now; count = c.read_into-count.result } in
     let pushed : c.push.new.self.items ≡ c.self.inside.feedbacks.items ++ call ∷ [] = c.push.ensures.items ∙ ap (λ r. if is_ok r then c.self.inside.feedbacks.items ++ call ∷ [] else c.self.inside.feedbacks.items) c.unwrap.ensures in
     let turned : call ∷ calls ≡ reverse c.push.new.self.items = calls_pushed c.self.inside.feedbacks.items call ∙ ap reverse (sym pushed) in
     rw (← c.self.view_is) (record {
-      answer = ap (λ at. Took at c.take-count.result) place ∙ some_answer d past calls room c.take-count.result some count;
-      written = c.take-count.ensures.written ∙ ap (λ (w : Buffer Event). take c.take-count.result w.items ++ drop c.take-count.result c.args.out.now) waits
-          ∙ some_written d past calls room c.take-count.result c.args.out.now some count;
+      answer = ap (λ at. Took at c.read_into-count.result) place ∙ some_answer d past calls room c.read_into-count.result some count;
+      written = c.read_into-count.ensures.read ∙ ap (λ (w : Buffer Event). take c.read_into-count.result w.items ++ drop c.read_into-count.result c.args.out.now) waits
+          ∙ some_written d past calls room c.read_into-count.result c.args.out.now some count;
       kept = ap (λ (calls : List FeedbackCall). record { description = d; kept = kept_of past calls; agains = c.self.inside.device.agains }) (sym turned)
           ∙ ap (λ (kept : List UEntry). record { description = d; kept = kept; agains = c.self.inside.device.agains }) (some_kept d past calls room call some place count);
     })

@@ -8,7 +8,7 @@ pub invariant_of-result : goal.invariant_of-result
 invariant_of-result c =
     let room : c.args.caps.log_limit ≤ vec_capacity c.in_ok-feedbacks.feedbacks = omega (arith, c.in_ok-feedbacks.ensures.capacity, c.log.ensures.log) in
     first_beside c.args.caps c.in_ok-device.device.description c.in_ok-device.device.past c.in_ok-device.device.agains c.in_ok-feedbacks.feedbacks.items (vec_capacity c.in_ok-feedbacks.feedbacks)
-    c.in_ok-new.field-0 c.in_ok-outputs.outputs.value (ap plain_view c.in_ok-device.ensures.fresh) c.in_ok-feedbacks.ensures.items room c.in_ok-new.ensures.fresh c.in_ok-outputs.ensures.ok
+    c.in_ok-ring.ring c.in_ok-waiting.waiting.value (ap plain_view c.in_ok-device.ensures.fresh) c.in_ok-feedbacks.ensures.items room c.in_ok-ring.ensures c.in_ok-waiting.ensures.ok
 
 pub returns : goal.returns
 returns c = record {

@@ -1,8 +1,10 @@
-use Rattle.std.proofs.Common.{ap, sym, ◌∙◌, ◌∷◌, if◌then◌else◌, reverse}
+use Rattle.std.proofs.Common.{ap, sym, ◌∙◌, ◌∷◌, if◌then◌else◌, reverse, None, option_to_list}
 use Rattle.std.specs.Prelude.{vec_capacity}
 use Rattle.inp_feedback.specs.UEntry.{kept_after_step}
 use Rattle.inp_uinput.specs.UdevView.{UdevView}
 use Rattle.inp_uinput.proofs.Udevs.{step_over, history_over, step_kept, beside_same, beside_made}
+use Rattle.inp_device.specs.Device.{event_brought, TellsSent}
+use Rattle.inp_uinput.proofs.SentEvents.{sends}
 use Rattle.inp_uinput.proofs.udev.Udev.step.Goals as goal
 
 pub invariant_of-self : goal.invariant_of-self
@@ -13,9 +15,11 @@ invariant_of-self c =
     let room = vec_capacity c.self.inside.feedbacks in
     let new = c.step-reply.new.self in
     let entered = c.step-reply.ensures.step.entered ∙ ap (λ b. if b then c.args.step ∷ past else past) (sym c.is_accepted.ensures.accepted ∙ c.if-is_accepted.true) in
-    beside_same d new.description (c.args.step ∷ past) new.past calls room c.keep.new.self c.step-reply.ensures.description entered
-    (beside_made d past calls room c.args.step c.sent_by-sent.result c.self.inside.outputs.value c.deref_mut.result.now c.keep.new.self
-    c.self.invariant c.deref_mut.ensures.value c.sent_by-sent.ensures.sent c.keep.ensures.kept)
+    let tells : TellsSent d past c.args.step new.sent = c.step-reply.ensures.sent (sym c.is_accepted.ensures.accepted ∙ c.if-is_accepted.true) in
+    let sent = ap option_to_list (c.sent_by-sent.ensures.sent ∙ ap (λ b. if b then event_brought c.args.step else None) c.sent.ensures.sent) ∙ sends d past c.args.step new.sent tells in
+    beside_same d new.description (c.args.step ∷ past) new.past calls room c.keep.new.waiting c.step-reply.ensures.description entered
+    (beside_made d past calls room c.args.step c.sent_by-sent.result c.self.inside.waiting.value c.deref_mut.result.now c.keep.new.waiting
+    c.self.invariant c.deref_mut.ensures.value sent c.keep.ensures.kept)
 
 pub returns-then-is_accepted-clause-step : goal.returns-then-is_accepted-clause-step
 returns-then-is_accepted-clause-step c =

@@ -9,7 +9,7 @@ use Rattle.inp_state.proofs.Steps.{StateStandsFor-multi_touch}
 use Rattle.inp_slots.specs.Slots.{SlotsStandFor, touch}
 use Rattle.inp_slots.proofs.Others.{SlotsStandFor-other}
 use Rattle.inp_frames.proofs.PassedEvents.{touches}
-use Rattle.inp_frames.proofs.passed.apply.Goals as goal
+use Rattle.inp_frames.proofs.disposition.apply.Goals as goal
 
 -- the event that the slots were given
 touched : (c : goal.After-apply) → touch c.args.event.code (to_z w32 (of_z w32 c.args.event.value)) ≡ c.args.event
