@@ -7,7 +7,6 @@ use Rattle.inp_reader.proofs.NextWalk.{sync-meets, Renewed, NextRules, next-meet
 use Rattle.inp_script.specs.declared.sight.Sight.TheVariants.{Took, Made, Again as AgainSight}
 use Rattle.inp_script.proofs.LineWalk.{NotedBy, OfJob, OfTurn, OfGoing, AfterNext, read_so, LineRules, start_job-meets, round-meets, turn-of, line-meets, end-meets}
 use Rattle.inp_script.proofs.Told.{Tells, tells-none, tells-then, tells-event, tells-call, tells-noted, tells-again}
-use Rattle.inp_script.proofs.Told.{memory_there}
 use Rattle.inp_script.proofs.JoyTold.{TellsOf, joy-told, told-after}
 use Rattle.inp_script.proofs.JoyWalk.{joystick-meets}
 

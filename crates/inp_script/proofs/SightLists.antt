@@ -2,13 +2,16 @@
 use Rattle.std.proofs.Common.{◌≡◌, ℕ, suc, List, [], ◌∷◌, ◌++◌, length, map, refl, sym, ap, subst, ◌∙◌, arith, Result, Ok, Err}
 use Rattle.std.specs.Prelude.{OnOk, OnErr}
 use Rattle.std.specs.List.{All}
-use Rattle.std.proofs.lemmas.List.{get_or_append_left, get_or_push, map_push}
-use Rattle.std.proofs.lemmas.List.Elements.{All-push}
+use Rattle.std.proofs.lemmas.List.{get_or_append_left, get_or_push, map_push, map-append}
+use Rattle.std.proofs.lemmas.List.Elements.{All-push, All-append, All-map}
+use Rattle.std.proofs.lemmas.Simd.{map-map}
+use Rattle.inp_model.specs.declared.taken.Taken.{Taken}
 use Rattle.inp_script.specs.declared.kept_sight.KeptSight.{KeptSight}
-use Rattle.inp_script.specs.declared.kept_sight.KeptSight.TheVariants.{Whole}
+use Rattle.inp_script.specs.declared.kept_sight.KeptSight.TheVariants.{Took, Whole}
 use Rattle.inp_script.specs.declared.sight.Sight.{Sight}
 use Rattle.inp_script.specs.declared.sight.Sight.TheVariants.{Again}
 use Rattle.inp_script.specs.KeptSight.{sight_in, IsWithin}
+use Rattle.inp_script.specs.Sight.{taken_sight}
 
 -- One more stands whole
 
@@ -60,3 +63,16 @@ pub within-after : {T E : Type 0} (r : Result T E) (whole : List Sight) (kept ne
 within-after (Ok x) whole kept new entry h k pushed refused =
     subst (All (IsWithin whole)) (sym pushed) (All-push (IsWithin whole) kept entry h k)
 within-after (Err e) whole kept new entry h k pushed refused = subst (All (IsWithin whole)) (sym refused) h
+
+-- Events were taken
+
+pub within-taken : (whole : List Sight) (kept : List KeptSight) (events : List Taken) → All (IsWithin whole) kept
+    → All (IsWithin whole) (kept ++ map (λ t. Took t) events)
+within-taken whole kept events h =
+    All-append (IsWithin whole) kept (map (λ t. Took t) events) h (All-map (IsWithin whole) (λ t. Took t) events (λ k d l. tt))
+
+pub sights-taken : (whole : List Sight) (kept : List KeptSight) (events : List Taken)
+    → map (sight_in whole) (kept ++ map (λ t. Took t) events) ≡ map (sight_in whole) kept ++ map taken_sight events
+sights-taken whole kept events =
+    map-append (sight_in whole) kept (map (λ t. Took t) events)
+    ∙ ap (λ ss. map (sight_in whole) kept ++ ss) (map-map (sight_in whole) (λ t. Took t) events)

@@ -1,5 +1,5 @@
 //! What a job saw, and why it stopped.
-ghost use Rattle.std.specs.Prelude.{◌≡◌, ◌≤◌, ◌<◌, ◌+◌, ◌^◌, [], ◌∷◌, ◌++◌, length, map, OnOk, IfOk};
+ghost use Rattle.std.specs.Prelude.{◌≡◌, ◌≤◌, ◌<◌, ◌+◌, ◌^◌, [], ◌++◌, length, map, OnOk, IfOk};
 ghost use Rattle.inp_model.specs.declared.stamped.TheConstants.{MOMENT_MAX};
 ghost use Rattle.inp_model.specs.Step.{moment_of};
 ghost use Rattle.inp_model.specs.Reply.{HasRoom};
@@ -20,17 +20,6 @@ pub(crate) struct Notes {
 }
 
 impl Notes {
-    // Adds the events that a call read.
-    pub(crate) fn push_taken(&mut self, events: &[Taken]) -> Result<(), NoMemory>
-        ensures { OnOk result
-            (self.new ≡ record self.old { sight = self.old.sight ++ map taken_sight events.now }) }
-    {
-        for event in events {
-            self.sight.push_took(*event)?;
-        }
-        Ok(())
-    }
-
     // Adds the calls that a reader made.
     pub(crate) fn push_made(&mut self, made: &[CallMade]) -> Result<(), NoMemory>
         ensures { OnOk result
@@ -58,28 +47,8 @@ impl Notes {
         Ok(())
     }
 
-    // Adds one entry.
-    pub(crate) fn push(&mut self, sight: Sight) -> Result<(), NoMemory>
-        ensures { OnOk result
-            (self.new ≡ record self.old { sight = self.old.sight ++ sight ∷ [] }) }
-    {
-        self.sight.push(sight)
-    }
-
-    // Adds a call and the events that it read, or that nothing was visible.
-    fn push_call(&mut self, step: Step, reply: Reply, events: &[Taken]) -> Result<(), NoMemory>
-        ensures { OnOk result (self.new ≡ record self.old {
-          sight = self.old.sight ++ sight_of_call step reply events.now;
-        }) }
-    {
-        match reply {
-            Reply::Again { at, ends } => self.push(Sight::Again { at, ends })?,
-            _ => self.push(Sight::Call { step, reply })?,
-        }
-        self.push_taken(events)
-    }
-
-    // Adds what a call adds, and stops the job where it was refused for the limit.
+    // Adds a call and the events that it read, or that nothing was visible. Stops the job where the call was refused for
+    // the limit.
     pub(crate) fn note(
         &mut self,
         step: Step,
@@ -91,7 +60,11 @@ impl Notes {
           stop = stop_after reply;
         }) }
     {
-        self.push_call(step, reply, events)?;
+        match reply {
+            Reply::Again { at, ends } => self.sight.push(Sight::Again { at, ends })?,
+            _ => self.sight.push(Sight::Call { step, reply })?,
+        }
+        self.sight.push_taken(events)?;
         self.stop = stop_after(reply);
         Ok(())
     }

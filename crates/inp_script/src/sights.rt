@@ -1,8 +1,9 @@
 //! What a job saw, as a list.
-ghost use Rattle.std.specs.Prelude.{◌≡◌, ◌<◌, [], ◌∷◌, ◌++◌, length, slice_get, nat_eq, OnOk, OnErr, Some};
+ghost use Rattle.std.specs.Prelude.{◌≡◌, ◌<◌, [], ◌∷◌, ◌++◌, length, map, slice_get, nat_eq, OnOk, OnErr, Some};
 ghost use Rattle.inp_model.specs.Injection.{inject_of};
 ghost use Rattle.inp_model.specs.declared.reply.Reply.TheVariants.{Done};
-ghost use Rattle.inp_script.specs.declared.sight.Sight.TheVariants.{Call, Took};
+ghost use Rattle.inp_script.specs.declared.sight.Sight.TheVariants.{Call};
+ghost use Rattle.inp_script.specs.Sight.{taken_sight};
 
 use crate::Sight;
 use crate::kept_sight::KeptSight;
@@ -64,12 +65,14 @@ impl Sights {
         self.kept.push(KeptSight::Whole { index })
     }
 
-    // Adds an event that the job took. Where it is refused, the list is as before.
-    pub(crate) fn push_took(&mut self, event: Taken) -> Result<(), NoMemory>
-        ensures ok { OnOk result (self.new ≡ self.old ++ Took event ∷ []) }
-        ensures err { OnErr result (self.new ≡ self.old) }
+    // Adds the events that a call read.
+    pub(crate) fn push_taken(&mut self, events: &[Taken]) -> Result<(), NoMemory>
+        ensures { OnOk result (self.new ≡ self.old ++ map taken_sight events.now) }
     {
-        self.kept.push(KeptSight::Took { event })
+        for event in events {
+            self.kept.push(KeptSight::Took { event: *event })?;
+        }
+        Ok(())
     }
 
     // Adds the call that injected an event, which was entered at this place. Where it is refused, the list is as

@@ -154,7 +154,7 @@ impl Notes {
                 });
             }
         }
-        self.push(Sight::Again { at, ends })?;
+        self.sight.push(Sight::Again { at, ends })?;
         Ok(Turn::Ends)
     }
 
@@ -173,11 +173,11 @@ impl Notes {
     {
         match next {
             Next::Success { event } | Next::Dropped { event } => {
-                self.push(Sight::Took { event })?;
+                self.sight.push(Sight::Took { event })?;
                 Ok(handed(progress.left))
             }
             Next::Sync { event } => {
-                self.push(Sight::Made { event })?;
+                self.sight.push(Sight::Made { event })?;
                 Ok(handed(progress.left))
             }
             Next::Synced => Ok(Turn::GoesOn {
@@ -243,7 +243,7 @@ fn hand_queued(
         return Ok(None);
     }
     let count = run.len();
-    notes.push_taken(run)?;
+    notes.sight.push_taken(run)?;
     reader.take_queued(count);
     Ok(Some(handed_run(left, count)))
 }

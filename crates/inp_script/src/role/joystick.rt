@@ -53,12 +53,12 @@ impl Notes {
     {
         match read {
             JoyRead::Record => {
-                self.push(Sight::Record { bytes })?;
+                self.sight.push(Sight::Record { bytes })?;
                 Ok(AfterRead::Hands)
             }
             JoyRead::Frame { .. } | JoyRead::More => Ok(AfterRead::GoesOn),
             JoyRead::Again { at, ends } => {
-                self.push(Sight::Again { at, ends })?;
+                self.sight.push(Sight::Again { at, ends })?;
                 Ok(AfterRead::Ends)
             }
             JoyRead::NoDevice | JoyRead::Closed => Ok(AfterRead::Ends),

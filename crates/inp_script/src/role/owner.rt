@@ -1,8 +1,7 @@
 //! What an owner keeps.
-ghost use Rattle.std.specs.Prelude.{◌≡◌, ◌++◌, ℕ, [], map, min, take, OnOk, Some};
+ghost use Rattle.std.specs.Prelude.{◌≡◌, ℕ, [], min, take, OnOk, Some};
 ghost use Rattle.inp_actors.specs.Command.{feedback_room};
 ghost use Rattle.inp_feedback.specs.declared.fed.TheConstants.{FEEDBACK_MAX};
-ghost use Rattle.inp_script.specs.declared.fed_sight.FedSight.TheVariants.{Event as Given};
 ghost use Rattle.inp_script.specs.Owner.{first_owning, after_feedback, FeedsLine, MayHaveFed, stop_after_answer};
 ghost use Rattle.inp_feedback.specs.Feeds.{taken_count};
 ghost use Rattle.inp_script.specs.RoleState.{owning_in};
@@ -32,7 +31,8 @@ impl Owner {
     }
 
     // Does a command of a record where it is a feedback call. It makes the call with room for so many events, and notes
-    // it, or does nothing where the owner has stopped.
+    // it, or does nothing where the owner has stopped. No more than `FEEDBACK_MAX` events ever wait, so the room is no
+    // more either.
     pub(crate) fn do_command<F: Feeds>(
         &mut self,
         dev: &mut F,
@@ -44,19 +44,9 @@ impl Owner {
         ensures begun { (room : ℕ) → feedback_room command.now ≡ Some room
             → MayHaveFed F.feeds dev.old dev.new (min room FEEDBACK_MAX) }
     {
-        match *command {
-            Command::Feedback { count } => self.feed(dev, count),
-            _ => Ok(()),
-        }
-    }
-
-    // Makes a feedback call with room for so many events, and notes it, or does nothing where the owner has stopped. No
-    // more than `FEEDBACK_MAX` events ever wait, so the room is no more either.
-    fn feed<F: Feeds>(&mut self, dev: &mut F, count: u32) -> Result<(), NoMemory>
-        ensures done { OnOk result (FeedsLine F.feeds dev.old dev.new (min count FEEDBACK_MAX)
-            (owning_in self.old) (owning_in self.new)) }
-        ensures begun { MayHaveFed F.feeds dev.old dev.new (min count FEEDBACK_MAX) }
-    {
+        let Command::Feedback { count } = *command else {
+            return Ok(());
+        };
         if self.stop.is_some() {
             return Ok(());
         }
@@ -72,19 +62,10 @@ impl Owner {
             (owning_in self.new ≡ after_feedback fed events.now (owning_in self.old)) }
     {
         self.fed.push(FedSight::Answer { fed })?;
-        self.push_events(events)?;
-        self.stop = stop_after(fed);
-        Ok(())
-    }
-
-    // Adds the events that a call took.
-    fn push_events(&mut self, events: &[Event]) -> Result<(), NoMemory>
-        ensures { OnOk result
-            (self.new ≡ record self.old { fed = self.old.fed ++ map Given events.now }) }
-    {
         for event in events {
             self.fed.push(FedSight::Event { event: *event })?;
         }
+        self.stop = stop_after(fed);
         Ok(())
     }
 }

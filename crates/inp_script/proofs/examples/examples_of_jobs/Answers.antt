@@ -1,9 +1,6 @@
 -- Each example computes.
 use Rattle.std.proofs.Common.{refl}
-use Rattle.inp_model.proofs.Computation.{computing}
-use Rattle.inp_reader.proofs.Computation.{computing_reader}
 use Rattle.inp_feedback.proofs.Computation.{computing as computing_feedback}
-use Rattle.inp_script.proofs.Computation.{computing_jobs, computing_joysticks}
 use Rattle.inp_script.proofs.examples.examples_of_jobs.Goals as goal
 
 pub returns-clause-owner : goal.returns-clause-owner
