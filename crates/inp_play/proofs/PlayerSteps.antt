@@ -8,7 +8,8 @@ use Rattle.inp_script.proofs.Common.{ActorText, Line, RecordView, IsRecord, play
 use Rattle.inp_script.specs.declared.run.Played.{Played}
 use Rattle.inp_runs.specs.Play.{first_stage, play, IsPlay}
 use Rattle.inp_play.specs.Player.{IsPlayer, DoesOn, HasDone}
-use Rattle.inp_play.proofs.Common.{UdevView, Player, Stage, after_line, after_lines, runs_of, stage_of}
+use Rattle.inp_play.specs.declared.player.Player.{Player}
+use Rattle.inp_play.proofs.Common.{UdevView, Stage, after_line, after_lines, runs_of, stage_of}
 use Rattle.inp_play.proofs.PlayerLines.{IsFound, found}
 use Rattle.inp_runs.proofs.order.Rounds.{after_lines-more}
 

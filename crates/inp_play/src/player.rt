@@ -1,5 +1,5 @@
 //! The devices and the actors of a record at work.
-ghost use Rattle.std.specs.Prelude.{◌≡◌, ◌<◌, length, map, OnOk, IfOk};
+ghost use Rattle.std.specs.Prelude.{◌≡◌, ◌<◌, length, map, IfOk};
 ghost use Rattle.inp_script.specs.Ended.{played_of};
 ghost use Rattle.inp_runs.specs.Job.{AreDescribed};
 ghost use Rattle.inp_runs.specs.Play.{first_stage, runs_of};
@@ -49,29 +49,15 @@ impl Player {
         let text = lines.get(line as usize);
         let lines = &lines.as_slice()[line as usize..];
         let count = gather(lines, text.actor, &mut self.events);
-        if count < 2 {
-            self.line(rec, line)?;
+        let device = rec.actors().get(text.actor as usize).device;
+        let dev = &mut self.devices[device as usize];
+        let actor = &mut self.actors[text.actor as usize];
+        if count == 0 {
+            actor.act(dev, rec, line, None)?;
             return Ok(1);
         }
-        let device = rec.actors().get(text.actor as usize).device;
-        let dev = &mut self.devices[device as usize];
-        let actor = &mut self.actors[text.actor as usize];
         actor.inject_all(dev, &self.events[..count])?;
         Ok(count as u32)
-    }
-
-    // Has its actor do the line of this number on its device.
-    fn line(&mut self, rec: &Record, line: u32) -> Result<(), NoMemory>
-        requires player { IsPlayer rec.now self.old }
-        requires line { line < length rec.now.lines }
-        ensures done { OnOk result (DoesOn rec.now line 1 self.old self.new) }
-        ensures player { OnOk result (IsPlayer rec.now self.new) }
-    {
-        let text = rec.lines().get(line as usize);
-        let device = rec.actors().get(text.actor as usize).device;
-        let dev = &mut self.devices[device as usize];
-        let actor = &mut self.actors[text.actor as usize];
-        actor.act(dev, rec, line, None)
     }
 
     // The results of the devices and of the actors.
