@@ -1,8 +1,6 @@
 -- A list that is copied to the front of a buffer, one item after another.
 use Rattle.std.proofs.Common.{◌≡◌, ◌<◌, ℕ, ◌+◌, ◌-◌, List, [], ◌∷◌, ◌++◌, length, map, take, drop, get_or, set, sym, ap, ◌∙◌, arith}
-use Rattle.std.proofs.Math.Seq.{take-length}
 use Rattle.std.proofs.lemmas.List.{drop_more, length-map, length-take-le, set-append_right, map_more, append_assoc}
-use Rattle.inp_model.specs.Reply.{written}
 
 module _ {X Y : Type 0} (f : X → Y) (xs : List X) (first : List Y) where
   pub copy_more : (out : List Y) (at : ℕ) (d : X) → out ≡ map f (take at xs) ++ drop at first → at < length xs → at < length first →
@@ -18,11 +16,3 @@ module _ {X Y : Type 0} (f : X → Y) (xs : List X) (first : List Y) where
       ∙ ap (λ r. front ++ set r 0 x) (drop_more first at x room)
       ∙ sym (append_assoc front (x ∷ []) (drop (at + 1) first))
       ∙ ap (λ r. r ++ drop (at + 1) first) (sym (map_more f xs at d h))
-
-  pub copy_all : (out : List Y) (at : ℕ) → out ≡ map f (take at xs) ++ drop at first → at ≡ length xs → out ≡ written (map f xs) first
-  copy_all out at e past =
-      let all : take at xs ≡ xs = ap (λ k. take k xs) past ∙ take-length xs in
-      let long : at ≡ length (map f xs) = past ∙ sym (length-map xs f) in
-      e
-      ∙ ap (λ c. map f c ++ drop at first) all
-      ∙ ap (λ k. map f xs ++ drop k first) long

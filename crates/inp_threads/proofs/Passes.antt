@@ -3,14 +3,14 @@ use Rattle.std.proofs.Common.{◌≡◌, ℕ, ◌+◌, ◌-◌, ◌≤◌, Bool,
 use Rattle.std.specs.Prelude.{map, filter, slice_get}
 use Rattle.std.specs.List.{range_with_len}
 use Rattle.std.proofs.lemmas.List.{append-nil, map-append, length-map}
-use Rattle.std.proofs.lemmas.List.Elements.{filter-append, All-nil, All-push, All-append, All-weaker}
+use Rattle.std.proofs.lemmas.List.Elements.{filter-append, All-push, All-append, All-weaker}
 use Rattle.std.proofs.lemmas.List.FromFn.{length-range_with_len}
 use Rattle.std.proofs.lemmas.List.Sums.{length-filter, count_by-le-length}
 use Rattle.inp_runs.proofs.Lists.{eq_same}
 use Rattle.inp_script.specs.Runs.{is_on_device}
 use Rattle.inp_script.proofs.Common.{UEntry, Description, ActorText, RecordView, HasActor, ActorView}
 use Rattle.inp_port.specs.Port.{IsReadyAt}
-use Rattle.inp_turn.specs.PassView.{whole_share, view_after_split}
+use Rattle.inp_turn.specs.PassView.{view_after_split}
 use Rattle.inp_threads.specs.Worker.{IsPortOf, AreDealtUpTo, view_in}
 use Rattle.inp_threads.specs.Joined.{own_of}
 use Rattle.inp_threads.proofs.Common.{UdevView, Ghosts, Pass, PassView, view_of, PortOf, description_of, Worker, actor_number, IsReadyOn, AreJoined, AreWorkersDone}
@@ -29,10 +29,6 @@ up p n =
     ∙ ap (λ (k : ℕ). filter p (range_with_len 0 n) ++ filter p (range_with_len k 1)) from
 
 module _ {K : Ghosts UdevView Description UEntry} (port : PortOf UdevView UEntry) (r : RecordView) (device : ℕ) where
-  pub dealt-none : (left : Pass UdevView Description UEntry K) → IsReadyAt port left → (view_of left).seen ≡ [] → (view_of left).own ≡ [] → (view_of left).share ≡ whole_share
-      → AreDealtUpTo port r device 0 left []
-  dealt-none left ready seen own share = record { numbers = refl; each = All-nil (IsReadyOn port r device); ready = ready; seen = seen; own = own; share = omega (arith, share) }
-
   pub dealt-other : (n m : ℕ) (left : Pass UdevView Description UEntry K) (workers : List Worker) → AreDealtUpTo port r device n left workers
       → is_on_device device (slice_get r.actors n) ≡ false → m ≡ n + 1 → AreDealtUpTo port r device m left workers
   dealt-other n m left workers h other next =
