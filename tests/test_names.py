@@ -38,6 +38,8 @@ FILE = re.compile(r"`(?:crates/)?(?:(inp_\w+)/)?((?:proofs|specs|src)/(?:\w+/)*\
 MARK = re.compile(r"^\s*(?:--|//[/!]?) ?", re.M)
 # A fact, named as all facts are whose name is no verb.
 FACT = re.compile(r"`(?:\w+\.)?((?:Is|Are|Has)[A-Z]\w*)`")
+# A row of the way of an event: its functions, and how many they are.
+WAY_ROW = re.compile(r"^\| [a-z' ]+ \| ((?:`[\w:]+`(?:, )?)+) \| (\d+) \|$", re.M)
 # A group of crates: in the page of crates, and in crates.txt.
 SECTION_ROWS = re.compile(r"^## (.*)$\n((?:(?!## ).*\n)*)", re.M)
 GROUP_ROWS = re.compile(r"^# (.*)\n((?:[^#\n].*\n)+)", re.M)
@@ -431,6 +433,15 @@ class Names(unittest.TestCase):
         self.assertIn("within", given()["IsRun"])
 
 
+def has_function(text, name):
+    """Does a source file have a function, or a method of this type?"""
+    *kind, function = name.split("::")
+    if kind:
+        impls = re.findall(rf"^impl\b[^{{\n]*\b{kind[0]}\b[^{{\n]*{{\n(.*?)^}}", text, re.M | re.S)
+        text = "\n".join(impls)
+    return re.search(rf"^\s*(?:pub(?:\(crate\))? )?fn {function}\b", text, re.M) is not None
+
+
 class Walks(unittest.TestCase):
     def proofs(self):
         for path in sorted(TOP.glob("crates/*/proofs/**/*.antt")):
@@ -457,6 +468,28 @@ class Walks(unittest.TestCase):
         text = "use A.{talk_in}\n-- talk_in\npub f : T\nunfolding a b\nf = x\n  unfolding c\n"
         self.assertEqual({"a", "b", "c"}, unfolded(text))
         self.assertNotIn("talk_in", told(text))
+
+
+class Way(unittest.TestCase):
+    """How long the way of an event is, by ARCHITECTURE.md."""
+
+    def test_each_function_is_there_and_all_are_counted(self):
+        page = (TOP / "docs" / "ARCHITECTURE.md").read_text()
+        sources = [path.read_text() for path in TOP.glob("crates/*/src/**/*.rt")]
+        named = []
+        for functions, count in WAY_ROW.findall(page):
+            names = re.findall(r"`([\w:]+)`", functions)
+            self.assertEqual(int(count), len(names), functions)
+            named += names
+        self.assertEqual([], [name for name in named if not any(has_function(text, name) for text in sources)])
+        self.assertEqual(len(named), len(set(named)))
+        self.assertEqual([str(len(named))], re.findall(r"through (\d+) functions on one thread", page))
+
+    def test_what_it_finds_of_a_function(self):
+        text = "impl Frames for Handler {\n    fn pass(&mut self) {}\n}\nimpl Batch {\n    pub fn add(&mut self) {}\n}\n// fn none()\n"
+        found = [name for name in ("Handler::pass", "Batch::add", "Handler::add", "Batch::pass", "pass", "none") if has_function(text, name)]
+        self.assertEqual(["Handler::pass", "Batch::add", "pass"], found)
+        self.assertEqual([("`a`, `B::c`", "2")], WAY_ROW.findall("| its source | `a`, `B::c` | 2 |\n| its | `a` and b | 2 |\n"))
 
 
 def places_of(page, link):
