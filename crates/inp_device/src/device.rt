@@ -225,8 +225,8 @@ impl Device {
         self.steps.push(Step::Inject { event, now }).unwrap();
     }
 
-    /// Whether the event that was injected or written last goes to the device itself too: to its lights, sounds and
-    /// settings.
+    /// Right after a step that injected or wrote an event: whether that goes to the device itself too, to its lights,
+    /// sounds and settings.
     #[inline(always)]
     pub fn sent(&self) -> bool
         ensures sent { result ≡ self.now.sent }

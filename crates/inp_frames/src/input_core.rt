@@ -94,7 +94,7 @@ impl Core {
     /// that is pressed in the frame arms the timer of the autorepeat, and one that is released disarms it. While the
     /// device is inhibited the event is ignored.
     ///
-    /// [`Core::sends`] says then whether the event goes to the device itself too.
+    /// [`Core::sends`] says after that whether the event goes to the device itself too.
     pub fn inject<F: Frames>(&mut self, caps: &Caps, event: Event, now: u64, to: &mut F)
         requires timely { now ≤ MOMENT_MAX }
         requires made { IsFor caps.now self.old }
@@ -115,7 +115,8 @@ impl Core {
         self.gather(caps, event, now, to);
     }
 
-    /// Whether the event that was injected last goes to the device itself too: to its lights, sounds and settings.
+    /// Right after [`Core::inject`]: whether its event goes to the device itself too, to its lights, sounds and
+    /// settings.
     #[inline(always)]
     pub fn sends(&self) -> bool
         ensures sends { result ≡ sends self.now }

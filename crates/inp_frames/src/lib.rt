@@ -49,15 +49,17 @@
 //! they are cut into, and how they arm the timer. A [`Core`] keeps no history; `CoreStandsFor` (`specs/Core.antt`) says
 //! for which histories it stands. A new one stands for the empty history, and after each call it stands for the history
 //! with one step more, for each history that it stood for. The frames that the step ends are the model's, and each is
-//! passed on once, in order. A step that ends no frame leaves the taker as it was (`IsEntered`). [`Core::sends`] says
-//! whether the event injected last goes to the device itself too, as to its lights. `proofs/KeptCore.antt` is for whoever keeps a core
-//! beside the clients of a device. A step that is not the core's ends no frame, and the core as it
-//! is stands for the history with that step. A raw event takes the same time whatever came before, and an inhibition
-//! takes time for each slot and each key that is down. Memory is taken when the core is made and never again.
+//! passed on once, in order. A step that ends no frame leaves the taker as it was (`IsEntered`). Right after
+//! [`Core::inject`], [`Core::sends`] says whether the event goes to the device itself too, as to its lights.
+//!
+//! `proofs/KeptCore.antt` is for whoever keeps a core beside the clients of a device. A step that is not the core's
+//! ends no frame, and the core as it is stands for the history with that step. A raw event takes the same time whatever
+//! came before, and an inhibition takes time for each slot and each key that is down. Memory is taken when the core is
+//! made and never again.
 //!
 //! Inside: `disposition` says what is done with a raw event, `batch` keeps what is passed for it until its frame ends,
-//! and `autorepeat` says what a frame makes of the timer. `contacts` finds the contacts to lift, `raw_events` has the events that the core
-//! makes, and `input_core` joins them.
+//! and `autorepeat` says what a frame makes of the timer. `contacts` finds the contacts to lift, `raw_events` has the
+//! events that the core makes, and `input_core` joins them.
 #![tactic(auto)]
 
 mod autorepeat;

@@ -47,8 +47,8 @@ impl Notes {
         Ok(())
     }
 
-    // Adds a call and the events that it read, or that nothing was visible. Stops the job where the call was refused for
-    // the limit.
+    // Adds a call and the events that it read, or that nothing was visible. Stops the job where the call was refused
+    // for the limit.
     pub(crate) fn note(
         &mut self,
         step: Step,

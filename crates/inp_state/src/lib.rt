@@ -9,8 +9,8 @@
 //! last write on each key and the like, and by the events on an axis since its last description. A [`State`] keeps no
 //! list; `StateStandsFor` (`specs/State.antt`) says for which lists it stands. A new one stands for the empty list.
 //! After [`State::apply`] it stands for the list with one event more, and after [`State::describe`] for the list with
-//! one description more, for each list that it stood for. What is done with an event, and what the calls answer, are the
-//! model's for each such list. An event takes the same time whatever came before, and nothing here takes memory.
+//! one description more, for each list that it stood for. What is done with an event, and what the calls answer, are
+//! the model's for each such list. An event takes the same time whatever came before, and nothing here takes memory.
 #![tactic(auto)]
 
 mod changes;
