@@ -76,7 +76,7 @@ def device_lines(device: Device, number: int) -> List[str]:
     return [
         f"P: {place}", "E: SUBSYSTEM=input", *told, *kinds, *files, "",
         f"P: {place}/event{number}", f"N: input/event{number}", "E: SUBSYSTEM=input", *numbers, *kinds,
-        f"A: dev={MAJOR}:{minor}\\n", "",
+        f"A: dev={MAJOR}:{minor}\\n", f"L: device=../../input{FIRST_INPUT + number}", "",
     ]
 
 
