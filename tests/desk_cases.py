@@ -16,7 +16,7 @@ TOOLS, DATA = TOP / "tools", TOP / "tests" / "data"
 
 sys.path.insert(0, str(TOOLS))
 
-from desk import command, names  # noqa: E402  (the tools' folder has to be on the path first)
+from inputtools import command, names  # noqa: E402  (the tools' folder has to be on the path first)
 
 
 def load(tool):

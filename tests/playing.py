@@ -3,12 +3,14 @@
 import difflib
 import os
 import subprocess
+import sys
 import tempfile
 import unittest
 from pathlib import Path
 from typing import NamedTuple
 
 TOP = Path(__file__).resolve().parent.parent
+sys.path[:0] = [str(TOP / part) for part in (".", "tools", "tests")]
 RECORDS = TOP / "tests" / "records"
 EXAMPLES = TOP / "examples"
 PROGRAM = os.environ.get("INPUTPLAY") or str(TOP / "crates" / "inp_main" / "out" / "inp_main")

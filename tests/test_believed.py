@@ -1,4 +1,4 @@
-"""What bench/believed finds in a small repository that the test writes; and that docs/PROMISES.md has its table."""
+"""What checks/believed finds in a small repository that the test writes; and that docs/PROMISES.md has its table."""
 
 import re
 import subprocess
@@ -6,10 +6,10 @@ import sys
 
 from playing import TOP, FolderCase
 
-SCRIPT = TOP / "bench" / "believed"
-sys.path.insert(0, str(TOP / "bench"))
+SCRIPT = TOP / "checks" / "believed"
+sys.path.insert(0, str(TOP))
 
-from definitions import Key, Repository  # noqa: E402  (bench/ has to be on the path first)
+from checks.definitions import Key, Repository  # noqa: E402  (bench/ has to be on the path first)
 
 # A crate `low`, and a crate `high` that depends on it. What counts for `call` has `yes` in a comment beside it.
 FILES = {
@@ -196,16 +196,16 @@ class Believed(FolderCase):
         page = (TOP / "docs" / "PROMISES.md").read_text()
         came = self.believed("--page")
         self.assertEqual((0, ""), (came.returncode, came.stderr))
-        self.assertIn(f"\n{came.stdout}<!--", page, "'bench/believed --write' writes the table anew")
+        self.assertIn(f"\n{came.stdout}<!--", page, "'checks/believed --write' writes the table anew")
 
     def test_write(self):
         page = self.folder / "docs" / "PROMISES.md"
         self.write("docs/PROMISES.md", "Page\n")
         self.rename_to_top_call()
         came = self.small("--write")
-        line = "bench/believed: docs/PROMISES.md has not both marks of what is written there\n"
+        line = "checks/believed: docs/PROMISES.md has not both marks of what is written there\n"
         self.assertEqual((2, "", line), (came.returncode, came.stdout, came.stderr))
-        marks = re.findall(r"^<!-- .* bench/believed .*-->$", (TOP / "docs" / "PROMISES.md").read_text(), re.M)
+        marks = re.findall(r"^<!-- .* checks/believed .*-->$", (TOP / "docs" / "PROMISES.md").read_text(), re.M)
         self.write("docs/PROMISES.md", "\n".join(["Page", marks[0], "old", marks[1], "end"]))
         self.assertEqual(0, self.small("--write").returncode)
         table = self.small("--page").stdout
@@ -228,7 +228,7 @@ class Believed(FolderCase):
         ]:
             with self.subTest(line):
                 came = self.small(*words)
-                self.assertEqual((2, "", f"bench/believed: {line}\n"), (came.returncode, came.stdout, came.stderr))
+                self.assertEqual((2, "", f"checks/believed: {line}\n"), (came.returncode, came.stdout, came.stderr))
 
     def test_help_and_options(self):
         self.assertIn("FUNCTION", self.believed("--help").stdout)

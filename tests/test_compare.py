@@ -4,7 +4,7 @@ import json
 import random
 
 from desk_cases import DATA, TOP, DeskCase, needs_program
-from desk.comparing import longest_ascending, pairs_of
+from inputtools.comparing import longest_ascending, pairs_of
 
 EXAMPLES = TOP / "examples"
 REPORT = (EXAMPLES / "stuck_key.report").read_text()

@@ -1,4 +1,4 @@
-"""What bench/counts counts of a small repository that the test writes; and that docs/TESTING.md has its table."""
+"""What checks/counts counts of a small repository that the test writes; and that docs/TESTING.md has its table."""
 
 import re
 import subprocess
@@ -6,7 +6,7 @@ import sys
 
 from playing import TOP, FolderCase
 
-SCRIPT = TOP / "bench" / "counts"
+SCRIPT = TOP / "checks" / "counts"
 
 # Each line of code has the mark `code` after it, and each for the prover `prover`; they are not written.
 FILES = {
@@ -110,13 +110,13 @@ class Counts(FolderCase):
         came = self.counts("--page")
         self.assertEqual((0, ""), (came.returncode, came.stderr))
         page = (TOP / "docs" / "TESTING.md").read_text()
-        self.assertIn(f"\n{came.stdout}<!--", page, "'bench/counts --write' writes the table anew")
+        self.assertIn(f"\n{came.stdout}<!--", page, "'checks/counts --write' writes the table anew")
 
     def test_write(self):
         page = self.folder / "docs" / "TESTING.md"
         self.write("docs/TESTING.md", "Page\n")
         came = self.small("--write")
-        line = "bench/counts: docs/TESTING.md has not both marks of what is written there\n"
+        line = "checks/counts: docs/TESTING.md has not both marks of what is written there\n"
         self.assertEqual((2, "", line), (came.returncode, came.stdout, came.stderr))
         marks = re.findall(r"^<!-- .* -->$", (TOP / "docs" / "TESTING.md").read_text(), re.M)
         self.write("docs/TESTING.md", "\n".join(["Page", marks[0], "old", marks[1], "end"]))
@@ -127,5 +127,5 @@ class Counts(FolderCase):
         self.assertIn("--write", self.counts("--help").stdout)
         (self.folder / "crates.txt").unlink()
         came = self.small()
-        line = f"bench/counts: {self.folder}/crates.txt is not there\n"
+        line = f"checks/counts: {self.folder}/crates.txt is not there\n"
         self.assertEqual((2, "", line), (came.returncode, came.stdout, came.stderr))

@@ -1,5 +1,5 @@
 """Texts that are no records, or just records: what the program and the second one say of them, and what
-`bench/damage` says of programs that are right and wrong.
+`checks/damage` says of programs that are right and wrong.
 
 What is wanted of the texts was worked out by docs/FORMATS.md ("The record").
 """
@@ -13,12 +13,11 @@ from importlib.util import module_from_spec, spec_from_loader
 from playing import EXAMPLES, RECORDS, TOP, FolderCase, assert_run, run
 from test_statuses import ONE_KEY, ONE_KEY_REPORT, REFUSED
 
-SCRIPT = TOP / "bench" / "damage"
-MODEL = TOP / "bench" / "model"
-sys.path.insert(0, str(TOP / "bench"))
-sys.path.insert(0, str(MODEL))
+SCRIPT = TOP / "checks" / "damage"
+MODEL = TOP / "second"
+sys.path.insert(0, str(TOP))
 
-from outcome import outcome
+from second.outcome import outcome
 
 HEAD = "inputrecord 1\n"
 SOURCE = HEAD + "device d\nsource s\n"
@@ -164,8 +163,8 @@ PLAYED += [
 # Programs: the second one, and some that are not as it is.
 RIGHT = f"""#!{sys.executable}
 import os, sys
-sys.path.insert(0, {str(MODEL)!r})
-from outcome import outcome
+sys.path.insert(0, {str(TOP)!r})
+from second.outcome import outcome
 status, text = outcome(sys.argv[-1], "--history" in sys.argv)
 sys.stdout.buffer.write(text)
 sys.stdout.buffer.flush()

@@ -1,4 +1,4 @@
-"""bench/desk: it runs the tools on many files, and tells which runs are not as they are to be."""
+"""checks/desk: it runs the tools on many files, and tells which runs are not as they are to be."""
 
 import importlib.util
 import random
@@ -9,11 +9,11 @@ from importlib.machinery import SourceFileLoader
 
 from playing import PROGRAM, TOP, FolderCase
 
-SCRIPT = TOP / "bench" / "desk"
+SCRIPT = TOP / "checks" / "desk"
 
 
 def load():
-    sys.path.insert(0, str(TOP / "bench"))
+    sys.path.insert(0, str(TOP))
     loader = SourceFileLoader("bench_desk", str(SCRIPT))
     module = importlib.util.module_from_spec(importlib.util.spec_from_loader(loader.name, loader))
     loader.exec_module(module)

@@ -8,7 +8,7 @@ from html.parser import HTMLParser
 
 from desk_cases import PROGRAM, TOP, DeskCase
 
-from desk.paper import COLOURS, RULES
+from inputtools.paper import COLOURS, RULES
 
 EXAMPLES = TOP / "examples"
 RECORDS = TOP / "tests" / "records"

@@ -124,7 +124,7 @@ class Stopped(EndsCase):
 
     def test_while_a_tool_starts(self):
         """What the tools share is loaded first, and from then on a stop is told by no traceback."""
-        text = "import os, signal, sys; sys.path.insert(0, sys.argv[1]); import desk; os.kill(os.getpid(), signal.SIGINT)"
+        text = "import os, signal, sys; sys.path.insert(0, sys.argv[1]); import inputtools; os.kill(os.getpid(), signal.SIGINT)"
         words = [sys.executable, "-Bc", text, TOOLS]
         done = subprocess.run(words, capture_output=True, text=True, check=False, preexec_fn=heed_stops)
         self.assertEqual((-signal.SIGINT, "", ""), (done.returncode, done.stdout, done.stderr))

@@ -1,4 +1,4 @@
-"""What `bench/alloc` and `bench/faults` say of programs that are right, and of some that are not.
+"""What `checks/alloc` and `checks/faults` say of programs that are right, and of some that are not.
 
 The programs are small ones in C, which do as the real one at calls that fail. Where there is no C compiler the
 scripts must say so, and the rules by which they judge are tested alone.
@@ -13,12 +13,11 @@ from importlib.util import module_from_spec, spec_from_loader
 
 from playing import TOP, USAGE, FolderCase
 
-MODEL = TOP / "bench" / "model"
-sys.path.insert(0, str(TOP / "bench"))
-sys.path.insert(0, str(MODEL))
+MODEL = TOP / "second"
+sys.path.insert(0, str(TOP))
 
-from side_by_side import play_side_by_side
-from trial import Run
+from second.side_by_side import play_side_by_side
+from checks.trial import Run
 
 HAS_COMPILER = shutil.which(os.environ.get("CC", "cc")) is not None
 
@@ -101,7 +100,7 @@ WRONG = {
 
 def loaded(name):
     """A script of bench/ as a module."""
-    loader = SourceFileLoader(name, str(TOP / "bench" / name))
+    loader = SourceFileLoader(name, str(TOP / "checks" / name))
     module = module_from_spec(spec_from_loader(name, loader))
     loader.exec_module(module)
     return module
@@ -120,7 +119,7 @@ class FailingCalls(FolderCase):
         subprocess.run(command, check=True, capture_output=True, timeout=60)
 
     def script(self, name, *words):
-        command = [sys.executable, TOP / "bench" / name, "--program", self.program, *words]
+        command = [sys.executable, TOP / "checks" / name, "--program", self.program, *words]
         where = {**os.environ, "TMPDIR": str(self.folder)}
         return subprocess.run(command, capture_output=True, text=True, timeout=60, env=where)
 

@@ -7,8 +7,8 @@ import subprocess
 import unittest.mock
 
 from desk_cases import PROGRAM, TOOLS, TOP, DeskCase, needs_program
-from desk.building import needed_crates
-from desk.unproved import Second, file_of
+from inputtools.building import needed_crates
+from inputtools.unproved import Second, file_of
 
 # A toolchain that says what it was asked for, and builds programs that say their words.
 TOOLCHAIN = """#!/bin/sh
@@ -126,7 +126,7 @@ class Inputplay(TreeCase):
 
     def test_unproved_by_the_second_program(self):
         """Where it is there it plays a record, also beside a built program and with no toolchain on the path."""
-        shutil.copytree(TOP / "bench" / "model", self.tree / "bench" / "model", ignore=shutil.ignore_patterns("__pycache__"))
+        shutil.copytree(TOP / "second", self.tree / "second", ignore=shutil.ignore_patterns("__pycache__"))
         self.built()
         example = TOP / "examples" / "stuck_key.rec"
         report = example.with_suffix(".report").read_text()
@@ -145,14 +145,14 @@ class Inputplay(TreeCase):
 
     def test_broken_second_program(self):
         """It is told by its own name, whatever INPUTPLAY names."""
-        model = self.tree / "bench" / "model"
+        model = self.tree / "second"
         model.mkdir(parents=True)
         (model / "outcome.py").write_text("import sys\nsys.exit(1)\n")
         (self.folder / "x.rec").write_text("inputrecord 1\ndevice d\nend\n")
-        told = "inputplay: the second program (bench/model) is not inputplay, or is broken: it wrote nothing"
+        told = "inputplay: the second program (second) is not inputplay, or is broken: it wrote nothing"
         self.assertEqual((2, "", [told]), self.run_tree("bin/inputplay", "--unproved", "x.rec"))
         with unittest.mock.patch.dict(os.environ, {"INPUTPLAY": "another"}):
-            self.assertEqual("the second program (bench/model)", Second().who())
+            self.assertEqual("the second program (second)", Second().who())
 
     def test_help(self):
         status, written, _ = self.run_tree("bin/inputplay", "--help")

@@ -63,9 +63,9 @@ class Page(PlayCase):
 
     def test_causes(self):
         """Each cause that is made anywhere is told, in the page and in the summary."""
-        sources = "".join((TOP / "tools" / "desk" / f"{name}.py").read_text() for name in ("causes", "joysticks", "owners"))
+        sources = "".join((TOP / "tools" / "inputtools" / f"{name}.py").read_text() for name in ("causes", "joysticks", "owners"))
         made = set(re.findall(r'Cause\(\s*"([a-z-]+)"', sources))
-        summary = (TOP / "tools" / "desk" / "summary.py").read_text()
+        summary = (TOP / "tools" / "inputtools" / "summary.py").read_text()
         self.assertEqual(made, causes())
         self.assertEqual(made, set(re.findall(r'^    "([a-z-]+)": ', summary, re.MULTILINE)))
 

@@ -6,11 +6,11 @@ import unittest
 
 from playing import TOP
 
-sys.path.insert(0, str(TOP / "bench"))
+sys.path.insert(0, str(TOP))
 
-from definitions import Repository  # noqa: E402  (bench/ has to be on the path first)
+from checks.definitions import Repository  # noqa: E402  (bench/ has to be on the path first)
 
-OTHER_PAGES = ("README.md", "CONTRIBUTING.md", "CHANGELOG.md", "bench/README.md", "bench/BY_HAND.md", "bench/COST.md", "crates/README.md", "examples/README.md")
+OTHER_PAGES = ("README.md", "CONTRIBUTING.md", "CHANGELOG.md", "bench/README.md", "checks/README.md", "bench/COST.md", "crates/README.md", "examples/README.md")
 PAGES = sorted(TOP.glob("docs/*.md")) + [TOP / name for name in OTHER_PAGES]
 
 # `Module.name`, or a type with a field, a variant or a ghost member; and `Module.antt`.

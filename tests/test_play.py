@@ -11,7 +11,7 @@ import subprocess
 import time
 
 from desk_cases import PROGRAM, TOOLS, TOP, DeskCase, heed_stops, needs_program
-from desk.slips import SLIPS
+from inputtools.slips import SLIPS
 
 EXAMPLES = TOP / "examples"
 
@@ -266,7 +266,7 @@ class Words(PlayCase):
 
     def test_the_second_program(self):
         """In a copy of the tools with the second program beside them, with no toolchain on the path."""
-        for part in ("tools", "bench/model"):
+        for part in ("tools", "second"):
             shutil.copytree(TOP / part, self.folder / part, ignore=shutil.ignore_patterns("__pycache__"))
         commands = self.folder / "commands"
         commands.mkdir()
@@ -276,7 +276,7 @@ class Words(PlayCase):
         for record, status in records.items():
             with self.subTest(record.name):
                 done = subprocess.run([self.folder / "tools" / "play", record], env=env, capture_output=True, text=True)
-                said = ["play: played by the second program (bench/model), in Python, without proof"]
+                said = ["play: played by the second program (second), in Python, without proof"]
                 self.assertEqual((status, said), (done.returncode, done.stderr.splitlines()))
                 self.assertEqual(record.with_suffix(".report").read_text(), done.stdout)
         done = subprocess.run([self.folder / "tools" / "stuck", EXAMPLES / "stuck_key.rec"], env=env, capture_output=True, text=True)

@@ -1,4 +1,4 @@
-"""What `bench/races` makes of a record, and of what valgrind's two race detectors write."""
+"""What `checks/races` makes of a record, and of what valgrind's two race detectors write."""
 
 import contextlib
 import io
@@ -10,7 +10,7 @@ from unittest import mock
 
 from playing import TOP
 
-LOADER = SourceFileLoader("races", str(TOP / "bench" / "races"))
+LOADER = SourceFileLoader("races", str(TOP / "checks" / "races"))
 races = module_from_spec(spec_from_loader("races", LOADER))
 LOADER.exec_module(races)
 

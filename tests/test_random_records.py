@@ -1,6 +1,6 @@
 """Random records, and ones at the bounds of what is allowed, are played by the program and by a second one.
 
-The second program (bench/model) is in Python, was written from docs/RULES.md, docs/READER.md and docs/FORMATS.md alone,
+The second program (second) is in Python, was written from docs/RULES.md, docs/READER.md and docs/FORMATS.md alone,
 and shares no code with the first. Both must write the same report, byte for byte. Each run has the same records.
 """
 
@@ -8,11 +8,11 @@ import sys
 
 from playing import TOP, FolderCase, assert_run, run
 
-sys.path.insert(0, str(TOP / "bench" / "model"))
+sys.path.insert(0, str(TOP))
 
-from model import play
-from random_records import Generator
-from records_at_bounds import RECORDS
+from second.model import play
+from checks.random_records import Generator
+from checks.records_at_bounds import RECORDS
 
 SEED = 41
 COUNT = 60
@@ -23,7 +23,7 @@ FILTERS = ("\nfilter eat ", "\nfilter norepeat\n", "\nfilter chord ", "\nfilter 
 
 
 def random_text(number, folder):
-    """The record that `bench/model/random_records.py FOLDER 60 41` writes under this number, with its streams."""
+    """The record that `checks/random_records.py FOLDER 60 41` writes under this number, with its streams."""
     return Generator(SEED * 100000 + number, folder).record()
 
 

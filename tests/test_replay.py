@@ -1,6 +1,6 @@
-"""What `bench/model/replay.py` says of runs side by side: those of the second program, and the same ones spoiled.
+"""What `second/replay.py` says of runs side by side: those of the second program, and the same ones spoiled.
 
-The runs are of `bench/model/side_by_side.py`, which draws the order of the calls by a seed.
+The runs are of `second/side_by_side.py`, which draws the order of the calls by a seed.
 """
 
 import subprocess
@@ -8,12 +8,12 @@ import sys
 
 from playing import TOP, FolderCase
 
-MODEL = TOP / "bench" / "model"
-sys.path.insert(0, str(MODEL))
+MODEL = TOP / "second"
+sys.path.insert(0, str(TOP))
 
-from random_records import Generator
-from replay import Differs, check
-from side_by_side import play_side_by_side
+from checks.random_records import Generator
+from second.replay import Differs, check
+from second.side_by_side import play_side_by_side
 
 # Two clients of a keyboard with two sources. The record has an order in which each line has its say.
 RECORD = """inputrecord 1

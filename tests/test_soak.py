@@ -1,6 +1,6 @@
-"""What `bench/soak` says of a program that is right, and of some that are not.
+"""What `checks/soak` says of a program that is right, and of some that are not.
 
-The programs are small scripts over `bench/model/side_by_side.py`.
+The programs are small scripts over `second/side_by_side.py`.
 """
 
 import os
@@ -11,8 +11,8 @@ from playing import TOP, FolderCase
 
 RUN = f"""#!{sys.executable}
 import os, sys
-sys.path.insert(0, {str(TOP / 'bench' / 'model')!r})
-from side_by_side import play_side_by_side
+sys.path.insert(0, {str(TOP)!r})
+from second.side_by_side import play_side_by_side
 words = sys.argv[1:]
 idle = int(words[words.index("--idle") + 1])
 lines = play_side_by_side(open(words[-1]).read(), SEED, idle=idle)
@@ -26,7 +26,7 @@ STATUS = RUN.replace("SEED", "1") + "print('\\n'.join(lines))\nsys.exit(3)\n"
 
 # Of the jobs that wait for their turn the last one by name is next: a client comes when all sources and taps have ended.
 ONE_BY_ONE = SAME.replace(
-    "words = sys", "import side_by_side\nside_by_side.Order.next = lambda order: order.waiting and "
+    "words = sys", "from second import side_by_side\nside_by_side.Order.next = lambda order: order.waiting and "
     "len(order.waiting) == order.running and order.waiting.pop(max(order.waiting)).set()\nwords = sys"
 )
 
@@ -36,7 +36,7 @@ class Soak(FolderCase):
         script = self.folder / "program"
         script.write_text(program)
         script.chmod(0o755)
-        command = [sys.executable, TOP / "bench" / "soak", "--program", script, *words]
+        command = [sys.executable, TOP / "checks" / "soak", "--program", script, *words]
         where = {**os.environ, "TMPDIR": str(self.folder)}
         return subprocess.run(command, capture_output=True, text=True, timeout=60, env=where)
 
@@ -47,7 +47,7 @@ class Soak(FolderCase):
             ("jobs that meet", SAME, 0, " had both\n"),
             ("jobs one by one", ONE_BY_ONE, 1, "fewer than half of the runs have both"),
             ("orders of their own", OTHER, 0, "8 runs of 4 records, none that differs; "),
-            ("a spoiled report", SPOILED, 1, "bench/soak: record 0 with --idle 1000: "),
+            ("a spoiled report", SPOILED, 1, "checks/soak: record 0 with --idle 1000: "),
             ("a wrong status", STATUS, 1, "status 3, and "),
         ):
             with self.subTest(name):

@@ -10,10 +10,10 @@ import subprocess
 from unittest import mock
 
 from desk_cases import PROGRAM, TOOLS, TOP, DeskCase, needs_program
-from desk.played import play
-from desk.program import Player
-from desk.progress import Progress
-from desk.source import Given
+from inputtools.played import play
+from inputtools.program import Player
+from inputtools.progress import Progress
+from inputtools.source import Given
 
 EXAMPLES, RECORDS = TOP / "examples", TOP / "tests" / "records"
 KEYBOARD = """inputrecord 1
@@ -740,7 +740,7 @@ device kbd steps """
         """Of a long record each part of the work says what it is, and how much of it is done."""
         told = []
         tell = mock.patch.object(Progress, "tell", lambda _, *words: told.append(words))
-        with tell, mock.patch("desk.report.TOLD_EVERY", 20), mock.patch("desk.partings.TOLD_EVERY", 5):
+        with tell, mock.patch("inputtools.report.TOLD_EVERY", 20), mock.patch("inputtools.partings.TOLD_EVERY", 5):
             self.written("stuck", EXAMPLES / "stuck_key.rec")
         whole = subprocess.run([PROGRAM, "--history", EXAMPLES / "stuck_key.rec"], capture_output=True, check=True)
         lines = len(whole.stdout.splitlines())

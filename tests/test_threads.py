@@ -1,7 +1,7 @@
 """Records are played on threads, and each run is checked by the history that it printed.
 
 The result of a record depends on the order in which the threads made their steps. So the printed history is played
-on one thread by a second program (bench/model/replay.py), which has to give the same report, byte for byte.
+on one thread by a second program (second/replay.py), which has to give the same report, byte for byte.
 """
 
 import sys
@@ -9,10 +9,10 @@ import unittest
 
 from playing import EXAMPLES, RECORDS, TOP, FolderCase, assert_run, needs_program, run
 
-sys.path.insert(0, str(TOP / "bench" / "model"))
+sys.path.insert(0, str(TOP))
 
-from random_records import Generator
-from replay import Differs, check
+from checks.random_records import Generator
+from second.replay import Differs, check
 
 # A `follow` ends after so many reads in a row that found nothing.
 IDLE = 1000

@@ -1,4 +1,4 @@
-"""The wrong versions that bench/wrong tries stand where it says, with tests that are there; and what it says of an end."""
+"""The wrong versions that checks/wrong tries stand where it says, with tests that are there; and what it says of an end."""
 
 import os
 import re
@@ -7,7 +7,7 @@ import unittest
 
 from playing import TOP, FolderCase
 
-SCRIPT = TOP / "bench" / "wrong"
+SCRIPT = TOP / "checks" / "wrong"
 
 # In place of the toolchain: it says what a file tells it to say.
 TOOLCHAIN = """#!/bin/sh

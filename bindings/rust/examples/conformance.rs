@@ -1,4 +1,4 @@
-//! Makes the steps that `bench/conformance` noted, and compares all that comes of each, as `bench/conformance.c` does.
+//! Makes the steps that `checks/conformance` noted, and compares all that comes of each, as `checks/conformance.c` does.
 
 use inputplay::{Axis, Device, Event, Record, Reply, Step};
 use std::io::{self, BufRead, Read};

@@ -1,0 +1,197 @@
+/*
+ * Makes the steps that `checks/conformance` noted, and compares all that comes of each.
+ *
+ * Standard input has lines `device NUMBER LENGTH`, with so many bytes of a record's text behind it, lines `step NUMBER` with
+ * the step's fields, the reply's, and the events and values that were read, and lines `feedback NUMBER` with an owner's call and
+ * what came of it. A line `record LENGTH STREAMS REPORT` has a record's text behind it, so many lines `stream LINE LENGTH` with a
+ * stream's bytes, and a line `report` with the text that is to come, of REPORT bytes. It says how many were the same, or prints the
+ * first that was not and ends with status 1.
+ */
+#include "inputplay.h"
+
+#include <inttypes.h>
+#include <stdio.h>
+#include <stdlib.h>
+#include <string.h>
+
+enum { DEVICES = 8, CELLS = 14 * 256 };
+
+static inputplay_handle devices[DEVICES];
+static inputplay_event events[INPUTPLAY_READ_MAX];
+static int32_t cells[CELLS];
+static unsigned long steps = 0, reports = 0;
+
+static int64_t number(void) {
+    char word[32];
+    if (scanf("%31s", word) != 1)
+        exit(3);
+    return word[0] == '-' ? (int64_t)strtoll(word, NULL, 10) : (int64_t)strtoull(word, NULL, 10);
+}
+
+static void same(const char *what, int64_t wanted, int64_t came) {
+    if (wanted != came) {
+        printf("step %lu: %s: %" PRId64 " was wanted, and %" PRId64 " came\n", steps, what, wanted, came);
+        exit(1);
+    }
+}
+
+/* The bytes behind a line. */
+static uint8_t *bytes(size_t len) {
+    uint8_t *made = malloc(len + 1);
+    if (!made || getchar() != '\n' || fread(made, 1, len, stdin) != len)
+        exit(3);
+    return made;
+}
+
+static void make_device(void) {
+    int64_t at = number();
+    size_t len = (size_t)number();
+    uint32_t line, cause;
+    uint8_t *text = bytes(len);
+    inputplay_free(&devices[at]);
+    same("device", INPUTPLAY_OK, inputplay_device_new(text, len, (uint32_t)at, &devices[at], &line, &cause));
+    free(text);
+}
+
+static void read_info(inputplay_info *info) {
+    int32_t *fields[] = {&info->value, &info->minimum, &info->maximum, &info->fuzz, &info->flat, &info->resolution};
+    for (int i = 0; i < 6; i++)
+        *fields[i] = (int32_t)number();
+}
+
+static inputplay_step_t read_step(void) {
+    inputplay_step_t step;
+    step.step = (uint32_t)number();
+    step.client = (uint32_t)number();
+    step.type = (uint16_t)number();
+    step.code = (uint16_t)number();
+    step.value = (int32_t)number();
+    step.now = (uint64_t)number();
+    step.count = (uint32_t)number();
+    step.clock = (uint32_t)number();
+    step.bits = (uint64_t)number();
+    read_info(&step.info);
+    return step;
+}
+
+static void compare_reply(const inputplay_reply *reply) {
+    inputplay_info info;
+    same("reply", number(), reply->reply);
+    same("at", number(), reply->at);
+    same("client", number(), reply->client);
+    same("count", number(), reply->count);
+    same("slot", number(), reply->slot);
+    same("why", number(), reply->why);
+    for (int i = 0; i < 12; i++)
+        same("words", number(), (int64_t)reply->words[i]);
+    read_info(&info);
+    same("info", 0, memcmp(&info, &reply->info, sizeof info));
+}
+
+/* One event is injected by a call for many. */
+static void inject_as_many(inputplay_handle *device, const inputplay_step_t *step, inputplay_reply *reply) {
+    inputplay_stamped one = {step->type, step->code, step->value, step->now};
+    uint32_t from, count;
+    same("status", 0, inputplay_inject_all(device, &one, 1, &from, &count));
+    reply->reply = count ? INPUTPLAY_DONE : INPUTPLAY_STEP_REFUSED;
+    reply->at = from;
+    reply->why = count ? 0 : INPUTPLAY_LOG_FULL;
+}
+
+static void compare_feedback(void) {
+    int64_t device = number();
+    size_t room = (size_t)number();
+    uint32_t at, count, full;
+    same("status", 0, inputplay_feedback(&devices[device], events, room, &at, &count, &full));
+    same("at", number(), at);
+    same("full", number(), full);
+    same("count", number(), count);
+    for (uint32_t i = 0; i < count; i++) {
+        same("type", number(), events[i].type);
+        same("code", number(), events[i].code);
+        same("value", number(), events[i].value);
+    }
+    steps++;
+}
+
+static void load_stream(inputplay_handle *record) {
+    char word[16];
+    if (scanf("%15s", word) != 1 || strcmp(word, "stream"))
+        exit(3);
+    uint32_t line = (uint32_t)number();
+    size_t len = (size_t)number();
+    uint8_t *content = bytes(len);
+    same("stream", INPUTPLAY_OK, inputplay_record_load(record, line, content, len));
+    free(content);
+}
+
+static void compare_report(void) {
+    inputplay_handle record = INPUTPLAY_NOTHING;
+    char word[16];
+    size_t len = (size_t)number(), streams = (size_t)number(), wanted_len = (size_t)number(), left;
+    uint32_t line, cause;
+    uint8_t *text = bytes(len);
+    same("record", INPUTPLAY_OK, inputplay_record_new(text, len, &record, &line, &cause));
+    while (streams-- > 0)
+        load_stream(&record);
+    if (scanf("%15s", word) != 1 || strcmp(word, "report"))
+        exit(3);
+    uint8_t *wanted = bytes(wanted_len), *came = malloc(wanted_len + 1);
+    same("status", INPUTPLAY_OK, inputplay_record_play(&record, 0, &len));
+    same("length", (int64_t)wanted_len, (int64_t)len);
+    same("status", INPUTPLAY_OK, inputplay_record_text(&record, 0, came, wanted_len, &left));
+    same("report", 0, memcmp(wanted, came, wanted_len));
+    inputplay_free(&record);
+    free(text);
+    free(wanted);
+    free(came);
+    reports++;
+}
+
+static void compare_step(void) {
+    int64_t at = number();
+    inputplay_step_t step = read_step();
+    inputplay_reply reply;
+    memset(&reply, 0, sizeof reply);
+    /* An injected event goes each of three ways in turn. */
+    if (step.step == INPUTPLAY_INJECT && steps % 3 == 2) {
+        inject_as_many(&devices[at], &step, &reply);
+    } else if (step.step == INPUTPLAY_INJECT && steps % 3) {
+        uint32_t place, why;
+        same("status", 0, inputplay_inject(&devices[at], step.type, step.code, step.value, step.now, &place, &why));
+        reply.reply = why ? INPUTPLAY_STEP_REFUSED : INPUTPLAY_DONE;
+        reply.at = place;
+        reply.why = why;
+    } else {
+        same("status", 0, inputplay_step(&devices[at], &step, &reply, events, INPUTPLAY_READ_MAX, cells, CELLS));
+    }
+    compare_reply(&reply);
+    for (uint32_t i = 0; reply.reply == INPUTPLAY_TOOK && i < reply.count; i++) {
+        same("type", number(), events[i].type);
+        same("code", number(), events[i].code);
+        same("value", number(), events[i].value);
+        same("time", number(), (int64_t)events[i].time);
+        same("place", number(), events[i].place);
+    }
+    for (uint32_t i = 0; reply.reply == INPUTPLAY_CELLS && i < reply.count; i++)
+        same("cells", number(), cells[i]);
+    steps++;
+}
+
+int main(void) {
+    char word[16];
+    while (scanf("%15s", word) == 1) {
+        if (!strcmp(word, "device"))
+            make_device();
+        else if (!strcmp(word, "feedback"))
+            compare_feedback();
+        else if (!strcmp(word, "record"))
+            compare_report();
+        else
+            compare_step();
+    }
+    for (int i = 0; i < DEVICES; i++)
+        inputplay_free(&devices[i]);
+    printf("%lu steps and calls are told the same, and %lu reports\n", steps, reports);
+    return 0;
+}

@@ -1,0 +1,447 @@
+"""A device and its clients, by the rules of docs/RULES.md. An event is a tuple (type, code, value)."""
+
+from second.names import ABS, KEY, LED, MSC, REL, REP, SND, SW, SYN
+
+SLOT, FIRST, ID, LAST = 0x2F, 0x30, 0x39, 0x3D
+REPORT, CONFIG, DROPPED = 0, 1, 3
+# The most events that wait for a device's owner.
+MOST_WAITING = 15
+FUZZ_MAX = 2**30
+MASK_WORDS = {SYN: 1, KEY: 12, REL: 1, ABS: 1, MSC: 1, SW: 1, LED: 1, SND: 1}
+
+
+def is_slot_value(code):
+    return FIRST <= code <= LAST
+
+
+def is_report(event):
+    return event[:2] == (SYN, REPORT)
+
+
+def is_output(event):
+    """Whether an event goes to the device where it is passed."""
+    return event[0] in (LED, SND, MSC, REP) or event[:2] == (SYN, CONFIG)
+
+
+def new_slot():
+    return [-1 if code == ID else 0 for code in range(FIRST, LAST + 1)]
+
+
+class Caps:
+    """The description of a device."""
+
+    def __init__(self):
+        self.kinds, self.codes, self.axes = {SYN}, {}, {}
+        self.slots, self.hint, self.log = 0, 16, 1048576
+        self.filters = []
+        self.offsets = {"realtime": 0, "monotonic": 0, "boottime": 0}
+
+    def build(self):
+        if self.slots:
+            self.kinds.add(ABS)
+            self.axes.setdefault(SLOT, (0, 0, self.slots - 1, 0, 0, 0))
+            self.axes.setdefault(ID, (0, 0, 65535, 0, 0, 0))
+
+    def supports(self, kind, code):
+        if kind == SYN:
+            return code <= DROPPED
+        if kind not in self.kinds or (kind, code) == (KEY, 0):
+            return False
+        if kind == REP:
+            return code <= 1
+        return code in (self.axes if kind == ABS else self.codes.get(kind, ()))
+
+    def ring(self):
+        places = 64
+        while places < 8 * self.hint:
+            places *= 2
+        return places
+
+
+def toward_zero(a, b):
+    return a // b if a >= 0 else -(-a // b)
+
+
+def defuzz(value, old, fuzz):
+    if fuzz == 0:
+        return value
+    if old - fuzz // 2 < value < old + fuzz // 2:
+        return old
+    if old - fuzz < value < old + fuzz:
+        return toward_zero(3 * old + value, 4)
+    if old - 2 * fuzz < value < old + 2 * fuzz:
+        return toward_zero(old + value, 2)
+    return value
+
+
+class Filter:
+    """A filter, and the events that it was given: each with its moment and whether it was eaten, the newest last."""
+
+    def __init__(self, form, *words):
+        self.form, self.words, self.given = form, words, []
+
+    def of_key(self, key, end):
+        """The places of the events on a key before this place, the newest first."""
+        return [at for at in range(end - 1, -1, -1) if self.given[at][0][:2] == (KEY, key)]
+
+    def press_before(self, key, end):
+        """The place of the last press on a key before this place, unless a release stands between."""
+        for at in self.of_key(key, end):
+            value = self.given[at][0][2]
+            if value != 2:
+                return at if value else None
+        return None
+
+    def press_of_newest(self):
+        (_, key, value), _, _ = self.given[-1]
+        newest = len(self.given) - 1
+        return newest if value not in (0, 2) else self.press_before(key, newest)
+
+    def is_down_before(self, key, end):
+        """Whether the last event on a key before this place, but for autorepeats, is there and is no release."""
+        return self.press_before(key, end) is not None
+
+    def eats(self, event, now):
+        """Takes an event, and answers whether it is eaten."""
+        self.given.append((event, now, False))
+        is_eaten = getattr(self, "eats_by_" + self.form)(event, *self.words)
+        self.given[-1] = (event, now, is_eaten)
+        return is_eaten
+
+    def eats_by_eat(self, event, kind, code):
+        return event[:2] == (kind, code)
+
+    def eats_by_norepeat(self, event):
+        return event[0] == KEY and event[2] == 2
+
+    def eats_by_chord(self, event, first, second):
+        if event[:2] != (KEY, second):
+            return False
+        press = self.press_of_newest()
+        return press is not None and self.is_down_before(first, press)
+
+    def eats_by_bounce(self, event, key, micros):
+        if event[:2] != (KEY, key):
+            return False
+        press = self.press_of_newest()
+        if press is None:
+            return False
+        for at in self.of_key(key, press):
+            (_, _, value), moment, is_eaten = self.given[at]
+            if value == 0 and not is_eaten:
+                return moment <= self.given[press][1] < moment + micros
+        return False
+
+
+class Client:
+    """An open client: its queue of (event, time, place), masks, clock, and whether it was revoked."""
+
+    def __init__(self, places):
+        self.queue, self.clear_bits, self.clock, self.revoked, self.places = [], set(), "realtime", False, places
+
+    def admits(self, event):
+        kind, code, _ = event
+        if kind == SYN:
+            return True
+        return (SYN, kind) not in self.clear_bits and (kind == REP or (kind, code) not in self.clear_bits)
+
+    def put(self, event, time, place):
+        if is_report(event) and (not self.queue or is_report(self.queue[-1][0])):
+            return
+        if len(self.queue) == self.places - 1:
+            self.queue = [((SYN, DROPPED, 0), time, place)]
+        self.queue.append((event, time, place))
+
+    def visible(self):
+        return max((i + 1 for i, item in enumerate(self.queue) if is_report(item[0])), default=0)
+
+    def take(self, count):
+        taken, self.queue = self.queue[:count], self.queue[count:]
+        return taken
+
+    def flush(self, is_told):
+        """Removes what an answer tells, and each report that is left alone, but not the first group's."""
+        kept, alone = [], False
+        for item in self.queue:
+            if is_told(item[0]) or (is_report(item[0]) and alone):
+                continue
+            kept.append(item)
+            alone = is_report(item[0])
+        self.queue = kept
+
+
+class Outputs:
+    """What was sent to a device and waits for its owner, whose calls are counted up to a limit."""
+
+    def __init__(self, most_calls):
+        self.waiting, self.calls, self.most_calls = [], 0, most_calls
+
+    def send(self, events):
+        """Takes passed events. Of those that wait the last 15 stay."""
+        self.waiting = (self.waiting + [event for event in events if is_output(event)])[-MOST_WAITING:]
+
+    def feedback(self, room):
+        """The events that a feedback call takes, or None where it is refused."""
+        if self.calls == self.most_calls:
+            return None
+        self.calls += 1
+        taken, self.waiting = self.waiting[:room], self.waiting[room:]
+        return taken
+
+
+class Device:
+    def __init__(self, name, caps):
+        self.name, self.caps, self.history = name, caps, []
+        self.on = {KEY: set(), SW: set(), LED: set(), SND: set()}
+        self.repeat = [250, 33]
+        self.infos = dict(caps.axes)
+        self.axes = {code: info[0] for code, info in caps.axes.items()}
+        self.cells = [new_slot() for _ in range(caps.slots)]
+        self.staged = self.announced = self.at_frame = 0
+        self.batch, self.due, self.repeat_key, self.inhibited = [], None, 0, False
+        self.clients, self.opens, self.holder, self.ends = {}, 0, None, 0
+        self.filters = [Filter(*words) for words in caps.filters]
+        self.outputs = Outputs(caps.log)
+
+    # The core
+
+    def turn(self, kind, code, on):
+        """Sets a bit, and answers whether that changed it."""
+        changed = on != (code in self.on[kind])
+        (self.on[kind].add if on else self.on[kind].discard)(code)
+        return changed
+
+    def passed(self, event):
+        """The events that are passed for a raw event."""
+        kind, code, value = event
+        if not self.caps.supports(kind, code):
+            return []
+        if kind == ABS:
+            return self.passed_axis(code, value)
+        if kind == SYN:
+            passes = code != DROPPED
+        elif kind == KEY:
+            passes = value == 2 or self.turn(KEY, code, value != 0)
+        elif kind in (SW, LED):
+            passes = self.turn(kind, code, value != 0)
+        elif kind == SND:
+            self.turn(SND, code, value != 0)
+            passes = True
+        elif kind == REP:
+            passes = value >= 0 and value != self.repeat[code]
+            if passes:
+                self.repeat[code] = value
+        else:
+            passes = kind == MSC or value != 0
+        return [event] if passes else []
+
+    def passed_axis(self, code, value):
+        if code == SLOT:
+            if 0 <= value < self.caps.slots:
+                self.staged = value
+            return []
+        if is_slot_value(code) and not self.caps.slots:
+            return [(ABS, code, value)]
+        values, index = (self.cells[self.staged], code - FIRST) if is_slot_value(code) else (self.axes, code)
+        value = defuzz(value, values[index], self.infos[code][3])
+        if value == values[index]:
+            return []
+        values[index] = value
+        if is_slot_value(code) and self.staged != self.announced:
+            self.announced = self.staged
+            return [(ABS, SLOT, self.staged), (ABS, code, value)]
+        return [(ABS, code, value)]
+
+    def raw(self, event, now, place):
+        events = self.passed(event)
+        self.outputs.send(events)
+        self.batch += events
+        if is_report(event):
+            frame, self.batch = self.batch, []
+            if len(frame) > 1:
+                self.frame(frame, now, place)
+        elif events and len(self.batch) >= self.caps.hint:
+            frame, self.batch = self.batch + [(SYN, REPORT, 1)], []
+            self.frame(frame, now, place)
+
+    def frame(self, events, now, place):
+        self.at_frame = self.announced
+        if {KEY, REP} <= self.caps.kinds:
+            for kind, code, value in events:
+                if kind == KEY and value == 0:
+                    self.due = None
+                elif kind == KEY and value != 2 and all(self.repeat):
+                    self.due, self.repeat_key = now + 1000 * self.repeat[0], code
+        if self.holder is None:
+            for filter_ in self.filters:
+                events = [event for event in events if event[0] == SYN or not filter_.eats(event, now)]
+        for number, client in self.clients.items():
+            if client.revoked or self.holder not in (None, number):
+                continue
+            for event in events:
+                if client.admits(event):
+                    client.put(event, now + self.caps.offsets[client.clock], place)
+
+    def tick(self, now, place):
+        if self.due is None or self.due > now:
+            return
+        self.due = None
+        if self.repeat_key in self.on[KEY] and not self.inhibited:
+            self.raw((KEY, self.repeat_key, 2), now, place)
+            self.raw((SYN, REPORT, 1), now, place)
+            if self.repeat[1]:
+                self.due = now + 1000 * self.repeat[1]
+
+    def inhibit(self, now, place):
+        if self.inhibited:
+            return
+        events = []
+        for slot, values in enumerate(self.cells):
+            if values[ID - FIRST] >= 0:
+                events += [(ABS, SLOT, slot), (ABS, ID, -1)]
+        events += [(KEY, code, 0) for code in sorted(self.on[KEY])] + [(SYN, REPORT, 1)]
+        for event in events:
+            self.raw(event, now, place)
+        self.inhibited = True
+
+    # Steps, and what an owner does, which makes none
+
+    def feedback(self, room):
+        """The history's length at a feedback call, and what the call takes, or None where it is refused."""
+        return len(self.history), self.outputs.feedback(room)
+
+    def refusal(self, step):
+        op, *words = step
+        if op not in ("inject", "tick", "open", "inhibit", "uninhibit", "end"):
+            client = self.clients.get(words[0])
+            if client is None:
+                return "bad-client"
+            if client.revoked and op != "close":
+                return "no-device"
+        if op in ("getaxis", "setaxis") and ABS not in self.caps.kinds:
+            return "bad-kind"
+        if op in ("getslots", "syncslots") and not self.caps.slots:
+            return "bad-kind"
+        if op == "mask" and words[1] not in MASK_WORDS:
+            return "bad-kind"
+        if op == "getaxis" and words[1] > 0x3F or op == "getslots" and not is_slot_value(words[1]):
+            return "bad-code"
+        if op == "mask" and words[2] >= MASK_WORDS[words[1]]:
+            return "bad-code"
+        if op == "setaxis" and (SLOT <= words[1] <= LAST or words[1] not in self.caps.axes):
+            return "bad-code"
+        if op == "setaxis" and not 0 <= words[5] <= FUZZ_MAX:
+            return "bad-info"
+        if op == "read" and self.clients[words[0]].visible() == 0:
+            return "again"
+        if op == "grab" and self.holder is not None:
+            return "busy"
+        if op == "ungrab" and self.holder != words[0]:
+            return "not-grabber"
+        if op == "open" and len(self.clients) >= 64:
+            return "too-many"
+        return "log-full" if len(self.history) >= self.caps.log else None
+
+    def step(self, step):
+        """One step: its reply, and the events or values that it writes."""
+        place, why = len(self.history), self.refusal(step)
+        if why == "again":
+            return ("again", place), None
+        if why:
+            return ("refused", place, why), None
+        self.history.append(step)
+        op, *words = step
+        return getattr(self, "do_" + op, self.do_plain)(op, words, place)
+
+    def do_plain(self, op, words, place):
+        if op == "inject" and not self.inhibited:
+            self.raw(words[1], words[0], place)
+        elif op == "write" and not self.inhibited:
+            self.raw(words[2], words[1], place)
+        elif op == "tick":
+            self.tick(words[0], place)
+        elif op == "inhibit":
+            self.inhibit(words[0], place)
+        elif op == "uninhibit":
+            self.inhibited = False
+        elif op == "end":
+            self.ends += 1
+        elif op == "grab":
+            self.holder = words[0]
+        elif op in ("ungrab", "close", "revoke"):
+            if self.holder == words[0]:
+                self.holder = None
+            if op == "close":
+                del self.clients[words[0]]
+            elif op == "revoke":
+                self.clients[words[0]].revoked = True
+        return ("done", place), None
+
+    def do_open(self, _, words, place):
+        number, self.opens = self.opens, self.opens + 1
+        self.clients[number] = Client(self.caps.ring())
+        return ("opened", place, number, self.caps.ring()), None
+
+    def do_read(self, _, words, place):
+        client = self.clients[words[0]]
+        taken = client.take(min(words[1], client.visible()))
+        return ("took", place, len(taken)), taken
+
+    def do_discard(self, _, words, place):
+        client = self.clients[words[0]]
+        return ("discarded", place, len(client.take(client.visible()))), None
+
+    def bits(self, kind, words, place):
+        self.clients[words[0]].flush(lambda event: event[0] == kind)
+        return ("bits", place, kind, sorted(self.on[kind])), None
+
+    def do_getkeys(self, _, words, place):
+        return self.bits(KEY, words, place)
+
+    def do_getswitches(self, _, words, place):
+        return self.bits(SW, words, place)
+
+    def do_getleds(self, _, words, place):
+        return self.bits(LED, words, place)
+
+    def do_getsounds(self, _, words, place):
+        return self.bits(SND, words, place)
+
+    def do_getaxis(self, _, words, place):
+        code = words[1]
+        if code not in self.caps.axes:
+            return ("axis", place) + (0,) * 6, None
+        value = self.axes[code]
+        if code == SLOT:
+            value = self.announced
+        elif is_slot_value(code):
+            value = 0
+        return ("axis", place, value) + tuple(self.infos[code][1:]), None
+
+    def do_setaxis(self, _, words, place):
+        code, *info = words[1:]
+        self.infos[code], self.axes[code] = info, info[0]
+        return ("done", place), None
+
+    def do_getslots(self, _, words, place):
+        return ("cells", place, self.caps.slots, self.at_frame), [values[words[1] - FIRST] for values in self.cells]
+
+    def do_syncslots(self, _, words, place):
+        self.clients[words[0]].flush(lambda event: event[0] == ABS and SLOT <= event[1] <= LAST)
+        return ("cells", place, 14 * self.caps.slots, self.at_frame), [v for values in self.cells for v in values]
+
+    def do_mask(self, _, words, place):
+        number, kind, word, bits = words
+        for i in range(64):
+            cleared = self.clients[number].clear_bits
+            (cleared.discard if bits >> i & 1 else cleared.add)((kind, 64 * word + i))
+        return ("done", place), None
+
+    def do_clock(self, _, words, place):
+        number, clock, now = words
+        client = self.clients[number]
+        if client.clock != clock:
+            client.clock = clock
+            if client.queue:
+                client.queue = [((SYN, DROPPED, 0), now + self.caps.offsets[clock], place)]
+        return ("done", place), None

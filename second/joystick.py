@@ -1,0 +1,99 @@
+"""A joystick client, by the rules of docs/RULES.md, "Joystick clients".
+
+A record that it hands out is a tuple (time in milliseconds, value, type, number).
+"""
+
+from second.device import DROPPED, LAST, REPORT, SLOT
+from second.names import ABS, KEY, SYN
+from second.reader import Reader
+
+BUTTON, AXIS, STARTUP = 1, 2, 0x80
+FIRST_OF_ALL, FIRST_OF_JOYSTICKS = 0x100, 0x120
+MOST_BUTTONS = 64
+LONG = 64
+
+
+def cut(value):
+    return max(-32767, min(32767, value))
+
+
+class Joystick:
+    def __init__(self, caps):
+        self.reader = Reader(caps)
+        keys = sorted(caps.codes.get(KEY, ())) if KEY in caps.kinds else []
+        behind = [code for code in keys if FIRST_OF_ALL <= code < FIRST_OF_JOYSTICKS]
+        self.buttons = ([code for code in keys if FIRST_OF_JOYSTICKS <= code] + behind)[:MOST_BUTTONS]
+        self.axes = [code for code in sorted(caps.axes) if not SLOT <= code <= LAST]
+        self.startup, self.calls = [], []
+        self.clear()
+
+    def clear(self):
+        """The picture before the records of a startup."""
+        self.down, self.values = [0] * len(self.buttons), [0] * len(self.axes)
+
+    def begin_startup(self):
+        view = self.reader.view
+        buttons = [(0, int(code in view.on[KEY]), BUTTON + STARTUP, i) for i, code in enumerate(self.buttons)]
+        self.startup = buttons + [(0, cut(view.axes[code]), AXIS + STARTUP, i) for i, code in enumerate(self.axes)]
+        self.clear()
+
+    def start(self, device):
+        self.reader.start(device)
+        self.calls = self.reader.calls
+        if self.reader.phase == "needed":
+            self.startup = []
+        elif self.calls[0][1][0] == "opened":
+            self.begin_startup()
+
+    def ask(self, device, in_sync_mode):
+        answer = self.reader.next(device, in_sync_mode)
+        self.calls += self.reader.calls
+        return answer
+
+    def read(self, device):
+        """What a read answers: a record, or "frame", "more" or "end"."""
+        self.calls = []
+        while True:
+            answer = self.turn(device)
+            accepted = [reply for _, reply in self.calls if reply[0] not in ("again", "refused")]
+            if answer:
+                return answer
+            if not self.startup and len(accepted) >= LONG:
+                return "more"
+
+    def turn(self, device):
+        if self.startup:
+            return self.hand_out(self.startup.pop(0))
+        if self.reader.phase == "needed":
+            return self.synchronise(device)
+        what, *values = self.ask(device, in_sync_mode=False)
+        if what == "end":
+            return "end"
+        event, time, _ = values[0]
+        if event[:2] == (SYN, DROPPED):
+            return self.synchronise(device)
+        return "frame" if event[:2] == (SYN, REPORT) else self.tell(event, time)
+
+    def synchronise(self, device):
+        if self.ask(device, in_sync_mode=True)[0] == "end":
+            return "end"
+        self.begin_startup()
+        return None
+
+    def tell(self, event, time):
+        """The record of an event, if it gives one."""
+        kind, code, value = event
+        milliseconds = time // 1000 % 2**32
+        if kind == KEY and code in self.buttons and value != 2:
+            return self.hand_out((milliseconds, int(value != 0), BUTTON, self.buttons.index(code)))
+        if kind == ABS and code in self.axes and cut(value) != self.values[self.axes.index(code)]:
+            return self.hand_out((milliseconds, cut(value), AXIS, self.axes.index(code)))
+        return None
+
+    def hand_out(self, record):
+        _, value, kind, number = record
+        if kind % STARTUP == BUTTON:
+            self.down[number] = value
+        else:
+            self.values[number] = value
+        return record

@@ -1,0 +1,355 @@
+#!/usr/bin/env python3
+"""Plays a record as `inputplay FILE` does, and prints its report: a second program, to compare the first one with.
+
+It was written from docs/RULES.md, docs/READER.md and docs/FORMATS.md and shares no code with the program. It takes the record
+for one that has a meaning, and plays on one thread.
+
+usage: model.py [--history] FILE
+"""
+
+import os
+import struct
+import sys
+from pathlib import Path
+from typing import NamedTuple
+
+sys.path.insert(0, str(Path(__file__).resolve().parent.parent))
+
+from second.device import Caps, Device, FIRST, LAST, SLOT
+from second.joystick import Joystick
+from second.names import ABS, CODES, KEY, LED, SW, TYPES, code_text, event_text, kind_text
+from second.reader import NO_CLIENT, Reader, View
+
+
+def number(word):
+    return -number(word[1:]) if word.startswith("-") else int(word, 16 if word.startswith("0x") else 10)
+
+
+def kind_of(word):
+    return TYPES[word] if word in TYPES else number(word)
+
+
+def code_of(kind, word):
+    names = CODES.get(kind, {})
+    return names[word] if word in names else number(word)
+
+
+def event_of(words):
+    kind = kind_of(words[0])
+    return (kind, code_of(kind, words[1]), number(words[2]))
+
+
+# The text of steps and replies
+
+
+def step_text(step):
+    op, *words = step
+    if op in ("inject", "write"):
+        return " ".join([op] + [str(word) for word in words[:-1]] + [event_text(words[-1])])
+    if op in ("getaxis", "getslots"):
+        return f"{op} {words[0]} {code_text(ABS, words[1])}"
+    if op == "setaxis":
+        return " ".join([op, str(words[0]), code_text(ABS, words[1])] + [str(word) for word in words[2:]])
+    if op == "mask":
+        return f"mask {words[0]} {kind_text(words[1])} {words[2]} 0x{words[3]:016x}"
+    return " ".join(str(word) for word in step)
+
+
+def reply_text(reply):
+    if reply[0] == "bits":
+        return " ".join(["bits", str(reply[1])] + [code_text(reply[2], code) for code in reply[3]])
+    return " ".join(str(word) for word in reply)
+
+
+# The records of a file, by the command that names it: seconds, microseconds, type, code, value.
+RECORD_FORMS = {"stream": "<QQHHi", "stream16": "<IIHHi"}
+
+
+def source_steps(words, streams):
+    """The steps of a source's command."""
+    command, *words = words
+    if command == "event":
+        return [("inject", number(words[0]), event_of(words[1:]))]
+    if command in RECORD_FORMS:
+        return [("inject", moment, event) for moment, event in streams(words[0], RECORD_FORMS[command])]
+    return [(command,) + tuple(number(word) for word in words)]
+
+
+class Actor:
+    def __init__(self, name, role, device):
+        self.name, self.role, self.device = name, role, device
+        self.sight, self.accepted, self.stop = [], 0, "finished"
+        self.reader, self.view, self.client = Reader(device.caps), View(device.caps), NO_CLIENT
+        self.joystick = Joystick(device.caps)
+
+    def see(self, step, reply):
+        if reply[0] == "again":
+            self.sight.append(f"again {reply[1]}")
+        else:
+            self.sight.append(f"call {step_text(step)} reply {reply_text(reply)}")
+        if reply[0] not in ("again", "refused"):
+            self.accepted += 1
+        if reply[0] == "refused" and reply[2] == "log-full":
+            self.stop = f"full {reply[1]}"
+
+    def see_taken(self, item):
+        event, time, place = item
+        self.sight.append(f"took {place} {time} {event_text(event)}")
+
+    def do(self, words, streams):
+        if self.stop == "finished":
+            getattr(self, "do_" + self.role)(words, streams)
+
+    def do_source(self, words, streams):
+        for step in source_steps(words, streams):
+            reply, _ = self.device.step(step)
+            self.see(step, reply)
+            if reply[0] == "refused":
+                return
+
+    def single_step(self, client, words):
+        """The step of a command that taps and clients share, or none."""
+        command, *words = words
+        if command in ("close", "grab", "ungrab", "revoke"):
+            return (command, client)
+        if command == "mask":
+            return ("mask", client, kind_of(words[0]), number(words[1]), number(words[2]))
+        if command == "clock":
+            return ("clock", client, words[0], number(words[1]))
+        if command == "write":
+            return ("write", client, number(words[0]), event_of(words[1:]))
+        if command == "setaxis":
+            return ("setaxis", client, code_of(ABS, words[0]), *map(number, words[1:]))
+        return None
+
+    def do_tap(self, words, _):
+        command = words[0]
+        if command == "open":
+            step = ("open",)
+        elif command == "read":
+            step = ("read", self.client, number(words[1]))
+        elif command in ("discard", "syncslots"):
+            step = (command, self.client)
+        elif command in ("keys", "switches", "leds", "sounds"):
+            step = ("get" + command, self.client)
+        elif command in ("axis", "slots"):
+            step = ("get" + command, self.client, code_of(ABS, words[1]))
+        else:
+            step = self.single_step(self.client, words)
+        reply, written = self.device.step(step)
+        self.see(step, reply)
+        if reply[0] == "opened":
+            self.client = reply[2]
+        elif reply[0] == "took":
+            for item in written:
+                self.see_taken(item)
+                self.view.take(item[0])
+        else:
+            self.view.answer(step, reply, written)
+
+    def do_client(self, words, _):
+        step = self.single_step(self.reader.client, words)
+        if step:
+            reply, _ = self.device.step(step)
+            self.see(step, reply)
+        elif words[0] == "open":
+            self.reader.start(self.device)
+            self.see_calls(self.reader.calls)
+        elif words[0] == "force":
+            self.reader.phase = "needed"
+        else:
+            self.hand_out(words[0], number(words[1]) if words[1:] else None)
+        self.view = self.reader.view
+
+    def see_calls(self, calls):
+        for step, reply in calls:
+            self.see(step, reply)
+
+    def hand_out(self, command, bound):
+        handed = 0
+        while bound is None or handed < bound:
+            in_sync_mode = command != "skip" and self.reader.phase != "plain"
+            what, *values = self.reader.next(self.device, in_sync_mode)
+            if command == "follow" and what == "end" and self.waits_on(self.reader.calls[-1][1]):
+                continue
+            self.see_calls(self.reader.calls)
+            if what == "end":
+                return
+            if what == "took":
+                self.see_taken(values[0])
+            elif what == "made":
+                self.sight.append(f"made {event_text(values[0])}")
+            handed += what != "synced"
+
+    def do_joy(self, words, _):
+        step = self.single_step(self.joystick.reader.client, words)
+        if step:
+            reply, _ = self.device.step(step)
+            self.see(step, reply)
+        elif words[0] == "open":
+            self.joystick.start(self.device)
+            self.see_calls(self.joystick.calls)
+        else:
+            self.read_records(number(words[1]))
+
+    def read_records(self, bound):
+        handed = 0
+        while handed < bound:
+            answer = self.joystick.read(self.device)
+            self.see_calls(self.joystick.calls)
+            if answer == "end":
+                return
+            if answer not in ("frame", "more"):
+                self.sight.append("js " + " ".join(map(str, answer)))
+                handed += 1
+
+    def do_owner(self, words, _):
+        at, events = self.device.feedback(number(words[1]))
+        if events is None:
+            self.stop = f"full {at}"
+        else:
+            self.sight += [f"feedback {at} {len(events)}"] + [f"fed {event_text(event)}" for event in events]
+
+    def waits_on(self, reply):
+        """Whether a follow goes on behind its last call's reply. On one thread it never does."""
+        return False
+
+    def part(self):
+        if self.role == "source":
+            return [f"source {self.name} calls {self.accepted} stop {self.stop}"]
+        end = {"joy": self.picture_lines, "owner": list}.get(self.role, self.view_lines)()
+        return [f"{self.role} {self.name}"] + self.sight + end + [f"stop {self.stop}"]
+
+    def picture_lines(self):
+        down = [str(number) for number, value in enumerate(self.joystick.down) if value]
+        values = [str(value) for value in self.joystick.values]
+        return [" ".join(["buttons"] + down), " ".join(["axes"] + values)]
+
+    def view_lines(self):
+        caps, lines = self.device.caps, []
+        for kind, word in ((KEY, "keys"), (SW, "switches"), (LED, "leds")):
+            if kind in caps.kinds:
+                lines.append(" ".join([word] + [code_text(kind, code) for code in sorted(self.view.on[kind])]))
+        codes = sorted(caps.axes)
+        if ABS in caps.kinds:
+            values = [f"{code_text(ABS, c)}={self.view.axes[c]}" for c in codes if not SLOT <= c <= LAST]
+            lines.append(" ".join(["axes"] + values))
+        if caps.slots:
+            lines.append(f"current {self.view.slot}")
+        for slot, cells in enumerate(self.view.cells):
+            values = [f"{code_text(ABS, c)}={cells[c - FIRST]}" for c in codes if FIRST <= c <= LAST]
+            lines.append(" ".join([f"slot {slot}"] + values))
+        return lines
+
+
+def describe(caps, words):
+    """A line of a device's description."""
+    first, *words = words
+    if first in ("hint", "log", "slots"):
+        setattr(caps, first, number(words[0]))
+    elif first == "clock":
+        caps.offsets[words[0]] = number(words[1])
+    elif first == "type":
+        caps.kinds.add(kind_of(words[0]))
+    elif first == "cap":
+        kind = kind_of(words[0])
+        caps.kinds.add(kind)
+        caps.codes.setdefault(kind, set()).add(code_of(kind, words[1]))
+    elif first == "axis":
+        caps.kinds.add(ABS)
+        caps.axes[code_of(ABS, words[0])] = tuple(number(word) for word in words[1:])
+    elif first == "filter":
+        caps.filters.append(filter_of(words))
+
+
+def filter_of(words):
+    """What a line says behind `filter`."""
+    form, *words = words
+    if form == "eat":
+        kind = kind_of(words[0])
+        return (form, kind, code_of(kind, words[1]))
+    if form == "bounce":
+        return (form, code_of(KEY, words[0]), number(words[1]))
+    return (form, *(code_of(KEY, word) for word in words))
+
+
+def read_stream(path, form):
+    records = struct.iter_unpack(form, open(path, "rb").read())
+    return [(seconds * 1000000 + micros, (kind, code, value)) for seconds, micros, kind, code, value in records]
+
+
+class Record(NamedTuple):
+    """What a record has: its devices' names and descriptions; its actors' names, roles and devices; its actions' words."""
+
+    descriptions: list
+    actors: list
+    actions: list
+
+
+def read_record(text):
+    descriptions, actors, actions = [], [], []
+    for line in text.split("\n"):
+        words = line.split()
+        if not words or words[0].startswith("#") or words[0] == "inputrecord":
+            continue
+        if words[0] in ("device", "udevice"):
+            descriptions.append((words[1], Caps()))
+        elif words[0] in ("source", "client", "tap", "joy", "owner"):
+            actors.append((words[1], words[0], len(descriptions) - 1))
+        elif words[0] == "do":
+            actions.append(words[1:])
+        else:
+            describe(descriptions[-1][1], words)
+    for _, caps in descriptions:
+        caps.build()
+    return Record(descriptions, actors, actions)
+
+
+def streams_of(folder):
+    return lambda file, form: read_stream(os.path.join(folder, file), form)
+
+
+# The roles whose parts stand behind all devices, in order.
+LATER_ROLES = ("joy", "owner")
+
+
+def report(devices, actors, history):
+    """The lines of the report on devices and, in record order, their actors; behind them all those on joysticks, and
+    behind these those on owners."""
+    lines = []
+    for device in devices:
+        lines.append(f"device {device.name} steps {len(device.history)}")
+        if history:
+            lines += [f"step {place} {step_text(step)}" for place, step in enumerate(device.history)]
+        for actor in actors:
+            if actor.device is device and actor.role not in LATER_ROLES:
+                lines += actor.part()
+    for role in LATER_ROLES:
+        for actor in actors:
+            if actor.role == role:
+                lines += actor.part()
+    return lines
+
+
+def run(text, folder="."):
+    """The devices and, in record order, the actors, once all lines are done."""
+    record = read_record(text)
+    devices = [Device(name, caps) for name, caps in record.descriptions]
+    actors = {name: Actor(name, role, devices[device]) for name, role, device in record.actors}
+    for name, *words in record.actions:
+        actors[name].do(words, streams_of(folder))
+    return devices, list(actors.values())
+
+
+def play(text, folder=".", history=False):
+    """The lines of the report."""
+    return report(*run(text, folder), history)
+
+
+if __name__ == "__main__":
+    path = sys.argv[-1]
+    # (a comment may hold any bytes)
+    with open(path, encoding="latin1", newline="") as file:
+        lines = play(file.read(), os.path.dirname(os.path.abspath(path)), "--history" in sys.argv[1:-1])
+    for line in lines:
+        print(line)

@@ -1,0 +1,70 @@
+#!/usr/bin/env python3
+"""Ends as `inputplay FILE` does: it writes the report, or why there is none, and ends with the same status.
+
+It takes any bytes for a record, where model.py takes the record for one that has a meaning. The names of streams
+are those of files beside the record.
+
+usage: outcome.py [--history] FILE
+"""
+
+import os
+import sys
+from pathlib import Path
+
+sys.path.insert(0, str(Path(__file__).resolve().parent.parent))
+
+from second.model import report, run
+from second.record_text import Refused, is_stream, streams_of_text
+
+INPUT_LIMIT = 16777216
+
+
+class Ends(Exception):
+    """The program ends without a report: with a status, and a line."""
+
+    def __init__(self, status, line):
+        super().__init__(line)
+        self.status, self.line = status, line
+
+
+def contents(path):
+    try:
+        with open(path, "rb") as file:
+            data = file.read(INPUT_LIMIT + 1)
+    except OSError:
+        raise Ends(3, "read failed") from None
+    if len(data) > INPUT_LIMIT:
+        raise Ends(7, "input too long")
+    return data
+
+
+def played(path, history):
+    """The status and the text of a record that is played, or `Ends` is raised."""
+    data, folder = contents(path), os.path.dirname(os.path.abspath(path))
+    try:
+        for line, file, size in streams_of_text(data):
+            if not is_stream(contents(os.path.join(folder, file)), size):
+                raise Refused(line, "bad-stream")
+    except Refused as refused:
+        raise Ends(1, str(refused)) from None
+    devices, actors = run(data.decode("latin1"), folder)
+    text = "".join(line + "\n" for line in report(devices, actors, history))
+    return 6 if any(actor.stop != "finished" for actor in actors) else 0, text.encode()
+
+
+def outcome(path, history=False):
+    """The status that the program ends with, and all that it writes."""
+    try:
+        return played(path, history)
+    except Ends as end:
+        return end.status, f"inputplay: {end}\n".encode()
+
+
+def main():
+    status, text = outcome(sys.argv[-1], "--history" in sys.argv[1:-1])
+    sys.stdout.buffer.write(text)
+    return status
+
+
+if __name__ == "__main__":
+    sys.exit(main())

@@ -1,0 +1,135 @@
+#!/usr/bin/env python3
+"""Plays a record as `inputplay --threads --history FILE` may do, with the jobs' calls in a random order.
+
+Each source, client, tap, joystick and owner is a job. One job at a time makes a call on its device, and which one is drawn by
+the seed; so the same seed gives the same run. A `follow` waits as long as a source of its device has not
+ended, and stops its job after so many answers Again in a row. It shares no code with the program.
+"""
+
+import argparse
+import os
+import random
+import sys
+import threading
+from pathlib import Path
+
+sys.path.insert(0, str(Path(__file__).resolve().parent.parent))
+
+from second.device import Device
+from second.model import Actor, read_record, report, streams_of
+
+IDLE = 1000000
+
+
+class Order:
+    """Draws whose call is next. A job that waits for its turn stands in a list of its own place."""
+
+    def __init__(self, seed, jobs):
+        self.random = random.Random(seed)
+        self.waiting = {}
+        self.running = jobs
+        self.lock = threading.Lock()
+
+    def next(self):
+        """All jobs that have not ended wait, so one of them is drawn."""
+        if self.waiting and len(self.waiting) == self.running:
+            self.waiting.pop(self.random.choice(sorted(self.waiting))).set()
+
+    def turn(self, name):
+        turn = threading.Event()
+        with self.lock:
+            self.waiting[name] = turn
+            self.next()
+        turn.wait()
+
+    def end(self):
+        with self.lock:
+            self.running -= 1
+            self.next()
+
+
+class Share:
+    """A device for one job, which waits for its turn before each call."""
+
+    def __init__(self, device, name, order):
+        self.device, self.name, self.order, self.caps = device, name, order, device.caps
+
+    def step(self, step):
+        self.order.turn(self.name)
+        return self.device.step(step)
+
+    def feedback(self, room):
+        self.order.turn(self.name)
+        return self.device.feedback(room)
+
+
+class Job(Actor):
+    """An actor whose follow waits."""
+
+    def __init__(self, name, role, device, order, sources, idle):
+        super().__init__(name, role, Share(device, name, order))
+        self.shared, self.order = device, order
+        self.sources, self.idle, self.agains = sources, idle, 0
+
+    def hand_out(self, command, bound):
+        self.agains = 0
+        super().hand_out(command, bound)
+
+    def see_taken(self, item):
+        self.agains = 0
+        super().see_taken(item)
+
+    def waits_on(self, reply):
+        if reply[0] != "again" or self.shared.ends >= self.sources:
+            return False
+        self.agains += 1
+        if self.agains < self.idle:
+            return True
+        self.stop = f"idle {self.idle} {reply[1]}"
+        return False
+
+    def work(self, lines, streams):
+        try:
+            for words in lines:
+                self.do(words, streams)
+            if self.role == "source" and self.stop == "finished":
+                reply, _ = self.device.step(("end",))
+                if reply[0] == "refused":
+                    self.stop = f"full {reply[1]}"
+        finally:
+            self.order.end()
+
+
+def play_side_by_side(text, seed, folder=".", idle=IDLE):
+    """The lines of the report with the history."""
+    record = read_record(text)
+    devices = [Device(name, caps) for name, caps in record.descriptions]
+    order = Order(seed, len(record.actors))
+    sources = [sum(role == "source" and d == i for _, role, d in record.actors) for i in range(len(devices))]
+    jobs = [Job(name, role, devices[d], order, sources[d], idle) for name, role, d in record.actors]
+    threads = []
+    for job in jobs:
+        lines = [words for name, *words in record.actions if name == job.name]
+        threads.append(threading.Thread(target=job.work, args=(lines, streams_of(folder))))
+    for thread in threads:
+        thread.start()
+    for thread in threads:
+        thread.join()
+    for job in jobs:
+        job.device = job.shared
+    return report(devices, jobs, history=True)
+
+
+def main():
+    parser = argparse.ArgumentParser(description=__doc__, formatter_class=argparse.RawDescriptionHelpFormatter)
+    parser.add_argument("--idle", type=int, default=IDLE, help=f"answers Again in a row that end a follow ({IDLE})")
+    parser.add_argument("record", help="the record's file")
+    parser.add_argument("seed", type=int, help="a number that the order is drawn by")
+    words = parser.parse_args()
+    folder = os.path.dirname(os.path.abspath(words.record))
+    for line in play_side_by_side(open(words.record).read(), words.seed, folder, words.idle):
+        print(line)
+
+
+if __name__ == "__main__":
+    main()

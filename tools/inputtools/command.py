@@ -1,0 +1,131 @@
+"""How a command reads its words, and how it ends: one line for wrong input and status 2, or its text."""
+
+import argparse
+import os
+import signal
+import sys
+
+from inputtools.progress import progress
+
+WRONG, CUT_OFF, STOPPED = 2, 4, 130
+
+
+class Wrong(Exception):
+    """Input that is refused. Its text is the one line that is written."""
+
+
+class Words(argparse.ArgumentParser):
+    """The words of a command. Wrong ones are refused as any other wrong input is, by one line."""
+
+    def __init__(self, **more):
+        super().__init__(formatter_class=argparse.RawDescriptionHelpFormatter, allow_abbrev=False, **more)
+
+    def error(self, message):
+        raise Wrong(message)
+
+    def print_help(self, file=None):
+        status = write(self.prog, self.format_help())
+        if status:
+            sys.exit(status)
+
+
+def say(program, text):
+    """One line on standard error, whatever characters a file's own names have."""
+    progress.clear()
+    line = " ".join(text.split())
+    if sys.stderr is not None:
+        try:
+            plain = line.encode("ascii", "backslashreplace").decode()
+            print(f"{program}: {plain}", file=sys.stderr, flush=True)
+        except OSError:
+            pass
+
+
+def write(program, text):
+    """Writes a text to standard output; the status of the command's end."""
+    progress.clear()
+    if not text:
+        return 0
+    if sys.stdout is None:
+        say(program, "standard output is closed")
+        return CUT_OFF
+    try:
+        sys.stdout.write(text)
+        sys.stdout.flush()
+    except BrokenPipeError:
+        # (who reads it has read enough)
+        forget_output()
+    except OSError as fault:
+        forget_output()
+        say(program, f"standard output: {fault.strerror}")
+        return CUT_OFF
+    return 0
+
+
+def forget_output():
+    """What was not written to standard output yet goes nowhere. (Python would try to write it once more at
+    its end.)"""
+    os.dup2(os.open(os.devnull, os.O_WRONLY), sys.stdout.fileno())
+
+
+def stop_by(handler):
+    """What a stop from the keyboard does from now on. Where it is ignored it stays so."""
+    if signal.getsignal(signal.SIGINT) is not signal.SIG_IGN:
+        signal.signal(signal.SIGINT, handler)
+
+
+def status_of(program, body):
+    """The status of what a command does: that which it gives, or 2 for wrong input."""
+    try:
+        return body()
+    except Wrong as wrong:
+        say(program, str(wrong))
+        return WRONG
+
+
+def ends(program, body):
+    """Does what a command does, and ends in its status: 130 where it is stopped from the keyboard. Before and
+    after that a stop ends the process at once."""
+    progress.begin(program)
+    try:
+        stop_by(signal.default_int_handler)
+        status = status_of(program, body)
+        stop_by(signal.SIG_DFL)
+    except KeyboardInterrupt:
+        stop_by(signal.SIG_DFL)
+        say(program, "stopped")
+        status = STOPPED
+    progress.end()
+    if status:
+        sys.exit(status)
+
+
+def run(program, command):
+    """Ends in what the command gives: its text on standard output, its notes on standard error, and a status
+    where it gives one."""
+
+    def body():
+        text, notes, *status = command(sys.argv[1:])
+        for note in notes:
+            say(program, f"note: {note}")
+        return write(program, text) or (status[0] if status else 0)
+
+    ends(program, body)
+
+
+def number(text, low, high, what, base=10):
+    """The number that digits stand for, within its bounds."""
+    value = int(text, base) if len(text) <= 32 else high + 1
+    if not low <= value <= high:
+        raise Wrong(f"{what} {text[:40]} is not in {low} to {high}")
+    return value
+
+
+def counted(count, one):
+    """A count of things: 1 event, 2 events."""
+    return f"1 {one}" if count == 1 else f"{count} {one}s"
+
+
+def at_line(index, what):
+    """What is wrong with a line of a file, for people; lines are numbered from 1."""
+    return Wrong(f"line {index + 1}: {what}")

@@ -1,0 +1,179 @@
+"""Reads what a record expects of its play: comments whose first characters are `#=`.
+
+    #= desktop at-end keys KEY_A     the line `keys` of its view at the end has these keys and no others
+    #= desktop at-end axes ABS_X=5   of axes and slots the values that are named
+    #= desktop never SYN_DROPPED     it was never handed such an event; likewise KEY_A, KEY_A 1, EV_REL
+    #= desktop takes KEY_A 0         it was handed such an event
+    #= slow drops 3                  it lost events so many times: that is how often it took SYN_DROPPED
+    #= desktop agrees                its view at the end is the device's state
+    #= report FILE                   the report is that of the file, without a history where the file has none
+    #= status 6                      the program ends so; it must end with 0 where a record does not say
+
+They are comments, so a record with them is played as one without.
+"""
+
+import re
+
+from inputtools.command import Wrong
+from inputtools.names import CODES, KEY, LED, SW, TYPES, code_text, kind_text, number_of_code, number_of_kind
+from inputtools.recordlines import ROLES
+
+MARK = "#="
+OF_RECORD = ("report", "status")
+FLAG_KINDS = {"keys": KEY, "switches": SW, "leds": LED}
+
+# What can be expected of an actor, by its role.
+OF_READER = ("at-end", "never", "takes", "drops", "agrees")
+KINDS = {"client": OF_READER, "tap": OF_READER, "joy": ("at-end", "agrees"), "owner": ("never", "takes"), "source": ()}
+LINES = {"client": ("keys", "switches", "leds", "axes", "current", "slot"), "joy": ("buttons", "axes")}
+LINES["tap"] = LINES["client"]
+
+AT_END = "at-end"
+SIGNED = re.compile(r"-?[0-9]{1,10}$")
+NUMBER = re.compile(r"[0-9]{1,7}$")
+ROLE_TEXT = {"client": "client", "tap": "tap", "joy": "joystick", "owner": "owner", "source": "source"}
+
+
+class Expectation:
+    """A line of a record that expects something: its number, its words, the actor that it is of (or None),
+    what it expects (`kind`), and the words after that."""
+
+    def __init__(self, number, words, actors):
+        self.number, self.text = number, " ".join(words)
+        if words[0] in OF_RECORD:
+            self.actor, self.kind, self.words = None, words[0], words[1:]
+            self.check_of_record()
+            return
+        if words[0] not in actors:
+            raise Wrong(f"no actor is named {words[0]}{named(actors)}")
+        if len(words) < 2:
+            raise Wrong(f"nothing stands behind {words[0]}: one of {', '.join(KINDS[actors[words[0]]])}")
+        self.actor, self.kind, self.words = words[0], words[1], words[2:]
+        self.role = actors[self.actor]
+        self.check_of_actor()
+
+    def check_of_record(self):
+        if len(self.words) != 1:
+            raise Wrong(f"{self.kind} wants one word behind it")
+        if self.kind == "status" and self.words[0] not in "01234567":
+            raise Wrong(f"{self.words[0]} is no status of the program: those are 0 to 7")
+
+    def check_of_actor(self):
+        kinds = KINDS[self.role]
+        if self.kind not in kinds:
+            of_it = f"of a {ROLE_TEXT[self.role]} one expects {' or '.join(kinds)}" if kinds else (
+                "nothing is expected of a source: expect it of a client")
+            raise Wrong(f"{self.kind} is not known here: {of_it}")
+        {AT_END: self.check_line, "never": self.check_event, "takes": self.check_event,
+         "drops": self.check_drops, "agrees": self.check_agrees}[self.kind]()
+
+    def check_agrees(self):
+        if self.words:
+            raise Wrong("nothing stands behind agrees")
+
+    def check_drops(self):
+        if len(self.words) != 1 or not NUMBER.match(self.words[0]):
+            raise Wrong("drops wants a number behind it")
+
+    def check_event(self):
+        if len(self.words) not in (1, 2) or not all(map(SIGNED.match, self.words[1:])):
+            raise Wrong(f"{self.kind} wants a code (KEY_A, EV_KEY/656) or a type (EV_KEY), and maybe a value")
+        self.event = kind_and_code(self.words[0])
+        self.value = int(self.words[1]) if self.words[1:] else None
+
+    def check_line(self):
+        """The line of the view that is named, and what stands after it."""
+        lines = LINES[self.role]
+        if not self.words or self.words[0] not in lines:
+            raise Wrong(f"{AT_END} wants a line of the view at the end: {', '.join(lines)}")
+        self.line, self.wanted = self.words[:1], self.words[1:]
+        if self.line[0] == "slot":
+            if not self.wanted or not NUMBER.match(self.wanted[0]):
+                raise Wrong("slot wants its number behind it")
+            self.line, self.wanted = ["slot", str(int(self.wanted[0]))], self.wanted[1:]
+        if self.line[0] in FLAG_KINDS:
+            kind = FLAG_KINDS[self.line[0]]
+            self.wanted = [written_code(kind, word) for word in self.wanted]
+        elif self.role == "joy" or self.line[0] == "current":
+            self.check_numbers()
+        else:
+            self.wanted = [written_pair(word) for word in self.wanted]
+            if not self.wanted:
+                raise Wrong(f"{self.line[0]} wants a value behind it, as ABS_X=5")
+
+    def check_numbers(self):
+        wrong = next((word for word in self.wanted if not SIGNED.match(word)), None)
+        if wrong is not None:
+            raise Wrong(f"{wrong} is no number")
+        if self.line[0] == "current" and len(self.wanted) != 1:
+            raise Wrong("current wants one number behind it")
+        self.wanted = [str(int(word)) for word in self.wanted]
+
+
+def named(actors):
+    return f"; there are {', '.join(sorted(actors))}" if actors else "; the record has none"
+
+
+def written_code(kind, word):
+    """A code as a report writes it."""
+    number = number_of_code(kind, word)
+    if number is None:
+        raise Wrong(f"{word} is no code of {kind_text(kind)}")
+    return code_text(kind, number)
+
+
+def written_pair(word):
+    name, _, value = word.partition("=")
+    if not SIGNED.match(value):
+        raise Wrong(f"{word} is no axis with a value, as ABS_X=5")
+    return f"{written_code(TYPES['EV_ABS'], name)}={int(value)}"
+
+
+def kind_and_code(word):
+    """The type and the code that a word names, as a report writes them; the code is None for all of a
+    type."""
+    first, slash, second = word.partition("/")
+    kind = number_of_kind(first)
+    if kind is None and not slash:
+        kind = next((kind for kind, names in CODES.items() if first in names), None)
+        second = first if kind is not None else ""
+    code = number_of_code(kind, second) if kind is not None and second else None
+    if kind is None or (code is None and (slash or second)):
+        raise Wrong(f"{word} is no code (KEY_A), no type (EV_KEY) and no TYPE/CODE (EV_KEY/656)")
+    return kind_text(kind), None if code is None else code_text(kind, code)
+
+
+def actors_of(lines):
+    """The roles of a record's actors, by their names. The record need not be one that the program takes."""
+    words = (line.split() for line in lines)
+    return {each[1]: each[0] for each in words if len(each) == 2 and each[0] in ROLES}
+
+
+def words_of(line):
+    """The words of an expectation, or None for another line. A rule of `=` is none."""
+    line = line.strip()
+    if not line.startswith(MARK) or (len(line) > 2 and not line.strip("#=")):
+        return None
+    return line[len(MARK) :].split()
+
+
+def expectations_of(text):
+    """The expectations of a record's text, in order."""
+    lines = text.split("\n")
+    actors, found = actors_of(lines), []
+    for number, line in enumerate(lines, 1):
+        words = words_of(line)
+        if words is None:
+            continue
+        try:
+            if not words:
+                raise Wrong("nothing stands behind #=")
+            found.append(Expectation(number, words, actors))
+        except Wrong as wrong:
+            raise Wrong(f"line {number}: {wrong}") from None
+    statuses = [each.number for each in found if each.kind == "status"]
+    if len(statuses) > 1:
+        raise Wrong(f"line {statuses[1]}: line {statuses[0]} tells the status already")
+    if not found:
+        raise Wrong("it expects nothing: it has no line that begins with #=")
+    return found

@@ -1,0 +1,87 @@
+"""Reads a description or a capture, in whichever of the known forms it is, and chooses one of its devices."""
+
+import re
+
+from inputtools import evemu, evtest, kinds, libinput, procfs, raw, recordlines, source
+from inputtools.command import Wrong
+from inputtools.progress import progress
+
+# The first that recognises a text reads it.
+FORMS = [
+    (evemu.is_evemu, evemu.parse),
+    (libinput.is_libinput, libinput.parse),
+    (procfs.is_procfs, procfs.parse),
+    (recordlines.is_record, recordlines.parse),
+    (evtest.is_evtest, evtest.parse),
+]
+KNOWN = "evtest's output, an evemu file, a recording of libinput, /proc/bus/input/devices, a record's lines"
+GREATEST_SIZE = 1 << 28
+
+
+def read_bytes(path):
+    data = source.read_bytes(path, GREATEST_SIZE + 1)
+    if len(data) > GREATEST_SIZE:
+        raise Wrong(f"{source.shown(path)}: more than {GREATEST_SIZE} bytes")
+    return data
+
+
+def recordings_of(data, raw_size=None):
+    if not data:
+        raise Wrong("the file is empty")
+    refuse_other_kinds(data)
+    if raw_size or raw.is_raw(data):
+        return raw.parse(data, raw_size)
+    text = data.decode("utf-8", "replace").replace("\r\n", "\n").replace("\r", "\n")
+    text = re.sub(r"^\^C", "", text, flags=re.MULTILINE)  # what a terminal shows where a tool is stopped
+    for recognises, parse in FORMS:
+        if recognises(text):
+            recordings = parse(text)
+            if not recordings:
+                raise Wrong("it has no device and no event")
+            return recordings
+    raise Wrong(f"not in a form that is known here ({KNOWN}, a raw capture)")
+
+
+def refuse_other_kinds(data):
+    """Refuses what neither describes a device nor is a capture: a packed file, a picture, a page."""
+    start = data[:512].lstrip(b"\xef\xbb\xbf \t\r\n").lower()
+    for magic, said in kinds.MAGICS:
+        if start.startswith(magic.lower()):
+            raise Wrong(said.replace(", and no record", ", and no capture"))
+
+
+def read(path, chosen=None, raw_size=None):
+    """The recording of a file, the chosen one where it has several."""
+    progress.tell(f"{source.shown(path)} is read")
+    return told_of(path, lambda: choose(recordings_of(read_bytes(path), raw_size), chosen))
+
+
+def read_all(path):
+    """All recordings of a file."""
+    progress.tell(f"{source.shown(path)} is read")
+    return told_of(path, lambda: recordings_of(read_bytes(path)))
+
+
+def told_of(path, reads):
+    """What is read of a file. What is wrong with it is told with its name."""
+    try:
+        return reads()
+    except Wrong as wrong:
+        text = str(wrong)
+        name = source.shown(path)
+        raise Wrong(text if text.startswith((f"{name}: ", source.NAME)) else f"{name}: {text}") from None
+
+
+def choose(recordings, chosen):
+    """The one recording, or that whose number, from 1, or whose name is chosen."""
+    if len(recordings) == 1:
+        return recordings[0]
+    names = [recording.device.name if recording.device else "" for recording in recordings]
+    listed = ", ".join(f'{i + 1} "{name}"' for i, name in enumerate(names))
+    if chosen is None:
+        raise Wrong(f"{len(recordings)} devices: {listed}; choose one with --device")
+    if chosen in names and names.count(chosen) == 1:
+        return recordings[names.index(chosen)]
+    if re.fullmatch("[0-9]{1,4}", chosen) and 1 <= int(chosen) <= len(recordings):
+        return recordings[int(chosen) - 1]
+    raise Wrong(f'no one device "{chosen}"; there are {listed}')

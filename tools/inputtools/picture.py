@@ -1,0 +1,109 @@
+"""Draws rows as SVG: over the places of a history, or over its moments.
+
+A picture is one SVG, or for a page two beside one another: the labels, which stay where they are, and the
+plot, which is moved where the paper is narrow.
+"""
+
+from html import escape
+
+from inputtools.paper import style
+from inputtools.scale import EDGE, GUTTER, WIDTH
+from inputtools.shapes import bars, lines, marks, numbers
+
+AXIS, HEADING, FOOT = 52, 22, 10
+HEIGHTS = {"row": 16, "client": 24, "line": 38, "parted": 16, "note": 14}
+LONGEST_LABEL, LONGEST_OF_A_LINE = 25, 17
+
+
+class Sheet:
+    """The shapes of a picture: those of the labels, and those of the plot."""
+
+    def __init__(self):
+        self.labels, self.plot = [], []
+
+
+def label(row, y, height):
+    """A row's label, cut to the room that it has."""
+    longest = LONGEST_OF_A_LINE if row.lines else LONGEST_LABEL
+    shown = row.label if len(row.label) <= longest else row.label[: longest - 2] + ".."
+    kind = {"note": "faint", "parted": "differs"}.get(row.kind, "ink")
+    right = GUTTER - (58 if row.lines else 12)
+    place = f'x="{right}" y="{y + height / 2 + 4:.1f}" text-anchor="end"'
+    return f'<text {place} class="{kind}">{escape(shown)}</text>'
+
+
+def add_axis(sheet, scale, height):
+    for text, y in zip(scale.names(), (16, 31)):
+        sheet.labels.append(f'<text x="10" y="{y}" class="faint">{escape(text)}</text>')
+    for tick in scale.ticks():
+        line = f'x1="{tick.x:.1f}" y1="36" x2="{tick.x:.1f}" y2="{height - FOOT}"'
+        sheet.plot.append(f'<line class="grid" {line}/>')
+        for text, y in ((tick.text, 16), (tick.below, 31)):
+            place = f'x="{tick.x:.1f}" y="{y}" text-anchor="{tick.anchor}"'
+            sheet.plot += [f'<text {place} class="faint">{text}</text>'] if text else []
+
+
+def add_section(sheet, heading, rows, scale, y):
+    """The shapes of a section that begins at y."""
+    sheet.labels.append(f'<line class="rule" x1="8" y1="{y + 2}" x2="{EDGE}" y2="{y + 2}"/>')
+    sheet.plot.append(f'<line class="rule" x1="{EDGE}" y1="{y + 2}" x2="{WIDTH - 4}" y2="{y + 2}"/>')
+    sheet.labels.append(f'<text x="10" y="{y + 16}" class="heading">{escape(heading)}</text>')
+    y += HEADING
+    for row in rows:
+        height = HEIGHTS[row.kind]
+        sheet.labels.append(label(row, y, height))
+        for is_left, shape in numbers(row, y, height):
+            (sheet.labels if is_left else sheet.plot).append(shape)
+        shapes = bars(row, scale, y, height) + lines(row, scale, y, height) + marks(row, scale, y, height)
+        if shapes:
+            sheet.plot.append(f'<g data-row="{escape(row.told)}">' + "\n".join(shapes) + "</g>")
+        y += height
+
+
+def height_of(sections):
+    """How high the picture of sections is."""
+    return AXIS + FOOT + sum(HEADING + sum(HEIGHTS[row.kind] for row in rows) for _, rows in sections)
+
+
+def drawn(sections, scale):
+    """The shapes of sections, each a heading and its rows."""
+    sheet, y = Sheet(), AXIS
+    add_axis(sheet, scale, height_of(sections))
+    for heading, rows in sections:
+        add_section(sheet, heading, rows, scale, y)
+        y += HEADING + sum(HEIGHTS[row.kind] for row in rows)
+    return sheet
+
+
+def svg_element(left, width, height, said, ident):
+    """The begin of an SVG. `said` is its title and its description, or None where another one tells it."""
+    size = f'viewBox="{left} 0 {width} {height}" width="{width}" height="{height}"'
+    paper = f'<rect class="paper" x="{left}" width="{width}" height="{height}"/>'
+    head = f'<svg xmlns="http://www.w3.org/2000/svg" {size}'
+    if said is None:
+        return f'{head} class="labels" aria-hidden="true">{paper}'
+    title = f'<title id="{ident}-title">{escape(said[0])}</title>'
+    about = f'<desc id="{ident}-about">{escape(said[1])}</desc>'
+    return f'{head} role="img" aria-labelledby="{ident}-title {ident}-about">{title}{about}{paper}'
+
+
+def picture(sections, scale, said, legend="", legend_height=0):
+    """One SVG of sections, with its own style and a legend below."""
+    sheet, height = drawn(sections, scale), height_of(sections) + legend_height
+    head = svg_element(0, WIDTH, height, said, "picture").replace("<rect", f"<style>{style()}</style><rect", 1)
+    return "\n".join([head, *sheet.labels, *sheet.plot, legend + "</svg>"])
+
+
+def panes(sections, scale, said, ident, picks=""):
+    """Two SVGs of sections beside one another: the labels and the plot."""
+    sheet, height = drawn(sections, scale), height_of(sections)
+    labels = [svg_element(0, EDGE, height, None, ident), *sheet.labels, "</svg>"]
+    plot = [svg_element(EDGE, WIDTH - EDGE, height, said, ident), *sheet.plot, picks + "</svg>"]
+    return "\n".join(labels + plot)
+
+
+def no_picture(text):
+    """An SVG that says why there is nothing to draw."""
+    head = svg_element(0, WIDTH, 60, (text, "There is nothing to draw."), "picture")
+    head = head.replace("<rect", f"<style>{style()}</style><rect", 1)
+    return f'{head}\n<text x="10" y="34">{escape(text)}</text></svg>\n'

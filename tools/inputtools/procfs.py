@@ -1,0 +1,81 @@
+"""Reads /proc/bus/input/devices: stanzas of devices, with the types and codes of each as words of bits.
+
+The highest word stands first, and leading zeros are left out; a word has the size that it has on the machine.
+Ranges and values of axes and the number of slots are not told.
+"""
+
+import re
+
+from inputtools.command import Wrong, at_line
+from inputtools.names import ABS, KEY, LED, MSC, REL, REP, SND, SW
+from inputtools.recording import Axis, Device, Recording
+
+KINDS = {"KEY": KEY, "REL": REL, "ABS": ABS, "MSC": MSC, "LED": LED, "SND": SND, "SW": SW, "FF": 0x15}
+BITS = re.compile(r"B: (\w+)=\s*([0-9a-fA-F ]*)$")
+MOST_KEYS = 0x300
+
+
+def is_procfs(text):
+    return re.search(r"^I: Bus=[0-9a-fA-F]{4} ", text, re.M)
+
+
+def word_bits(text):
+    """The size of a word: 64 where one has more than 8 digits, 32 where keys take more words than with 64."""
+    words = [found[2].split() for found in map(BITS.match, text.split("\n")) if found]
+    if any(len(word) > 8 for line in words for word in line):
+        return 64
+    return 32 if any(len(line) > MOST_KEYS // 64 for line in words) else 64
+
+
+def codes_of(words, size):
+    value = 0
+    for word in words:
+        value = value << size | int(word, 16)
+    return [code for code in range(value.bit_length()) if value >> code & 1]
+
+
+def parse(text):
+    """The devices of a file, without events."""
+    size, recordings, lines = word_bits(text), [], text.split("\n")
+    for index, line in enumerate(lines):
+        if line.startswith("I: Bus="):
+            recordings.append(Recording(Device("/proc/bus/input/devices", has_ranges=False)))
+        elif recordings and line.strip():
+            take_line(recordings[-1].device, line, index, size)
+    for recording in recordings:
+        finish(recording.device)
+    return recordings
+
+
+def take_line(device, line, index, size):
+    name = re.match(r'N: Name="(.*)"$', line)
+    bits = BITS.match(line)
+    if name:
+        device.name = name[1]
+    elif bits:
+        words = bits[2].split()
+        if any(len(word) > size // 4 for word in words) or len(words) > 64:
+            raise at_line(index, f"bits of more than {size // 4} digits a word")
+        take_bits(device, bits[1], codes_of(words, size))
+    elif not re.match(r"[A-Z]: ", line):
+        raise at_line(index, f"no line of /proc/bus/input/devices: {line.strip()[:60]}")
+
+
+def take_bits(device, name, codes):
+    if name == "PROP":
+        device.properties = codes
+    elif name == "EV":
+        for kind in codes:
+            if kind:
+                device.add(kind)
+    elif name in KINDS:
+        device.add(KINDS[name], codes)
+
+
+def finish(device):
+    if not device.codes and not device.name:
+        raise Wrong("a device without bits and without a name")
+    if REP in device.codes:
+        device.add(REP, [0, 1])
+    for code in device.codes.get(ABS, ()):
+        device.axes[code] = Axis()

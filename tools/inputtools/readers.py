@@ -1,0 +1,217 @@
+"""The readers of a record, as the words after `--reader` tell them, and the lines that each of them has."""
+
+import re
+
+from inputtools.command import Wrong, number
+from inputtools.description import is_name
+from inputtools.names import CODES, GREATEST, REP, kind_text, number_of_code, number_of_kind
+
+DRIVER = "driver"
+GREATEST_READERS = 64
+GREATEST_READ = 100000
+FORM = "NAME[:joy][:every=N][:slow][:open=S][:grab[=S[-S]]][:revoke=S][:mask=TYPE,CODE,..]"
+LATEST_SECOND = 9000000000
+
+# In which order of one moment readers do what they do at times.
+RANKS = ("ungrab", "revoke", "open", "grab")
+
+
+class Reader:
+    """A client that opens at the start, or at a time, and follows after each frame, each N-th, or at the end
+    alone. Times are in microseconds from the capture's first event on.
+
+    `grab` is the span of its grab, from the start (None) and with no end (None); `joy` says that it reads as
+    a joystick.
+    """
+
+    def __init__(self, text):
+        self.name, *options = text.split(":")
+        self.every, self.grab, self.wants = 1, None, None
+        self.opens, self.revoked, self.is_joy = None, None, False
+        self.unread, self.is_open = 0, False
+        if not is_name(self.name):
+            raise Wrong(f'the reader "{self.name}" is not named by 1 to 32 of a to z, 0 to 9, _ and -')
+        if re.fullmatch(f"{DRIVER}(-[0-9]+)?", self.name):
+            raise Wrong(f"the name {self.name} is that of a device's source")
+        for option in options:
+            self.take(option)
+        self.check(options)
+
+    def take(self, option):
+        word, _, value = option.partition("=")
+        if option == "slow":
+            self.every = None
+        elif option == "joy":
+            self.is_joy = True
+        elif option == "grab":
+            self.grab = (None, None)
+        elif word == "grab" and value:
+            self.grab = span_of(value)
+        elif word == "open" and value:
+            self.opens = micros_of(value)
+        elif word == "revoke" and value:
+            self.revoked = micros_of(value)
+        elif word == "every" and re.fullmatch("[0-9]+", value):
+            self.every = number(value, 1, 10**9, f"the number of frames of {self.name}")
+        elif word == "mask" and value:
+            self.wants = wanted_codes(value)
+        else:
+            raise Wrong(f'the reader\'s option "{option}" is none of {FORM}')
+
+    def check(self, options):
+        """A joystick has no mask, no grab and no revocation; and what is done is done in order."""
+        others = [option for option in options if option.partition("=")[0] in ("grab", "mask", "revoke")]
+        if self.is_joy and others:
+            raise Wrong(f"{self.name} is a joystick, which has no {others[0].partition('=')[0]}")
+        begun = self.opens or 0
+        grabbed = self.grab[0] if self.grab else None
+        if grabbed is not None and grabbed < begun:
+            raise Wrong(f"{self.name} grabs before it opens")
+        if self.revoked is not None and self.revoked < max(begun, grabbed or 0):
+            raise Wrong(f"{self.name} is revoked before it opens, or grabs")
+
+    def role(self):
+        return "joy" if self.is_joy else "client"
+
+    def acts(self):
+        """What the reader does at times, or at the start (None): (time, rank, words), in order."""
+        mask = mask_words(self.wants) if self.wants is not None else []
+        found = [(self.opens, ["open"] + mask)]
+        if self.grab:
+            begin, end = self.grab
+            found += [(self.opens if begin is None else begin, ["grab"])]
+            found += [(end, ["ungrab"])] if end is not None else []
+        found += [(self.revoked, ["revoke"])] if self.revoked is not None else []
+        return [(time, RANKS.index(words[0]), words) for time, words in found]
+
+    def does_at_times(self):
+        """Does it do anything later than at the start?"""
+        return any(time is not None for time, *_ in self.acts())
+
+    def lines_of(self, words):
+        """The lines of one act. What waits is read before an end, and a joystick's startup after its open."""
+        lines = self.lines_at_the_end() if words[0] == "revoke" else []
+        self.is_open = words[0] != "revoke"
+        lines += [f"do {self.name} {word}" for word in words]
+        return lines + ([f"do {self.name} read {GREATEST_READ}"] if self.is_joy and self.every else [])
+
+    def lines_behind_a_frame(self):
+        if not self.is_open:
+            return []
+        self.unread += 1
+        return self.lines_at_the_end() if self.every and self.unread >= self.every else []
+
+    def lines_at_the_end(self):
+        if not self.unread:
+            return []
+        self.unread = 0
+        return [f"do {self.name} {f'read {GREATEST_READ}' if self.is_joy else 'follow'}"]
+
+
+class Acts:
+    """What readers do at times, in order: each is done before the first frame of its time or later."""
+
+    def __init__(self, readers):
+        acts = [(time, rank, reader, words) for reader in readers for time, rank, words in reader.acts()]
+        # (what is done at the start stands in the order of the readers)
+        self.at_start = [act for act in acts if act[0] is None]
+        self.later = sorted((act for act in acts if act[0] is not None), key=lambda act: act[:2])
+
+    def begin(self):
+        """No reader has done anything yet."""
+        for *_, reader, _ in self.at_start + self.later:
+            reader.unread, reader.is_open = 0, False
+
+    def opening_lines(self):
+        self.begin()
+        return [line for *_, reader, words in self.at_start for line in reader.lines_of(words)]
+
+    def lines_before(self, time=None):
+        """The lines of what is due at a time, or of all that is left."""
+        lines = []
+        while self.later and (time is None or self.later[0][0] <= time):
+            *_, reader, words = self.later.pop(0)
+            lines += reader.lines_of(words)
+        return lines
+
+
+def micros_of(text):
+    """A time in seconds, with six digits after the point at most, as microseconds."""
+    match = re.fullmatch(r"([0-9]{1,10})(?:\.([0-9]{1,6}))?", text)
+    if not match or int(match[1]) > LATEST_SECOND:
+        raise Wrong(f'"{text}" is no time in seconds: 9, or 1.5')
+    return int(match[1]) * 1000000 + int((match[2] or "").ljust(6, "0"))
+
+
+def span_of(text):
+    """From which time, and to which or None: 1.5-3.2, or 1.5."""
+    first, dash, last = text.partition("-")
+    begin, end = micros_of(first), micros_of(last) if dash else None
+    if end is not None and end <= begin:
+        raise Wrong(f'the grab "{text}" does not end behind its begin')
+    return begin, end
+
+
+def wanted_codes(text):
+    """The types that a mask lets through, each with its codes, or with None for all of them."""
+    wants = {}
+    for word in re.split("[,+]", text):
+        kind, code = kind_and_code(word)
+        if code is None:
+            wants[kind] = None
+        elif wants.setdefault(kind, set()) is not None:
+            wants[kind].add(code)
+    return wants
+
+
+def kind_and_code(word):
+    first, _, second = word.partition("/")
+    kind, code = number_of_kind(first), None
+    if kind is None and not second:
+        kind = next((kind for kind, names in CODES.items() if first in names), None)
+        code = CODES[kind][first] if kind is not None else None
+    elif kind is not None and second:
+        code = number_of_code(kind, second)
+    is_right = kind in GREATEST and (code is None or (kind != REP and code <= GREATEST[kind]))
+    if not is_right or (second and code is None):
+        raise Wrong(f'"{word}" of a mask is no type (EV_KEY), no code (KEY_A) and no TYPE/CODE (EV_KEY/656)')
+    return kind, code
+
+
+def mask_words(wants):
+    """The commands that set the mask of types, and a mask of codes where not all are wanted."""
+    words = [f"mask EV_SYN 0 0x{bits_of(wants):016x}"]
+    for kind, codes in sorted(wants.items()):
+        if codes is None:
+            continue
+        for place in range(GREATEST[kind] // 64 + 1):
+            bits = bits_of(code - 64 * place for code in codes if 64 * place <= code < 64 * place + 64)
+            words.append(f"mask {kind_text(kind)} {place} 0x{bits:016x}")
+    return words
+
+
+def bits_of(numbers):
+    return sum(1 << number for number in numbers)
+
+
+def readers_of(texts):
+    """The readers that are asked for: one that follows after each frame where no reader is asked for."""
+    readers = [Reader(text) for text in texts or ["reader"]]
+    names = [reader.name for reader in readers]
+    for name in names:
+        if names.count(name) > 1:
+            raise Wrong(f"two readers are named {name}")
+    if len(readers) > GREATEST_READERS:
+        raise Wrong(f"{len(readers)} readers: a device has at most {GREATEST_READERS} open clients")
+    spans = sorted(span for span in map(held_span, readers) if span)
+    if any(one[1] > other[0] for one, other in zip(spans, spans[1:])):
+        raise Wrong("two readers grab at one time: one client alone can hold the grab")
+    return readers
+
+
+def held_span(reader):
+    """From which time to which a reader holds the grab, or None."""
+    if not reader.grab:
+        return None
+    ends = [end for end in (reader.grab[1], reader.revoked) if end is not None]
+    return reader.grab[0] or reader.opens or 0, min(ends, default=LATEST_SECOND * 1000000)

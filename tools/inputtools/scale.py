@@ -1,0 +1,102 @@
+"""Where a place of a history stands on the paper, and the ticks of the axis.
+
+Each tick has two texts: over the places a place and the time there, over time a moment and the place there.
+"""
+
+import bisect
+
+from inputtools.places import seconds_text
+
+GUTTER, PLOT, RIGHT = 176, 1000, 44
+WIDTH = GUTTER + PLOT + RIGHT
+
+# Where the labels end and the plot begins: a mark at the first place is wider than its place.
+EDGE = GUTTER - 8
+
+# How wide a letter of a tick is reckoned, and how far from one another two ticks' texts are at least.
+LETTER, APART = 6.5, 10
+
+
+def round_steps():
+    return (digit * 10**zeros for zeros in range(17) for digit in (1, 2, 5))
+
+
+class Tick:
+    """A tick: where it stands, its texts, and to which side of it they stand so that none is cut off."""
+
+    def __init__(self, x, text, below):
+        self.x, self.text, self.below = x, text, below
+        half = self.width() / 2
+        self.anchor = "start" if x - half < EDGE else "end" if x + half > WIDTH - 2 else "middle"
+
+    def width(self):
+        return LETTER * max(len(self.text), len(self.below))
+
+
+class Scale:
+    """The places from `begin` up to `end` of a history, over the places or over their moments."""
+
+    def __init__(self, begin, end, moments, is_over_time=False):
+        self.begin, self.end, self.moments, self.is_over_time = begin, end, moments, is_over_time
+        self.first, self.last = moments.all[begin], moments.all[min(end, len(moments.all)) - 1]
+        self.length = max(self.last - self.first, 1)
+        # (times that need many digits are told from a whole second on)
+        is_long = self.first >= 10**9 and self.length < self.first // 100
+        self.base = self.first - self.first % 1000000 if is_long else 0
+
+    def x(self, place):
+        place = max(self.begin, min(place, self.end))
+        if not self.is_over_time:
+            middle = 0.5 if place < self.end else 0
+            return GUTTER + PLOT * (place - self.begin + middle) / max(self.end - self.begin, 1)
+        if place >= self.end:
+            return GUTTER + PLOT
+        return self.x_of_moment(self.moments.all[int(place)])
+
+    def x_of_moment(self, moment):
+        return GUTTER + PLOT * 0.99 * (moment - self.first) / self.length
+
+    def names(self):
+        """What the two texts of a tick are."""
+        time = f"time from {seconds_text(self.base)}" if self.base else "time"
+        if not self.moments.are_told:
+            return ("place", "")
+        return (time, "place") if self.is_over_time else ("place", time)
+
+    def time(self, moment):
+        return ("+" if self.base else "") + seconds_text(moment - self.base)
+
+    def rounded(self, moment):
+        """A moment to a thousandth of the scale's length, or finer."""
+        digits = 10 ** max(len(str(self.length)) - 4, 0)
+        return moment - moment % digits if digits > 1 else moment
+
+    def ticks(self):
+        """Ticks at round places or moments: as many as have room for their texts."""
+        made = self.moment_ticks if self.is_over_time else self.place_ticks
+        span = self.length / 0.99 if self.is_over_time else max(self.end - self.begin, 1)
+        for step in round_steps():
+            room = PLOT * step / span
+            if room < 3 * LETTER:
+                continue
+            ticks = made(step)
+            # (a text that begins or ends at its tick reaches half its width nearer to the next one)
+            if all(1.5 * tick.width() + APART <= room for tick in ticks) or len(ticks) <= 1:
+                return ticks
+        return []
+
+    def place_ticks(self, step):
+        first = -(-self.begin // step) * step
+        return [self.place_tick(place) for place in range(first, self.end, step)]
+
+    def place_tick(self, place):
+        time = self.time(self.rounded(self.moments.all[place])) if self.moments.are_told else ""
+        return Tick(self.x(place), str(place), time)
+
+    def moment_ticks(self, step):
+        first = self.base + -(-(self.first - self.base) // step) * step
+        return [self.moment_tick(moment) for moment in range(first, self.last + 1, step)]
+
+    def moment_tick(self, moment):
+        place = bisect.bisect_left(self.moments.all, moment, self.begin, self.end)
+        return Tick(self.x_of_moment(moment), self.time(moment), str(min(place, self.end - 1)))

@@ -1,0 +1,159 @@
+"""The shapes of a row: its marks, bars and lines on the paper, each with a text.
+
+Marks that fall on one point of the paper are drawn once, so a picture stays small however many events it
+stands for. Where there are very many, they are drawn as one, and strips of the paper have the texts.
+"""
+
+from html import escape
+
+from inputtools.scale import GUTTER, PLOT
+
+# In which order marks are drawn, and how many of one kind in a row are drawn each with its text.
+MARK_KINDS = ("event", "timer", "report", "frame", "again", "read", "ask", "eaten", "loss")
+DENSE = 250
+
+# How wide a strip of dense marks is that has a text, and how many of its marks the text tells.
+STRIP, TOLD = 8, 3
+
+# How far from a row's top a bar begins, and how much lower than the row it is.
+BAR_HEIGHTS = {"open": (2, 5), "contact": (2, 5), "mask": (2, 5), "revoked": (2, 5), "grab": (2, 19)}
+
+
+def titled(shape, text):
+    """A shape, an element without its end, that shows a text where the pointer rests on it."""
+    name = shape[1 : shape.index(" ")]
+    return f"{shape}><title>{escape(text)}</title></{name}>"
+
+
+def mark_shape(kind, x, y, height):
+    """The shape of a mark in a row of this height at y."""
+    middle = y + height / 2
+    if kind == "loss":
+        return f'<path class="loss" d="M{x - 4:.1f} {middle - 4:.1f}l8 8m0 -8l-8 8"'
+    if kind == "eaten":
+        return f'<path class="eaten" d="M{x - 4:.1f} {middle - 4:.1f}l4 7l4 -7"'
+    if kind == "ask":
+        return f'<path class="ask" d="M{x:.1f} {middle - 6:.1f}l5 6l-5 6l-5 -6z"'
+    if kind == "read":
+        return f'<path class="read" d="M{x:.1f} {middle - 5:.1f}l5 9h-10z"'
+    if kind == "again":
+        return f'<circle class="again" cx="{x:.1f}" cy="{middle:.1f}" r="3.5"'
+    top = {"event": 0.35, "timer": 0.2}.get(kind, 0.1) * height
+    return f'<rect class="{kind}" x="{x - 1:.1f}" y="{y + top:.1f}" width="2" height="{height - top - 2:.1f}"'
+
+
+def marks(row, scale, y, height):
+    """The marks of a row, each point of the paper once for each kind."""
+    kinds = {kind: {} for kind in MARK_KINDS}
+    for place, kind, text in row.marks.between(scale.begin, scale.end):
+        x = scale.x(place)
+        kinds[kind].setdefault(round(x), []).append((x, text))
+    dense = {kind: points for kind, points in kinds.items() if len(points) > DENSE}
+    shapes = [dense_marks(kind, sorted(points), y, height) for kind, points in dense.items()]
+    shapes += strips([point for points in dense.values() for point in points.values()], y, height)
+    for kind in MARK_KINDS:
+        for found in kinds[kind].values() if kind not in dense else ():
+            shapes.append(titled(mark_shape(kind, found[0][0], y, height), several_text(found, 1)))
+    return shapes
+
+
+def several_text(found, told):
+    """The texts of marks on one point of the paper: the first ones, and how many more there are."""
+    texts = [text for _, text in found[:told]]
+    more = len(found) - len(texts)
+    return "; ".join(texts) + (f" (and {more} more here)" if more else "")
+
+
+def dense_marks(kind, points, y, height):
+    """Many marks of one kind: one path, whose texts the strips have."""
+    top = y + height * {"event": 0.35, "timer": 0.2, "again": 0.55, "read": 0.3}.get(kind, 0.1)
+    path = "".join(f"M{x} {top:.0f}V{y + height - 2}" for x in points)
+    return f'<path class="dense {kind}" d="{path}"/>'
+
+
+def strips(points, y, height):
+    """Strips of the paper, each with the texts of the first dense marks in it."""
+    found = {}
+    for marks_there in points:
+        for x, text in marks_there:
+            found.setdefault(int(x - GUTTER) // STRIP, []).append((x, text))
+    shapes = []
+    for number, there in sorted(found.items()):
+        box = f'x="{GUTTER + number * STRIP}" y="{y}" width="{STRIP}" height="{height}"'
+        text = several_text(sorted(there), TOLD)
+        shapes.append(titled(f'<rect class="hit" {box}', text))
+    return shapes
+
+
+def bars(row, scale, y, height):
+    """The bars of a row. Those that end where the next begins, on one point of the paper, are drawn as
+    one."""
+    shapes, drawn = [], {}
+    for begin, end, kind, text in row.bars:
+        if begin >= scale.end or end < scale.begin:
+            continue
+        left, right = scale.x(begin), scale.x(end)
+        if right - left < 1 and drawn.get(kind, -9) >= left - 1:
+            continue
+        drawn[kind] = right
+        top, size = BAR_HEIGHTS.get(kind, (5, 10))
+        box = f'y="{y + top}" width="{max(right - left, 2):.1f}" height="{height - size}"'
+        shape = f'<rect class="{kind}" x="{left:.1f}" {box}'
+        shapes.append(titled(shape, text))
+    return shapes
+
+
+def columns(span, scale):
+    """The points of a line's span between the scale's ends; of those on one point of the paper the first,
+    least, greatest, last."""
+    begin, _, points = span
+    inside = [(scale.x(place), value) for place, value in points.between(scale.begin, scale.end)]
+    start = scale.x(max(begin, scale.begin)) if begin >= scale.begin else GUTTER
+    found = {}
+    for x, value in [(start, value) for _, value in points.before(scale.begin)] + inside:
+        found.setdefault(round(x), []).append(value)
+    kept = []
+    for x, values in found.items():
+        several = (values[0], min(values), max(values), values[-1]) if len(values) > 1 else values
+        kept += [(x, value) for value in several]
+    return kept
+
+
+def stepped(points, end):
+    """The path of a line that goes to the right, and up or down where the value changes."""
+    parts, level = [f"M{points[0][0]} {points[0][1]}"], points[0][1]
+    for x, y in points[1:]:
+        if y != level:
+            parts.append(f"H{x}V{y}")
+            level = y
+    return "".join(parts) + f"H{max(round(end), points[-1][0] + 1)}"
+
+
+def lines(row, scale, y, height):
+    """The lines of a row, each between the least and the greatest value that it has at all."""
+    shapes = []
+    for line in row.lines:
+        room = (height - 10) / max(line.greatest - line.least, 1)
+        path = []
+        for span in line.between(scale.begin, scale.end):
+            kept = columns(span, scale)
+            kept = [(x, round(y + height - 5 - room * (value - line.least))) for x, value in kept]
+            path += [stepped(kept, scale.x(min(span[1], scale.end)))] if kept else []
+        if path:
+            text = f"{line.name} from {line.least} to {line.greatest}"
+            shapes.append(titled(f'<path class="{line.kind}" d="{"".join(path)}"', text))
+    return shapes
+
+
+def numbers(row, y, height):
+    """The least and the greatest value of a row's lines: of the first to their left, of the second to their
+    right."""
+    shapes = []
+    for line in row.lines:
+        is_first = line.kind == "first"
+        x, anchor = (GUTTER - 10, "end") if is_first else (GUTTER + PLOT + 5, "start")
+        kind = "number" if is_first else "second"
+        for value, lower in ((line.greatest, 9), (line.least, height - 2)):
+            place = f'x="{x}" y="{y + lower}" text-anchor="{anchor}"'
+            shapes.append((is_first, f'<text {place} class="{kind}">{value}</text>'))
+    return shapes

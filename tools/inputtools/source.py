@@ -1,0 +1,66 @@
+"""Reads the files that a command is given. `-` stands for standard input, which is read once."""
+
+import atexit
+import os
+import shutil
+import sys
+import tempfile
+
+from inputtools.command import Wrong
+
+INPUT = "-"
+NAME = "standard input"
+
+_read = []
+
+
+def shown(path):
+    """A file's name, as it is told to people."""
+    return NAME if path == INPUT else path
+
+
+def fault_text(fault):
+    return getattr(fault, "strerror", None) or str(fault)
+
+
+def read_bytes(path, most=-1):
+    """The bytes of a file, or of standard input, up to so many."""
+    try:
+        if path != INPUT:
+            with open(path, "rb") as file:
+                return file.read(most)
+        if sys.stdin is None:
+            raise Wrong(f"{NAME} is closed")
+        if _read:
+            raise Wrong(f"{NAME} can be read once: give one of both as a file")
+        _read.append(True)
+        return sys.stdin.buffer.read(most)
+    except (OSError, ValueError) as fault:
+        raise Wrong(f"{shown(path)}: {fault_text(fault)}") from None
+
+
+def as_file(path):
+    """A file that has what is to be read: the file itself, or a copy of standard input."""
+    if path != INPUT:
+        return path
+    data = read_bytes(path)
+    folder = tempfile.mkdtemp()
+    atexit.register(shutil.rmtree, folder, ignore_errors=True)
+    copy = os.path.join(folder, "input.rec")
+    with open(copy, "wb") as file:
+        file.write(data)
+    return copy
+
+
+def folder_of(path):
+    """The folder in which a record is played, which has the files of its `stream` lines: for standard input
+    the present one."""
+    return os.getcwd() if path == INPUT else os.path.dirname(os.path.abspath(path))
+
+
+class Given:
+    """A record that a command is given: the name by which it is told, the folder that has the files which it
+    names, and the file that has it."""
+
+    def __init__(self, path):
+        self.name, self.folder, self.path = shown(path), folder_of(path), as_file(path)

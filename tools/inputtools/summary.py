@@ -1,0 +1,67 @@
+"""The count that `tools/stuck --summary` writes first: who ends apart from its device, and the partings by
+their causes and keys."""
+
+from collections import Counter
+
+from inputtools.belief import thing_text
+from inputtools.command import counted
+
+CAUSES = {
+    "grab": "a grab of another",
+    "filter": "a filter of the device",
+    "mask": "its own mask",
+    "loss": "a loss (SYN_DROPPED)",
+    "discard": "its own discard",
+    "not-read": "not read yet",
+    "closed": "it closed the device",
+    "revoked": "it was revoked",
+    "never-opened": "it had not opened the device",
+    "opened-later": "it opened the device later, and did not ask",
+    "opened-anew": "it opened the device anew, and left its events unread",
+    "not-asked": "it did not ask at its start",
+    "asked-later": "it asked behind the frame of the report",
+    "slot": "the slot that it takes for the current one",
+    "described": "an axis that was described anew",
+    "open-frame": "a frame that has not ended",
+    "startup": "a startup that was not read to its end",
+    "start-refused": "a start that was refused",
+    "owner-lost": "lost before the owner asked",
+    "owner-waits": "the owner has not asked since",
+    "unknown": "nothing that is known here",
+}
+
+
+def readers_of(devices):
+    """All who may part from their device: who never opened it has nothing to part from."""
+    readers = (reader for device in devices for reader in device.readers())
+    return [reader for reader in readers if reader.role == "owner" or reader.walk.clients]
+
+
+def ends_apart(devices):
+    """The readers that end apart from their device."""
+    return [reader for reader in readers_of(devices) if reader.at_end]
+
+
+def things_text(counts):
+    return ", ".join(f"{name} {count}" for name, count in ordered(counts))
+
+
+def ordered(counts):
+    """What was counted, the most first."""
+    return sorted(counts.items(), key=lambda each: (-each[1], each[0]))
+
+
+def summary_lines(devices):
+    """The lines of the count."""
+    readers = readers_of(devices)
+    partings = [parting for reader in readers for parting in reader.partings]
+    apart = f"{len(ends_apart(devices))} of {counted(len(readers), 'reader')}"
+    lines = [f"summary: {apart} apart from the device at the end"]
+    causes = Counter(parting.cause.kind for parting in partings)
+    for kind, count in ordered(causes):
+        things = Counter(thing_text(parting.thing) for parting in partings if parting.cause.kind == kind)
+        lines.append(f"  {CAUSES[kind]}: {counted(count, 'parting')}: {things_text(things)}")
+    for reader in ends_apart(devices):
+        things = Counter(thing_text(parting.thing) for parting in reader.at_end)
+        lines.append(f"  {reader.role} {reader.name} ends apart in {', '.join(sorted(things))}")
+    return lines

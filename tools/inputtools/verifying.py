@@ -1,0 +1,82 @@
+"""Plays a record that was made, with one reader that follows after each frame, and says how many events of the
+capture it took as they were captured."""
+
+import bisect
+import copy
+import os
+import tempfile
+
+from inputtools.capture import seconds
+from inputtools.command import Wrong, counted
+from inputtools.names import code_text, event_text, kind_text
+from inputtools.program import PLAYED, Player
+from inputtools.readers import Reader
+from inputtools.report import read_report
+from inputtools.slips import refusal_text
+from inputtools.writing import text_of
+
+NAME = "verify"
+
+
+def verifying(record):
+    """The same record with that reader alone."""
+    other = copy.copy(record)
+    other.readers, other.stream = [Reader(NAME)], None
+    return text_of(other.lines())
+
+
+def taken_by(text):
+    """What the reader took: (time, type, code, value)."""
+    with tempfile.TemporaryDirectory() as folder:
+        path = os.path.join(folder, "verify.rec")
+        with open(path, "w", encoding="ascii", newline="") as file:
+            file.write(text)
+        status, written = Player().play(path, folder)
+    if status not in PLAYED:
+        raise Wrong(f"the record is not played: {refusal_text(text, written, status)}")
+    part = read_report(written)[0].part(NAME)
+    return [(entry[2], *entry[3]) for entry in part.sight if entry[0] == "took"]
+
+
+def as_report(event, ahead):
+    """An event as a reader takes it whose clock is so far ahead of the moments."""
+    return event.time + ahead, kind_text(event.kind), code_text(event.kind, event.code), event.value
+
+
+def verify(record):
+    """Whether each event came as it was captured, and what is said of it.
+
+    Each event that comes is among those of the record, in their order; those that the record has for a loss
+    were not captured, and are not counted. Times are told from the first event on.
+    """
+    events = [(event, frame.was_captured) for frame in record.frames for event in frame.all_events()]
+    came = taken_by(verifying(record))
+    found = found_in_order([as_report(event, realtime_of(record)) for event, _ in events], came)
+    captured = [(event, is_there) for (event, was_captured), is_there in zip(events, found) if was_captured]
+    missed, count = [event for event, is_there in captured if not is_there], len(captured)
+    said = f"{count - len(missed)} of {counted(count, 'event')} as captured"
+    if missed:
+        said += f"; the first that is not is {event_text(missed[0][1:])} at {seconds(missed[0].time)}"
+    more = len(came) - sum(found)
+    if more:
+        said += f"; {counted(more, 'event')} came that {'was' if more == 1 else 'were'} not captured"
+    return not missed and not more, f"{record.name}: {said}"
+
+
+def found_in_order(wanted, came):
+    """Of each event that is wanted, whether it came, after those before it."""
+    places, index, found = {}, 0, []
+    for place, event in enumerate(came):
+        places.setdefault(event, []).append(place)
+    for event in wanted:
+        there = places.get(event, [])
+        at = bisect.bisect_left(there, index)
+        found.append(at < len(there))
+        index = there[at] + 1 if found[-1] else index
+    return found
+
+
+def realtime_of(record):
+    """How far the reader's clock is ahead of the moments."""
+    lines = [line.split() for line in record.device.other_lines]
+    return next((int(words[2], 0) for words in lines if words[:2] == ["clock", "realtime"]), 0)
