@@ -36,7 +36,8 @@ RUNS = [
     ("it passes", TEST + "pass\n", 0, "1 passed, 0 failed"),
     ("it fails", TEST + "self.assertEqual('this', 'that')\n", 1, "0 passed, 1 failed"),
     ("it dies", TEST + "1 / 0\n", 1, "0 passed, 1 failed"),
-    ("it is skipped", TEST + "self.skipTest('why')\n", 1, "0 passed, 1 failed"),
+    ("it is skipped", TEST + "self.skipTest('why')\n", 0, "0 passed, 0 failed (1 skipped)"),
+    ("two of its cases are skipped", CASES + "i and self.skipTest('why')\n", 0, "1 passed, 0 failed (2 skipped)"),
     ("its cases pass", CASES + "pass\n", 0, "3 passed, 0 failed"),
     ("one of its cases fails", CASES + "self.assertLess(i, 2)\n", 1, "2 passed, 1 failed"),
     ("it dies behind its cases", CASES + "pass\n        1 / 0\n", 1, "3 passed, 1 failed"),
@@ -91,6 +92,12 @@ class Gate(unittest.TestCase):
         self.assertEqual("FAILED test_it.Test.test", shown[0])
         self.assertEqual("test_it.py:4: self.assertEqual('this', 'that')", shown[1])
         self.assertIn("'this' != 'that'", shown[2])
+
+    def test_what_is_skipped_is_named(self):
+        shutil.copy(TOP / "tests" / "run", self.top / "tests" / "run")
+        (self.top / "tests" / "test_it.py").write_text(TEST + "self.skipTest('no evtest')\n")
+        shown = self.run_of("tests/run", INPUTPLAY="/bin/sh").stdout.splitlines()
+        self.assertEqual("skipped test_it.Test.test: no evtest", shown[0])
 
     def test_a_run_without_the_program_is_told_apart(self):
         shutil.copy(TOP / "tests" / "run", self.top / "tests" / "run")
