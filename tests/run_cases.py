@@ -1,0 +1,168 @@
+"""What the tests of tools/run share: they build the server and the shim, run a program on a record's devices, and look
+for what it has to write."""
+
+import atexit
+import functools
+import os
+import re
+import shutil
+import subprocess
+import sys
+import tempfile
+import unittest
+from dataclasses import dataclass
+from pathlib import Path
+from typing import Dict, List, Sequence, Tuple
+
+from playing import TOP, FolderCase
+
+from inputtools.runbuild import NotBuilt, archive, build_run
+from inputtools.running import BUILT_VARIABLE
+
+DATA, EXAMPLES = TOP / "tests" / "data", TOP / "examples"
+HERE = TOP / "tests" / "run_programs"
+# A program that hangs is a failure.
+SECONDS = 25
+LIBINPUT = "/usr/libexec/libinput"
+CAPTURES = ("keyboard", "mouse", "touchpad", "lid")
+
+
+@dataclass(frozen=True)
+class Done:
+    """How a run of tools/run ended, and what it and the program wrote."""
+
+    status: int
+    text: bytes
+    errors: str
+
+    def lines(self) -> List[str]:
+        return self.text.decode("utf-8", "backslashreplace").splitlines()
+
+    def count(self, pattern: str) -> int:
+        """How many lines have the pattern."""
+        return sum(bool(re.search(pattern, line)) for line in self.lines())
+
+
+class Built:
+    """The server and the shim, compiled anew for these tests, and the records that they play."""
+
+    def __init__(self, folder: Path):
+        self.folder = folder
+        build_run(folder / "built", os.environ.get("CC", "cc"), archive())
+        for name in CAPTURES:
+            self.record(f"{name}.rec", DATA / f"{name}.evtest", "--identity", DATA / f"{name}.proc")
+
+    def record(self, name: str, *words: object) -> Path:
+        """Has tools/record make a record."""
+        path = self.folder / name
+        made = subprocess.run([TOP / "tools" / "record", *map(str, words)], capture_output=True, text=True, check=True)
+        path.write_text(made.stdout)
+        return path
+
+
+def why_not() -> str:
+    """Why nothing can be built, or ""."""
+    compiler = os.environ.get("CC", "cc")
+    if shutil.which(compiler) is None:
+        return f"{compiler} is not there"
+    try:
+        archive()
+    except NotBuilt as fault:
+        return str(fault)
+    return ""
+
+
+@functools.lru_cache(maxsize=None)
+def build() -> Built:
+    """Builds all that is needed, once. It goes when the tests end."""
+    folder = tempfile.mkdtemp(prefix="inputplay-tests-")
+    atexit.register(shutil.rmtree, folder, ignore_errors=True)
+    return Built(Path(folder))
+
+
+def variables(built: Built) -> Dict[str, str]:
+    return {**os.environ, BUILT_VARIABLE: str(built.folder / "built"), "PYTHONDONTWRITEBYTECODE": "1"}
+
+
+def run(built: Built, words: Sequence[object], program: Sequence[object], **more: str) -> Done:
+    """tools/run with these words, and the program behind them."""
+    command = [sys.executable, TOP / "tools" / "run", "--timeout", SECONDS, *words, "--", *program]
+    done = subprocess.run([str(word) for word in command], env={**variables(built), **more}, cwd=built.folder,
+                          stdin=subprocess.DEVNULL, capture_output=True, timeout=2 * SECONDS, check=False)
+    return Done(done.returncode, done.stdout, done.stderr.decode("utf-8", "replace"))
+
+
+def python_with(module: str) -> str:
+    """A Python that has a module, which may be the system's, or "" where none has."""
+    for python in (sys.executable, "/usr/bin/python3"):
+        found = subprocess.run([python, "-c", f"import {module}"], capture_output=True, check=False)
+        if found.returncode == 0:
+            return python
+    return ""
+
+
+def needs(test: unittest.TestCase, program: str, package: str) -> str:
+    """The path of a program, or the test is skipped by its name. One of libinput's own stands in a folder of its own."""
+    found = shutil.which(program) or shutil.which(f"{LIBINPUT}/{program}") or shutil.which(f"/usr/sbin/{program}")
+    if not found:
+        test.skipTest(f"{program} is not installed (Debian: {package})")
+    return str(found)
+
+
+def needs_module(test: unittest.TestCase, module: str, package: str) -> str:
+    """A Python that has the module, or the test is skipped."""
+    found = python_with(module)
+    if not found:
+        test.skipTest(f"Python's {module} is not installed (Debian: {package})")
+    return found
+
+
+def compiled(test: unittest.TestCase, built: Built, source: str, library: str, package: str) -> Path:
+    """A program of tests/run_programs that is linked with a library, or the test is skipped."""
+    for tool in ("cc", "pkg-config"):
+        needs(test, tool, "gcc, pkg-config")
+    words = subprocess.run(["pkg-config", "--cflags", "--libs", library], capture_output=True, text=True, check=False)
+    if words.returncode:
+        test.skipTest(f"{library} is not installed (Debian: {package})")
+    out = built.folder / Path(source).stem
+    if not out.exists():
+        command = ["cc", "-O1", "-Wall", "-Wextra", "-Werror", "-o", str(out), str(HERE / source), *words.stdout.split()]
+        subprocess.run(command, check=True)
+    return out
+
+
+class RunCase(FolderCase):
+    """A test that runs programs on played devices."""
+
+    def setUp(self) -> None:
+        super().setUp()
+        self.built = build()
+        self.records = self.built.folder
+
+    def ran(self, words: Sequence[object], program: Sequence[object], **more: str) -> Done:
+        return run(self.built, words, program, **more)
+
+    def says(self, done: Done, pattern: str, count: int) -> None:
+        """A pattern stands in so many lines of what the program wrote."""
+        came = done.count(pattern)
+        self.assertEqual(count, came, f"lines with {pattern}:\n{self.shown(done)}")
+
+    def shown(self, done: Done) -> str:
+        """The begin of what was written, and what was said on standard error."""
+        lines = done.lines()
+        more = [f".. {len(lines) - 40} lines more"] if len(lines) > 40 else []
+        return "\n".join([f"status {done.status}", *lines[:40], *more, "stderr:", done.errors[-2000:]])
+
+    def twice(self, words: Sequence[object], program: Sequence[object], **more: str) -> Done:
+        """Runs a program twice by frames. Both runs write the same."""
+        first, second = (self.ran(words, program, **more) for _ in range(2))
+        self.assertEqual(self.shown(first), self.shown(second))
+        self.assertEqual(first.text, second.text)
+        return first
+
+
+def events_of(record: Path) -> Tuple[int, int]:
+    """How many events a record's source sends behind the start, and how many frames they are."""
+    text = record.read_text().partition("# The capture.\n")[2]
+    sent = [line for line in text.splitlines() if " event " in line]
+    return len(sent), sum("SYN_REPORT" in line for line in sent)

@@ -1,0 +1,29 @@
+"""Real programs on played devices: those of this list that are installed, unchanged.
+
+Each is run twice by tools/run with --frames, and both runs write the same. One that is not installed is skipped by its
+name; docs/RUN.md has the packages. All are skipped, by one line, where the library is not built (`tools/build --library`)
+or no C compiler is there; the server and the shim are compiled anew.
+"""
+
+import unittest
+
+import run_readers
+from run_cases import why_not
+
+MODULES = (run_readers,)
+
+
+class NotBuilt(unittest.TestCase):
+    """Stands for all of them."""
+
+    def test_programs_run_on_played_devices(self):
+        self.skipTest(why_not())
+
+
+def load_tests(loader, tests, _pattern):
+    if why_not():
+        return tests
+    suite = unittest.TestSuite()
+    for module in MODULES:
+        suite.addTests(loader.loadTestsFromModule(module))
+    return suite
