@@ -71,8 +71,8 @@ static int evdev_read(struct client *client, void *to, size_t length) {
         int count = room ? take_events(client, to, room) : 0;
         if (count)
             return count < 0 ? count : count * (int)EVENT_BYTES;
-        if (!room && (client->has_byte || !is_nonblocking(client)))
-            return 0;
+        if (!room)
+            return client->has_byte || !is_nonblocking(client) ? 0 : -EAGAIN;
         int error = player_wait_in_read(client);
         if (error)
             return error;
