@@ -67,8 +67,8 @@ def why_not() -> str:
         return f"{compiler} is not there"
     try:
         archive()
-    except NotBuilt as fault:
-        return str(fault)
+    except NotBuilt:
+        return "the library is not built (tools/build --library)"
     return ""
 
 

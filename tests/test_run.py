@@ -7,10 +7,12 @@ or no C compiler is there; the server and the shim are compiled anew.
 
 import unittest
 
+import run_games
+import run_libinput
 import run_readers
 from run_cases import why_not
 
-MODULES = (run_readers,)
+MODULES = (run_readers, run_libinput, run_games)
 
 
 class NotBuilt(unittest.TestCase):

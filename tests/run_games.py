@@ -1,0 +1,45 @@
+"""SDL's joysticks, keyboards and mice on played devices, and jstest on a joystick's node."""
+
+from run_cases import EXAMPLES, RunCase, compiled, needs
+
+from checks.random_pads import RandomPad
+
+NODE = "/dev/input/event0"
+JOYSTICK = {"SDL_JOYSTICK_ALLOW_BACKGROUND_EVENTS": "1", "SDL_VIDEODRIVER": "dummy", "SDL_JOYSTICK_DEVICE": NODE}
+KEYBOARD = {"SDL_VIDEODRIVER": "evdev"}
+
+
+class Sdl(RunCase):
+    def setUp(self):
+        super().setUp()
+        self.program = compiled(self, self.built, "sdl.c", "sdl2", "libsdl2-dev")
+
+    def test_joystick(self):
+        done = self.twice(["--frames", "1", "--as", "*", EXAMPLES / "gamepad.rec"], [self.program], **JOYSTICK)
+        self.says(done, "^joystick ", 1)
+        self.says(done, "^(axis|button|hat)", 6)
+
+    def test_keyboard(self):
+        needs(self, "umockdev-run", "umockdev")
+        done = self.twice(["--frames", "1", self.records / "keyboard.rec"], [self.program], **KEYBOARD)
+        self.says(done, "^key ", 157)
+
+    def test_mouse(self):
+        needs(self, "umockdev-run", "umockdev")
+        done = self.twice(["--frames", "1", self.records / "mouse.rec"], [self.program], **KEYBOARD)
+        self.says(done, "^mouse button", 14)
+        self.assertGreater(done.count("^motion"), 80, self.shown(done))
+
+    def test_a_pad_stands_as_it_is_where_nothing_was_lost(self):
+        pad = RandomPad(1, 60)
+        path = self.folder / "pad.rec"
+        path.write_text(pad.record())
+        done = self.twice(["--frames", "1", path], [self.program], **JOYSTICK)
+        self.assertEqual(pad.stands(), done.lines()[-1], self.shown(done))
+
+
+class Jstest(RunCase):
+    def test_events(self):
+        words = ["--frames", "1", "--joysticks", "--as", "*", "--end", "int", EXAMPLES / "gamepad.rec"]
+        done = self.twice(words, [needs(self, "jstest", "joystick"), "--event", "/dev/input/js0"])
+        self.says(done, "^Event: type (1|2),", 6)

@@ -1,0 +1,67 @@
+"""libinput's own tools on played devices, which find them by udev's data: umockdev shows it."""
+
+import subprocess
+
+from run_cases import EXAMPLES, RunCase, events_of, needs
+from run_readers import AT_ONCE, NODE, STEPS
+
+from playing import TOP
+
+PACKAGE = "libinput-tools"
+
+
+class Libinput(RunCase):
+    def setUp(self):
+        super().setUp()
+        needs(self, "umockdev-run", "umockdev")
+
+    def debug_events(self, *words):
+        return [needs(self, "libinput-debug-events", PACKAGE), "--show-keycodes", *words, "--device", NODE]
+
+    def test_list_devices(self):
+        done = self.twice(["--frames", "1", self.records / "touchpad.rec"], [needs(self, "libinput", PACKAGE), "list-devices"])
+        self.says(done, "^Device: +ETPS/2 Elantech Touchpad", 1)
+        self.says(done, "^Size: +98x60mm", 1)
+
+    def test_keyboard(self):
+        done = self.twice([*STEPS, "int", self.records / "keyboard.rec"], self.debug_events())
+        # (libinput leaves autorepeats out)
+        self.says(done, r"KEYBOARD_KEY .*(pressed|released)", 119)
+
+    def test_mouse(self):
+        done = self.twice([*STEPS, "int", self.records / "mouse.rec"], self.debug_events())
+        self.says(done, "POINTER_BUTTON", 14)
+        self.assertGreater(done.count("POINTER_MOTION"), 80, self.shown(done))
+
+    def test_touchpad(self):
+        """At the record's times. (Its gestures wait by timers, so that two runs need not say the same.)"""
+        done = self.ran(["--end", "int", self.records / "touchpad.rec"], self.debug_events())
+        self.assertGreater(done.count("POINTER_MOTION|GESTURE"), 20, self.shown(done))
+
+    def test_lid(self):
+        done = self.twice([*STEPS, "int", self.records / "lid.rec"], self.debug_events())
+        self.assertGreater(done.count("SWITCH_TOGGLE"), 10, self.shown(done))
+
+    def test_a_loss(self):
+        done = self.twice([*AT_ONCE, "int", self.records / "keyboard.rec"], self.debug_events("--verbose"))
+        self.says(done, "SYN_DROPPED event", 1)
+
+    def test_record(self):
+        """What libinput records is what the record sends."""
+        record = self.records / "mouse.rec"
+        done = self.ran([*STEPS, "int", record], [needs(self, "libinput-record", PACKAGE), "--show-keycodes", NODE])
+        path = self.folder / "again.yml"
+        path.write_bytes(done.text)
+        again = self.built.record("again.rec", path).read_text().splitlines()
+        self.assertEqual(events_of(record)[0], sum(" event " in line for line in again), self.shown(done))
+
+    def test_a_key_sticks(self):
+        """The example's desktop is libinput: the key sticks in it, and the tools tell why."""
+        history = self.folder / "history.rec"
+        words = [*STEPS, "int", "--as", "desktop", "--history", history, EXAMPLES / "stuck_key.rec"]
+        done = self.twice(words, self.debug_events())
+        self.says(done, r"KEY_LEFTCTRL \(29\) pressed", 1)
+        self.says(done, r"KEY_LEFTCTRL \(29\) released", 0)
+        told = subprocess.run([TOP / "tools" / "stuck", history], capture_output=True, text=True, check=False).stdout
+        self.assertIn("KEY_LEFTCTRL: down for it, up on the device\n", told)
+        self.assertIn("grab of remapper", told)
