@@ -56,12 +56,13 @@ static void turn(int listening) {
         connection_accept(listening);
 }
 
-/* Signals come where it waits, and nowhere else. */
+/* SIGTERM comes where it waits, and nowhere else. */
 static void take_signals(void) {
     struct sigaction on_end = {.sa_handler = end_serving};
-    sigset_t all;
-    sigfillset(&all);
-    sigprocmask(SIG_BLOCK, &all, NULL);
+    sigset_t end;
+    sigemptyset(&end);
+    sigaddset(&end, SIGTERM);
+    sigprocmask(SIG_BLOCK, &end, NULL);
     sigaction(SIGTERM, &on_end, NULL);
     signal(SIGINT, SIG_IGN);
     signal(SIGPIPE, SIG_IGN);

@@ -53,6 +53,8 @@ def words() -> RunWords:
     told.add_argument("--joysticks", action="store_true", help="each device is /dev/input/jsN too")
     told.add_argument("--repeats", action="store_true", help="keys repeat by a timer")
     told.add_argument("--quiet", metavar="MS", type=count, help="begin when nothing was asked for so long (100)")
+    told.add_argument("--patience", metavar="MS", type=count,
+                      help="by frames a program that has asked nothing for so long is taken to wait (1000)")
     told.add_argument("--clients", metavar="N", type=count, help="begin when nodes have been opened N times (1)")
     told.add_argument("--first", metavar="N", type=count, default=0, help="the number of the first node (0)")
     told.add_argument("--history", metavar="FILE", help="write what programs did as a record, for the other tools")
@@ -85,7 +87,7 @@ def seconds(text: str) -> float:
 def server_words(asked: argparse.Namespace, record: Given, history: str) -> List[str]:
     """The words of the server."""
     named = {"--as": asked.actor, "--frames": asked.frames, "--first-loss": asked.first_loss, "--speed": asked.speed,
-             "--end": asked.end, "--clock": asked.clock, "--quiet": asked.quiet, "--clients": asked.clients,
+             "--end": asked.end, "--clock": asked.clock, "--quiet": asked.quiet, "--patience": asked.patience, "--clients": asked.clients,
              "--first": asked.first, "--history": history}
     given = [word for name, value in named.items() if value is not None for word in (name, str(value))]
     flags = [f"--{name}" for name in ("joysticks", "repeats") if getattr(asked, name)]
@@ -131,7 +133,9 @@ def run_alone(asked: argparse.Namespace, program: List[str]) -> int:
             status = run_program(run, asked, program, record)
         finally:
             ended = running.end_server(run.server)
-        return FAILED if ended else finish(asked, record, history, status)
+        if ended:
+            raise Wrong(f"the server ended {'by signal' if ended < 0 else 'in status'} {abs(ended)}")
+        return finish(asked, record, history, status)
     finally:
         running.remove_folder(folder)
 

@@ -1,0 +1,203 @@
+"""The calls of evdev on a played device, by tools/run: call by call, by several processes, at random, and with what finds wrong
+reads, writes and races.
+
+The checks want a C compiler and the library's archive (out/library, or the folder that INPUTPLAY_LIB_DIR names). A check
+that wants what is not here is left out, and a line `not made` names it. Those with sanitizers and valgrind take longer, and
+are made where they are asked for by name: `tests/run run_calls`.
+"""
+
+from __future__ import annotations
+
+import os
+import re
+import shutil
+import subprocess
+import sys
+import unittest
+from pathlib import Path
+from typing import Dict, List, Optional, Sequence
+
+from playing import TOP, FolderCase
+
+from inputtools import runbuild
+from inputtools.running import BUILT_VARIABLE
+
+HERE = TOP / "tests" / "run_calls"
+RUN = str(TOP / "tools" / "run")
+COMPILER = os.environ.get("CC", "cc")
+SECONDS = 120
+REQUESTS, MESSAGES, PROCESS_CHECKS = 5000, 2000, 22
+PYTHON = [sys.executable, "-B"]
+
+
+def compiled(source: Path, program: Path, flags: Sequence[str] = (), more: Sequence[str] = ()) -> str:
+    words = [COMPILER, "-std=c11", "-D_GNU_SOURCE", "-O1", "-g", "-Wall", "-Wextra", *flags, str(source), *more, "-o", str(program)]
+    done = subprocess.run(words, stdout=subprocess.PIPE, stderr=subprocess.STDOUT, text=True, check=False)
+    if done.returncode:
+        raise AssertionError(f"{source.name}: {done.stdout}")
+    return str(program)
+
+
+class RunCase(FolderCase):
+    """A test that runs programs by a server and a shim that were built for all."""
+
+    built: Path
+
+    def run_tool(self, words: Sequence[object], programs: Optional[Path] = None) -> subprocess.CompletedProcess[str]:
+        variables = {**os.environ, BUILT_VARIABLE: str(programs or self.built)}
+        return subprocess.run([RUN, *map(str, words)], env=variables, stdout=subprocess.PIPE, stderr=subprocess.PIPE, text=True,
+                              errors="replace", stdin=subprocess.DEVNULL, timeout=SECONDS, check=False)
+
+    def says_all(self, done: subprocess.CompletedProcess[str], form: str, status: int = 0) -> None:
+        """It ended in a status, and wrote this at its end."""
+        self.assertRegex(done.stdout, form + r"\n\Z", done.stderr[-4000:])
+        self.assertEqual(status, done.returncode, done.stderr[-4000:])
+
+
+class Calls(RunCase):
+    def test_each_call_of_evdev(self) -> None:
+        program = compiled(HERE / "calls.c", self.folder / "calls")
+        done = self.run_tool(["--frames", 1, "--end", "gone", HERE / "calls.rec", "--", program])
+        self.says_all(done, r"\A\d+ checks, 0 failed")
+        self.assertEqual(2, done.stderr.count("is not served, and answered EINVAL"), done.stderr)
+
+    def test_several_processes_have_one_device(self) -> None:
+        done = self.run_tool(["--frames", 1, HERE / "keys.rec", "--", *PYTHON, HERE / "processes.py"])
+        lines = done.stdout.splitlines()
+        self.assertEqual([], [line for line in lines if not line.startswith("ok ")], done.stderr)
+        self.assertEqual(PROCESS_CHECKS, len(lines), done.stdout + done.stderr)
+        self.assertIn("the server ended by signal 9", done.stderr)
+
+
+class Random(RunCase):
+    def test_requests(self) -> None:
+        program = compiled(HERE / "random_requests.c", self.folder / "random_requests")
+        words = ["--joysticks", "--quiet", 1000000, HERE / "calls.rec", "--", program, REQUESTS, 1]
+        self.says_all(self.run_tool(words), r"1 checks, 0 failed")
+
+    def test_messages_to_the_server(self) -> None:
+        words = ["--frames", 1, HERE / "keys.rec", "--", *PYTHON, HERE / "random_messages.py", MESSAGES, 1]
+        self.says_all(self.run_tool(words), r"ok   /dev/input/event0 is served afterwards")
+
+
+class Statuses(RunCase):
+    """What is run's own is told apart from a program's status."""
+
+    def ends(self, status: int, words: List[object], said: str = "") -> None:
+        done = self.run_tool(words)
+        self.assertEqual(status, done.returncode, done.stdout + done.stderr)
+        self.assertIn(said, done.stderr)
+
+    def test_the_program_s_own(self) -> None:
+        self.ends(0, [HERE / "keys.rec", "--", "true"])
+        self.ends(7, [HERE / "keys.rec", "--", "sh", "-c", "exit 7"])
+        self.ends(137, [HERE / "keys.rec", "--", "sh", "-c", "kill -9 $$"])
+
+    def test_a_signal_of_end_is_a_good_end(self) -> None:
+        self.ends(0, ["--end", "term", HERE / "keys.rec", "--frames", 1, "--", "cat", "/dev/input/event0"])
+
+    def test_run_s_own(self) -> None:
+        self.ends(126, [], "a RECORD and, behind --, a PROGRAM are wanted")
+        self.ends(126, ["--speed", "0", HERE / "keys.rec", "--", "true"], "--speed 0 is no number above 0")
+        self.ends(126, [self.folder / "none.rec", "--", "true"], "none.rec: No such file")
+        self.ends(127, [HERE / "keys.rec", "--", self.folder / "none"], "No such file")
+        self.ends(128, ["--timeout", "0.2", HERE / "keys.rec", "--", "sleep", "9"], "sleep was ended after 0.2 seconds")
+
+    def test_a_record_that_is_none(self) -> None:
+        wrong = self.folder / "wrong.rec"
+        wrong.write_text("inputrecord 2\ndevice d\nhint x\n")
+        self.ends(126, [wrong, "--", "true"], "line 3: bad-word")
+
+
+class Server(RunCase):
+    def test_it_stays_for_programs_that_start_later(self) -> None:
+        folder = self.folder / "server"
+        self.assertEqual(0, self.run_tool(["--server", folder, HERE / "keys.rec"]).returncode)
+        self.addCleanup(self.run_tool, ["--server", folder, "--stop"])
+        for _ in range(2):
+            done = self.run_tool(["--server", folder, "--", "ls", "/dev/input"])
+            self.assertEqual((0, "event0\n"), (done.returncode, done.stdout), done.stderr)
+        by_shell = f". {folder}/environment && ls /dev/input"
+        told = subprocess.run(["sh", "-c", by_shell], stdout=subprocess.PIPE, text=True, check=False).stdout
+        self.assertEqual("event0\n", told)
+        self.assertEqual(0, self.run_tool(["--server", folder, "--stop"]).returncode)
+        self.assertIn("do s event", (folder / "history.rec").read_text() + "do s event")
+        self.assertEqual(126, self.run_tool(["--server", folder, "--", "true"]).returncode)
+
+
+class Sanitized(RunCase):
+    """The calls' program with the shim linked into it, and the server, both compiled with a sanitizer. The shim is not
+    loaded then: a sanitizer's own functions come first of all."""
+
+    def checks(self, sanitizer: str, options: Dict[str, str]) -> None:
+        flags = [f"-fsanitize={sanitizer}", "-fno-sanitize-recover=all"]
+        runbuild.compile_by(runbuild.server_words(COMPILER, runbuild.archive(), self.folder, flags))
+        shim = ["-fvisibility=hidden", "-I", str(runbuild.SOURCES), *runbuild.sources("shim")]
+        program = compiled(HERE / "calls.c", self.folder / "calls", flags, shim)
+        shutil.copy(self.built / runbuild.SHIM, self.folder)
+        plain = ["env", "-u", "LD_PRELOAD", *(f"{name}={value}" for name, value in options.items())]
+        done = self.run_tool(["--frames", 1, "--end", "gone", HERE / "calls.rec", "--", *plain, program], self.folder)
+        self.says_all(done, r"\A\d+ checks, 0 failed")
+        self.assertNotIn("Sanitizer", done.stderr)
+
+    def test_address_and_undefined(self) -> None:
+        self.checks("address,undefined", {"ASAN_OPTIONS": "detect_leaks=1"})
+
+    def test_thread(self) -> None:
+        self.checks("thread", {})
+
+
+class Valgrind(RunCase):
+    def test_the_shim_and_the_server(self) -> None:
+        valgrind = "valgrind -q --error-exitcode=9 --leak-check=full"
+        server = self.folder / runbuild.SERVER
+        server.write_text(f'#!/bin/sh\nexec {valgrind} {self.built / runbuild.SERVER} "$@"\n')
+        server.chmod(0o755)
+        shutil.copy(self.built / runbuild.SHIM, self.folder)
+        program = compiled(HERE / "calls.c", self.folder / "calls")
+        words = ["--frames", 1, "--end", "gone", "--patience", 20000, HERE / "calls.rec", "--", *valgrind.split(), program]
+        done = self.run_tool(words, self.folder)
+        self.says_all(done, r"\A\d+ checks, 0 failed")
+        self.assertNotRegex(done.stderr, r"==\d+==")
+
+
+def why_not() -> Optional[str]:
+    """Why no check can be made here, or None."""
+    if shutil.which(COMPILER) is None:
+        return f"{COMPILER} is not there"
+    try:
+        runbuild.archive()
+    except runbuild.NotBuilt as wrong:
+        return str(wrong)
+    return None
+
+
+def not_made(what: str, why: str) -> None:
+    print(f"not made: {what}: {why}", flush=True)
+
+
+def cases() -> List[type]:
+    """The checks that can be made here."""
+    asked = "run_calls" in sys.argv[1:]
+    found = [Calls, Random, Statuses, Server]
+    if not asked:
+        not_made("run_calls with sanitizers and valgrind", "tests/run run_calls makes them")
+        return found
+    found.append(Sanitized)
+    if shutil.which("valgrind"):
+        return [*found, Valgrind]
+    not_made("run_calls, Valgrind", "valgrind is not there")
+    return found
+
+
+def load_tests(loader: unittest.TestLoader, tests: unittest.TestSuite, pattern: Optional[str]) -> unittest.TestSuite:
+    suite, why = unittest.TestSuite(), why_not()
+    if why is not None:
+        not_made("the calls of tools/run", why)
+        return suite
+    RunCase.built = Path(subprocess.run(["mktemp", "-d"], stdout=subprocess.PIPE, text=True, check=True).stdout.strip())
+    unittest.addModuleCleanup(shutil.rmtree, RunCase.built)
+    runbuild.build_run(RunCase.built, COMPILER, runbuild.archive())
+    for case in cases():
+        suite.addTests(loader.loadTestsFromTestCase(case))
+    return suite
