@@ -2,6 +2,7 @@
 for what it has to write."""
 
 import atexit
+import difflib
 import functools
 import os
 import re
@@ -10,6 +11,7 @@ import subprocess
 import sys
 import tempfile
 import unittest
+from concurrent.futures import ThreadPoolExecutor
 from dataclasses import dataclass
 from pathlib import Path
 from typing import Dict, List, Sequence, Tuple
@@ -153,16 +155,20 @@ class RunCase(FolderCase):
         more = [f".. {len(lines) - 40} lines more"] if len(lines) > 40 else []
         return "\n".join([f"status {done.status}", *lines[:40], *more, "stderr:", done.errors[-2000:]])
 
-    def twice(self, words: Sequence[object], program: Sequence[object], **more: str) -> Done:
-        """Runs a program twice by frames. Both runs write the same."""
-        first, second = (self.ran(words, program, **more) for _ in range(2))
-        self.assertEqual(self.shown(first), self.shown(second))
-        self.assertEqual(first.text, second.text)
+    def twice(self, words: Sequence[object], program: Sequence[object], but: bytes = b"", **more: str) -> Done:
+        """Runs a program twice by frames. Both runs write the same, but for what has the pattern `but`."""
+        with ThreadPoolExecutor(2) as pool:
+            first, second = pool.map(lambda _: self.ran(words, program, **more), range(2))
+        texts = [re.sub(but, b"", done.text) if but else done.text for done in (first, second)]
+        if texts[0] != texts[1] or first.status != second.status:
+            lines = [text.decode("utf-8", "backslashreplace").splitlines() for text in texts]
+            more_lines = "\n".join(list(difflib.unified_diff(*lines, lineterm="", n=1))[:40])
+            self.fail(f"two runs differ, statuses {first.status} {second.status}:\n{more_lines}\n{first.errors[-1000:]}")
         return first
 
 
 def events_of(record: Path) -> Tuple[int, int]:
-    """How many events a record's source sends behind the start, and how many frames they are."""
+    """How many events a record's source sends behind its start, and how many frames they are."""
     text = record.read_text().partition("# The capture.\n")[2]
     sent = [line for line in text.splitlines() if " event " in line]
     return len(sent), sum("SYN_REPORT" in line for line in sent)

@@ -8,6 +8,8 @@ from run_readers import AT_ONCE, NODE, STEPS
 from playing import TOP
 
 PACKAGE = "libinput-tools"
+# libinput tells times from its own start on.
+TIMES = rb"\+ *[0-9.]+s"
 
 
 class Libinput(RunCase):
@@ -21,29 +23,29 @@ class Libinput(RunCase):
     def test_list_devices(self):
         done = self.twice(["--frames", "1", self.records / "touchpad.rec"], [needs(self, "libinput", PACKAGE), "list-devices"])
         self.says(done, "^Device: +ETPS/2 Elantech Touchpad", 1)
-        self.says(done, "^Size: +98x60mm", 1)
+        self.says(done, "^Size: +98x61mm", 1)
 
     def test_keyboard(self):
-        done = self.twice([*STEPS, "int", self.records / "keyboard.rec"], self.debug_events())
+        done = self.twice([*STEPS, "int", self.records / "keyboard.rec"], self.debug_events(), but=TIMES)
         # (libinput leaves autorepeats out)
         self.says(done, r"KEYBOARD_KEY .*(pressed|released)", 119)
 
     def test_mouse(self):
-        done = self.twice([*STEPS, "int", self.records / "mouse.rec"], self.debug_events())
+        done = self.twice([*STEPS, "int", self.records / "mouse.rec"], self.debug_events(), but=TIMES)
         self.says(done, "POINTER_BUTTON", 14)
         self.assertGreater(done.count("POINTER_MOTION"), 80, self.shown(done))
 
     def test_touchpad(self):
         """At the record's times. (Its gestures wait by timers, so that two runs need not say the same.)"""
-        done = self.ran(["--end", "int", self.records / "touchpad.rec"], self.debug_events())
+        done = self.ran(["--as", "reader", "--end", "int", self.records / "touchpad.rec"], self.debug_events())
         self.assertGreater(done.count("POINTER_MOTION|GESTURE"), 20, self.shown(done))
 
     def test_lid(self):
-        done = self.twice([*STEPS, "int", self.records / "lid.rec"], self.debug_events())
+        done = self.twice([*STEPS, "int", self.records / "lid.rec"], self.debug_events(), but=TIMES)
         self.assertGreater(done.count("SWITCH_TOGGLE"), 10, self.shown(done))
 
     def test_a_loss(self):
-        done = self.twice([*AT_ONCE, "int", self.records / "keyboard.rec"], self.debug_events("--verbose"))
+        done = self.twice([*AT_ONCE, "int", self.records / "keyboard.rec"], self.debug_events("--verbose"), but=TIMES)
         self.says(done, "SYN_DROPPED event", 1)
 
     def test_record(self):
@@ -58,8 +60,9 @@ class Libinput(RunCase):
     def test_a_key_sticks(self):
         """The example's desktop is libinput: the key sticks in it, and the tools tell why."""
         history = self.folder / "history.rec"
-        words = [*STEPS, "int", "--as", "desktop", "--history", history, EXAMPLES / "stuck_key.rec"]
-        done = self.twice(words, self.debug_events())
+        words = [*STEPS[2:], "int", "--as", "desktop", EXAMPLES / "stuck_key.rec"]
+        self.twice(words, self.debug_events(), but=TIMES)
+        done = self.ran(["--history", history, *words], self.debug_events())
         self.says(done, r"KEY_LEFTCTRL \(29\) pressed", 1)
         self.says(done, r"KEY_LEFTCTRL \(29\) released", 0)
         told = subprocess.run([TOP / "tools" / "stuck", history], capture_output=True, text=True, check=False).stdout
