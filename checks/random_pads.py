@@ -40,7 +40,7 @@ class RandomPad:
     def record(self) -> str:
         caps = [f"cap EV_KEY {button}" for button in BUTTONS]
         caps += [f"axis {axis} 0 -32768 32767 0 0 0" for axis in STICKS] + [f"axis {axis} 0 -1 1 0 0 0" for axis in HATS]
-        head = ["inputrecord 2", "device pad", "# name: Random Pad", "# id: 0003 045e 028e 0110", "hint 16"]
+        head = ["inputrecord 2", "device pad", "# name: Random Pad", "hint 16"]
         return "".join(f"{line}\n" for line in [*head, *caps, "source s", *self.lines])
 
     def stands(self) -> str:

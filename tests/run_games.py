@@ -4,9 +4,8 @@ from run_cases import EXAMPLES, RunCase, compiled, needs
 
 from checks.random_pads import RandomPad
 
-NODE = "/dev/input/event0"
-JOYSTICK = {"SDL_JOYSTICK_ALLOW_BACKGROUND_EVENTS": "1", "SDL_VIDEODRIVER": "dummy", "SDL_JOYSTICK_DEVICE": NODE}
-KEYBOARD = {"SDL_VIDEODRIVER": "evdev"}
+# Without udev's data SDL is told the node.
+NODE = {"SDL_JOYSTICK_DEVICE": "/dev/input/event0"}
 
 
 class Sdl(RunCase):
@@ -15,18 +14,18 @@ class Sdl(RunCase):
         self.program = compiled(self, self.built, "sdl.c", "sdl2", "libsdl2-dev")
 
     def test_joystick(self):
-        done = self.twice(["--frames", "1", "--as", "*", EXAMPLES / "gamepad.rec"], [self.program], **JOYSTICK)
+        done = self.twice(["--frames", "1", "--as", "*", EXAMPLES / "gamepad.rec"], [self.program, "joystick"], **NODE)
         self.says(done, "^joystick ", 1)
         self.says(done, "^(axis|button|hat)", 6)
 
     def test_keyboard(self):
         needs(self, "umockdev-run", "umockdev")
-        done = self.twice(["--frames", "1", self.records / "keyboard.rec"], [self.program], **KEYBOARD)
+        done = self.twice(["--frames", "1", "--as", "reader", self.records / "keyboard.rec"], [self.program, "keys"])
         self.says(done, "^key ", 157)
 
     def test_mouse(self):
         needs(self, "umockdev-run", "umockdev")
-        done = self.twice(["--frames", "1", self.records / "mouse.rec"], [self.program], **KEYBOARD)
+        done = self.twice(["--frames", "1", "--as", "reader", self.records / "mouse.rec"], [self.program, "keys"])
         self.says(done, "^mouse button", 14)
         self.assertGreater(done.count("^motion"), 80, self.shown(done))
 
@@ -34,7 +33,7 @@ class Sdl(RunCase):
         pad = RandomPad(1, 60)
         path = self.folder / "pad.rec"
         path.write_text(pad.record())
-        done = self.twice(["--frames", "1", path], [self.program], **JOYSTICK)
+        done = self.twice(["--frames", "1", path], [self.program, "joystick"], **NODE)
         self.assertEqual(pad.stands(), done.lines()[-1], self.shown(done))
 
 

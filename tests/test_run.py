@@ -10,9 +10,10 @@ import unittest
 import run_games
 import run_libinput
 import run_readers
+import run_sway
 from run_cases import why_not
 
-MODULES = (run_readers, run_libinput, run_games)
+MODULES = (run_readers, run_libinput, run_games, run_sway)
 
 
 class NotBuilt(unittest.TestCase):

@@ -1,6 +1,8 @@
-/* Prints what SDL tells of joysticks, keys and the mouse, until nothing came for a while, and how a joystick stands then. */
+/* Prints what SDL tells until nothing came for a while: of a joystick, and how it stands then (sdl joystick), or of keys and
+ * the mouse (sdl keys). No screen is needed. */
 #include <SDL.h>
 #include <stdio.h>
+#include <string.h>
 
 enum { QUIET_MS = 400 };
 
@@ -45,7 +47,10 @@ static void show_state(SDL_Joystick *joystick) {
     putchar('\n');
 }
 
-int main(void) {
+int main(int count, char **words) {
+    int is_joystick = count == 2 && !strcmp(words[1], "joystick");
+    SDL_SetHint(SDL_HINT_VIDEODRIVER, is_joystick ? "dummy" : "evdev");
+    SDL_SetHint(SDL_HINT_JOYSTICK_ALLOW_BACKGROUND_EVENTS, "1");
     if (SDL_Init(SDL_INIT_VIDEO | SDL_INIT_JOYSTICK) < 0) {
         printf("SDL: %s\n", SDL_GetError());
         return 1;
