@@ -156,7 +156,7 @@ class Valgrind(RunCase):
         shutil.copy(self.built / runbuild.SHIM, self.folder)
         program = compiled(HERE / "calls.c", self.folder / "calls")
         words = ["--frames", 1, "--end", "gone", "--patience", 20000, HERE / "calls.rec", "--", *valgrind.split(), program]
-        done = self.run_tool(words, self.folder)
+        done = self.run_tool([*words, "--right-places"], self.folder)
         self.says_all(done, r"\A\d+ checks, 0 failed")
         self.assertNotRegex(done.stderr, r"==\d+==")
 

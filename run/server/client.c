@@ -63,7 +63,7 @@ int client_open(int32_t node, uint32_t flags, pid_t process) {
     struct device *device = &devices[device_of_node(node)];
     struct client *client = free_place();
     if (device->is_gone || !client)
-        return device->is_gone ? -ENODEV : -EMFILE;
+        return device->is_gone ? -ENOENT : -EMFILE;
     *client = (struct client){.kind = kind_of_node(node), .calls = calls, .device = device, .owner = process, .brought = -1};
     memset(client->masks, 0xff, sizeof client->masks);
     client->can_read = (flags & O_ACCMODE) != O_WRONLY;
@@ -122,7 +122,10 @@ void client_hang_up(struct client *client) {
     client_close(client);
 }
 
+/* Who can read already, and does not ask now, is not looked at: nobody else takes away what a client can see. */
 static void refresh(struct client *client) {
+    if (client->has_byte && client->brought < 0 && !client->device->is_gone)
+        return;
     enum sight sight = device_sight(client->device, client->number);
     if (sight == SEES_NO_DEVICE)
         client_hang_up(client);

@@ -149,10 +149,8 @@ static bool send_answer(int descriptor, struct exchange *exchange) {
 static bool serve(const struct connection *connection) {
     struct exchange exchange = {.opened = -1};
     enum receipt receipt = receive(connection->descriptor, &exchange);
-    if (receipt == GOT_REQUEST) {
-        clients_reap(); /* (a close that came before the request is seen before it) */
+    if (receipt == GOT_REQUEST)
         exchange.answer.result = answer_request(&exchange, connection->process);
-    }
     for (int i = 0; i < exchange.brought_count; i++)
         close(exchange.brought[i]);
     bool is_good = receipt == GOT_NOTHING || (receipt == GOT_REQUEST && send_answer(connection->descriptor, &exchange));

@@ -78,4 +78,7 @@ void identities_take(const char *text, size_t length);
 /** Makes the files by which programs find a device: its nodes, and what udev knows of it. (nodes.c) */
 void nodes_make(const struct device *device);
 
+/** Removes them: the device has gone. (nodes.c) */
+void nodes_remove(const struct device *device);
+
 #endif

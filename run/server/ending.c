@@ -27,6 +27,7 @@ void ending_begin(void) {
     history_write(); /* (a signal may end the programs, and the server with them) */
     for (int i = 0; settings.end == END_GONE && i < device_count; i++) {
         devices[i].is_gone = true;
+        nodes_remove(&devices[i]);
         clients_refresh(&devices[i]);
     }
 }

@@ -91,14 +91,15 @@ int set_axis(struct client *client, struct ioctl_call *call) {
     return client_ask(client, step);
 }
 
-/* The mask itself goes back, which the shim puts where the program's struct says. */
+/* The mask itself goes back, with zeros behind it; the shim puts it where the program's struct says. */
 int get_mask(struct client *client, struct ioctl_call *call) {
     struct input_mask mask;
     memcpy(&mask, call->bytes, sizeof mask);
     uint32_t kept = mask_bytes(mask.type);
-    call->answered = kept < mask.codes_size ? kept : mask.codes_size;
+    call->answered = mask.codes_size < PAYLOAD_MAX ? mask.codes_size : PAYLOAD_MAX;
+    memset(call->bytes, 0, call->answered);
     if (kept)
-        memcpy(call->bytes, client->masks[mask.type], call->answered);
+        memcpy(call->bytes, client->masks[mask.type], kept < call->answered ? kept : call->answered);
     return 0;
 }
 

@@ -85,9 +85,6 @@ bool tell_wait(int descriptor);
 /** Copies from the program's memory: false where it is not there. (memory.c) */
 bool copy_from_program(void *to, const void *from, size_t length);
 
-/** Clears bytes in the program's memory: false where they are not there. (memory.c) */
-bool clear_in_program(void *at, size_t length);
-
 /** A system call's result: what it gives, or -1 and errno. */
 long with_errno(long result);
 
