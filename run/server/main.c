@@ -1,4 +1,5 @@
-/* inputplay-serve: owns the devices of a record, on one thread, and serves them to the programs that the shim is loaded into. */
+/* inputplay-serve: owns the devices of a record, on one thread, and serves them to the programs that the shim
+ * is loaded into. */
 #include "client.h"
 #include "connection.h"
 #include "failure.h"
@@ -26,8 +27,8 @@ static struct timespec time_until(uint64_t next) {
     return (struct timespec){.tv_sec = (time_t)(wait / 1000000), .tv_nsec = (long)(wait % 1000000) * 1000};
 }
 
-/* What may come: new programs, requests, and the ends of open files. They are looked at in this order, so that a close which
- * came before a request is seen when the request is. */
+/* What may come: new programs, requests, and the ends of open files. They are looked at in this order, so
+ * that a close which came before a request is seen when the request is. */
 static nfds_t list_descriptors(struct pollfd *all, int listening) {
     nfds_t count = 0;
     all[count++] = (struct pollfd){.fd = listening, .events = POLLIN};

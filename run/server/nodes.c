@@ -1,5 +1,5 @@
-/* The files by which programs find a device, in the folder of the run: input/eventN and input/jsN stand for /dev/input's, and
- * udev/c13:M is what udev would know of the node. */
+/* The files by which programs find a device, in the folder of the run: input/eventN and input/jsN stand for
+ * /dev/input's, and udev/c13:M is what udev would know of the node. */
 #include "device.h"
 
 #include "failure.h"
@@ -48,9 +48,14 @@ static bool has_key_below(const struct device *device, unsigned end) {
 /* What kind of device it is, as udev's builtin input_id says it of usual devices. */
 static void write_kinds(FILE *file, const struct device *device) {
     bool has_place = device_has(device, EV_ABS, ABS_X);
-    bool is_pad = device_has(device, EV_KEY, BTN_TOOL_FINGER) && has_place && !device_has(device, EV_KEY, BTN_TOOL_PEN);
-    bool is_touched = device_has(device, EV_ABS, ABS_MT_POSITION_X) || (device_has(device, EV_KEY, BTN_TOUCH) && has_place);
-    const struct { const char *name; bool is; } kinds[] = {
+    bool is_pad =
+        device_has(device, EV_KEY, BTN_TOOL_FINGER) && has_place && !device_has(device, EV_KEY, BTN_TOOL_PEN);
+    bool is_touched =
+        device_has(device, EV_ABS, ABS_MT_POSITION_X) || (device_has(device, EV_KEY, BTN_TOUCH) && has_place);
+    const struct {
+        const char *name;
+        bool is;
+    } kinds[] = {
         {"TOUCHPAD", is_pad},
         {"TOUCHSCREEN", is_touched && !is_pad},
         {"MOUSE", device_has(device, EV_KEY, BTN_LEFT) && device_has(device, EV_REL, REL_X)},

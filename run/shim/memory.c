@@ -1,4 +1,5 @@
-/* The program's memory, where a request has a place in another place: one that is not there is EFAULT, as with the kernel. */
+/* The program's memory, where a request has a place in another place: one that is not there is EFAULT, as
+ * with the kernel. */
 #include "shim.h"
 
 #include <errno.h>

@@ -1,4 +1,5 @@
-/* Requests (ioctl). What the kernel would read is sent with the number; what it would write comes back into the program's memory. */
+/* Requests (ioctl). What the kernel would read is sent with the number; what it would write comes back into
+ * the program's memory. */
 #include "shim.h"
 
 #include <asm/termbits.h>
