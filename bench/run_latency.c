@@ -1,4 +1,5 @@
-/* How late a frame comes to a reader that polls, and what calls cost that are of no node. bench/run_latency runs it.
+/* How late a frame comes to a reader that polls, and what calls cost that are of no node. bench/run_latency
+ * runs it.
  *
  *     run_latency pair COUNT    a frame a while, through a socket pair, from one process to another
  *     run_latency node COUNT    the frames of /dev/input/event0

@@ -1,9 +1,10 @@
 /*
  * What a program's shim and the server say to each other.
  *
- * One request and one answer, each a message of a SOCK_SEQPACKET connection. A request about an open file brings the
- * program's descriptor along (SCM_RIGHTS). So the server knows which open file is meant by what the descriptor is, in any
- * process, and can take back the byte that says "events are there". The answer to an open brings the new descriptor.
+ * One request and one answer, each a message of a SOCK_SEQPACKET connection. A request about an open file
+ * brings the program's descriptor along (SCM_RIGHTS). So the server knows which open file is meant by what
+ * the descriptor is, in any process, and can take back the byte that says "events are there". The answer to
+ * an open brings the new descriptor.
  */
 #ifndef INPUTPLAY_RUN_PROTOCOL_H
 #define INPUTPLAY_RUN_PROTOCOL_H
@@ -16,7 +17,8 @@
 /** The server's socket, in the folder of a run. */
 #define SOCKET_NAME "socket"
 
-/** The server's end of an open file is bound to the abstract name PEER_PREFIX RUN "/" SERIAL "/" NODE, each in hexadecimal. */
+/** The server's end of an open file is bound to the abstract name PEER_PREFIX RUN "/" SERIAL "/" NODE, each
+ * in hexadecimal. */
 #define PEER_PREFIX "inputplay-run/"
 
 enum protocol_limit {
@@ -34,7 +36,8 @@ enum request_kind {
     ASK_OPEN = 1,  /**< node, flags: those of open(). */
     ASK_READ = 2,  /**< room: how many bytes are wanted. */
     ASK_WRITE = 3, /**< The payload is what is written. */
-    ASK_IOCTL = 4, /**< number; flags: 1 where its argument is a value and not 0; payload: what the kernel would read. */
+    ASK_IOCTL = 4, /**< number; flags: 1 where its argument is a value and not 0; payload: what the kernel
+                      would read. */
     ASK_WAIT = 5   /**< The program is going to wait; with a descriptor where it waits for one. */
 };
 
@@ -82,15 +85,17 @@ static inline bool is_by_value(uint32_t number) {
     return number == (uint32_t)EVIOCRMFF || number == (uint32_t)EVIOCGRAB || number == (uint32_t)EVIOCREVOKE;
 }
 
-/** How many bytes an ioctl reads where its argument points to. (EVIOCGMTSLOTS does not say so in its number.) */
+/** How many bytes an ioctl reads where its argument points to. (The number of EVIOCGMTSLOTS does not say.) */
 static inline uint32_t bytes_sent(uint32_t number) {
-    if (_IOC_TYPE(number) == 'E' && _IOC_NR(number) == _IOC_NR(EVIOCGMTSLOTS(0)) && _IOC_DIR(number) == _IOC_READ)
+    if (_IOC_TYPE(number) == 'E' && _IOC_NR(number) == _IOC_NR(EVIOCGMTSLOTS(0)) &&
+        _IOC_DIR(number) == _IOC_READ)
         return sizeof(uint32_t);
     bool is_read = _IOC_DIR(number) & _IOC_WRITE || number == (uint32_t)EVIOCGMASK;
     return is_read && !is_by_value(number) ? _IOC_SIZE(number) : 0;
 }
 
-/** How many bytes the kernel keeps of a client's mask of a type, or of the mask of types (EV_SYN); 0: there is no such mask. */
+/** How many bytes the kernel keeps of a client's mask of a type, or of the mask of types (EV_SYN); 0: there
+ * is no such mask. */
 static inline uint32_t mask_bytes(uint32_t type) {
     bool has_no_mask = (type > EV_SW && type < EV_LED) || type == EV_REP || type > EV_FF;
     return has_no_mask ? 0 : type == EV_KEY ? MASK_BYTES : type == EV_FF ? FF_CNT / 8 : 8;

@@ -25,6 +25,7 @@ class Sway(RunCase):
         folder.mkdir()
         # (another user has to reach it)
         os.chmod(self.folder, 0o755)
+        os.chmod(self.built.folder, 0o755)
         done = self.ran([*words, HERE / "sway.rec"], [HERE / "sway.sh", folder])
         return sorted(done.lines())
 

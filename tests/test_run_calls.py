@@ -1,9 +1,9 @@
-"""The calls of evdev on a played device, by tools/run: call by call, by several processes, at random, and with what finds wrong
-reads, writes and races.
+"""The calls of evdev on a played device, by tools/run: call by call, by several processes, at random, and
+with what finds wrong reads, writes and races.
 
-The checks want a C compiler and the library's archive (out/library, or the folder that INPUTPLAY_LIB_DIR names). A check
-that wants what is not here is left out, and a line `not made` names it. Those with sanitizers and valgrind take longer, and
-are made where they are asked for by name: `tests/run run_calls`.
+The checks want a C compiler and the library's archive (out/library, or the folder that INPUTPLAY_LIB_DIR
+names). A check that wants what is not here is left out, and a line `not made` names it. Those with
+sanitizers and valgrind take longer, and are made where they are asked for by name: `tests/run run_calls`.
 """
 
 from __future__ import annotations
@@ -31,7 +31,20 @@ PYTHON = [sys.executable, "-B"]
 
 
 def compiled(source: Path, program: Path, flags: Sequence[str] = (), more: Sequence[str] = ()) -> str:
-    words = [COMPILER, "-std=c11", "-D_GNU_SOURCE", "-O1", "-g", "-Wall", "-Wextra", *flags, str(source), *more, "-o", str(program)]
+    words = [
+        COMPILER,
+        "-std=c11",
+        "-D_GNU_SOURCE",
+        "-O1",
+        "-g",
+        "-Wall",
+        "-Wextra",
+        *flags,
+        str(source),
+        *more,
+        "-o",
+        str(program),
+    ]
     done = subprocess.run(words, stdout=subprocess.PIPE, stderr=subprocess.STDOUT, text=True, check=False)
     if done.returncode:
         raise AssertionError(f"{source.name}: {done.stdout}")
@@ -43,10 +56,21 @@ class RunCase(FolderCase):
 
     built: Path
 
-    def run_tool(self, words: Sequence[object], programs: Optional[Path] = None) -> subprocess.CompletedProcess[str]:
+    def run_tool(
+        self, words: Sequence[object], programs: Optional[Path] = None
+    ) -> subprocess.CompletedProcess[str]:
         variables = {**os.environ, BUILT_VARIABLE: str(programs or self.built)}
-        return subprocess.run([RUN, *map(str, words)], env=variables, stdout=subprocess.PIPE, stderr=subprocess.PIPE, text=True,
-                              errors="replace", stdin=subprocess.DEVNULL, timeout=SECONDS, check=False)
+        return subprocess.run(
+            [RUN, *map(str, words)],
+            env=variables,
+            stdout=subprocess.PIPE,
+            stderr=subprocess.PIPE,
+            text=True,
+            errors="replace",
+            stdin=subprocess.DEVNULL,
+            timeout=SECONDS,
+            check=False,
+        )
 
     def says_all(self, done: subprocess.CompletedProcess[str], form: str, status: int = 0) -> None:
         """It ended in a status, and wrote this at its end."""
@@ -101,7 +125,11 @@ class Statuses(RunCase):
         self.ends(126, ["--speed", "0", HERE / "keys.rec", "--", "true"], "--speed 0 is no number above 0")
         self.ends(126, [self.folder / "none.rec", "--", "true"], "none.rec: No such file")
         self.ends(127, [HERE / "keys.rec", "--", self.folder / "none"], "No such file")
-        self.ends(128, ["--timeout", "0.2", HERE / "keys.rec", "--", "sleep", "9"], "sleep was ended after 0.2 seconds")
+        self.ends(
+            128,
+            ["--timeout", "0.2", HERE / "keys.rec", "--", "sleep", "9"],
+            "sleep was ended after 0.2 seconds",
+        )
 
     def test_a_record_that_is_none(self) -> None:
         wrong = self.folder / "wrong.rec"
@@ -114,20 +142,21 @@ class Server(RunCase):
         folder = self.folder / "server"
         self.assertEqual(0, self.run_tool(["--server", folder, HERE / "keys.rec"]).returncode)
         self.addCleanup(self.run_tool, ["--server", folder, "--stop"])
-        for _ in range(2):
-            done = self.run_tool(["--server", folder, "--", "ls", "/dev/input"])
-            self.assertEqual((0, "event0\n"), (done.returncode, done.stdout), done.stderr)
+        listed = self.run_tool(["--server", folder, "--", "ls", "/dev/input"])
+        self.assertEqual((0, "event0\n"), (listed.returncode, listed.stdout), listed.stderr)
+        read = self.run_tool(["--server", folder, "--", "head", "-c", 48, "/dev/input/event0"])
+        self.assertEqual((0, 48), (read.returncode, len(read.stdout.encode("latin-1", "replace"))), read.stderr)
         by_shell = f". {folder}/environment && ls /dev/input"
         told = subprocess.run(["sh", "-c", by_shell], stdout=subprocess.PIPE, text=True, check=False).stdout
         self.assertEqual("event0\n", told)
         self.assertEqual(0, self.run_tool(["--server", folder, "--stop"]).returncode)
-        self.assertIn("do s event", (folder / "history.rec").read_text() + "do s event")
+        self.assertIn("do head read ", (folder / "history.rec").read_text())
         self.assertEqual(126, self.run_tool(["--server", folder, "--", "true"]).returncode)
 
 
 class Sanitized(RunCase):
-    """The calls' program with the shim linked into it, and the server, both compiled with a sanitizer. The shim is not
-    loaded then: a sanitizer's own functions come first of all."""
+    """The calls' program with the shim linked into it, and the server, both compiled with a sanitizer. The
+    shim is not loaded then: a sanitizer's own functions come first of all."""
 
     def checks(self, sanitizer: str, options: Dict[str, str]) -> None:
         flags = [f"-fsanitize={sanitizer}", "-fno-sanitize-recover=all"]
@@ -136,7 +165,9 @@ class Sanitized(RunCase):
         program = compiled(HERE / "calls.c", self.folder / "calls", flags, shim)
         shutil.copy(self.built / runbuild.SHIM, self.folder)
         plain = ["env", "-u", "LD_PRELOAD", *(f"{name}={value}" for name, value in options.items())]
-        done = self.run_tool(["--frames", 1, "--end", "gone", HERE / "calls.rec", "--", *plain, program], self.folder)
+        done = self.run_tool(
+            ["--frames", 1, "--end", "gone", HERE / "calls.rec", "--", *plain, program], self.folder
+        )
         self.says_all(done, r"\A\d+ checks, 0 failed")
         self.assertNotIn("Sanitizer", done.stderr)
 
@@ -155,8 +186,19 @@ class Valgrind(RunCase):
         server.chmod(0o755)
         shutil.copy(self.built / runbuild.SHIM, self.folder)
         program = compiled(HERE / "calls.c", self.folder / "calls")
-        words = ["--frames", 1, "--end", "gone", "--patience", 20000, HERE / "calls.rec", "--", *valgrind.split(), program]
-        done = self.run_tool(words, self.folder)
+        words = [
+            "--frames",
+            1,
+            "--end",
+            "gone",
+            "--patience",
+            20000,
+            HERE / "calls.rec",
+            "--",
+            *valgrind.split(),
+            program,
+        ]
+        done = self.run_tool([*words, "--right-places"], self.folder)
         self.says_all(done, r"\A\d+ checks, 0 failed")
         self.assertNotRegex(done.stderr, r"==\d+==")
 
@@ -190,12 +232,16 @@ def cases() -> List[type]:
     return found
 
 
-def load_tests(loader: unittest.TestLoader, tests: unittest.TestSuite, pattern: Optional[str]) -> unittest.TestSuite:
+def load_tests(
+    loader: unittest.TestLoader, tests: unittest.TestSuite, pattern: Optional[str]
+) -> unittest.TestSuite:
     suite, why = unittest.TestSuite(), why_not()
     if why is not None:
         not_made("the calls of tools/run", why)
         return suite
-    RunCase.built = Path(subprocess.run(["mktemp", "-d"], stdout=subprocess.PIPE, text=True, check=True).stdout.strip())
+    RunCase.built = Path(
+        subprocess.run(["mktemp", "-d"], stdout=subprocess.PIPE, text=True, check=True).stdout.strip()
+    )
     unittest.addModuleCleanup(shutil.rmtree, RunCase.built)
     runbuild.build_run(RunCase.built, COMPILER, runbuild.archive())
     for case in cases():

@@ -20,16 +20,25 @@ static const struct command {
     uint32_t step;
     enum words_form form;
 } COMMANDS[] = {
-    {"event", INPUTPLAY_INJECT, MOMENT_AND_EVENT}, {"write", INPUTPLAY_WRITE, MOMENT_AND_EVENT},
-    {"tick", INPUTPLAY_TICK, MOMENT},              {"inhibit", INPUTPLAY_INHIBIT, MOMENT},
-    {"uninhibit", INPUTPLAY_UNINHIBIT, NO_WORDS},  {"mask", INPUTPLAY_MASK, MASK_WORD},
-    {"setaxis", INPUTPLAY_SET_AXIS, AXIS_INFO},    {"open", INPUTPLAY_OPEN, NO_WORDS},
-    {"close", INPUTPLAY_CLOSE, NO_WORDS},          {"grab", INPUTPLAY_GRAB, NO_WORDS},
-    {"ungrab", INPUTPLAY_UNGRAB, NO_WORDS},        {"revoke", INPUTPLAY_REVOKE, NO_WORDS},
+    {"event", INPUTPLAY_INJECT, MOMENT_AND_EVENT},
+    {"write", INPUTPLAY_WRITE, MOMENT_AND_EVENT},
+    {"tick", INPUTPLAY_TICK, MOMENT},
+    {"inhibit", INPUTPLAY_INHIBIT, MOMENT},
+    {"uninhibit", INPUTPLAY_UNINHIBIT, NO_WORDS},
+    {"mask", INPUTPLAY_MASK, MASK_WORD},
+    {"setaxis", INPUTPLAY_SET_AXIS, AXIS_INFO},
+    {"open", INPUTPLAY_OPEN, NO_WORDS},
+    {"close", INPUTPLAY_CLOSE, NO_WORDS},
+    {"grab", INPUTPLAY_GRAB, NO_WORDS},
+    {"ungrab", INPUTPLAY_UNGRAB, NO_WORDS},
+    {"revoke", INPUTPLAY_REVOKE, NO_WORDS},
 };
 
 uint16_t type_of_word(const char *word) {
-    static const struct { const char *name; uint16_t type; } types[] = {
+    static const struct {
+        const char *name;
+        uint16_t type;
+    } types[] = {
         {"EV_SYN", EV_SYN}, {"EV_KEY", EV_KEY}, {"EV_REL", EV_REL}, {"EV_ABS", EV_ABS}, {"EV_MSC", EV_MSC},
         {"EV_SW", EV_SW},   {"EV_LED", EV_LED}, {"EV_SND", EV_SND}, {"EV_REP", EV_REP},
     };
@@ -68,7 +77,8 @@ uint8_t *file_bytes(const char *name, size_t *length) {
     return bytes;
 }
 
-/* A stream line: the events of its file, which lies beside the record. Seconds and microseconds have `half` bytes each. */
+/* A stream line: the events of its file, which lies beside the record. Seconds and microseconds have `half`
+ * bytes each. */
 static void add_stream(struct actor *actor, const char *name, size_t half) {
     char path[PATH_ROOM];
     const char *slash = strrchr(settings.record, '/');

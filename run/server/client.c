@@ -16,9 +16,10 @@
 
 struct client clients[CLIENTS];
 
-static const struct node_calls *const CALLS[NODE_KINDS] = {[NODE_EVENT] = &evdev_calls, [NODE_JOYSTICK] = &joydev_calls};
+static const struct node_calls *const CALLS[NODE_KINDS] = {
+    [NODE_EVENT] = &evdev_calls, [NODE_JOYSTICK] = &joydev_calls};
 
-/* Names our end of a pair, so that the shim of any process knows the other one: getpeername tells the name. */
+/* Names our end of a pair, so that the shim of any process knows the other one by getpeername. */
 static int name_peer(int peer, int32_t node) {
     static unsigned serial;
     struct sockaddr_un name = {.sun_family = AF_UNIX};
@@ -29,8 +30,8 @@ static int name_peer(int peer, int32_t node) {
     return bind(peer, (struct sockaddr *)&name, size) ? -errno : 0;
 }
 
-/* A pair for a client: its own end and the program's. A byte that nobody reads waits in ours, so that the program sees
- * POLLERR beside POLLHUP when it is closed, as of a node whose device has gone. */
+/* A pair for a client: its own end and the program's. A byte that nobody reads waits in ours, so that the
+ * program sees POLLERR beside POLLHUP when it is closed, as of a node whose device has gone. */
 static int make_pair(struct client *client, int32_t node, int nonblocking) {
     int pair[2];
     struct stat status;
@@ -57,14 +58,16 @@ static struct client *free_place(void) {
 }
 
 int client_open(int32_t node, uint32_t flags, pid_t process) {
-    const struct node_calls *calls = node >= 0 && node / DEVICES < NODE_KINDS ? CALLS[kind_of_node(node)] : NULL;
+    const struct node_calls *calls =
+        node >= 0 && node / DEVICES < NODE_KINDS ? CALLS[kind_of_node(node)] : NULL;
     if (!calls || device_of_node(node) >= device_count)
         return -ENOENT;
     struct device *device = &devices[device_of_node(node)];
     struct client *client = free_place();
     if (device->is_gone || !client)
-        return device->is_gone ? -ENODEV : -EMFILE;
-    *client = (struct client){.kind = kind_of_node(node), .calls = calls, .device = device, .owner = process, .brought = -1};
+        return device->is_gone ? -ENOENT : -EMFILE;
+    *client = (struct client){
+        .kind = kind_of_node(node), .calls = calls, .device = device, .owner = process, .brought = -1};
     memset(client->masks, 0xff, sizeof client->masks);
     client->can_read = (flags & O_ACCMODE) != O_WRONLY;
     client->can_write = (flags & O_ACCMODE) != O_RDONLY;
@@ -106,7 +109,7 @@ bool is_nonblocking(const struct client *client) {
     return fcntl(client->brought, F_GETFL) & O_NONBLOCK;
 }
 
-/* The byte is taken back where the program asks: nothing that another does takes away what a client can see. */
+/* The byte is taken back where the program asks: nothing that others do takes away what a client can see. */
 void client_show(struct client *client, bool has_events) {
     char byte = 0;
     if (has_events && !client->has_byte) {
@@ -122,7 +125,10 @@ void client_hang_up(struct client *client) {
     client_close(client);
 }
 
+/* Who can read already, and does not ask now, is not looked at: others take nothing away from it. */
 static void refresh(struct client *client) {
+    if (client->has_byte && client->brought < 0 && !client->device->is_gone)
+        return;
     enum sight sight = device_sight(client->device, client->number);
     if (sight == SEES_NO_DEVICE)
         client_hang_up(client);

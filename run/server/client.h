@@ -1,4 +1,4 @@
-/* An open file of a node: one client of a device, which several descriptors of several processes may share. */
+/* An open file of a node: one client of a device. Several descriptors of several processes may share it. */
 #ifndef INPUTPLAY_RUN_CLIENT_H
 #define INPUTPLAY_RUN_CLIENT_H
 
@@ -18,7 +18,8 @@ struct client;
 struct ioctl_call {
     uint32_t number;
     bool is_set;       /**< Of an argument that is a value: it is not 0. */
-    uint8_t *bytes;    /**< What the argument points to; the answer's bytes replace it. There is room for PAYLOAD_MAX. */
+    uint8_t *bytes;    /**< What the argument points to; the answer's bytes replace it. There is room for
+                          PAYLOAD_MAX. */
     uint32_t given;    /**< How many bytes the program gave. */
     uint32_t answered; /**< How many bytes go back. */
 };
@@ -39,11 +40,11 @@ struct client {
     enum node_kind kind;
     const struct node_calls *calls;
     struct device *device;
-    uint32_t number;    /**< Of the library's client. */
-    ino_t inode;        /**< Of the program's end: what a descriptor is known by. */
-    pid_t owner;        /**< The process that asked last. */
-    int peer;           /**< Our end of the pair. A byte waits in the program's while events do. */
-    int brought;        /**< The program's end, while a request that brought it is answered; else -1. */
+    uint32_t number; /**< Of the library's client. */
+    ino_t inode;     /**< Of the program's end: what a descriptor is known by. */
+    pid_t owner;     /**< The process that asked last. */
+    int peer;        /**< Our end of the pair. A byte waits in the program's while events do. */
+    int brought;     /**< The program's end, while a request that brought it is answered; else -1. */
     bool has_byte;
     bool can_read, can_write;
     bool found_nothing; /**< Its last call was a read that found nothing. */
@@ -52,7 +53,8 @@ struct client {
 
 extern struct client clients[CLIENTS];
 
-/** Opens a client for a process: the program's end of the pair, which is to be sent to it, or a negative errno. */
+/** Opens a client for a process: the program's end of the pair, which is to be sent to it, or a negative
+ * errno. */
 int client_open(int32_t node, uint32_t flags, pid_t process);
 
 /** Closes a client: its last descriptor has gone. */

@@ -31,7 +31,7 @@ struct exchange {
     const uint8_t *payload; /**< Of the answer. */
     int brought[BROUGHT];   /**< The program's descriptors. */
     int brought_count;
-    int opened;             /**< The descriptor that goes back, or -1. */
+    int opened; /**< The descriptor that goes back, or -1. */
 };
 
 /** Room for the descriptors that a message brings. */
@@ -103,8 +103,9 @@ static int answer_request(struct exchange *exchange, pid_t process_id) {
 }
 
 static bool is_request(const struct request *request, ssize_t length, int brought, int flags) {
-    return length >= (ssize_t)sizeof *request && request->magic == PROTOCOL_MAGIC && request->kind >= ASK_OPEN &&
-           request->kind <= ASK_WAIT && (size_t)length == sizeof *request + request->length && brought <= 1 &&
+    return length >= (ssize_t)sizeof *request && request->magic == PROTOCOL_MAGIC &&
+           request->kind >= ASK_OPEN && request->kind <= ASK_WAIT &&
+           (size_t)length == sizeof *request + request->length && brought <= 1 &&
            !(flags & (MSG_TRUNC | MSG_CTRUNC));
 }
 
@@ -114,7 +115,8 @@ enum receipt { GOT_REQUEST, GOT_NOTHING, GOT_RUBBISH };
 static enum receipt receive(int descriptor, struct exchange *exchange) {
     union control control;
     struct iovec parts[2] = {{&exchange->request, sizeof exchange->request}, {&given, sizeof given}};
-    struct msghdr message = {.msg_iov = parts, .msg_iovlen = 2, .msg_control = &control, .msg_controllen = sizeof control};
+    struct msghdr message = {
+        .msg_iov = parts, .msg_iovlen = 2, .msg_control = &control, .msg_controllen = sizeof control};
     ssize_t length = recvmsg(descriptor, &message, MSG_DONTWAIT | MSG_CMSG_CLOEXEC);
     if (length < 0)
         return errno == EAGAIN || errno == EINTR ? GOT_NOTHING : GOT_RUBBISH;
@@ -144,18 +146,17 @@ static bool send_answer(int descriptor, struct exchange *exchange) {
     return sendmsg(descriptor, &message, MSG_DONTWAIT | MSG_NOSIGNAL) >= 0;
 }
 
-/* False where the connection is to be closed. What was brought is closed before the answer: the program may close its own
- * then, and that is to be seen. */
+/* False where the connection is to be closed. What was brought is closed before the answer: the program may
+ * close its own then, and that is to be seen. */
 static bool serve(const struct connection *connection) {
     struct exchange exchange = {.opened = -1};
     enum receipt receipt = receive(connection->descriptor, &exchange);
-    if (receipt == GOT_REQUEST) {
-        clients_reap(); /* (a close that came before the request is seen before it) */
+    if (receipt == GOT_REQUEST)
         exchange.answer.result = answer_request(&exchange, connection->process);
-    }
     for (int i = 0; i < exchange.brought_count; i++)
         close(exchange.brought[i]);
-    bool is_good = receipt == GOT_NOTHING || (receipt == GOT_REQUEST && send_answer(connection->descriptor, &exchange));
+    bool is_good =
+        receipt == GOT_NOTHING || (receipt == GOT_REQUEST && send_answer(connection->descriptor, &exchange));
     if (exchange.opened >= 0)
         close(exchange.opened);
     return is_good;
@@ -164,7 +165,8 @@ static bool serve(const struct connection *connection) {
 static void drop(int index) {
     close(connections[index].descriptor);
     connection_count--;
-    memmove(connections + index, connections + index + 1, (size_t)(connection_count - index) * sizeof connections[0]);
+    memmove(connections + index, connections + index + 1,
+            (size_t)(connection_count - index) * sizeof connections[0]);
 }
 
 void connection_serve(int index) {
@@ -179,7 +181,8 @@ int listen_for_programs(void) {
     if (length >= (int)sizeof name.sun_path)
         fail("%s is too long for a socket's name", settings.folder);
     mode_t before = umask(0177); /* (the socket is the user's own: 0600) */
-    if (descriptor < 0 || bind(descriptor, (struct sockaddr *)&name, sizeof name) || listen(descriptor, BACKLOG))
+    if (descriptor < 0 || bind(descriptor, (struct sockaddr *)&name, sizeof name) ||
+        listen(descriptor, BACKLOG))
         fail("%s: %s", name.sun_path, strerror(errno));
     umask(before);
     return descriptor;

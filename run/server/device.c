@@ -30,9 +30,11 @@ void device_make(struct device *device, const char *description) {
     device->description = strdup(description);
     if (!device->description)
         fail("memory ran out");
-    uint32_t status = inputplay_device_new((const uint8_t *)description, strlen(description), 0, &device->handle, &line, &cause);
+    uint32_t status = inputplay_device_new((const uint8_t *)description, strlen(description), 0,
+                                           &device->handle, &line, &cause);
     if (status != INPUTPLAY_OK)
-        fail("the device %s was not made: status %u, line %u, cause %u", device->record_name, status, line, cause);
+        fail("the device %s was not made: status %u, line %u, cause %u", device->record_name, status, line,
+             cause);
 }
 
 int device_index(const struct device *device) {
@@ -52,9 +54,11 @@ size_t code_bytes(unsigned type) {
     return type == EV_KEY ? KEY_CNT / 8 : type == EV_FF ? FF_CNT / 8 : 8;
 }
 
-/* What the library does not tell of a device, and its events say: the settings of its autorepeat, and when a tick is due. */
+/* What the library does not tell of a device, and its events say: the settings of its autorepeat, and when a
+ * tick is due. */
 static void note_event(struct device *device, const inputplay_step_t *step) {
-    if (step->type == EV_REP && step->code < REP_CNT && step->value >= 0 && device_has(device, EV_SYN, EV_REP))
+    if (step->type == EV_REP && step->code < REP_CNT && step->value >= 0 &&
+        device_has(device, EV_SYN, EV_REP))
         device->repeat[step->code] = step->value;
     if (step->type == EV_KEY && step->value != 2) {
         uint64_t delay = 1000 * (uint64_t)device->repeat[REP_DELAY];
@@ -62,8 +66,8 @@ static void note_event(struct device *device, const inputplay_step_t *step) {
     }
 }
 
-void device_step_cells(struct device *device, const inputplay_step_t *step, inputplay_reply *reply, int32_t *cells,
-                       size_t count) {
+void device_step_cells(struct device *device, const inputplay_step_t *step, inputplay_reply *reply,
+                       int32_t *cells, size_t count) {
     inputplay_event no_event;
     uint32_t status = inputplay_step(&device->handle, step, reply, &no_event, 0, cells, count);
     if (status != INPUTPLAY_OK)

@@ -24,16 +24,16 @@ struct identity {
 struct device {
     char record_name[NAME_ROOM];
     struct identity identity;
-    uint8_t bits[EV_CNT][KEY_CNT / 8];           /**< Of types in [0], of their codes in the others. */
-    struct input_absinfo lacking[ABS_CNT];       /**< What EVIOCSABS said of axes that the device lacks. */
+    uint8_t bits[EV_CNT][KEY_CNT / 8];     /**< Of types in [0], of their codes in the others. */
+    struct input_absinfo lacking[ABS_CNT]; /**< What EVIOCSABS said of axes that the device lacks. */
     uint32_t slots;
-    int32_t repeat[REP_CNT];                     /**< Delay and period, in milliseconds. */
-    uint64_t repeats_at_us;                      /**< When a tick may be due, or 0. */
-    uint32_t steps;                              /**< The length of its history. */
-    uint32_t looks;                              /**< How many of them are the server's own reads of nothing. */
-    char *description;                           /**< The text of which the library made it. */
+    int32_t repeat[REP_CNT]; /**< Delay and period, in milliseconds. */
+    uint64_t repeats_at_us;  /**< When a tick may be due, or 0. */
+    uint32_t steps;          /**< The length of its history. */
+    uint32_t looks;          /**< How many of them are the server's own reads of nothing. */
+    char *description;       /**< The text of which the library made it. */
     inputplay_handle handle;
-    bool is_gone;                                /**< It was unplugged. */
+    bool is_gone; /**< It was unplugged. */
 };
 
 extern struct device devices[DEVICES];
@@ -59,8 +59,8 @@ size_t code_bytes(unsigned type);
 void device_step(struct device *device, const inputplay_step_t *step, inputplay_reply *reply);
 
 /** Makes a step that is answered with values of slots. */
-void device_step_cells(struct device *device, const inputplay_step_t *step, inputplay_reply *reply, int32_t *cells,
-                       size_t count);
+void device_step_cells(struct device *device, const inputplay_step_t *step, inputplay_reply *reply,
+                       int32_t *cells, size_t count);
 
 /** A client reads: how many events came, or a negative errno. */
 int device_read(struct device *device, uint32_t client, inputplay_event *events, size_t room);
@@ -77,5 +77,8 @@ void identities_take(const char *text, size_t length);
 
 /** Makes the files by which programs find a device: its nodes, and what udev knows of it. (nodes.c) */
 void nodes_make(const struct device *device);
+
+/** Removes them: the device has gone. (nodes.c) */
+void nodes_remove(const struct device *device);
 
 #endif

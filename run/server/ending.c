@@ -27,6 +27,7 @@ void ending_begin(void) {
     history_write(); /* (a signal may end the programs, and the server with them) */
     for (int i = 0; settings.end == END_GONE && i < device_count; i++) {
         devices[i].is_gone = true;
+        nodes_remove(&devices[i]);
         clients_refresh(&devices[i]);
     }
 }
@@ -39,8 +40,8 @@ bool ending_ends(pid_t id) {
     return true;
 }
 
-/* When a process is sent the signal next: it is at rest for a while. Again where it goes on so, for the signal may have come
- * between an answer and the program's own call that waits. */
+/* When a process is sent the signal next: it is at rest for a while. Again where it goes on so, for the
+ * signal may have come between an answer and the program's own call that waits. */
 static uint64_t signal_at(const struct process *process) {
     uint64_t at = process->asked_us + (process->is_waiting ? 0 : settings.quiet_us);
     uint64_t again = process->signalled_us + AGAIN_US;

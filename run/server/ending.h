@@ -6,7 +6,8 @@
 #include <stdint.h>
 #include <sys/types.h>
 
-/** The last line was played, and programs have read all. The history is written, and devices are unplugged where wanted. */
+/** The last line was played, and programs have read all. The history is written, and devices are unplugged
+ * where wanted. */
 void ending_begin(void);
 
 bool ending_has_begun(void);

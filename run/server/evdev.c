@@ -88,8 +88,10 @@ static int evdev_write(struct client *client, const void *from, size_t length) {
     for (; done + EVENT_BYTES <= length; done += EVENT_BYTES) {
         struct input_event event;
         memcpy(&event, (const char *)from + done, EVENT_BYTES);
-        int error = client_ask(client, (inputplay_step_t){
-                                           .step = INPUTPLAY_WRITE, .type = event.type, .code = event.code, .value = event.value});
+        int error = client_ask(client, (inputplay_step_t){.step = INPUTPLAY_WRITE,
+                                                          .type = event.type,
+                                                          .code = event.code,
+                                                          .value = event.value});
         if (error)
             return error;
     }

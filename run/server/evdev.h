@@ -1,5 +1,5 @@
-/* What the files of an event node share: evdev.c opens, reads and writes; requests.c tells one ioctl from another; queries.c
- * answers those that make steps. */
+/* What the files of an event node share: evdev.c opens, reads and writes; requests.c tells one ioctl from
+ * another; queries.c answers those that make steps. */
 #ifndef INPUTPLAY_RUN_EVDEV_H
 #define INPUTPLAY_RUN_EVDEV_H
 

@@ -54,7 +54,12 @@ void history_note_actor(const struct device *device, const char *name, uint32_t 
     note(device, name, client);
 }
 
-/* A process's name as a name of a record: of small letters, digits, _ and -. */
+/* Names of a record are of small letters, digits, _ and -. */
+static char name_character(int character) {
+    return isalnum(character) ? (char)tolower(character) : character == '_' ? '_' : '-';
+}
+
+/* A process's name as a name of a record. */
 static void take_command_name(pid_t process, char *name) {
     char path[COMMAND_ROOM];
     snprintf(path, sizeof path, "/proc/%d/comm", (int)process);
@@ -64,7 +69,7 @@ static void take_command_name(pid_t process, char *name) {
         fclose(file);
     length -= length && name[length - 1] == '\n';
     for (size_t i = 0; i < length; i++)
-        name[i] = isalnum((unsigned char)name[i]) ? (char)tolower((unsigned char)name[i]) : name[i] == '_' ? '_' : '-';
+        name[i] = name_character((unsigned char)name[i]);
     name[length] = 0;
     if (!length)
         snprintf(name, NAME_ROOM, "program");
@@ -128,7 +133,8 @@ static struct tap *tap_of(struct writing *writing, const struct device *device, 
 }
 
 /* Who makes a step: the source, or a tap. */
-static const char *actor_of(struct writing *writing, const struct device *device, const inputplay_step_t *step, size_t *opens) {
+static const char *actor_of(struct writing *writing, const struct device *device,
+                            const inputplay_step_t *step, size_t *opens) {
     if (is_step_of_source(step->step))
         return writing->sources[device_index(device)];
     struct tap *tap;
@@ -165,7 +171,8 @@ static void write_actions(struct writing *writing, struct device *device) {
 static void name_sources(struct writing *writing) {
     for (size_t i = record.actor_count; i-- > 0;)
         if (record.actors[i].is_source)
-            snprintf(writing->sources[device_index(record.actors[i].device)], NAME_ROOM, "%s", record.actors[i].name);
+            snprintf(writing->sources[device_index(record.actors[i].device)], NAME_ROOM, "%s",
+                     record.actors[i].name);
     for (int i = 0; i < device_count; i++) {
         char name[NAME_ROOM];
         if (writing->sources[i][0])
@@ -176,9 +183,9 @@ static void name_sources(struct writing *writing) {
 }
 
 static void write_device(FILE *file, const struct writing *writing, const struct device *device) {
-    const char *lines = strchr(strchr(device->description, '\n') + 1, '\n') + 1; /* (behind the header and the device) */
+    const char *device_line = strchr(device->description, '\n') + 1, *lines = strchr(device_line, '\n') + 1;
     fprintf(file, "device %s\n", device->record_name);
-    write_identity(file, &device->identity);
+    write_identity(file, device);
     fprintf(file, "%ssource %s\n", lines, writing->sources[device_index(device)]);
     for (size_t i = 0; i < writing->tap_count; i++)
         if (writing->taps[i].device == device)

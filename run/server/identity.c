@@ -1,4 +1,6 @@
-/* Who the devices of a record are. Comments right behind a device's line say it, each in one line of this form:
+/*
+ * Who the devices of a record are. Comments right behind a device's line say it, each one line of this form:
+ *
  *     # name: TEXT
  *     # phys: TEXT
  *     # uniq: TEXT
@@ -13,7 +15,10 @@
 
 enum { LINE_ROOM = 1024 };
 
-static const struct { const char *name; unsigned bit; } PROPERTIES[] = {
+static const struct {
+    const char *name;
+    unsigned bit;
+} PROPERTIES[] = {
     {"INPUT_PROP_POINTER", INPUT_PROP_POINTER},
     {"INPUT_PROP_DIRECT", INPUT_PROP_DIRECT},
     {"INPUT_PROP_BUTTONPAD", INPUT_PROP_BUTTONPAD},
@@ -34,7 +39,8 @@ static void take_properties(struct identity *identity, char *names) {
 static void take_id(struct identity *identity, const char *numbers) {
     unsigned bus, vendor, product, version;
     if (sscanf(numbers, "%4x %4x %4x %4x", &bus, &vendor, &product, &version) == 4)
-        identity->id = (struct input_id){(uint16_t)bus, (uint16_t)vendor, (uint16_t)product, (uint16_t)version};
+        identity->id =
+            (struct input_id){(uint16_t)bus, (uint16_t)vendor, (uint16_t)product, (uint16_t)version};
 }
 
 /* What stands behind a comment's sign and a word, or NULL. */
@@ -97,18 +103,25 @@ static void write_text(FILE *file, const char *what, const char *text) {
         fprintf(file, "# %s: %s\n", what, text);
 }
 
-void write_identity(FILE *file, const struct identity *identity) {
-    const struct input_id *id = &identity->id;
-    bool has_properties = false;
-    write_text(file, "name", identity->name);
-    write_text(file, "phys", identity->phys);
-    write_text(file, "uniq", identity->uniq);
-    fprintf(file, "# id: %04x %04x %04x %04x\n", id->bustype, id->vendor, id->product, id->version);
+static void write_properties(FILE *file, const struct identity *identity) {
+    const char *before = "# properties:";
     for (size_t i = 0; i < sizeof PROPERTIES / sizeof PROPERTIES[0]; i++)
         if (identity->properties[PROPERTIES[i].bit / 8] >> PROPERTIES[i].bit % 8 & 1) {
-            fprintf(file, "%s %s", has_properties ? "" : "# properties:", PROPERTIES[i].name);
-            has_properties = true;
+            fprintf(file, "%s %s", before, PROPERTIES[i].name);
+            before = "";
         }
-    if (has_properties)
+    if (!before[0])
         fputc('\n', file);
+}
+
+void write_identity(FILE *file, const struct device *device) {
+    const struct identity *identity = &device->identity;
+    const struct input_id *id = &identity->id;
+    if (strcmp(identity->name, device->record_name))
+        write_text(file, "name", identity->name);
+    write_text(file, "phys", identity->phys);
+    write_text(file, "uniq", identity->uniq);
+    if (id->bustype || id->vendor || id->product || id->version)
+        fprintf(file, "# id: %04x %04x %04x %04x\n", id->bustype, id->vendor, id->product, id->version);
+    write_properties(file, identity);
 }

@@ -1,4 +1,5 @@
-/* What a joystick's node answers, as joydev does, by the library's joystick client. There is one such client of a device. */
+/* What a joystick's node answers, as joydev does, by the library's joystick client. There is one such client
+ * of a device. */
 #include "evdev.h"
 
 #include "failure.h"
@@ -74,7 +75,8 @@ static int joydev_write(struct client *client, const void *from, size_t length) 
     return -EINVAL;
 }
 
-static void add_keys(const struct device *device, unsigned from, unsigned end, uint16_t *codes, uint8_t *count) {
+static void add_keys(const struct device *device, unsigned from, unsigned end, uint16_t *codes,
+                     uint8_t *count) {
     for (unsigned code = from; code < end && *count < BUTTONS_MOST; code++)
         if (device_has(device, EV_KEY, code))
             codes[(*count)++] = (uint16_t)code;
@@ -119,7 +121,8 @@ static int joydev_ioctl(struct client *client, struct ioctl_call *call) {
     default: break;
     }
     switch (call->number & ~((uint32_t)_IOC_SIZEMASK << _IOC_SIZESHIFT)) {
-    case JSIOCGNAME(0): return answer_bytes(call, client->device->identity.name, strlen(client->device->identity.name) + 1);
+    case JSIOCGNAME(0):
+        return answer_bytes(call, client->device->identity.name, strlen(client->device->identity.name) + 1);
     case _IOC(_IOC_READ, 'j', _IOC_NR(JSIOCGAXMAP), 0): return answer_bytes(call, axes, sizeof axes);
     case _IOC(_IOC_READ, 'j', _IOC_NR(JSIOCGBTNMAP), 0): return answer_bytes(call, keys, sizeof keys);
     default: return refuse_request(client->device->identity.name, call->number);

@@ -1,5 +1,5 @@
-/* Losses at will (--first-loss). Whether a client has lost events is asked of a copy of its device, which makes the steps of
- * the history anew: to ask the device itself would take the events. */
+/* Losses at will (--first-loss). Whether a client has lost events is asked of a copy of its device, which
+ * makes the steps of the history anew: to ask the device itself would take the events. */
 #include "player.h"
 
 #include "failure.h"
@@ -32,7 +32,8 @@ static void copy_device(struct device *device, inputplay_handle *copy) {
     static inputplay_step_t steps[STEPS_AT_ONCE];
     size_t from = 0, left = 1;
     uint32_t line, cause;
-    if (inputplay_device_new((const uint8_t *)device->description, strlen(device->description), 0, copy, &line, &cause))
+    if (inputplay_device_new((const uint8_t *)device->description, strlen(device->description), 0, copy,
+                             &line, &cause))
         fail("memory ran out");
     while (left) {
         inputplay_history(&device->handle, from, steps, STEPS_AT_ONCE, &left);

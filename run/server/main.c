@@ -1,4 +1,5 @@
-/* inputplay-serve: owns the devices of a record, on one thread, and serves them to the programs that the shim is loaded into. */
+/* inputplay-serve: owns the devices of a record, on one thread, and serves them to the programs that the shim
+ * is loaded into. */
 #include "client.h"
 #include "connection.h"
 #include "failure.h"
@@ -26,7 +27,8 @@ static struct timespec time_until(uint64_t next) {
     return (struct timespec){.tv_sec = (time_t)(wait / 1000000), .tv_nsec = (long)(wait % 1000000) * 1000};
 }
 
-/* What may come: new programs, requests, and the ends of open files. The connections stand behind the first. */
+/* What may come: new programs, requests, and the ends of open files. They are looked at in this order, so
+ * that a close which came before a request is seen when the request is. */
 static nfds_t list_descriptors(struct pollfd *all, int listening) {
     nfds_t count = 0;
     all[count++] = (struct pollfd){.fd = listening, .events = POLLIN};
@@ -36,6 +38,13 @@ static nfds_t list_descriptors(struct pollfd *all, int listening) {
         if (clients[i].is_open)
             all[count++] = (struct pollfd){.fd = clients[i].peer};
     return count;
+}
+
+static bool is_any_ready(const struct pollfd *files, nfds_t count) {
+    for (nfds_t i = 0; i < count; i++)
+        if (files[i].revents)
+            return true;
+    return false;
 }
 
 /* One turn: what is due is played, then what has come is answered. */
@@ -48,7 +57,8 @@ static void turn(int listening) {
     sigemptyset(&none);
     if (ppoll(all, count, &wait, &none) <= 0)
         return;
-    clients_reap();
+    if (is_any_ready(all + 1 + served, count - 1 - (nfds_t)served))
+        clients_reap();
     for (int i = served - 1; i >= 0; i--)
         if (all[1 + i].revents)
             connection_serve(i);

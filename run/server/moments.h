@@ -11,7 +11,8 @@ uint64_t clock_us(clockid_t clock);
 /** The monotonic clock, in microseconds. */
 uint64_t now_us(void);
 
-/** The moment of a step that is made now: the clock's, or the one of the line that was played last (--clock record). */
+/** The moment of a step that is made now: the clock's, or the one of the line that was played last (--clock
+ * record). */
 uint64_t step_moment(void);
 
 /** Says the moment of the line that is played now. */

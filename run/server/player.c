@@ -15,11 +15,11 @@ enum phase { BEFORE, PLAYING, BEHIND, OVER };
 /** How far the record has been played. */
 static struct player {
     enum phase phase;
-    size_t next;         /**< The action that comes next. */
+    size_t next; /**< The action that comes next. */
     uint64_t started_us;
-    uint64_t active_us;  /**< When a program did something last. */
+    uint64_t active_us; /**< When a program did something last. */
     int opens;
-    bool has_lost;       /**< The first loss that was wanted has come. */
+    bool has_lost; /**< The first loss that was wanted has come. */
 } player;
 
 enum { LOOK_AGAIN_US = 50000 };
@@ -114,7 +114,8 @@ int player_wait_in_read(struct client *client) {
         process->is_waiting = true;
     if (waits && player_wait(client->owner))
         return -EINTR;
-    return blocks && client->has_byte ? 0 : -EAGAIN; /* (the shim of one who blocks waits for the byte, and asks again) */
+    /* (where nothing came the shim of one who blocks waits for the byte, and asks again) */
+    return blocks && client->has_byte ? 0 : -EAGAIN;
 }
 
 static uint64_t first_moment(void) {

@@ -32,7 +32,8 @@ struct process *process_of(pid_t id) {
 /* It says so, it has ended, or it has asked nothing for long. */
 static bool waits(pid_t id) {
     struct process *process = process_of(id);
-    return !process || process->is_waiting || now_us() >= process->asked_us + settings.patience_us || has_ended(id);
+    return !process || process->is_waiting || now_us() >= process->asked_us + settings.patience_us ||
+           has_ended(id);
 }
 
 bool is_all_read(void) {

@@ -24,7 +24,7 @@ bool all_processes_wait(void);
 /** Whether there are open files, and nothing is left to read in any of them. */
 bool is_all_read(void);
 
-/** Whether an open file was used last by this process, and if so whether one of them has something to read. */
+/** Whether this process used an open file last, and if so whether one of them has something to read. */
 enum possession { HAS_NO_FILE, HAS_READ_ALL, HAS_SOMETHING_TO_READ };
 enum possession files_of(pid_t id);
 

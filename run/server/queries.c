@@ -1,4 +1,5 @@
-/* The requests of an event node that make steps: queries of states, slots and axes, and a client's masks and clock. */
+/* The requests of an event node that make steps: queries of states, slots and axes, and a client's masks and
+ * clock. */
 #include "evdev.h"
 
 #include <errno.h>
@@ -6,7 +7,8 @@
 
 enum { CELLS = 14 * 256 };
 
-/* What the client has queued of the type goes. A type that the device lacks has no bit set, and nothing of it waits. */
+/* What the client has queued of the type goes. A type that the device lacks has no bit set, and nothing of it
+ * waits. */
 int get_state(struct client *client, struct ioctl_call *call, uint32_t step, unsigned type) {
     inputplay_reply reply;
     if (!device_has(client->device, EV_SYN, type))
@@ -28,7 +30,8 @@ int get_slots(struct client *client, struct ioctl_call *call) {
         return -EINVAL;
     memset(cells, 0, client->device->slots * sizeof *cells);
     if (device_has(client->device, EV_ABS, code) || code == ABS_MT_TRACKING_ID) {
-        inputplay_step_t step = {.step = INPUTPLAY_GET_SLOTS, .client = client->number, .code = (uint16_t)code};
+        inputplay_step_t step = {
+            .step = INPUTPLAY_GET_SLOTS, .client = client->number, .code = (uint16_t)code};
         inputplay_reply reply;
         device_step_cells(client->device, &step, &reply, cells, CELLS);
         if (reply.reply == INPUTPLAY_STEP_REFUSED)
@@ -51,7 +54,8 @@ static bool has_axes(const struct device *device) {
 }
 
 static bool has_axis(const struct device *device, unsigned code) {
-    return device_has(device, EV_ABS, code) || (device->slots && (code == ABS_MT_SLOT || code == ABS_MT_TRACKING_ID));
+    return device_has(device, EV_ABS, code) ||
+           (device->slots && (code == ABS_MT_SLOT || code == ABS_MT_TRACKING_ID));
 }
 
 /* An axis that the device lacks is told too: as zeros, or as it was described. */
@@ -62,11 +66,13 @@ int get_axis(struct client *client, struct ioctl_call *call) {
         return -EINVAL;
     struct input_absinfo info = client->device->lacking[code];
     if (has_axis(client->device, code)) {
-        int error = client_step(client, (inputplay_step_t){.step = INPUTPLAY_GET_AXIS, .code = (uint16_t)code}, &reply);
+        int error = client_step(
+            client, (inputplay_step_t){.step = INPUTPLAY_GET_AXIS, .code = (uint16_t)code}, &reply);
         if (error)
             return error;
         const inputplay_info *axis = &reply.info;
-        info = (struct input_absinfo){axis->value, axis->minimum, axis->maximum, axis->fuzz, axis->flat, axis->resolution};
+        info = (struct input_absinfo){axis->value, axis->minimum, axis->maximum,
+                                      axis->fuzz,  axis->flat,    axis->resolution};
     }
     answer_bytes(call, &info, sizeof info);
     return 0;
@@ -87,18 +93,20 @@ int set_axis(struct client *client, struct ioctl_call *call) {
         return 0;
     }
     inputplay_step_t step = {.step = INPUTPLAY_SET_AXIS, .code = (uint16_t)code};
-    step.info = (inputplay_info){info.value, info.minimum, info.maximum, info.fuzz, info.flat, info.resolution};
+    step.info =
+        (inputplay_info){info.value, info.minimum, info.maximum, info.fuzz, info.flat, info.resolution};
     return client_ask(client, step);
 }
 
-/* The mask itself goes back, which the shim puts where the program's struct says. */
+/* The mask itself goes back, with zeros behind it; the shim puts it where the program's struct says. */
 int get_mask(struct client *client, struct ioctl_call *call) {
     struct input_mask mask;
     memcpy(&mask, call->bytes, sizeof mask);
     uint32_t kept = mask_bytes(mask.type);
-    call->answered = kept < mask.codes_size ? kept : mask.codes_size;
+    call->answered = mask.codes_size < PAYLOAD_MAX ? mask.codes_size : PAYLOAD_MAX;
+    memset(call->bytes, 0, call->answered);
     if (kept)
-        memcpy(call->bytes, client->masks[mask.type], call->answered);
+        memcpy(call->bytes, client->masks[mask.type], kept < call->answered ? kept : call->answered);
     return 0;
 }
 
@@ -106,7 +114,8 @@ static bool is_played_mask(uint32_t type) {
     return type <= EV_SND && mask_bytes(type);
 }
 
-/* The codes stand behind the struct. The library takes a mask a word at a time; it has none of force feedback. */
+/* The codes stand behind the struct. The library takes a mask a word at a time; it has none of force
+ * feedback. */
 int set_mask(struct client *client, struct ioctl_call *call) {
     struct input_mask mask;
     uint64_t words[MASK_WORDS] = {0};
@@ -118,7 +127,8 @@ int set_mask(struct client *client, struct ioctl_call *call) {
         return -EINVAL;
     memcpy(words, call->bytes + sizeof mask, count);
     for (uint16_t i = 0; i < kept / sizeof words[0]; i++) {
-        inputplay_step_t step = {.step = INPUTPLAY_MASK, .type = (uint16_t)mask.type, .code = i, .bits = words[i]};
+        inputplay_step_t step = {
+            .step = INPUTPLAY_MASK, .type = (uint16_t)mask.type, .code = i, .bits = words[i]};
         bool is_new = words[i] != client->masks[mask.type][i];
         int error = is_new && is_played_mask(mask.type) ? client_ask(client, step) : 0;
         if (error)
@@ -142,8 +152,10 @@ int set_repeat(struct client *client, struct ioctl_call *call) {
         return -ENOSYS;
     memcpy(repeat, call->bytes, sizeof repeat);
     for (uint16_t code = 0; code < REP_CNT; code++) {
-        int error = client_ask(client, (inputplay_step_t){
-                                           .step = INPUTPLAY_WRITE, .type = EV_REP, .code = code, .value = (int32_t)repeat[code]});
+        int error = client_ask(client, (inputplay_step_t){.step = INPUTPLAY_WRITE,
+                                                          .type = EV_REP,
+                                                          .code = code,
+                                                          .value = (int32_t)repeat[code]});
         if (error)
             return error;
     }

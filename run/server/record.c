@@ -14,8 +14,9 @@ struct record record;
 enum { WORDS = 12, ACTORS = 2048, LINE_ROOM = 8192, USUAL_LOG = 1048576, LONGEST_LOG = 8388608 };
 
 static const char *const CAUSES[] = {
-    "no cause",  "not-text", "bad-header", "bad-line", "out-of-place", "no-actor",   "bad-command", "bad-word",   "twice",
-    "too-many",  "bad-code", "bad-axis",   "bad-slots", "bad-hint",    "bad-log",    "bad-offset",  "bad-filter", "bad-stream",
+    "no cause",    "not-text", "bad-header", "bad-line",   "out-of-place", "no-actor",
+    "bad-command", "bad-word", "twice",      "too-many",   "bad-code",     "bad-axis",
+    "bad-slots",   "bad-hint", "bad-log",    "bad-offset", "bad-filter",   "bad-stream",
 };
 
 /** What is known while the lines of a record are read. */
@@ -56,7 +57,8 @@ static void begin_device(struct reading *reading, const char *line, const char *
 
 static void add_actor(const struct reading *reading, const char *role, const char *name) {
     struct actor *actor = &record.actors[record.actor_count++];
-    *actor = (struct actor){.device = reading->device, .is_source = !strcmp(role, "source"), .client = INPUTPLAY_NO_CLIENT};
+    *actor = (struct actor){
+        .device = reading->device, .is_source = !strcmp(role, "source"), .client = INPUTPLAY_NO_CLIENT};
     snprintf(actor->name, sizeof actor->name, "%s", name);
     const char *program = settings.actor;
     actor->is_program = program && !actor->is_source && (!strcmp(program, "*") || !strcmp(program, name));
@@ -68,8 +70,8 @@ static uint64_t clock_ahead(const char *name) {
     return time > monotonic ? time - monotonic : 0;
 }
 
-/* A line of a description goes to the library as it stands, but for two things: clocks are those of this machine, and a
- * history is as long as it may be where the record does not say. */
+/* A line of a description goes to the library as it stands, but for two things: clocks are those of this
+ * machine, and a history is as long as it may be where the record does not say. */
 static void add_description(struct reading *reading, const char *line, char **words) {
     struct device *device = reading->device;
     const char *what = words[0];

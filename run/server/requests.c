@@ -127,19 +127,22 @@ static int get_bits(struct client *client, struct ioctl_call *call) {
 }
 
 static const struct known_request BY_NUMBER[] = {
-    {EVIOCGVERSION, get_version},   {EVIOCGID, get_id},           {EVIOCGREP, get_repeat},         {EVIOCSREP, set_repeat},
-    {EVIOCRMFF, no_effect},         {EVIOCSFF, no_effect},        {EVIOCGEFFECTS, get_effects},    {EVIOCGRAB, grab},
-    {EVIOCREVOKE, revoke},          {EVIOCGMASK, get_mask},       {EVIOCSMASK, set_mask},          {EVIOCSCLOCKID, set_clock},
-    {EVIOCGKEYCODE, no_key_map},    {EVIOCSKEYCODE, no_key_map},  {EVIOCGKEYCODE_V2, no_key_map},  {EVIOCSKEYCODE_V2, no_key_map},
+    {EVIOCGVERSION, get_version},   {EVIOCGID, get_id},          {EVIOCGREP, get_repeat},
+    {EVIOCSREP, set_repeat},        {EVIOCRMFF, no_effect},      {EVIOCSFF, no_effect},
+    {EVIOCGEFFECTS, get_effects},   {EVIOCGRAB, grab},           {EVIOCREVOKE, revoke},
+    {EVIOCGMASK, get_mask},         {EVIOCSMASK, set_mask},      {EVIOCSCLOCKID, set_clock},
+    {EVIOCGKEYCODE, no_key_map},    {EVIOCSKEYCODE, no_key_map}, {EVIOCGKEYCODE_V2, no_key_map},
+    {EVIOCSKEYCODE_V2, no_key_map},
 };
 
 static const struct known_request OF_ANY_SIZE[] = {
-    {EVIOCGPROP(0), get_properties}, {EVIOCGMTSLOTS(0), get_slots}, {EVIOCGKEY(0), get_keys},   {EVIOCGLED(0), get_leds},
-    {EVIOCGSND(0), get_sounds},      {EVIOCGSW(0), get_switches},   {EVIOCGNAME(0), get_name}, {EVIOCGPHYS(0), get_phys},
-    {EVIOCGUNIQ(0), get_uniq},
+    {EVIOCGPROP(0), get_properties}, {EVIOCGMTSLOTS(0), get_slots}, {EVIOCGKEY(0), get_keys},
+    {EVIOCGLED(0), get_leds},        {EVIOCGSND(0), get_sounds},    {EVIOCGSW(0), get_switches},
+    {EVIOCGNAME(0), get_name},       {EVIOCGPHYS(0), get_phys},     {EVIOCGUNIQ(0), get_uniq},
 };
 
-static const struct known_request *request_in(const struct known_request *requests, size_t count, uint32_t number) {
+static const struct known_request *request_in(const struct known_request *requests, size_t count,
+                                              uint32_t number) {
     for (size_t i = 0; i < count; i++)
         if (requests[i].number == number)
             return &requests[i];
@@ -154,11 +157,14 @@ static int answer(struct client *client, struct ioctl_call *call) {
                            number & ~((uint32_t)_IOC_SIZEMASK << _IOC_SIZESHIFT));
     if (known)
         return known->answer(client, call);
-    if (_IOC_TYPE(number) == 'E' && direction == _IOC_READ && (nr & ~(uint32_t)EV_MAX) == _IOC_NR(EVIOCGBIT(0, 0)))
+    if (_IOC_TYPE(number) == 'E' && direction == _IOC_READ &&
+        (nr & ~(uint32_t)EV_MAX) == _IOC_NR(EVIOCGBIT(0, 0)))
         return get_bits(client, call);
-    if (_IOC_TYPE(number) == 'E' && direction == _IOC_READ && (nr & ~(uint32_t)ABS_MAX) == _IOC_NR(EVIOCGABS(0)))
+    if (_IOC_TYPE(number) == 'E' && direction == _IOC_READ &&
+        (nr & ~(uint32_t)ABS_MAX) == _IOC_NR(EVIOCGABS(0)))
         return get_axis(client, call);
-    if (_IOC_TYPE(number) == 'E' && direction == _IOC_WRITE && (nr & ~(uint32_t)ABS_MAX) == _IOC_NR(EVIOCSABS(0)))
+    if (_IOC_TYPE(number) == 'E' && direction == _IOC_WRITE &&
+        (nr & ~(uint32_t)ABS_MAX) == _IOC_NR(EVIOCSABS(0)))
         return set_axis(client, call);
     return refuse_request(client->device->identity.name, number);
 }

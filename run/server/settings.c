@@ -9,25 +9,52 @@
 #include <stdlib.h>
 #include <string.h>
 
-struct settings settings = {.speed = 1, .quiet_us = 100000, .patience_us = 1000000, .wanted_opens = 1, .first_loss = -1};
+struct settings settings = {
+    .speed = 1, .quiet_us = 100000, .patience_us = 1000000, .wanted_opens = 1, .first_loss = -1};
 
 static const char USAGE[] =
     "usage: inputplay-serve --folder FOLDER [OPTIONS] RECORD\n"
     "Owns the devices of RECORD and serves them to the programs that libinputplay-run.so is loaded into.\n"
-    "tools/run starts it, and its --help has the options. It writes the line `ready` when programs may begin,\n"
+    "tools/run starts it, and its --help has the options. It writes the line `ready` when programs may "
+    "begin,\n"
     "and SIGTERM ends it.\n";
 
-enum { FOLDER, HISTORY, AS, FRAMES, SPEED, END, CLOCK, JOYSTICKS, REPEATS, QUIET, PATIENCE, FIRST, CLIENTS, FIRST_LOSS, KEEP, HELP };
+enum {
+    FOLDER,
+    HISTORY,
+    AS,
+    FRAMES,
+    SPEED,
+    END,
+    CLOCK,
+    JOYSTICKS,
+    REPEATS,
+    QUIET,
+    PATIENCE,
+    FIRST,
+    CLIENTS,
+    FIRST_LOSS,
+    KEEP,
+    HELP
+};
 
 static const struct option OPTIONS[] = {
-    {"folder", required_argument, NULL, FOLDER},       {"history", required_argument, NULL, HISTORY},
-    {"as", required_argument, NULL, AS},               {"frames", required_argument, NULL, FRAMES},
-    {"speed", required_argument, NULL, SPEED},         {"end", required_argument, NULL, END},
-    {"clock", required_argument, NULL, CLOCK},         {"joysticks", no_argument, NULL, JOYSTICKS},
-    {"repeats", no_argument, NULL, REPEATS},           {"quiet", required_argument, NULL, QUIET},
-    {"patience", required_argument, NULL, PATIENCE},   {"first", required_argument, NULL, FIRST},
-    {"clients", required_argument, NULL, CLIENTS},     {"first-loss", required_argument, NULL, FIRST_LOSS},
-    {"keep", no_argument, NULL, KEEP},                 {"help", no_argument, NULL, HELP},
+    {"folder", required_argument, NULL, FOLDER},
+    {"history", required_argument, NULL, HISTORY},
+    {"as", required_argument, NULL, AS},
+    {"frames", required_argument, NULL, FRAMES},
+    {"speed", required_argument, NULL, SPEED},
+    {"end", required_argument, NULL, END},
+    {"clock", required_argument, NULL, CLOCK},
+    {"joysticks", no_argument, NULL, JOYSTICKS},
+    {"repeats", no_argument, NULL, REPEATS},
+    {"quiet", required_argument, NULL, QUIET},
+    {"patience", required_argument, NULL, PATIENCE},
+    {"first", required_argument, NULL, FIRST},
+    {"clients", required_argument, NULL, CLIENTS},
+    {"first-loss", required_argument, NULL, FIRST_LOSS},
+    {"keep", no_argument, NULL, KEEP},
+    {"help", no_argument, NULL, HELP},
     {NULL, 0, NULL, 0},
 };
 

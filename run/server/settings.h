@@ -9,11 +9,12 @@
 enum ending { END_STAY, END_GONE, END_INTERRUPT, END_TERMINATE };
 
 struct settings {
-    const char *record;   /**< The file that is played. */
-    const char *folder;   /**< The folder of the run, with the socket and the files that stand for nodes. */
-    const char *history;  /**< Where the history goes, or NULL. */
-    const char *actor;    /**< The program is this actor of the record; "*": all that read; NULL: none. */
-    unsigned long frames; /**< So many frames come where all programs wait; 0: lines come at the record's times. */
+    const char *record;  /**< The file that is played. */
+    const char *folder;  /**< The folder of the run, with the socket and the files that stand for nodes. */
+    const char *history; /**< Where the history goes, or NULL. */
+    const char *actor;   /**< The program is this actor of the record; "*": all that read; NULL: none. */
+    unsigned long
+        frames; /**< So many frames come where all programs wait; 0: lines come at the record's times. */
     double speed;
     enum ending end;
     bool is_record_clock; /**< Events have the record's times, and not the clock's. */
@@ -24,7 +25,8 @@ struct settings {
     uint64_t patience_us; /**< By frames: a program that has asked nothing for so long is taken to wait. */
     int first_number;     /**< The number of the first node. */
     int wanted_opens;     /**< Playing begins when so many files have been opened. */
-    long first_loss;      /**< By frames: from this place of a history on events are lost once; -1: none is wanted. */
+    long first_loss; /**< By frames: from this place of a history on events are lost once; -1: none is wanted.
+                      */
 };
 
 extern struct settings settings;

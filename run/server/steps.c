@@ -3,8 +3,9 @@
 enum { CODE_ROOM = 64 };
 
 static const char *const COMMANDS[] = {
-    "event",  "tick",  "open",    "close",     "read",  "discard", "keys",   "switches", "leds",  "sounds",  "axis",
-    "setaxis", "slots", "syncslots", "write", "grab",  "ungrab",  "mask",   "clock",    "revoke", "inhibit", "uninhibit",
+    "event",  "tick",   "open",  "close",   "read",    "discard",   "keys",  "switches",
+    "leds",   "sounds", "axis",  "setaxis", "slots",   "syncslots", "write", "grab",
+    "ungrab", "mask",   "clock", "revoke",  "inhibit", "uninhibit",
 };
 
 bool is_step_of_source(uint32_t step) {
@@ -13,8 +14,9 @@ bool is_step_of_source(uint32_t step) {
 
 static const char *type_name(uint16_t type, char *room) {
     static const char *const names[EV_CNT] = {
-        [EV_SYN] = "EV_SYN", [EV_KEY] = "EV_KEY", [EV_REL] = "EV_REL", [EV_ABS] = "EV_ABS", [EV_MSC] = "EV_MSC",
-        [EV_SW] = "EV_SW",   [EV_LED] = "EV_LED", [EV_SND] = "EV_SND", [EV_REP] = "EV_REP",
+        [EV_SYN] = "EV_SYN", [EV_KEY] = "EV_KEY", [EV_REL] = "EV_REL",
+        [EV_ABS] = "EV_ABS", [EV_MSC] = "EV_MSC", [EV_SW] = "EV_SW",
+        [EV_LED] = "EV_LED", [EV_SND] = "EV_SND", [EV_REP] = "EV_REP",
     };
     if (type < EV_CNT && names[type])
         return names[type];
@@ -24,7 +26,8 @@ static const char *type_name(uint16_t type, char *room) {
 
 static const char *code_name(uint16_t type, uint16_t code, char *room) {
     size_t length;
-    if (inputplay_name_of(type, code, (uint8_t *)room, CODE_ROOM - 1, &length) == INPUTPLAY_OK && length < CODE_ROOM)
+    if (inputplay_name_of(type, code, (uint8_t *)room, CODE_ROOM - 1, &length) == INPUTPLAY_OK &&
+        length < CODE_ROOM)
         room[length] = 0;
     else
         snprintf(room, CODE_ROOM, "%u", code);
@@ -33,7 +36,8 @@ static const char *code_name(uint16_t type, uint16_t code, char *room) {
 
 static void write_event(FILE *file, const inputplay_step_t *step) {
     char type[CODE_ROOM], code[CODE_ROOM];
-    fprintf(file, " %s %s %d", type_name(step->type, type), code_name(step->type, step->code, code), (int)step->value);
+    fprintf(file, " %s %s %d", type_name(step->type, type), code_name(step->type, step->code, code),
+            (int)step->value);
 }
 
 static void write_axis(FILE *file, const inputplay_step_t *step) {
@@ -41,8 +45,8 @@ static void write_axis(FILE *file, const inputplay_step_t *step) {
     char code[CODE_ROOM];
     fprintf(file, " %s", code_name(EV_ABS, step->code, code));
     if (step->step == INPUTPLAY_SET_AXIS)
-        fprintf(file, " %d %d %d %d %d %d", (int)info->value, (int)info->minimum, (int)info->maximum, (int)info->fuzz,
-                (int)info->flat, (int)info->resolution);
+        fprintf(file, " %d %d %d %d %d %d", (int)info->value, (int)info->minimum, (int)info->maximum,
+                (int)info->fuzz, (int)info->flat, (int)info->resolution);
 }
 
 static void write_clock(FILE *file, const inputplay_step_t *step) {

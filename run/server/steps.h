@@ -14,6 +14,6 @@ bool is_step_of_source(uint32_t step);
 void write_step(FILE *file, const char *actor, const inputplay_step_t *step);
 
 /** Writes who a device is, as comments that are read again (identity.c). */
-void write_identity(FILE *file, const struct identity *identity);
+void write_identity(FILE *file, const struct device *device);
 
 #endif

@@ -17,7 +17,8 @@ union control {
 
 static long send_question(int line, struct question *question) {
     union control control = {0};
-    struct iovec parts[3] = {{&question->request, sizeof question->request}, question->sent[0], question->sent[1]};
+    struct iovec parts[3] = {
+        {&question->request, sizeof question->request}, question->sent[0], question->sent[1]};
     struct msghdr message = {.msg_iov = parts, .msg_iovlen = 1 + (size_t)question->sent_count};
     long done;
     if (question->brings >= 0) {
@@ -39,7 +40,8 @@ static long send_question(int line, struct question *question) {
 static long take_answer(int line, const struct question *question, struct answer *answer) {
     union control control = {0};
     struct iovec parts[2] = {{answer, sizeof *answer}, question->answer};
-    struct msghdr message = {.msg_iov = parts, .msg_iovlen = 2, .msg_control = &control, .msg_controllen = sizeof control};
+    struct msghdr message = {
+        .msg_iov = parts, .msg_iovlen = 2, .msg_control = &control, .msg_controllen = sizeof control};
     bool is_open = question->request.kind == ASK_OPEN;
     int flags = is_open && question->request.flags & O_CLOEXEC ? MSG_CMSG_CLOEXEC : 0;
     long done;
@@ -56,17 +58,19 @@ static long take_answer(int line, const struct question *question, struct answer
     return done;
 }
 
-/* Asks once. True where it is to be asked again: the server drops the oldest connection when it has too many, and has not taken
- * the request then. */
+/* Asks once. True where it is to be asked again: the server drops the oldest connection when it has too many,
+ * and has not taken the request then. */
 static bool ask_once(struct question *question, struct answer *answer) {
     struct line line = line_begin();
     long done = line.descriptor < 0 ? -1 : send_question(line.descriptor, question);
     if (line.descriptor >= 0 && done >= 0)
         done = take_answer(line.descriptor, question, answer);
     bool is_good = done >= (long)sizeof *answer;
-    bool is_dropped = line.descriptor >= 0 && (!done || (done < 0 && (errno == EPIPE || errno == ECONNRESET)));
+    bool is_dropped =
+        line.descriptor >= 0 && (!done || (done < 0 && (errno == EPIPE || errno == ECONNRESET)));
     if (!is_good)
-        *answer = (struct answer){.result = line.descriptor >= 0 && done < 0 && errno == EFAULT ? -EFAULT : -ENODEV};
+        *answer = (struct answer){.result = line.descriptor >= 0 && done < 0 && errno == EFAULT ? -EFAULT
+                                                                                                : -ENODEV};
     line_end(line, is_good);
     return is_dropped;
 }

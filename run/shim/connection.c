@@ -1,5 +1,6 @@
-/* The connection to the server. A thread keeps its own, and uses it where it is still its own: not after a fork, nor where the
- * program has closed it. All of it is by system calls, for other shims (umockdev's) take socket and connect over. */
+/* The connection to the server. A thread keeps its own, and uses it where it is still its own: not after a
+ * fork, nor where the program has closed it. All of it is by system calls, for other shims (umockdev's) take
+ * socket and connect over. */
 #include "shim.h"
 
 #include <errno.h>
@@ -18,7 +19,8 @@ enum { OUT_OF_THE_WAY = 200 };
 static _Thread_local struct kept {
     int descriptor;
     bool is_there;
-    bool is_busy; /**< A request is under way; what a signal's handler asks meanwhile has a connection of its own. */
+    bool is_busy; /**< A request is under way; what a signal's handler asks meanwhile has a connection of its
+                     own. */
     pid_t process;
     ino_t inode;
 } kept;
@@ -47,7 +49,8 @@ static void make_key(void) {
     pthread_key_create(&at_end, close_kept);
 }
 
-/* A high number, so that the descriptor that an open gives is the lowest that is free, as the program may expect. */
+/* A high number, so that the descriptor that an open gives is the lowest that is free, as the program may
+ * expect. */
 static int moved_up(int descriptor) {
     int high = (int)syscall(SYS_fcntl, descriptor, F_DUPFD_CLOEXEC, OUT_OF_THE_WAY);
     if (high < 0)

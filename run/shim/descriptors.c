@@ -1,5 +1,5 @@
-/* Which descriptors are of a node. Nothing is kept of a descriptor, so that fork, exec, dup and descriptors from elsewhere are all
- * alike: it is known by the name that the server gave to the other end. */
+/* Which descriptors are of a node. Nothing is kept of a descriptor, so that fork, exec, dup and descriptors
+ * from elsewhere are all alike: it is known by the name that the server gave to the other end. */
 #include "shim.h"
 
 #include <fcntl.h>
@@ -27,7 +27,8 @@ static int node_of_peer(int descriptor) {
     socklen_t length = sizeof name;
     if (descriptor < 0 || syscall(SYS_getpeername, descriptor, &name, &length) || name.sun_family != AF_UNIX)
         return -1;
-    const size_t before = offsetof(struct sockaddr_un, sun_path) + 1; /* (an abstract name begins with a NUL) */
+    const size_t before =
+        offsetof(struct sockaddr_un, sun_path) + 1; /* (an abstract name begins with a NUL) */
     char text[sizeof name.sun_path] = {0};
     unsigned long long number;
     unsigned serial, node;

@@ -13,15 +13,16 @@
 #include <unistd.h>
 
 static int open_node(int node, int flags) {
-    struct question question = {.request = {.kind = ASK_OPEN, .node = node, .flags = (uint32_t)flags}, .brings = -1};
+    struct question question = {.request = {.kind = ASK_OPEN, .node = node, .flags = (uint32_t)flags},
+                                .brings = -1};
     int result = ask(&question);
     if (result >= 0)
         atomic_store_explicit(&may_have_nodes, true, memory_order_relaxed);
     return (int)with_errno(result);
 }
 
-/* Waits until the byte is there that says "events are there". (A signal's handler with SA_RESTART goes on with this, as it does
- * with a read of the kernel's.) */
+/* Waits until the byte is there that says "events are there". (A signal's handler with SA_RESTART goes on
+ * with this, as it does with a read of the kernel's.) */
 static int wait_for_byte(int descriptor) {
     char byte;
     return syscall(SYS_recvfrom, descriptor, &byte, 1, MSG_PEEK, NULL, NULL) < 0 ? -errno : 0;
@@ -72,7 +73,8 @@ static mode_t mode_of(int flags, va_list words) {
         mode_t mode = mode_of(flags, words); \
         va_end(words); \
         int node = flags & O_PATH ? -1 : node_of_path(path); \
-        return node >= 0 ? open_node(node, flags) : real(at, true_path(path, room, sizeof room), flags, mode); \
+        return node >= 0 ? open_node(node, flags) \
+                         : real(at, true_path(path, room, sizeof room), flags, mode); \
     }
 
 OPEN(open)

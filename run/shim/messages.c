@@ -1,4 +1,4 @@
-/* Messages that bring descriptors: one of them may be of a node, so from then on descriptors are looked at. */
+/* Messages that bring descriptors. One may be of a node, so from then on descriptors are looked at. */
 #include "shim.h"
 
 #include <sys/socket.h>
@@ -18,7 +18,8 @@ EXPORT ssize_t recvmsg(int descriptor, struct msghdr *message, int flags) {
     return result;
 }
 
-EXPORT int recvmmsg(int descriptor, struct mmsghdr *messages, unsigned count, int flags, struct timespec *time) {
+EXPORT int recvmmsg(int descriptor, struct mmsghdr *messages, unsigned count, int flags,
+                    struct timespec *time) {
     REAL(recvmmsg);
     int result = real(descriptor, messages, count, flags, time);
     for (int i = 0; i < result && shim_run()->folder[0]; i++)

@@ -1,4 +1,5 @@
-/* Requests (ioctl). What the kernel would read is sent with the number; what it would write comes back into the program's memory. */
+/* Requests (ioctl). What the kernel would read is sent with the number; what it would write comes back into
+ * the program's memory. */
 #include "shim.h"
 
 #include <asm/termbits.h>
@@ -21,18 +22,14 @@ static int mask_request(int descriptor, uint32_t number, const void *argument) {
     if (!copy_from_program(&mask, argument, sizeof mask))
         return -EFAULT;
     char *codes = (char *)(uintptr_t)mask.codes_ptr;
-    uint32_t kept = mask_bytes(mask.type), count = mask.codes_size < kept ? mask.codes_size : kept;
-    bool is_set = number == (uint32_t)EVIOCSMASK;
+    uint32_t kept = mask_bytes(mask.type), size = mask.codes_size;
     struct question question = {.request = {.kind = ASK_IOCTL, .number = number}, .brings = descriptor};
-    question.sent[0] = (struct iovec){&mask, sizeof mask};
-    question.sent[1] = (struct iovec){codes, count};
-    question.sent_count = is_set ? 2 : 1;
-    if (!is_set)
-        question.answer = (struct iovec){codes, count};
-    int result = ask(&question);
-    if (result >= 0 && !is_set && !clear_in_program(codes + count, mask.codes_size - count))
-        return -EFAULT;
-    return result;
+    question.sent[question.sent_count++] = (struct iovec){&mask, sizeof mask};
+    if (number == (uint32_t)EVIOCSMASK)
+        question.sent[question.sent_count++] = (struct iovec){codes, size < kept ? size : kept};
+    else
+        question.answer = (struct iovec){codes, size < PAYLOAD_MAX ? size : PAYLOAD_MAX};
+    return ask(&question);
 }
 
 static int node_request(int descriptor, uint32_t number, void *argument) {

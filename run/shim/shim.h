@@ -1,6 +1,7 @@
 /*
- * The shim: a shared object that a program loads before the C library. It takes over the calls that the program makes on nodes
- * of a played device, and hands on all others. The library is not in it; each call on a node is a request to the server.
+ * The shim: a shared object that a program loads before the C library. It takes over the calls that the
+ * program makes on nodes of a played device, and hands on all others. The library is not in it; each call on
+ * a node is a request to the server.
  */
 #ifndef INPUTPLAY_RUN_SHIM_H
 #define INPUTPLAY_RUN_SHIM_H
@@ -32,10 +33,10 @@ static inline void *real_function(_Atomic(void *) *found, const char *name) {
 
 /** What the environment says of the run. */
 struct run {
-    char folder[4096];  /**< Empty where the program is in no run. */
-    uint64_t number;    /**< Of the names of the run's ends. */
-    int first_number;   /**< The number of the first node. */
-    bool is_by_frames;  /**< Frames come where programs wait, so they say when they do. */
+    char folder[4096]; /**< Empty where the program is in no run. */
+    uint64_t number;   /**< Of the names of the run's ends. */
+    int first_number;  /**< The number of the first node. */
+    bool is_by_frames; /**< Frames come where programs wait, so they say when they do. */
 };
 
 /** The run, which is read from the environment once. (run.c) */
@@ -47,7 +48,8 @@ extern atomic_bool may_have_nodes;
 /** The node that a path names, or -1. (paths.c) */
 int node_of_path(const char *path);
 
-/** Where a path stands in truth: a path below /dev/input in the run's folder, any other where it is. (paths.c) */
+/** Where a path stands in truth: a path below /dev/input in the run's folder, any other where it is.
+ * (paths.c) */
 const char *true_path(const char *path, char *room, size_t size);
 
 /** The minor number of a node. (paths.c) */
@@ -62,13 +64,14 @@ void look_at_descriptors(void);
 /** A request, with what it reads and where its answer goes, in the program's memory. */
 struct question {
     struct request request;
-    int brings;          /**< The descriptor that it is about, or -1. */
+    int brings; /**< The descriptor that it is about, or -1. */
     struct iovec sent[2];
     int sent_count;
     struct iovec answer;
 };
 
-/** Asks the server: its result, of an open the new descriptor. A server that has gone or says nothing is -ENODEV. (asking.c) */
+/** Asks the server: its result, of an open the new descriptor. A server that has gone or says nothing is
+ * -ENODEV. (asking.c) */
 int ask(struct question *question);
 
 /** The connection to the server, as long as one request is under way. (connection.c) */
@@ -79,14 +82,12 @@ struct line {
 struct line line_begin(void);
 void line_end(struct line line, bool is_good);
 
-/** The program is going to wait, for a node's descriptor or (-1) for others: true where a signal comes instead. (waits.c) */
+/** The program is going to wait, for a node's descriptor or (-1) for others: true where a signal comes
+ * instead. (waits.c) */
 bool tell_wait(int descriptor);
 
 /** Copies from the program's memory: false where it is not there. (memory.c) */
 bool copy_from_program(void *to, const void *from, size_t length);
-
-/** Clears bytes in the program's memory: false where they are not there. (memory.c) */
-bool clear_in_program(void *at, size_t length);
 
 /** A system call's result: what it gives, or -1 and errno. */
 long with_errno(long result);

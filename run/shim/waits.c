@@ -1,4 +1,5 @@
-/* Waiting goes to the C library, since a node's descriptor is ready by itself. But by frames the server is told of it first. */
+/* Waiting goes to the C library, since a node's descriptor is ready by itself. But by frames the server is
+ * told of it first. */
 #include "shim.h"
 
 #include <errno.h>
@@ -55,10 +56,12 @@ EXPORT int poll(struct pollfd *files, nfds_t count, int time) {
 
 EXPORT int ppoll(struct pollfd *files, nfds_t count, const struct timespec *time, const sigset_t *mask) {
     REAL(ppoll);
-    return tells() && is_some(time) && tell_poll(files, count) ? interrupted() : real(files, count, time, mask);
+    return tells() && is_some(time) && tell_poll(files, count) ? interrupted()
+                                                               : real(files, count, time, mask);
 }
 
-EXPORT int select(int count, fd_set *restrict in, fd_set *restrict out, fd_set *restrict odd, struct timeval *restrict time) {
+EXPORT int select(int count, fd_set *restrict in, fd_set *restrict out, fd_set *restrict odd,
+                  struct timeval *restrict time) {
     REAL(select);
     bool is_waiting = !time || time->tv_sec || time->tv_usec;
     return tells() && is_waiting && tell_select(count, in) ? interrupted() : real(count, in, out, odd, time);
@@ -67,7 +70,8 @@ EXPORT int select(int count, fd_set *restrict in, fd_set *restrict out, fd_set *
 EXPORT int pselect(int count, fd_set *restrict in, fd_set *restrict out, fd_set *restrict odd,
                    const struct timespec *restrict time, const sigset_t *restrict mask) {
     REAL(pselect);
-    return tells() && is_some(time) && tell_select(count, in) ? interrupted() : real(count, in, out, odd, time, mask);
+    return tells() && is_some(time) && tell_select(count, in) ? interrupted()
+                                                              : real(count, in, out, odd, time, mask);
 }
 
 EXPORT int epoll_wait(int descriptor, struct epoll_event *events, int count, int time) {
@@ -75,14 +79,17 @@ EXPORT int epoll_wait(int descriptor, struct epoll_event *events, int count, int
     return time && tells() && tell_wait(-1) ? interrupted() : real(descriptor, events, count, time);
 }
 
-EXPORT int epoll_pwait(int descriptor, struct epoll_event *events, int count, int time, const sigset_t *mask) {
+EXPORT int epoll_pwait(int descriptor, struct epoll_event *events, int count, int time,
+                       const sigset_t *mask) {
     REAL(epoll_pwait);
     return time && tells() && tell_wait(-1) ? interrupted() : real(descriptor, events, count, time, mask);
 }
 
-EXPORT int epoll_pwait2(int descriptor, struct epoll_event *events, int count, const struct timespec *time, const sigset_t *mask) {
+EXPORT int epoll_pwait2(int descriptor, struct epoll_event *events, int count, const struct timespec *time,
+                        const sigset_t *mask) {
     REAL(epoll_pwait2);
-    return tells() && is_some(time) && tell_wait(-1) ? interrupted() : real(descriptor, events, count, time, mask);
+    return tells() && is_some(time) && tell_wait(-1) ? interrupted()
+                                                     : real(descriptor, events, count, time, mask);
 }
 
 /* The names that programs call that were compiled with checks of buffers. */

@@ -1,5 +1,6 @@
-/* Requests at random on the nodes of a played device: random_requests COUNT SEED, run by tools/run. Numbers, sizes and places are
- * at random, among them places that are not there. Nothing may crash, and what is right is answered afterwards. */
+/* Requests at random on the nodes of a played device: random_requests COUNT SEED, run by tools/run. Numbers,
+ * sizes and places are at random, among them places that are not there. Nothing may crash, and what is right
+ * is answered afterwards. */
 #include "check.h"
 
 #include <fcntl.h>
@@ -41,11 +42,12 @@ static void *place(void) {
 }
 
 static const uint32_t KNOWN[] = {
-    EVIOCGVERSION, EVIOCGID, EVIOCGREP, EVIOCSREP, EVIOCGKEYCODE, EVIOCSKEYCODE, EVIOCGKEYCODE_V2, EVIOCSKEYCODE_V2,
-    EVIOCGNAME(0), EVIOCGPHYS(0), EVIOCGUNIQ(0), EVIOCGPROP(0), EVIOCGMTSLOTS(0), EVIOCGKEY(0), EVIOCGLED(0), EVIOCGSND(0),
-    EVIOCGSW(0), EVIOCGBIT(0, 0), EVIOCGABS(0), EVIOCSABS(0), EVIOCSFF, EVIOCRMFF, EVIOCGEFFECTS, EVIOCGRAB, EVIOCGMASK,
-    EVIOCSMASK, EVIOCSCLOCKID, JSIOCGVERSION, JSIOCGAXES, JSIOCGBUTTONS, JSIOCGNAME(0), JSIOCSCORR, JSIOCGCORR, JSIOCGAXMAP,
-    JSIOCGBTNMAP,
+    EVIOCGVERSION,    EVIOCGID,         EVIOCGREP,     EVIOCSREP,     EVIOCGKEYCODE, EVIOCSKEYCODE,
+    EVIOCGKEYCODE_V2, EVIOCSKEYCODE_V2, EVIOCGNAME(0), EVIOCGPHYS(0), EVIOCGUNIQ(0), EVIOCGPROP(0),
+    EVIOCGMTSLOTS(0), EVIOCGKEY(0),     EVIOCGLED(0),  EVIOCGSND(0),  EVIOCGSW(0),   EVIOCGBIT(0, 0),
+    EVIOCGABS(0),     EVIOCSABS(0),     EVIOCSFF,      EVIOCRMFF,     EVIOCGEFFECTS, EVIOCGRAB,
+    EVIOCGMASK,       EVIOCSMASK,       EVIOCSCLOCKID, JSIOCGVERSION, JSIOCGAXES,    JSIOCGBUTTONS,
+    JSIOCGNAME(0),    JSIOCSCORR,       JSIOCGCORR,    JSIOCGAXMAP,   JSIOCGBTNMAP,
 };
 
 /* A number: a known one, of another size or of a code behind it; or any. */
@@ -54,7 +56,8 @@ static uint32_t request_number(void) {
     if (random_below(10) == 0)
         return random_number();
     if (random_below(3) == 0)
-        number = (number & ~((uint32_t)_IOC_SIZEMASK << _IOC_SIZESHIFT)) | random_below(1u << random_below(15)) << _IOC_SIZESHIFT;
+        number = (number & ~((uint32_t)_IOC_SIZEMASK << _IOC_SIZESHIFT)) |
+                 random_below(1u << random_below(15)) << _IOC_SIZESHIFT;
     return random_below(3) ? number : number + random_below(64);
 }
 

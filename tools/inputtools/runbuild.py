@@ -20,7 +20,8 @@ class NotBuilt(Exception):
 
 
 def archive(folder: Optional[str] = None) -> Path:
-    """The library's archive: of a folder that is named, of the variable's, or of the one that tools/build fills."""
+    """The library's archive: of a folder that is named, of the variable's, or of the one that tools/build
+    fills."""
     named = folder or os.environ.get(LIBRARY_VARIABLE) or str(TOP / "out" / "library")
     path = Path(named).resolve() / ARCHIVE
     if not path.is_file():
@@ -41,7 +42,18 @@ def server_words(compiler: str, library: Path, out: Path, more: Sequence[str] = 
 def shim_words(compiler: str, out: Path, more: Sequence[str] = ()) -> List[str]:
     """The words that compile the shim."""
     shared = ["-fPIC", "-shared", "-fvisibility=hidden", "-Wl,-z,relro,-z,now"]
-    return [compiler, *FLAGS, *shared, *more, "-I", str(SOURCES), *sources("shim"), "-o", str(out / SHIM), "-ldl"]
+    return [
+        compiler,
+        *FLAGS,
+        *shared,
+        *more,
+        "-I",
+        str(SOURCES),
+        *sources("shim"),
+        "-o",
+        str(out / SHIM),
+        "-ldl",
+    ]
 
 
 def compile_by(words: Sequence[str]) -> None:

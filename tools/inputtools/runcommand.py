@@ -13,21 +13,23 @@ from inputtools.running import FAILED, NOT_HELD, NOT_STARTED, NoProgram, Run, Se
 from inputtools.runsystem import with_system_files
 from inputtools.source import Given
 
-HELP = """Runs PROGRAM on the devices of RECORD: it and all that it starts find them as /dev/input/event0 and on, and
-share them. There is no kernel device, and no privilege is wanted. What the devices answer is what the library answers:
-rings that lose events, grabs, masks, clocks, revocation, queries that flush.
+HELP = """Runs PROGRAM on the devices of RECORD: it and all that it starts find them as /dev/input/event0
+and on, and share them. There is no kernel device, and no privilege is wanted. What the devices answer is
+what the library answers: rings that lose events, grabs, masks, clocks, revocation, queries that flush.
 
-The record's lines come at their times, once programs have opened a node and have read nothing new for a while. With
---frames they come wherever all programs wait, so that each run is the same. Lines of clients do what they say beside
-the program: a client that opens and grabs is another program that grabs. With --as the program stands in for one of
-them, and what the record expects of that one in its `#=` lines (see check --help) is judged over what the program did.
+The record's lines come at their times, once programs have opened a node and have read nothing new for a
+while. With --frames they come wherever all programs wait, so that each run is the same. Lines of clients do
+what they say beside the program: a client that opens and grabs is another program that grabs. With --as the
+program stands in for one of them, and what the record expects of that one in its `#=` lines (see check
+--help) is judged over what the program did.
 
-A program that is statically linked, sets itself more rights or makes system calls by itself is not reached. tools/build
---run builds what this needs; docs/RUN.md says what is served and what is not."""
+A program that is statically linked, sets itself more rights or makes system calls by itself is not reached.
+tools/build --run builds what this needs; docs/RUN.md says what is served and what is not."""
 
-STATUSES = """The status is the program's: 128 and the number of the signal where one ended it, and 0 where that was the signal of
---end. These are run's own, each with a line on standard error: 125 what the record expects did not come; 126 wrong words
-or a wrong record, or the run could not go on; 127 PROGRAM cannot be started; 128 the time of --timeout was out."""
+STATUSES = """The status is the program's: 128 and the number of the signal where one ended it, and 0 where
+that was the signal of --end. These are run's own, each with a line on standard error: 125 what the record
+expects did not come; 126 wrong words or a wrong record, or the run could not go on; 127 PROGRAM cannot be
+started; 128 the time of --timeout was out."""
 
 
 class RunWords(Words):
@@ -38,32 +40,68 @@ class RunWords(Words):
 
 
 def words() -> RunWords:
-    told = RunWords(prog="run", description=HELP, epilog=STATUSES,
-                    usage="run [OPTIONS] RECORD -- PROGRAM [ARGS]\n       run --server FOLDER [OPTIONS] [RECORD] [-- PROGRAM [ARGS]]")
+    told = RunWords(
+        prog="run",
+        description=HELP,
+        epilog=STATUSES,
+        usage="run [OPTIONS] RECORD -- PROGRAM [ARGS]\n"
+        "       run --server FOLDER [OPTIONS] [RECORD] [-- PROGRAM [ARGS]]",
+    )
     told.add_argument("record", metavar="RECORD", nargs="?", help="a record; - is standard input")
-    told.add_argument("--as", dest="actor", metavar="NAME",
-                      help="the program is this client of the record, whose lines are left out (*: each that reads)")
-    told.add_argument("--frames", metavar="N", type=count, help="play N frames whenever all programs have read all and wait")
-    told.add_argument("--first-loss", metavar="PLACE", type=count,
-                      help="from this place of the history on play until a program has lost events, once (frames: 1)")
+    told.add_argument(
+        "--as",
+        dest="actor",
+        metavar="NAME",
+        help="the program is this client of the record, whose lines are left out (*: each that reads)",
+    )
+    told.add_argument(
+        "--frames", metavar="N", type=count, help="play N frames whenever all programs have read all and wait"
+    )
+    told.add_argument(
+        "--first-loss",
+        metavar="PLACE",
+        type=count,
+        help="from this place of the history on play until a program has lost events, once (frames: 1)",
+    )
     told.add_argument("--speed", metavar="X", help="play the record's times X times as fast")
-    told.add_argument("--end", choices=("stay", "gone", "int", "term"), default="stay",
-                      help="behind the last line: nothing, an unplug, or this signal to the programs")
+    told.add_argument(
+        "--end",
+        choices=("stay", "gone", "int", "term"),
+        default="stay",
+        help="behind the last line: nothing, an unplug, or this signal to the programs",
+    )
     told.add_argument("--clock", choices=("now", "record"), default="now", help="which times events have")
     told.add_argument("--joysticks", action="store_true", help="each device is /dev/input/jsN too")
     told.add_argument("--repeats", action="store_true", help="keys repeat by a timer")
-    told.add_argument("--quiet", metavar="MS", type=count, help="begin when nothing was asked for so long (100)")
-    told.add_argument("--patience", metavar="MS", type=count,
-                      help="by frames a program that has asked nothing for so long is taken to wait (1000)")
-    told.add_argument("--clients", metavar="N", type=count, help="begin when nodes have been opened N times (1)")
+    told.add_argument(
+        "--quiet", metavar="MS", type=count, help="begin when nothing was asked for so long (100)"
+    )
+    told.add_argument(
+        "--patience",
+        metavar="MS",
+        type=count,
+        help="by frames a program that has asked nothing for so long is taken to wait (1000)",
+    )
+    told.add_argument(
+        "--clients", metavar="N", type=count, help="begin when nodes have been opened N times (1)"
+    )
     told.add_argument("--first", metavar="N", type=count, default=0, help="the number of the first node (0)")
-    told.add_argument("--history", metavar="FILE", help="write what programs did as a record, for the other tools")
+    told.add_argument(
+        "--history", metavar="FILE", help="write what programs did as a record, for the other tools"
+    )
     told.add_argument("--draw", metavar="FILE", help="write a page that shows it")
     told.add_argument("--timeout", metavar="SECONDS", type=seconds, help="end the program after so long")
-    told.add_argument("--sys", choices=("auto", "none"), default="auto",
-                      help="whether programs find /sys and udev's data of the devices, by umockdev-run")
-    told.add_argument("--server", metavar="FOLDER",
-                      help="with RECORD: start a server that stays, for programs that start later; without: use it")
+    told.add_argument(
+        "--sys",
+        choices=("auto", "none"),
+        default="auto",
+        help="whether programs find /sys and udev's data of the devices, by umockdev-run",
+    )
+    told.add_argument(
+        "--server",
+        metavar="FOLDER",
+        help="with RECORD: start a server that stays, for programs that start later; without: use it",
+    )
     told.add_argument("--stop", action="store_true", help="end the server of --server")
     return told
 
@@ -86,9 +124,19 @@ def seconds(text: str) -> float:
 
 def server_words(asked: argparse.Namespace, record: Given, history: str) -> List[str]:
     """The words of the server."""
-    named = {"--as": asked.actor, "--frames": asked.frames, "--first-loss": asked.first_loss, "--speed": asked.speed,
-             "--end": asked.end, "--clock": asked.clock, "--quiet": asked.quiet, "--patience": asked.patience, "--clients": asked.clients,
-             "--first": asked.first, "--history": history}
+    named = {
+        "--as": asked.actor,
+        "--frames": asked.frames,
+        "--first-loss": asked.first_loss,
+        "--speed": asked.speed,
+        "--end": asked.end,
+        "--clock": asked.clock,
+        "--quiet": asked.quiet,
+        "--patience": asked.patience,
+        "--clients": asked.clients,
+        "--first": asked.first,
+        "--history": history,
+    }
     given = [word for name, value in named.items() if value is not None for word in (name, str(value))]
     flags = [f"--{name}" for name in ("joysticks", "repeats") if getattr(asked, name)]
     return [*given, *flags, "--", os.path.abspath(record.path)]
@@ -127,7 +175,9 @@ def run_alone(asked: argparse.Namespace, program: List[str]) -> int:
     record, folder = Given(asked.record), running.new_folder()
     history = os.path.join(folder, running.HISTORY)
     try:
-        run = running.start_server(folder, settings_of(asked), server_words(asked, record, history), is_kept=False)
+        run = running.start_server(
+            folder, settings_of(asked), server_words(asked, record, history), is_kept=False
+        )
         assert run.server is not None
         try:
             status = run_program(run, asked, program, record)
@@ -154,7 +204,9 @@ def run_kept(asked: argparse.Namespace, program: List[str]) -> int:
         except OSError as fault:
             raise Wrong(f"{folder}: {fault.strerror}") from None
         history = os.path.join(folder, running.HISTORY)
-        run = running.start_server(folder, settings_of(asked), server_words(asked, record, history), is_kept=True)
+        run = running.start_server(
+            folder, settings_of(asked), server_words(asked, record, history), is_kept=True
+        )
         running.keep(run)
     else:
         run = running.join(folder)
@@ -175,7 +227,10 @@ def checked_words(asked: argparse.Namespace, program: List[str]) -> None:
     if asked.stop and (asked.server is None or asked.record is not None or program):
         raise Wrong("--stop wants --server FOLDER, and nothing else")
     if asked.server is not None and (asked.history or asked.draw):
-        raise Wrong(f"--history and --draw are of a run alone; --server writes its history to {running.HISTORY} in its folder")
+        raise Wrong(
+            "--history and --draw are of a run alone; "
+            f"--server writes its history to {running.HISTORY} in its folder"
+        )
 
 
 def command(arguments: List[str]) -> int:

@@ -1,4 +1,5 @@
-"""What a program did on the devices of a record, as a record of its own: judged by what the first one expects, and drawn."""
+"""What a program did on the devices of a record, as a record of its own: judged by what the first one
+expects, and drawn."""
 
 from __future__ import annotations
 
@@ -30,8 +31,8 @@ def expected_of(text: str, name: str) -> List[Tuple[int, str]]:
 
 
 def judged(record: Given, name: str, history: str) -> Tuple[str, bool]:
-    """What is said of the record's expectations of an actor, over the history of the program that was it, and whether
-    all of them hold. Nothing is said where none is expected."""
+    """What is said of the record's expectations of an actor, over the history of the program that was it,
+    and whether all of them hold. Nothing is said where none is expected."""
     expected = expected_of(read_text(record.path), name)
     if not expected:
         return "", True

@@ -1,5 +1,5 @@
-"""Runs a program on the devices of a record. The server is started, then the program with the shim loaded into it, and
-both are ended. docs/RUN.md says what that is for."""
+"""Runs a program on the devices of a record. The server is started, then the program with the shim loaded
+into it, and both are ended. docs/RUN.md says what that is for."""
 
 from __future__ import annotations
 
@@ -74,8 +74,14 @@ def start_server(folder: str, settings: Settings, words: List[str], is_kept: boo
     """Starts a server on a folder, and waits until programs may begin."""
     command = [built(SERVER), "--folder", folder, *(["--keep"] if is_kept else []), *words]
     log = open(os.path.join(folder, LOG), "w", encoding="utf-8") if is_kept else None
-    server = subprocess.Popen(command, stdin=subprocess.DEVNULL, stdout=subprocess.PIPE, stderr=log, text=True,
-                              start_new_session=is_kept)
+    server = subprocess.Popen(
+        command,
+        stdin=subprocess.DEVNULL,
+        stdout=subprocess.PIPE,
+        stderr=log,
+        text=True,
+        start_new_session=is_kept,
+    )
     if log is not None:
         log.close()
     assert server.stdout is not None
@@ -118,8 +124,15 @@ def keep(run: Run) -> None:
     """Writes what programs that start later have to know: for this command, and for a shell."""
     assert run.server is not None
     with open(run.path(SETTINGS), "w", encoding="utf-8") as file:
-        json.dump({"server": run.server.pid, "first": run.settings.first, "by_frames": run.settings.is_by_frames,
-                   "end": run.settings.end}, file)
+        json.dump(
+            {
+                "server": run.server.pid,
+                "first": run.settings.first,
+                "by_frames": run.settings.is_by_frames,
+                "end": run.settings.end,
+            },
+            file,
+        )
     with open(run.path(ENVIRONMENT), "w", encoding="utf-8") as file:
         for name, value in environment(run).items():
             file.write(f"export {name}='{value}'\n")
@@ -175,7 +188,7 @@ class Ended:
 
 
 class Program:
-    """A program that runs. What is sent to this command by the terminal or by `kill` reaches the program too."""
+    """A program that runs. What the terminal or `kill` sends to this command reaches the program too."""
 
     def __init__(self, words: List[str], more: Dict[str, str]):
         self.stopped = False
