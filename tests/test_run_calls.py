@@ -27,7 +27,7 @@ STUCK = TOP / "examples" / "stuck_key.rec"
 RUN = str(TOP / "tools" / "run")
 COMPILER = os.environ.get("CC", "cc")
 SECONDS = 120
-REQUESTS, MESSAGES, PROCESS_CHECKS = 5000, 2000, 20
+REQUESTS, MESSAGES, PROCESS_CHECKS, LIMIT_CHECKS = 5000, 2000, 20, 6
 RING = 128
 PYTHON = [sys.executable, "-B"]
 
@@ -79,6 +79,12 @@ class RunCase(FolderCase):
         self.assertRegex(done.stdout, form + r"\n\Z", done.stderr[-4000:])
         self.assertEqual(status, done.returncode, done.stderr[-4000:])
 
+    def says_ok(self, done: subprocess.CompletedProcess[str], checks: int) -> None:
+        """It wrote so many lines, each of which says that something is so."""
+        lines = done.stdout.splitlines()
+        self.assertEqual([], [line for line in lines if not line.startswith("ok ")], done.stderr)
+        self.assertEqual(checks, len(lines), done.stdout + done.stderr)
+
 
 class Calls(RunCase):
     def test_each_call_of_evdev(self) -> None:
@@ -89,10 +95,14 @@ class Calls(RunCase):
 
     def test_several_processes_have_one_device(self) -> None:
         done = self.run_tool(["--frames", 1, HERE / "keys.rec", "--", *PYTHON, HERE / "processes.py"])
-        lines = done.stdout.splitlines()
-        self.assertEqual([], [line for line in lines if not line.startswith("ok ")], done.stderr)
-        self.assertEqual(PROCESS_CHECKS, len(lines), done.stdout + done.stderr)
+        self.says_ok(done, PROCESS_CHECKS)
         self.assertIn("the server ended by signal 9", done.stderr)
+
+    def test_limits_and_a_server_that_is_stopped(self) -> None:
+        self.says_ok(
+            self.run_tool(["--quiet", 60000, HERE / "keys.rec", "--", *PYTHON, HERE / "limits.py"]),
+            LIMIT_CHECKS,
+        )
 
 
 class Random(RunCase):
