@@ -204,11 +204,11 @@ static void write_device(FILE *file, const struct writing *writing, const struct
 }
 
 void history_write(void) {
+    if (!settings.history)
+        return;
     char *text = NULL;
     size_t length;
     struct writing writing = {.actions = open_memstream(&text, &length)};
-    if (!settings.history)
-        return;
     FILE *file = fopen(settings.history, "w");
     if (!file || !writing.actions)
         fail("%s: %s", settings.history, strerror(errno));
