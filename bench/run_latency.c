@@ -20,7 +20,7 @@
 #include <time.h>
 #include <unistd.h>
 
-enum { FRAME = 2, BETWEEN_US = 2000, BATCHES = 30, CALLS = 2000 };
+enum { FRAME = 2, BETWEEN_US = 2000, BATCHES = 300, CALLS = 300 };
 
 static double now_us(void) {
     struct timespec time;

@@ -121,17 +121,13 @@ void client_show(struct client *client, bool has_events) {
     }
 }
 
-void client_hang_up(struct client *client) {
-    client_close(client);
-}
-
 /* Who can read already, and does not ask now, is not looked at: others take nothing away from it. */
 static void refresh(struct client *client) {
     if (client->has_byte && client->brought < 0 && !client->device->is_gone)
         return;
     enum sight sight = device_sight(client->device, client->number);
     if (sight == SEES_NO_DEVICE)
-        client_hang_up(client);
+        client_close(client); /* the program sees a hang-up, and what it asks from here on is ENODEV */
     else if (client->kind == NODE_EVENT)
         client_show(client, sight == SEES_EVENTS);
     else if (sight == SEES_EVENTS)

@@ -57,7 +57,7 @@ extern struct client clients[CLIENTS];
  * errno. */
 int client_open(int32_t node, uint32_t flags, pid_t process);
 
-/** Closes a client: its last descriptor has gone. */
+/** Closes a client and our end: its last descriptor has gone, or it has lost its device. */
 void client_close(struct client *client);
 
 /** Whose end a descriptor is, or NULL. */
@@ -68,9 +68,6 @@ bool is_nonblocking(const struct client *client);
 
 /** Puts the byte of a client, or takes it, by whether there is something to read. */
 void client_show(struct client *client, bool has_events);
-
-/** Closes our end: the program sees POLLHUP, and what it asks from here on is ENODEV. */
-void client_hang_up(struct client *client);
 
 /** Looks at all clients of a device: which have something to read, and which have lost the device. */
 void clients_refresh(struct device *device);

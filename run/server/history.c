@@ -12,7 +12,7 @@
 #include <stdlib.h>
 #include <string.h>
 
-enum { STEPS_AT_ONCE = 1024, NAMES_AT_ONCE = 64, COMMAND_ROOM = 32 };
+enum { STEPS_AT_ONCE = 1024, NAMES_AT_ONCE = 64, COMMAND_ROOM = 32, USUAL_LOG = 1048576 };
 
 /** The first name of each client that was opened of a device, by the order of opening. */
 static struct opening {
@@ -182,22 +182,33 @@ static void name_sources(struct writing *writing) {
     }
 }
 
+/* The lines of a description. A history that is not long wants no room for a longer one than usual. */
+static void write_description(FILE *file, const struct device *device) {
+    const char *device_line = strchr(device->description, '\n') + 1, *line = strchr(device_line, '\n') + 1;
+    while (*line) {
+        const char *end = strchr(line, '\n') + 1;
+        if (device->steps > USUAL_LOG || strncmp(line, "log ", 4) != 0)
+            fwrite(line, 1, (size_t)(end - line), file);
+        line = end;
+    }
+}
+
 static void write_device(FILE *file, const struct writing *writing, const struct device *device) {
-    const char *device_line = strchr(device->description, '\n') + 1, *lines = strchr(device_line, '\n') + 1;
     fprintf(file, "device %s\n", device->record_name);
     write_identity(file, device);
-    fprintf(file, "%ssource %s\n", lines, writing->sources[device_index(device)]);
+    write_description(file, device);
+    fprintf(file, "source %s\n", writing->sources[device_index(device)]);
     for (size_t i = 0; i < writing->tap_count; i++)
         if (writing->taps[i].device == device)
             fprintf(file, "tap %s\n", writing->taps[i].name);
 }
 
 void history_write(void) {
+    if (!settings.history)
+        return;
     char *text = NULL;
     size_t length;
     struct writing writing = {.actions = open_memstream(&text, &length)};
-    if (!settings.history)
-        return;
     FILE *file = fopen(settings.history, "w");
     if (!file || !writing.actions)
         fail("%s: %s", settings.history, strerror(errno));

@@ -6,9 +6,11 @@
 #include "history.h"
 #include "settings.h"
 
+#include <stdio.h>
+#include <stdlib.h>
 #include <string.h>
 
-enum { STEPS_AT_ONCE = 1024, CELLS = 14 * 256 };
+enum { STEPS_AT_ONCE = 1024, STEPS_MORE = 1024, CELLS = 14 * 256 };
 
 static inputplay_event events[INPUTPLAY_READ_MAX];
 
@@ -27,14 +29,29 @@ static void repeat_steps(inputplay_handle *copy, const inputplay_step_t *steps, 
             fail("a step of a history was refused");
 }
 
+/* The description of a copy: it wants no room for a long history. */
+static char *short_description(const struct device *device) {
+    static const char longest[] = "\nlog 8388608\n";
+    char *text = strdup(device->description), *line = text ? strstr(text, longest) : NULL;
+    if (!text)
+        fail("memory ran out");
+    if (line && device->steps + STEPS_MORE < 8388608) {
+        char shorter[sizeof longest];
+        snprintf(shorter, sizeof shorter, "\nlog %07u\n", device->steps + STEPS_MORE);
+        memcpy(line, shorter, sizeof longest - 1);
+    }
+    return text;
+}
+
 /* A device with the same history. */
 static void copy_device(struct device *device, inputplay_handle *copy) {
     static inputplay_step_t steps[STEPS_AT_ONCE];
+    char *text = short_description(device);
     size_t from = 0, left = 1;
     uint32_t line, cause;
-    if (inputplay_device_new((const uint8_t *)device->description, strlen(device->description), 0, copy,
-                             &line, &cause))
+    if (inputplay_device_new((const uint8_t *)text, strlen(text), 0, copy, &line, &cause))
         fail("memory ran out");
+    free(text);
     while (left) {
         inputplay_history(&device->handle, from, steps, STEPS_AT_ONCE, &left);
         size_t count = left < STEPS_AT_ONCE ? left : STEPS_AT_ONCE;

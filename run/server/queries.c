@@ -7,18 +7,11 @@
 
 enum { CELLS = 14 * 256 };
 
-/* What the client has queued of the type goes. A type that the device lacks has no bit set, and nothing of it
- * waits. */
+/* What the client has queued of the type goes. */
 int get_state(struct client *client, struct ioctl_call *call, uint32_t step, unsigned type) {
     inputplay_reply reply;
-    if (!device_has(client->device, EV_SYN, type))
-        memset(&reply, 0, sizeof reply);
-    else {
-        int error = client_step(client, (inputplay_step_t){.step = step}, &reply);
-        if (error)
-            return error;
-    }
-    return answer_bytes(call, reply.words, code_bytes(type));
+    int error = client_step(client, (inputplay_step_t){.step = step}, &reply);
+    return error ? error : answer_bytes(call, reply.words, code_bytes(type));
 }
 
 /* The code that is asked for stands first, and the values go behind it, as many as there is room for. */
@@ -26,46 +19,41 @@ int get_slots(struct client *client, struct ioctl_call *call) {
     static int32_t cells[CELLS];
     uint32_t code, size = _IOC_SIZE(call->number);
     memcpy(&code, call->bytes, sizeof code);
-    if (!client->device->slots || code <= ABS_MT_SLOT || code > ABS_MT_TOOL_Y)
+    if (code <= ABS_MT_SLOT || code > ABS_MT_TOOL_Y)
         return -EINVAL;
-    memset(cells, 0, client->device->slots * sizeof *cells);
-    if (device_has(client->device, EV_ABS, code) || code == ABS_MT_TRACKING_ID) {
-        inputplay_step_t step = {
-            .step = INPUTPLAY_GET_SLOTS, .client = client->number, .code = (uint16_t)code};
-        inputplay_reply reply;
-        device_step_cells(client->device, &step, &reply, cells, CELLS);
-        if (reply.reply == INPUTPLAY_STEP_REFUSED)
-            return error_of(reply.why);
-    }
+    inputplay_step_t step = {.step = INPUTPLAY_GET_SLOTS, .client = client->number, .code = (uint16_t)code};
+    inputplay_reply reply;
+    device_step_cells(client->device, &step, &reply, cells, CELLS);
+    if (reply.reply == INPUTPLAY_STEP_REFUSED)
+        return error_of(reply.why);
     if (size < sizeof code)
         return 0;
     uint32_t room = (size - (uint32_t)sizeof code) / (uint32_t)sizeof *cells;
-    uint32_t count = room < client->device->slots ? room : client->device->slots;
+    uint32_t count = room < reply.count ? room : reply.count;
     memcpy(call->bytes + sizeof code, cells, count * sizeof *cells);
     call->answered = (uint32_t)sizeof code + count * (uint32_t)sizeof *cells;
     return 0;
 }
 
+/* Whether a device has the axis. One with other axes takes a description of this one too, and tells it. */
+static bool has_axis(const struct device *device, unsigned code) {
+    return device_has(device, EV_ABS, code);
+}
+
 static bool has_axes(const struct device *device) {
     for (unsigned code = 0; code < ABS_CNT; code++)
-        if (device_has(device, EV_ABS, code))
+        if (has_axis(device, code))
             return true;
-    return device->slots;
+    return false;
 }
 
-static bool has_axis(const struct device *device, unsigned code) {
-    return device_has(device, EV_ABS, code) ||
-           (device->slots && (code == ABS_MT_SLOT || code == ABS_MT_TRACKING_ID));
-}
-
-/* An axis that the device lacks is told too: as zeros, or as it was described. */
 int get_axis(struct client *client, struct ioctl_call *call) {
     uint32_t code = _IOC_NR(call->number) & ABS_MAX;
-    inputplay_reply reply;
+    struct input_absinfo info = client->device->lacking[code];
     if (!has_axes(client->device))
         return -EINVAL;
-    struct input_absinfo info = client->device->lacking[code];
     if (has_axis(client->device, code)) {
+        inputplay_reply reply;
         int error = client_step(
             client, (inputplay_step_t){.step = INPUTPLAY_GET_AXIS, .code = (uint16_t)code}, &reply);
         if (error)

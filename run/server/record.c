@@ -115,6 +115,8 @@ static void take_line(struct reading *reading, char *line) {
     snprintf(whole, sizeof whole, "%s", line);
     for (char *word = strtok_r(line, " ", &rest); word && count < WORDS; word = strtok_r(NULL, " ", &rest))
         words[count++] = word;
+    if (count < 2)
+        return; /* (the header has two words too; no line has fewer) */
     if (is_one_of(words[0], begins)) {
         begin_device(reading, whole, words[1]);
     } else if (!strcmp(words[0], "do")) {

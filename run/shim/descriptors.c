@@ -22,7 +22,7 @@ struct entry {
     char name[];
 };
 
-static int node_of_peer(int descriptor) {
+int node_of_peer(int descriptor) {
     struct sockaddr_un name;
     socklen_t length = sizeof name;
     if (descriptor < 0 || syscall(SYS_getpeername, descriptor, &name, &length) || name.sun_family != AF_UNIX)
@@ -39,10 +39,6 @@ static int node_of_peer(int descriptor) {
         return -1;
     bool is_whole = sscanf(text + sizeof PEER_PREFIX - 1, "%llx/%x/%x", &number, &serial, &node) == 3;
     return is_whole && number == shim_run()->number ? (int)node : -1;
-}
-
-int node_of_descriptor(int descriptor) {
-    return atomic_load_explicit(&may_have_nodes, memory_order_relaxed) ? node_of_peer(descriptor) : -1;
 }
 
 /* Whether a descriptor that the program was started with is of a run. (Of which one is not known yet.) */

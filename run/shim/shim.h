@@ -55,8 +55,13 @@ const char *true_path(const char *path, char *room, size_t size);
 /** The minor number of a node. (paths.c) */
 unsigned minor_of_node(int node);
 
-/** The node that a descriptor is of, or -1: the server has named the other end. (descriptors.c) */
-int node_of_descriptor(int descriptor);
+/** The node that a socket's other end is named for, or -1. (descriptors.c) */
+int node_of_peer(int descriptor);
+
+/** The node that a descriptor is of, or -1. */
+static inline int node_of_descriptor(int descriptor) {
+    return atomic_load_explicit(&may_have_nodes, memory_order_relaxed) ? node_of_peer(descriptor) : -1;
+}
 
 /** Looks for nodes among descriptors that the program was started with. (descriptors.c) */
 void look_at_descriptors(void);

@@ -94,8 +94,16 @@ EXPORT int epoll_pwait2(int descriptor, struct epoll_event *events, int count, c
 
 /* The names that programs call that were compiled with checks of buffers. */
 int __poll_chk(struct pollfd *files, nfds_t count, int time, size_t size);
+int __ppoll_chk(struct pollfd *files, nfds_t count, const struct timespec *time, const sigset_t *mask,
+                size_t size);
 
 EXPORT int __poll_chk(struct pollfd *files, nfds_t count, int time, size_t size) {
     (void)size;
     return poll(files, count, time);
+}
+
+EXPORT int __ppoll_chk(struct pollfd *files, nfds_t count, const struct timespec *time, const sigset_t *mask,
+                       size_t size) {
+    (void)size;
+    return ppoll(files, count, time, mask);
 }

@@ -5,6 +5,7 @@
 
 #include <dirent.h>
 #include <fcntl.h>
+#include <glob.h>
 #include <linux/input.h>
 #include <poll.h>
 #include <string.h>
@@ -67,9 +68,15 @@ static void folders(void) {
         free(list[i]);
     free(list);
     CHECK(inotify_add_watch(watch, "/dev/input", IN_CREATE | IN_DELETE) > 0 && close(watch) == 0);
-    char *path = realpath(NODE, NULL);
+    char *path = realpath(NODE, NULL), link[8];
     CHECK(path && !strcmp(path, NODE));
     free(path);
+    FAILS(readlink(NODE, link, sizeof link), EINVAL);
+    glob_t found;
+    CHECK(glob("/dev/input/event*", 0, NULL, &found) == 0 && found.gl_pathc == 2 &&
+          !strcmp(found.gl_pathv[1], PLAIN));
+    globfree(&found);
+    CHECK(glob("/dev/input/mice*", 0, NULL, &found) == GLOB_NOMATCH);
 }
 
 /* (Between reads that find nothing something is asked: who only reads waits, and frames would come.) */

@@ -8,7 +8,7 @@ from typing import List, NoReturn, Optional, Tuple
 
 from inputtools import running
 from inputtools.command import Words, Wrong, say
-from inputtools.runjudging import copy_history, judged, write_page
+from inputtools.runjudging import History
 from inputtools.running import FAILED, NOT_HELD, NOT_STARTED, NoProgram, Run, Settings
 from inputtools.runsystem import with_system_files
 from inputtools.source import Given
@@ -61,7 +61,7 @@ def words() -> RunWords:
         "--first-loss",
         metavar="PLACE",
         type=count,
-        help="from this place of the history on play until a program has lost events, once (frames: 1)",
+        help="from this place of the history on programs read nothing until one has lost events (frames: 1)",
     )
     told.add_argument("--speed", metavar="X", help="play the record's times X times as fast")
     told.add_argument(
@@ -156,15 +156,14 @@ def run_program(run: Run, asked: argparse.Namespace, program: List[str], record:
     return running.status_of(ended, run.settings.end)
 
 
-def finish(asked: argparse.Namespace, record: Given, history: str, status: int) -> int:
-    """Judges, keeps and draws the history; the status of the whole."""
+def finish(asked: argparse.Namespace, record: Given, path: str, status: int) -> int:
+    """Keeps, draws and judges the history; the status of the whole."""
+    history = History(record, asked.actor, path)
     if asked.history:
-        copy_history(history, asked.history)
+        history.copy(asked.history)
     if asked.draw:
-        write_page(record, history, asked.draw)
-    if not asked.actor or asked.actor == "*":
-        return status
-    text, is_held = judged(record, asked.actor, history)
+        history.draw(asked.draw)
+    text, is_held = history.judged()
     for line in text.splitlines():
         say("run", line)
     return status if is_held or status else NOT_HELD
