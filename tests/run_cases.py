@@ -16,7 +16,7 @@ from dataclasses import dataclass
 from pathlib import Path
 from typing import Dict, List, Sequence, Tuple
 
-from playing import TOP, FolderCase
+from playing import PROGRAM, TOP, FolderCase
 
 from inputtools.runbuild import NotBuilt, archive, build_run
 from inputtools.running import BUILT_VARIABLE
@@ -83,7 +83,11 @@ def build() -> Built:
 
 
 def variables(built: Built) -> Dict[str, str]:
-    return {**os.environ, BUILT_VARIABLE: str(built.folder / "built"), "PYTHONDONTWRITEBYTECODE": "1"}
+    """The variables of a run. Where the built program is not there the tools play by the second one."""
+    told = {**os.environ, BUILT_VARIABLE: str(built.folder / "built"), "PYTHONDONTWRITEBYTECODE": "1"}
+    if not os.access(PROGRAM, os.X_OK):
+        told.pop("INPUTPLAY", None)
+    return told
 
 
 def run(built: Built, words: Sequence[object], program: Sequence[object], **more: str) -> Done:
