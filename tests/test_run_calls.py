@@ -2,18 +2,19 @@
 with what finds wrong reads, writes and races.
 
 The checks want a C compiler and the library's archive (out/library, or the folder that INPUTPLAY_LIB_DIR
-names). A check that wants what is not here is left out, and a line `not made` names it. Those with
-sanitizers and valgrind take longer, and are made where they are asked for by name: `tests/run run_calls`.
+names). A check that wants what is not here is left out. Those with sanitizers and valgrind take longer, and are
+made where they are asked for by name: `tests/run run_calls`.
 """
 
 from __future__ import annotations
 
+import atexit
 import os
-import re
 import shutil
 import subprocess
 import sys
-import unittest
+import tempfile
+from functools import lru_cache
 from pathlib import Path
 from typing import Dict, List, Optional, Sequence, Tuple
 
@@ -53,10 +54,40 @@ def compiled(source: Path, program: Path, flags: Sequence[str] = (), more: Seque
     return str(program)
 
 
+def why_not() -> Optional[str]:
+    """Why no check can be made here, or None."""
+    if shutil.which(COMPILER) is None:
+        return "a C compiler is not there"
+    try:
+        runbuild.archive()
+    except runbuild.NotBuilt:
+        return "the library is not built"
+    return None
+
+
+@lru_cache(maxsize=None)
+def built() -> Path:
+    """A folder with the server and the shim, which are built once."""
+    folder = Path(tempfile.mkdtemp(prefix="inputplay-"))
+    atexit.register(shutil.rmtree, folder, ignore_errors=True)
+    runbuild.build_run(folder, COMPILER, runbuild.archive())
+    return folder
+
+
 class RunCase(FolderCase):
     """A test that runs programs by a server and a shim that were built for all."""
 
-    built: Path
+    # Whether it takes long, and is made where it is asked for by name alone.
+    is_long = False
+
+    def setUp(self) -> None:
+        super().setUp()
+        why = why_not()
+        if why is None and self.is_long and "run_calls" not in sys.argv[1:]:
+            why = "`tests/run run_calls` makes it"
+        if why is not None:
+            self.skipTest(why)
+        self.built = built()
 
     def run_tool(
         self, words: Sequence[object], programs: Optional[Path] = None
@@ -220,6 +251,8 @@ class Sanitized(RunCase):
     """The calls' program with the shim linked into it, and the server, both compiled with a sanitizer. The
     shim is not loaded then: a sanitizer's own functions come first of all."""
 
+    is_long = True
+
     def checks(self, sanitizer: str, options: Dict[str, str]) -> None:
         flags = [f"-fsanitize={sanitizer}", "-fno-sanitize-recover=all"]
         runbuild.compile_by(runbuild.server_words(COMPILER, runbuild.archive(), self.folder, flags))
@@ -241,7 +274,11 @@ class Sanitized(RunCase):
 
 
 class Valgrind(RunCase):
+    is_long = True
+
     def test_the_shim_and_the_server(self) -> None:
+        if shutil.which("valgrind") is None:
+            self.skipTest("valgrind is not there")
         valgrind = "valgrind -q --error-exitcode=9 --leak-check=full"
         server = self.folder / runbuild.SERVER
         server.write_text(f'#!/bin/sh\nexec {valgrind} {self.built / runbuild.SERVER} "$@"\n')
@@ -269,49 +306,3 @@ def variables_to_play() -> Dict[str, str]:
     """What the tools are told: the program, where it is there; else the second program plays."""
     has_program = os.access(os.environ.get("INPUTPLAY", ""), os.X_OK)
     return {name: value for name, value in os.environ.items() if name != "INPUTPLAY" or has_program}
-
-
-def why_not() -> Optional[str]:
-    """Why no check can be made here, or None."""
-    if shutil.which(COMPILER) is None:
-        return f"{COMPILER} is not there"
-    try:
-        runbuild.archive()
-    except runbuild.NotBuilt as wrong:
-        return str(wrong)
-    return None
-
-
-def not_made(what: str, why: str) -> None:
-    print(f"not made: {what}: {why}", flush=True)
-
-
-def cases() -> List[type]:
-    """The checks that can be made here."""
-    asked = "run_calls" in sys.argv[1:]
-    found = [Calls, Random, Statuses, Histories, Server]
-    if not asked:
-        not_made("run_calls with sanitizers and valgrind", "tests/run run_calls makes them")
-        return found
-    found.append(Sanitized)
-    if shutil.which("valgrind"):
-        return [*found, Valgrind]
-    not_made("run_calls, Valgrind", "valgrind is not there")
-    return found
-
-
-def load_tests(
-    loader: unittest.TestLoader, tests: unittest.TestSuite, pattern: Optional[str]
-) -> unittest.TestSuite:
-    suite, why = unittest.TestSuite(), why_not()
-    if why is not None:
-        not_made("the calls of tools/run", why)
-        return suite
-    RunCase.built = Path(
-        subprocess.run(["mktemp", "-d"], stdout=subprocess.PIPE, text=True, check=True).stdout.strip()
-    )
-    unittest.addModuleCleanup(shutil.rmtree, RunCase.built)
-    runbuild.build_run(RunCase.built, COMPILER, runbuild.archive())
-    for case in cases():
-        suite.addTests(loader.loadTestsFromTestCase(case))
-    return suite

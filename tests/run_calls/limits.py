@@ -50,7 +50,7 @@ def leaks_nothing(server: int) -> None:
 
 
 def opens_many() -> None:
-    nodes = []
+    nodes: List[int] = []
     while len(nodes) <= MOST_FILES:
         try:
             nodes.append(os.open(NODE, os.O_RDONLY))

@@ -8,7 +8,6 @@ from typing import List, NoReturn, Optional, Tuple
 
 from inputtools import running
 from inputtools.command import Words, Wrong, say
-from inputtools.runjudging import History
 from inputtools.running import FAILED, NOT_HELD, NOT_STARTED, NoProgram, Run, Settings
 from inputtools.runsystem import with_system_files
 from inputtools.source import Given
@@ -158,6 +157,11 @@ def run_program(run: Run, asked: argparse.Namespace, program: List[str], record:
 
 def finish(asked: argparse.Namespace, record: Given, path: str, status: int) -> int:
     """Keeps, draws and judges the history; the status of the whole."""
+    if not (asked.history or asked.draw or asked.actor):
+        return status
+    # (most runs want none of this, and begin sooner without it)
+    from inputtools.runjudging import History
+
     history = History(record, asked.actor, path)
     if asked.history:
         history.copy(asked.history)

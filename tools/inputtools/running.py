@@ -10,7 +10,7 @@ import signal
 import subprocess
 import tempfile
 import time
-from dataclasses import dataclass
+from dataclasses import asdict, dataclass
 from types import FrameType
 from typing import Dict, List, Optional
 
@@ -120,44 +120,41 @@ def remove_folder(folder: str) -> None:
     shutil.rmtree(folder, ignore_errors=True)
 
 
+@dataclass(frozen=True)
+class Kept:
+    """What a folder keeps of its run, for programs that start later."""
+
+    server: int
+    first: int
+    is_by_frames: bool
+    end: str
+
+
 def keep(run: Run) -> None:
     """Writes what programs that start later have to know: for this command, and for a shell."""
     assert run.server is not None
+    kept = Kept(run.server.pid, run.settings.first, run.settings.is_by_frames, run.settings.end)
     with open(run.path(SETTINGS), "w", encoding="utf-8") as file:
-        json.dump(
-            {
-                "server": run.server.pid,
-                "first": run.settings.first,
-                "by_frames": run.settings.is_by_frames,
-                "end": run.settings.end,
-            },
-            file,
-        )
+        json.dump(asdict(kept), file)
     with open(run.path(ENVIRONMENT), "w", encoding="utf-8") as file:
         for name, value in environment(run).items():
             file.write(f"export {name}='{value}'\n")
 
 
-def kept_pid(folder: str) -> int:
-    return int(kept_words(folder)["server"])
-
-
-def kept_words(folder: str) -> Dict[str, object]:
+def kept_in(folder: str) -> Kept:
     try:
         with open(os.path.join(folder, SETTINGS), encoding="utf-8") as file:
-            words = json.load(file)
-    except (OSError, ValueError):
+            return Kept(**json.load(file))
+    except (OSError, ValueError, TypeError):
         raise Wrong(f"{folder}: no server was started here; give a RECORD to start one") from None
-    assert isinstance(words, dict)
-    return words
 
 
 def join(folder: str) -> Run:
     """A run whose server an earlier command started."""
-    words = kept_words(folder)
-    if not is_alive(int(str(words["server"]))):
+    kept = kept_in(folder)
+    if not is_alive(kept.server):
         raise Wrong(f"{folder}: its server has ended; {said_by(folder) or 'remove the folder'}")
-    return Run(folder, Settings(int(str(words["first"])), bool(words["by_frames"]), str(words["end"])))
+    return Run(folder, Settings(kept.first, kept.is_by_frames, kept.end))
 
 
 def is_alive(process: int) -> bool:
@@ -170,7 +167,7 @@ def is_alive(process: int) -> bool:
 
 def stop(folder: str) -> None:
     """Ends the server of a folder, and waits until its history is written."""
-    process = int(str(kept_words(folder)["server"]))
+    process = kept_in(folder).server
     deadline = time.monotonic() + SECONDS_TO_END
     if is_alive(process):
         os.kill(process, signal.SIGTERM)
