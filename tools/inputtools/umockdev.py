@@ -15,7 +15,7 @@ from inputtools.recordlines import parse
 # The directory of the first device in /sys, so that no device of this machine has the same.
 FIRST_INPUT = 90
 MAJOR, FIRST_MINOR = 13, 64
-BUS_VIRTUAL = 6
+NO_IDS = Ids(0, 0, 0, 0)
 CAPABILITIES = {"ev": SYN, "key": KEY, "rel": REL, "abs": ABS, "msc": MSC, "sw": SW, "led": LED, "snd": SND, "ff": 0x15}
 WORD = 64
 
@@ -42,7 +42,7 @@ def codes_of(device: Device) -> Dict[int, Set[int]]:
 
 def attributes_of(device: Device, identity: Identity) -> Dict[str, str]:
     """The files of the device's directory in /sys."""
-    ids = identity.ids or Ids(BUS_VIRTUAL, 0, 0, 0)
+    ids = identity.ids or NO_IDS
     codes = codes_of(device)
     attributes = {"name": identity.name or device.name, "phys": identity.phys, "uniq": identity.uniq}
     attributes["properties"] = words_of(identity.properties)
@@ -67,7 +67,7 @@ def environment_of(attributes: Dict[str, str], ids: Ids) -> Dict[str, str]:
 def device_lines(device: Device, number: int) -> List[str]:
     """The lines of a device and of its event node."""
     identity, place = device.identity, f"/devices/virtual/input/input{FIRST_INPUT + number}"
-    attributes, ids = attributes_of(device, identity), identity.ids or Ids(BUS_VIRTUAL, 0, 0, 0)
+    attributes, ids = attributes_of(device, identity), identity.ids or NO_IDS
     kinds = [f"E: {name}={value}" for name, value in properties_of(device, identity.properties, ids.bus).items()]
     told = [f"E: {name}={value}" for name, value in environment_of(attributes, ids).items()]
     files = [f"A: {name}={escaped(value)}\\n" for name, value in attributes.items()]
