@@ -14,7 +14,7 @@ import unittest
 from concurrent.futures import ThreadPoolExecutor
 from dataclasses import dataclass
 from pathlib import Path
-from typing import Dict, List, Sequence, Tuple
+from typing import Dict, List, Mapping, Sequence, Tuple
 
 from playing import PROGRAM, TOP, FolderCase
 
@@ -26,6 +26,7 @@ HERE = TOP / "tests" / "run_programs"
 # A program that hangs is a failure.
 SECONDS = 25
 LIBINPUT = "/usr/libexec/libinput"
+NOTHING_MORE: Mapping[str, str] = {}
 CAPTURES = ("keyboard", "mouse", "touchpad", "lid")
 
 
@@ -90,8 +91,8 @@ def variables(built: Built) -> Dict[str, str]:
     return told
 
 
-def run(built: Built, words: Sequence[object], program: Sequence[object], **more: str) -> Done:
-    """tools/run with these words, and the program behind them."""
+def run(built: Built, words: Sequence[object], program: Sequence[object], more: Mapping[str, str]) -> Done:
+    """tools/run with these words, and the program behind them. `more` are variables that it gets too."""
     command = [sys.executable, TOP / "tools" / "run", "--timeout", SECONDS, *words, "--", *program]
     done = subprocess.run([str(word) for word in command], env={**variables(built), **more}, cwd=built.folder,
                           stdin=subprocess.DEVNULL, capture_output=True, timeout=2 * SECONDS, check=False)
@@ -145,8 +146,8 @@ class RunCase(FolderCase):
         self.built = build()
         self.records = self.built.folder
 
-    def ran(self, words: Sequence[object], program: Sequence[object], **more: str) -> Done:
-        return run(self.built, words, program, **more)
+    def ran(self, words: Sequence[object], program: Sequence[object], more: Mapping[str, str] = NOTHING_MORE) -> Done:
+        return run(self.built, words, program, more)
 
     def says(self, done: Done, pattern: str, count: int) -> None:
         """A pattern stands in so many lines of what the program wrote."""
@@ -159,14 +160,15 @@ class RunCase(FolderCase):
         more = [f".. {len(lines) - 40} lines more"] if len(lines) > 40 else []
         return "\n".join([f"status {done.status}", *lines[:40], *more, "stderr:", done.errors[-2000:]])
 
-    def twice(self, words: Sequence[object], program: Sequence[object], but: bytes = b"", **more: str) -> Done:
+    def twice(self, words: Sequence[object], program: Sequence[object], but: bytes = b"",
+              more: Mapping[str, str] = NOTHING_MORE) -> Done:
         """Runs a program twice by frames. Both runs write the same, but for what has the pattern `but`."""
         with ThreadPoolExecutor(2) as pool:
-            first, second = pool.map(lambda _: self.ran(words, program, **more), range(2))
+            first, second = pool.map(lambda _: self.ran(words, program, more), range(2))
         texts = [re.sub(but, b"", done.text) if but else done.text for done in (first, second)]
         if texts[0] != texts[1] or first.status != second.status:
-            lines = [text.decode("utf-8", "backslashreplace").splitlines() for text in texts]
-            more_lines = "\n".join(list(difflib.unified_diff(*lines, lineterm="", n=1))[:40])
+            one, other = (text.decode("utf-8", "backslashreplace").splitlines() for text in texts)
+            more_lines = "\n".join(list(difflib.unified_diff(one, other, lineterm="", n=1))[:40])
             self.fail(f"two runs differ, statuses {first.status} {second.status}:\n{more_lines}\n{first.errors[-1000:]}")
         return first
 

@@ -9,36 +9,36 @@ NODE = {"SDL_JOYSTICK_DEVICE": "/dev/input/event0"}
 
 
 class Sdl(RunCase):
-    def setUp(self):
+    def setUp(self) -> None:
         super().setUp()
         self.program = compiled(self, self.built, "sdl.c", "sdl2", "libsdl2-dev")
 
-    def test_joystick(self):
-        done = self.twice(["--frames", "1", "--as", "*", EXAMPLES / "gamepad.rec"], [self.program, "joystick"], **NODE)
+    def test_joystick(self) -> None:
+        done = self.twice(["--frames", "1", "--as", "*", EXAMPLES / "gamepad.rec"], [self.program, "joystick"], more=NODE)
         self.says(done, "^joystick ", 1)
         self.says(done, "^(axis|button|hat)", 6)
 
-    def test_keyboard(self):
+    def test_keyboard(self) -> None:
         needs(self, "umockdev-run", "umockdev")
         done = self.twice(["--frames", "1", "--as", "reader", self.records / "keyboard.rec"], [self.program, "keys"])
         self.says(done, "^key ", 157)
 
-    def test_mouse(self):
+    def test_mouse(self) -> None:
         needs(self, "umockdev-run", "umockdev")
         done = self.twice(["--frames", "1", "--as", "reader", self.records / "mouse.rec"], [self.program, "keys"])
         self.says(done, "^mouse button", 14)
         self.assertGreater(done.count("^motion"), 80, self.shown(done))
 
-    def test_a_pad_stands_as_it_is_where_nothing_was_lost(self):
+    def test_a_pad_stands_as_it_is_where_nothing_was_lost(self) -> None:
         pad = RandomPad(1, 60)
         path = self.folder / "pad.rec"
         path.write_text(pad.record())
-        done = self.twice(["--frames", "1", path], [self.program, "joystick"], **NODE)
+        done = self.twice(["--frames", "1", path], [self.program, "joystick"], more=NODE)
         self.assertEqual(pad.stands(), done.lines()[-1], self.shown(done))
 
 
 class Jstest(RunCase):
-    def test_events(self):
+    def test_events(self) -> None:
         words = ["--frames", "1", "--joysticks", "--as", "*", "--end", "int", EXAMPLES / "gamepad.rec"]
         done = self.twice(words, [needs(self, "jstest", "joystick"), "--event", "/dev/input/js0"])
         self.says(done, "^Event: type (1|2),", 6)

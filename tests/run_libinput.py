@@ -1,6 +1,7 @@
 """libinput's own tools on played devices, which find them by udev's data: umockdev shows it."""
 
 import subprocess
+from typing import List
 
 from run_cases import EXAMPLES, RunCase, events_of, needs
 from run_readers import AT_ONCE, NODE, STEPS
@@ -13,42 +14,42 @@ TIMES = rb"\+ *[0-9.]+s"
 
 
 class Libinput(RunCase):
-    def setUp(self):
+    def setUp(self) -> None:
         super().setUp()
         needs(self, "umockdev-run", "umockdev")
 
-    def debug_events(self, *words):
+    def debug_events(self, *words: str) -> List[str]:
         return [needs(self, "libinput-debug-events", PACKAGE), "--show-keycodes", *words, "--device", NODE]
 
-    def test_list_devices(self):
+    def test_list_devices(self) -> None:
         done = self.twice(["--frames", "1", self.records / "touchpad.rec"], [needs(self, "libinput", PACKAGE), "list-devices"])
         self.says(done, "^Device: +ETPS/2 Elantech Touchpad", 1)
         self.says(done, "^Size: +98x61mm", 1)
 
-    def test_keyboard(self):
+    def test_keyboard(self) -> None:
         done = self.twice([*STEPS, "int", self.records / "keyboard.rec"], self.debug_events(), but=TIMES)
         # (libinput leaves autorepeats out)
         self.says(done, r"KEYBOARD_KEY .*(pressed|released)", 119)
 
-    def test_mouse(self):
+    def test_mouse(self) -> None:
         done = self.twice([*STEPS, "int", self.records / "mouse.rec"], self.debug_events(), but=TIMES)
         self.says(done, "POINTER_BUTTON", 14)
         self.assertGreater(done.count("POINTER_MOTION"), 80, self.shown(done))
 
-    def test_touchpad(self):
+    def test_touchpad(self) -> None:
         """At the record's times. (Its gestures wait by timers, so that two runs need not say the same.)"""
         done = self.ran(["--as", "reader", "--end", "int", self.records / "touchpad.rec"], self.debug_events())
         self.assertGreater(done.count("POINTER_MOTION|GESTURE"), 20, self.shown(done))
 
-    def test_lid(self):
+    def test_lid(self) -> None:
         done = self.twice([*STEPS, "int", self.records / "lid.rec"], self.debug_events(), but=TIMES)
         self.assertGreater(done.count("SWITCH_TOGGLE"), 10, self.shown(done))
 
-    def test_a_loss(self):
+    def test_a_loss(self) -> None:
         done = self.twice([*AT_ONCE, "int", self.records / "keyboard.rec"], self.debug_events("--verbose"), but=TIMES)
         self.says(done, "SYN_DROPPED event", 1)
 
-    def test_record(self):
+    def test_record(self) -> None:
         """What libinput records is what the record sends."""
         record = self.records / "mouse.rec"
         done = self.ran([*STEPS, "int", record], [needs(self, "libinput-record", PACKAGE), "--show-keycodes", NODE])
@@ -57,7 +58,7 @@ class Libinput(RunCase):
         again = self.built.record("again.rec", path).read_text().splitlines()
         self.assertEqual(events_of(record)[0], sum(" event " in line for line in again), self.shown(done))
 
-    def test_a_key_sticks(self):
+    def test_a_key_sticks(self) -> None:
         """The example's desktop is libinput: the key sticks in it, and the tools tell why."""
         history = self.folder / "history.rec"
         words = [*STEPS[2:], "int", "--as", "desktop", EXAMPLES / "stuck_key.rec"]

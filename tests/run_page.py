@@ -1,6 +1,7 @@
 """docs/RUN.md and README: each command that they show writes what they say."""
 
 import subprocess
+from typing import Dict, List, Tuple
 
 from run_cases import RunCase, needs, variables
 
@@ -9,7 +10,7 @@ from playing import TOP
 PROMPT = "    $ "
 PAGE = TOP / "docs" / "RUN.md"
 # What a command needs beside the tools, by a word of it, with the package.
-PROGRAMS = {
+PROGRAMS: Dict[str, Tuple[Tuple[str, str], ...]] = {
     "libinput debug-events": (("libinput", "libinput-tools"), ("umockdev-run", "umockdev")),
     "evtest": (("evtest", "evtest"),),
     "pkg-config": (("pkg-config", "pkg-config"), ("sdl2-config", "libsdl2-dev")),
@@ -18,27 +19,29 @@ PROGRAMS = {
 SECONDS = 60
 
 
-def commands(text):
+def commands(text: str) -> List[Tuple[str, List[str]]]:
     """The commands of a page, and of each the lines that it shows after it."""
-    found = []
+    found: List[Tuple[str, List[str]]] = []
+    is_behind_a_command = False
     for line in text.splitlines():
         if line.startswith(PROMPT):
             found.append((line[len(PROMPT) :], []))
-        elif line.startswith("    ") and found and not found[-1][1][-1:] == [None]:
+            is_behind_a_command = True
+        elif line.startswith("    ") and is_behind_a_command:
             found[-1][1].append(line[4:])
-        elif found:
-            found[-1][1].append(None)
-    return [(command, [line for line in lines if line is not None]) for command, lines in found]
+        else:
+            is_behind_a_command = False
+    return found
 
 
-def with_single_blanks(lines):
+def with_single_blanks(lines: List[str]) -> List[str]:
     """Lines whose blanks and tabs are one blank each; a last empty one is left out."""
     told = [" ".join(line.split()) for line in lines]
     return told[:-1] if told[-1:] == [""] else told
 
 
 class Page(RunCase):
-    def shown(self, command, page):
+    def is_shown(self, command: str, page: List[str]) -> None:
         """Runs a command in the test's folder. What it wrote is what the page says."""
         for word, programs in PROGRAMS.items():
             for program, package in programs if word in command else ():
@@ -48,17 +51,17 @@ class Page(RunCase):
         came = with_single_blanks(done.stdout.splitlines())
         self.assertEqual((0, with_single_blanks(page)), (done.returncode, came), done.stderr)
 
-    def all_shown(self, text, least):
+    def all_shown(self, text: str, least: int) -> None:
         for name in ("tools", "tests", "examples"):
             (self.folder / name).symlink_to(TOP / name)
         found = commands(text)
         self.assertGreaterEqual(len(found), least)
         for command, lines in found:
             with self.subTest(command):
-                self.shown(command, lines)
+                self.is_shown(command, lines)
 
-    def test_each_command_of_the_page(self):
+    def test_each_command_of_the_page(self) -> None:
         self.all_shown(PAGE.read_text(), 11)
 
-    def test_each_command_of_the_readme(self):
+    def test_each_command_of_the_readme(self) -> None:
         self.all_shown((TOP / "README.md").read_text(), 2)

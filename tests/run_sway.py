@@ -2,6 +2,7 @@
 
 import os
 import shutil
+from typing import List
 
 from run_cases import HERE, RunCase, needs
 
@@ -9,7 +10,7 @@ SOCKET = "/run/seatd.sock"
 
 
 class Sway(RunCase):
-    def setUp(self):
+    def setUp(self) -> None:
         super().setUp()
         for program, package in (("sway", "sway"), ("seatd", "seatd"), ("umockdev-run", "umockdev"), ("setpriv", "util-linux")):
             needs(self, program, package)
@@ -18,7 +19,7 @@ class Sway(RunCase):
         if os.path.exists(SOCKET):
             self.skipTest(f"a seatd runs here ({SOCKET})")
 
-    def bindings(self, *words):
+    def bindings(self, *words: str) -> List[str]:
         """What the bindings wrote. Each is a process of its own, so that their order is by chance where frames come at once."""
         folder = self.folder / "sway"
         shutil.rmtree(folder, ignore_errors=True)
@@ -29,7 +30,7 @@ class Sway(RunCase):
         done = self.ran([*words, HERE / "sway.rec"], [HERE / "sway.sh", folder])
         return sorted(done.lines())
 
-    def test_bindings(self):
+    def test_bindings(self) -> None:
         for run in range(2):
             with self.subTest(run=run):
                 self.assertEqual(["pressed-a", "released-b"], self.bindings("--frames", "1"))

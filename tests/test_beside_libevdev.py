@@ -4,26 +4,26 @@ import os
 import re
 import shutil
 import unittest
+from typing import List
 
 from playing import FolderCase
 
-from checks.beside import HERE, ROWS, NotBuilt, Tally, build, tallies
+from checks.beside import HERE, ROWS, Tally, build, tallies
 from inputtools.command import Wrong
-from inputtools.runbuild import SHIM
+from inputtools.runbuild import SHIM, NotBuilt
 from inputtools.running import built
 
 RECORDS = 100
 NAMED = re.compile(r'\] = "(.*)",$', re.MULTILINE)
-ROW = re.compile(r"^\| ([^|]*?),? ", re.MULTILINE)
 
 
-def names_of_program():
+def names_of_program() -> List[str]:
     """The kinds of difference that the program calls known."""
     return NAMED.findall((HERE / "beside_compare.c").read_text())
 
 
 class Rows(unittest.TestCase):
-    def test_what_is_known_is_a_row_of_the_page(self):
+    def test_what_is_known_is_a_row_of_the_page(self) -> None:
         names = names_of_program()
         self.assertEqual(4, len(names))
         for name in names:
@@ -32,7 +32,7 @@ class Rows(unittest.TestCase):
 
 
 class Beside(FolderCase):
-    def setUp(self):
+    def setUp(self) -> None:
         super().setUp()
         try:
             built(SHIM)
@@ -41,7 +41,7 @@ class Beside(FolderCase):
             self.skipTest(str(fault))
 
     @unittest.skipUnless(shutil.which("cc") and shutil.which("pkg-config"), "no C compiler, or no pkg-config")
-    def test_both_read_the_same(self):
+    def test_both_read_the_same(self) -> None:
         total = Tally()
         for tally in tallies(self.folder, self.folder, 1, RECORDS):
             total.add(tally)

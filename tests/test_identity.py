@@ -39,7 +39,7 @@ def identity_lines(text):
 
 
 class Forms(DeskCase):
-    def test_each_form_tells_what_it_knows(self):
+    def test_each_form_tells_what_it_knows(self) -> None:
         for form in ("evtest", "evemu", "libinput.yml", "proc", "udevadm"):
             for name, wanted in (("keyboard", KEYBOARD), ("touchpad", TOUCHPAD)):
                 with self.subTest(form=form, name=name):
@@ -48,16 +48,16 @@ class Forms(DeskCase):
                     knows_place = form in ("proc", "udevadm")
                     self.assertEqual([line for line in wanted if knows_place or "phys" not in line], came)
 
-    def test_they_stand_behind_the_device_s_line(self):
+    def test_they_stand_behind_the_device_s_line(self) -> None:
         lines = self.written("describe", DATA / "keyboard.udevadm").splitlines()
         self.assertEqual(["device logitech-usb-keyboard", *KEYBOARD, "hint 8"], lines[1:6])
 
-    def test_udevadm_and_procfs_describe_one_device(self):
+    def test_udevadm_and_procfs_describe_one_device(self) -> None:
         for name in ("keyboard", "touchpad"):
             by_procfs = self.written("describe", DATA / f"{name}.proc", "--device", "2").splitlines()
             self.assertEqual(by_procfs[1:], self.written("describe", DATA / f"{name}.udevadm").splitlines()[1:])
 
-    def test_what_udevadm_exports(self):
+    def test_what_udevadm_exports(self) -> None:
         text = self.written("describe", self.file("db", EXPORTED))
         self.assertEqual(["# name: Lamp Keyboard", "# phys: usb-1/input0", "# uniq: 00:1f", "# id: 0003 046d c31c 0110"],
                          identity_lines(text))
@@ -65,13 +65,13 @@ class Forms(DeskCase):
         bad = EXPORTED.replace("KEY=1000000000007", "KEY=10000zz")
         self.refused("describe", self.file("bad", bad), because="the bits of capabilities/key are no hexadecimal words")
 
-    def test_a_record_keeps_them(self):
+    def test_a_record_keeps_them(self) -> None:
         first = self.written("describe", DATA / "touchpad.udevadm")
         again = self.written("describe", self.file("first.rec", first))
         self.assertEqual(TOUCHPAD, identity_lines(again))
         self.assertEqual(TOUCHPAD[0], identity_lines(self.written("describe", self.file("again.rec", again)))[0])
 
-    def test_a_second_description(self):
+    def test_a_second_description(self) -> None:
         capture, other = DATA / "keyboard.evtest", DATA / "keyboard.proc"
         self.assertEqual(KEYBOARD, identity_lines(self.written("record", capture, "--identity", other)))
         # The file has two devices, and none of them has the mouse's name.
@@ -80,7 +80,7 @@ class Forms(DeskCase):
 
 
 class Comments(DeskCase):
-    def test_what_is_one(self):
+    def test_what_is_one(self) -> None:
         text = """inputrecord 2
 # name: of nobody
 device a
@@ -97,7 +97,7 @@ source s
 """
         self.assertEqual([Identity('A  "b"', "", "", Ids(3, 0x46D, 0xC31C, 0x110), [1]), Identity(uniq="12")], identities_of(text))
 
-    def test_evemu_gets_them(self):
+    def test_evemu_gets_them(self) -> None:
         text = self.written("record", DATA / "touchpad.evemu")
         ours = self.written("export", self.file("case.rec", text), "--evemu").splitlines()
         theirs = (DATA / "touchpad.evemu").read_text().splitlines()
@@ -110,7 +110,7 @@ class Umockdev(DeskCase):
     def described(self, name):
         return umockdev_text(self.written("record", DATA / f"{name}.evtest", "--identity", DATA / f"{name}.udevadm"))
 
-    def test_it_is_what_udev_says(self):
+    def test_it_is_what_udev_says(self) -> None:
         """The same properties and attributes as udev had of these devices."""
         for name in ("keyboard", "touchpad"):
             theirs, ours = (DATA / f"{name}.udevadm").read_text(), self.described(name)
@@ -121,20 +121,20 @@ class Umockdev(DeskCase):
                 value = theirs.split(f'ATTRS{{{word}}}=="')[1].split('"')[0]
                 self.assertIn(f"A: {word}={value}\\n\n", ours)
 
-    def test_nodes_are_numbered(self):
+    def test_nodes_are_numbered(self) -> None:
         text = "inputrecord 1\ndevice a\ncap EV_KEY KEY_A\ndevice b\ncap EV_REL REL_X\n"
         ours = umockdev_text(text, 3)
         for wanted in ("P: /devices/virtual/input/input93\n", "N: input/event4\n", "E: MINOR=68\n", 'E: NAME="b"\n'):
             self.assertIn(wanted, ours)
 
-    def test_export_writes_it(self):
+    def test_export_writes_it(self) -> None:
         path = self.file("case.rec", self.written("describe", DATA / "keyboard.udevadm"))
         self.assertEqual(umockdev_text(path.read_text()), self.written("export", path, "--umockdev"))
         self.refused("export", path, "--umockdev", "--16", because="--umockdev has all devices")
         self.refused("export", self.file("none.rec", "inputrecord 1\n"), "--umockdev", because="it has no device")
 
     @unittest.skipUnless(shutil.which("umockdev-run"), "umockdev is not installed")
-    def test_umockdev_takes_it(self):
+    def test_umockdev_takes_it(self) -> None:
         path = self.file("touchpad.umockdev", self.described("touchpad"))
         words = ["umockdev-run", "-d", path, "--", "cat", "/sys/class/input/event0/device/name"]
         done = subprocess.run(words, capture_output=True, text=True, timeout=30, check=False)
@@ -153,7 +153,7 @@ class Kinds(DeskCase):
         found = properties_of(device, properties, bus)
         return " ".join(name[9:] for name in found if name != "ID_INPUT")
 
-    def test_each(self):
+    def test_each(self) -> None:
         cases = {
             "MOUSE": {"keys": (0x110,), "relative": (0, 1)},
             "TOUCHPAD": {"keys": (0x110, 0x145, 0x14A), "axes": (0, 1)},
@@ -170,8 +170,8 @@ class Kinds(DeskCase):
             with self.subTest(wanted):
                 self.assertEqual(wanted, self.kinds(**has))
 
-    def test_a_keyboard_with_a_joystick_s_button_is_none(self):
+    def test_a_keyboard_with_a_joystick_s_button_is_none(self) -> None:
         self.assertEqual("KEY", self.kinds(keys=(29, 58, 69, 110, 0x130, 0x131)))
 
-    def test_a_lone_wheel_is_a_key(self):
+    def test_a_lone_wheel_is_a_key(self) -> None:
         self.assertEqual("KEY", self.kinds(relative=(8,)))

@@ -6,6 +6,7 @@ or no C compiler is there; the server and the shim are compiled anew.
 """
 
 import unittest
+from typing import Optional
 
 import run_games
 import run_libinput
@@ -20,11 +21,11 @@ MODULES = (run_readers, run_libinput, run_games, run_sway, run_page)
 class NotBuilt(unittest.TestCase):
     """Stands for all of them."""
 
-    def test_programs_run_on_played_devices(self):
+    def test_programs_run_on_played_devices(self) -> None:
         self.skipTest(why_not())
 
 
-def load_tests(loader, tests, _pattern):
+def load_tests(loader: unittest.TestLoader, tests: unittest.TestSuite, _pattern: Optional[str]) -> unittest.TestSuite:
     if why_not():
         return tests
     suite = unittest.TestSuite()
