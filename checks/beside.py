@@ -1,4 +1,5 @@
-"""Plays random records to the real libevdev and to the library's reader, on one device, and counts what was compared."""
+"""Plays random records to the real libevdev and to the library's reader, on one device, and counts what was
+compared."""
 
 from __future__ import annotations
 
@@ -30,7 +31,8 @@ RAW_EVERY = 4
 
 @dataclass
 class Tally:
-    """What was compared: the numbers by their names, the rounds with a difference that is known, and the others."""
+    """What was compared: the numbers by their names, the rounds with a difference that is known, and the
+    others."""
 
     numbers: Counts[str] = field(default_factory=Counter)
     known: Counts[str] = field(default_factory=Counter)
@@ -44,9 +46,11 @@ class Tally:
     def text(self) -> str:
         """What was compared, a line each, differences by their names."""
         numbers = self.numbers
-        lines = [f"{numbers['records']} records, {numbers['rounds']} quiet points, {numbers['values']} values; events: "
-                 f"libevdev {numbers['events of libevdev']}, the reader {numbers['events']}; losses: libevdev "
-                 f"{numbers['losses of libevdev']}, the reader {numbers['losses']}"]
+        lines = [
+            f"{numbers['records']} records, {numbers['rounds']} quiet points, {numbers['values']} values",
+            f"events: libevdev {numbers['events of libevdev']}, the reader {numbers['events']}",
+            f"losses: libevdev {numbers['losses of libevdev']}, the reader {numbers['losses']}",
+        ]
         lines += [f"{count} times known: {name}" for name, count in sorted(self.known.items())]
         lines += self.unexplained or ["none else"]
         return "\n".join(lines)
@@ -68,7 +72,8 @@ def build(out: Path, compiler: str) -> None:
     """Compiles both programs into a folder."""
     include = ["-I", str(SOURCES), "-I", str(TOP / "include")]
     server = [path for path in sources("server") if not path.endswith("/main.c")]
-    compile_by([compiler, *FLAGS, *include, str(HERE / f"{SERVER}.c"), *server, str(archive()), "-o", str(out / SERVER)])
+    first = [str(HERE / f"{SERVER}.c"), *server, str(archive())]
+    compile_by([compiler, *FLAGS, *include, *first, "-o", str(out / SERVER)])
     own = [str(HERE / "beside_libevdev.c"), str(HERE / "beside_compare.c")]
     compile_by([compiler, *FLAGS, *own, "-o", str(out / PROGRAM), *flags_of_libevdev()])
 
@@ -101,9 +106,9 @@ def play(programs: Path, record: Path, seed: int) -> Tally:
         assert server.stdout is not None
         server.stdout.readline()
         ends[0].close()
-        done = subprocess.run([programs / PROGRAM, str(seed), str(theirs)], pass_fds=[theirs], stdout=subprocess.PIPE,
-                              env={**os.environ, **environment(Run(folder, Settings(0, False, "stay")))}, text=True,
-                              timeout=SECONDS, check=False)
+        variables = {**os.environ, **environment(Run(folder, Settings(0, False, "stay")))}
+        done = subprocess.run([programs / PROGRAM, str(seed), str(theirs)], pass_fds=[theirs], env=variables,
+                              stdout=subprocess.PIPE, text=True, timeout=SECONDS, check=False)
     finally:
         ends[1].close()
         ends[0].close()

@@ -1,8 +1,8 @@
 #!/usr/bin/env python3
 """Makes a random record of one device and its driver: checks/random_devices.py SEED [--raw] > FILE
 
-The driver does as drivers do: each contact ends before another one begins in its slot. With --raw it does not, and
-sends autorepeats of keys, whether they are down or not."""
+The driver does as drivers do: each contact ends before another one begins in its slot. With --raw it does not,
+and sends autorepeats of keys, whether they are down or not."""
 
 from __future__ import annotations
 
@@ -28,7 +28,8 @@ class RandomDevice:
         self.hint = self.random.choice((8, 8, 16, 47))
         self.keys = self.random.sample(KEYS, self.random.randint(0, 7))
         self.leds = self.random.sample(LEDS, self.random.randint(0, 3)) if self.random.random() < 0.5 else []
-        self.switches = self.random.sample(SWITCHES, self.random.randint(1, 3)) if self.random.random() < 0.4 else []
+        has_switches = self.random.random() < 0.4
+        self.switches = self.random.sample(SWITCHES, self.random.randint(1, 3)) if has_switches else []
         self.axes = self.random.sample(AXES, self.random.randint(0, 4))
         self.slots = self.random.choice((0, 0, 2, 5, 10, 20))
         self.of_slots = self.random.sample(AXES_OF_SLOTS, self.random.randint(1, 4)) if self.slots else []
@@ -41,7 +42,8 @@ class RandomDevice:
         lines = ["device d", f"hint {self.hint}"]
         for kind, codes in (("EV_KEY", self.keys), ("EV_LED", self.leds), ("EV_SW", self.switches)):
             lines += [f"cap {kind} {code}" for code in codes]
-        lines += [f"axis {code} {self.random.randint(-5, 5)} -1000 1000 {self.fuzz()} 0 0" for code in self.axes]
+        for code in self.axes:
+            lines.append(f"axis {code} {self.random.randint(-5, 5)} -1000 1000 {self.fuzz()} 0 0")
         if self.slots:
             lines.append(f"slots {self.slots}")
         lines += [f"axis {code} 0 0 1000 {self.fuzz()} 0 0" for code in self.of_slots]
@@ -68,8 +70,8 @@ class RandomDevice:
 
     def happening(self) -> List[Raw]:
         """Something that the driver tells."""
-        each = [(kind, code) for kind, codes in ((KEY, self.keys), (LED, self.leds), (SW, self.switches), (ABS, self.axes))
-                for code in codes]
+        kinds = ((KEY, self.keys), (LED, self.leds), (SW, self.switches), (ABS, self.axes))
+        each = [(kind, code) for kind, codes in kinds for code in codes]
         if self.slots and (not each or self.random.random() < 0.5):
             return self.of_a_contact()
         kind, code = self.random.choice(each)

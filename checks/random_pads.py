@@ -1,5 +1,6 @@
 #!/usr/bin/env python3
-"""Makes a random record of a gamepad, and says how it stands at the end: checks/random_pads.py SEED FRAMES > FILE"""
+"""Makes a random record of a gamepad, and says how it stands at the end: checks/random_pads.py SEED FRAMES >
+FILE"""
 
 from __future__ import annotations
 
@@ -39,7 +40,8 @@ class RandomPad:
 
     def record(self) -> str:
         caps = [f"cap EV_KEY {button}" for button in BUTTONS]
-        caps += [f"axis {axis} 0 -32768 32767 0 0 0" for axis in STICKS] + [f"axis {axis} 0 -1 1 0 0 0" for axis in HATS]
+        caps += [f"axis {axis} 0 -32768 32767 0 0 0" for axis in STICKS]
+        caps += [f"axis {axis} 0 -1 1 0 0 0" for axis in HATS]
         head = ["inputrecord 2", "device pad", "# name: Random Pad", "hint 16"]
         return "".join(f"{line}\n" for line in [*head, *caps, "source s", *self.lines])
 

@@ -58,7 +58,8 @@ class Built:
     def record(self, name: str, *words: object) -> Path:
         """Has tools/record make a record."""
         path = self.folder / name
-        made = subprocess.run([TOP / "tools" / "record", *map(str, words)], capture_output=True, text=True, check=True)
+        command = [TOP / "tools" / "record", *map(str, words)]
+        made = subprocess.run(command, capture_output=True, text=True, check=True)
         path.write_text(made.stdout)
         return path
 
@@ -109,8 +110,10 @@ def python_with(module: str) -> str:
 
 
 def needs(test: unittest.TestCase, program: str, package: str) -> str:
-    """The path of a program, or the test is skipped by its name. One of libinput's own stands in a folder of its own."""
-    found = shutil.which(program) or shutil.which(f"{LIBINPUT}/{program}") or shutil.which(f"/usr/sbin/{program}")
+    """The path of a program, or the test is skipped by its name. One of libinput's own stands in a folder of
+    its own."""
+    paths = (program, f"{LIBINPUT}/{program}", f"/usr/sbin/{program}")
+    found = next(filter(None, map(shutil.which, paths)), None)
     if not found:
         test.skipTest(f"{program} is not installed (Debian: {package})")
     return str(found)
@@ -128,12 +131,14 @@ def compiled(test: unittest.TestCase, built: Built, source: str, library: str, p
     """A program of tests/run_programs that is linked with a library, or the test is skipped."""
     for tool in ("cc", "pkg-config"):
         needs(test, tool, "gcc, pkg-config")
-    words = subprocess.run(["pkg-config", "--cflags", "--libs", library], capture_output=True, text=True, check=False)
+    asked = ["pkg-config", "--cflags", "--libs", library]
+    words = subprocess.run(asked, capture_output=True, text=True, check=False)
     if words.returncode:
         test.skipTest(f"{library} is not installed (Debian: {package})")
     out = built.folder / Path(source).stem
     if not out.exists():
-        command = ["cc", "-O1", "-Wall", "-Wextra", "-Werror", "-o", str(out), str(HERE / source), *words.stdout.split()]
+        flags = ["-O1", "-Wall", "-Wextra", "-Werror", "-o", str(out)]
+        command = ["cc", *flags, str(HERE / source), *words.stdout.split()]
         subprocess.run(command, check=True)
     return out
 
@@ -146,7 +151,8 @@ class RunCase(FolderCase):
         self.built = build()
         self.records = self.built.folder
 
-    def ran(self, words: Sequence[object], program: Sequence[object], more: Mapping[str, str] = NOTHING_MORE) -> Done:
+    def ran(self, words: Sequence[object], program: Sequence[object],
+            more: Mapping[str, str] = NOTHING_MORE) -> Done:
         return run(self.built, words, program, more)
 
     def says(self, done: Done, pattern: str, count: int) -> None:
@@ -169,7 +175,8 @@ class RunCase(FolderCase):
         if texts[0] != texts[1] or first.status != second.status:
             one, other = (text.decode("utf-8", "backslashreplace").splitlines() for text in texts)
             more_lines = "\n".join(list(difflib.unified_diff(one, other, lineterm="", n=1))[:40])
-            self.fail(f"two runs differ, statuses {first.status} {second.status}:\n{more_lines}\n{first.errors[-1000:]}")
+            statuses = f"statuses {first.status} {second.status}"
+            self.fail(f"two runs differ, {statuses}:\n{more_lines}\n{first.errors[-1000:]}")
         return first
 
 

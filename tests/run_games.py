@@ -4,6 +4,7 @@ from run_cases import EXAMPLES, RunCase, compiled, needs
 
 from checks.random_pads import RandomPad
 
+READER = ("--frames", "1", "--as", "reader")
 # Without udev's data SDL is told the node.
 NODE = {"SDL_JOYSTICK_DEVICE": "/dev/input/event0"}
 
@@ -14,18 +15,19 @@ class Sdl(RunCase):
         self.program = compiled(self, self.built, "sdl.c", "sdl2", "libsdl2-dev")
 
     def test_joystick(self) -> None:
-        done = self.twice(["--frames", "1", "--as", "*", EXAMPLES / "gamepad.rec"], [self.program, "joystick"], more=NODE)
+        words = ["--frames", "1", "--as", "*", EXAMPLES / "gamepad.rec"]
+        done = self.twice(words, [self.program, "joystick"], more=NODE)
         self.says(done, "^joystick ", 1)
         self.says(done, "^(axis|button|hat)", 6)
 
     def test_keyboard(self) -> None:
         needs(self, "umockdev-run", "umockdev")
-        done = self.twice(["--frames", "1", "--as", "reader", self.records / "keyboard.rec"], [self.program, "keys"])
+        done = self.twice([*READER, self.records / "keyboard.rec"], [self.program, "keys"])
         self.says(done, "^key ", 157)
 
     def test_mouse(self) -> None:
         needs(self, "umockdev-run", "umockdev")
-        done = self.twice(["--frames", "1", "--as", "reader", self.records / "mouse.rec"], [self.program, "keys"])
+        done = self.twice([*READER, self.records / "mouse.rec"], [self.program, "keys"])
         self.says(done, "^mouse button", 14)
         self.assertGreater(done.count("^motion"), 80, self.shown(done))
 

@@ -3,7 +3,7 @@
 import subprocess
 from typing import List
 
-from run_cases import EXAMPLES, RunCase, events_of, needs
+from run_cases import EXAMPLES, RunCase, events_of, needs, variables
 from run_readers import AT_ONCE, NODE, STEPS
 
 from playing import TOP
@@ -22,7 +22,8 @@ class Libinput(RunCase):
         return [needs(self, "libinput-debug-events", PACKAGE), "--show-keycodes", *words, "--device", NODE]
 
     def test_list_devices(self) -> None:
-        done = self.twice(["--frames", "1", self.records / "touchpad.rec"], [needs(self, "libinput", PACKAGE), "list-devices"])
+        words = [needs(self, "libinput", PACKAGE), "list-devices"]
+        done = self.twice(["--frames", "1", self.records / "touchpad.rec"], words)
         self.says(done, "^Device: +ETPS/2 Elantech Touchpad", 1)
         self.says(done, "^Size: +98x61mm", 1)
 
@@ -38,7 +39,8 @@ class Libinput(RunCase):
 
     def test_touchpad(self) -> None:
         """At the record's times. (Its gestures wait by timers, so that two runs need not say the same.)"""
-        done = self.ran(["--as", "reader", "--end", "int", self.records / "touchpad.rec"], self.debug_events())
+        words = ["--as", "reader", "--end", "int", self.records / "touchpad.rec"]
+        done = self.ran(words, self.debug_events())
         self.assertGreater(done.count("POINTER_MOTION|GESTURE"), 20, self.shown(done))
 
     def test_lid(self) -> None:
@@ -46,13 +48,15 @@ class Libinput(RunCase):
         self.assertGreater(done.count("SWITCH_TOGGLE"), 10, self.shown(done))
 
     def test_a_loss(self) -> None:
-        done = self.twice([*AT_ONCE, "int", self.records / "keyboard.rec"], self.debug_events("--verbose"), but=TIMES)
+        program = self.debug_events("--verbose")
+        done = self.twice([*AT_ONCE, "int", self.records / "keyboard.rec"], program, but=TIMES)
         self.says(done, "SYN_DROPPED event", 1)
 
     def test_record(self) -> None:
         """What libinput records is what the record sends."""
         record = self.records / "mouse.rec"
-        done = self.ran([*STEPS, "int", record], [needs(self, "libinput-record", PACKAGE), "--show-keycodes", NODE])
+        words = [needs(self, "libinput-record", PACKAGE), "--show-keycodes", NODE]
+        done = self.ran([*STEPS, "int", record], words)
         path = self.folder / "again.yml"
         path.write_bytes(done.text)
         again = self.built.record("again.rec", path).read_text().splitlines()
@@ -66,6 +70,7 @@ class Libinput(RunCase):
         done = self.ran(["--history", history, *words], self.debug_events())
         self.says(done, r"KEY_LEFTCTRL \(29\) pressed", 1)
         self.says(done, r"KEY_LEFTCTRL \(29\) released", 0)
-        told = subprocess.run([TOP / "tools" / "stuck", history], capture_output=True, text=True, check=False).stdout
+        stuck = [TOP / "tools" / "stuck", history]
+        told = subprocess.run(stuck, env=variables(self.built), capture_output=True, text=True, check=False).stdout
         self.assertIn("KEY_LEFTCTRL: down for it, up on the device\n", told)
         self.assertIn("grab of remapper", told)

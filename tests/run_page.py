@@ -7,7 +7,7 @@ from run_cases import RunCase, needs, variables
 
 from playing import TOP
 
-PROMPT = "    $ "
+PROMPT, MORE = "    $ ", "    > "
 PAGE = TOP / "docs" / "RUN.md"
 # What a command needs beside the tools, by a word of it, with the package.
 PROGRAMS: Dict[str, Tuple[Tuple[str, str], ...]] = {
@@ -27,6 +27,8 @@ def commands(text: str) -> List[Tuple[str, List[str]]]:
         if line.startswith(PROMPT):
             found.append((line[len(PROMPT) :], []))
             is_behind_a_command = True
+        elif line.startswith(MORE) and is_behind_a_command and not found[-1][1]:
+            found[-1] = (found[-1][0] + "\n" + line[len(MORE) :], [])
         elif line.startswith("    ") and is_behind_a_command:
             found[-1][1].append(line[4:])
         else:
@@ -46,8 +48,8 @@ class Page(RunCase):
         for word, programs in PROGRAMS.items():
             for program, package in programs if word in command else ():
                 needs(self, program, package)
-        done = subprocess.run(["bash", "-c", command], cwd=self.folder, env=variables(self.built), capture_output=True,
-                              text=True, timeout=SECONDS, check=False)
+        done = subprocess.run(["bash", "-c", command], cwd=self.folder, env=variables(self.built),
+                              capture_output=True, text=True, timeout=SECONDS, check=False)
         came = with_single_blanks(done.stdout.splitlines())
         self.assertEqual((0, with_single_blanks(page)), (done.returncode, came), done.stderr)
 

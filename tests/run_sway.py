@@ -7,12 +7,13 @@ from typing import List
 from run_cases import HERE, RunCase, needs
 
 SOCKET = "/run/seatd.sock"
+PROGRAMS = (("sway", "sway"), ("seatd", "seatd"), ("umockdev-run", "umockdev"), ("setpriv", "util-linux"))
 
 
 class Sway(RunCase):
     def setUp(self) -> None:
         super().setUp()
-        for program, package in (("sway", "sway"), ("seatd", "seatd"), ("umockdev-run", "umockdev"), ("setpriv", "util-linux")):
+        for program, package in PROGRAMS:
             needs(self, program, package)
         if os.geteuid() != 0:
             self.skipTest("sway's seat wants root")
@@ -20,7 +21,8 @@ class Sway(RunCase):
             self.skipTest(f"a seatd runs here ({SOCKET})")
 
     def bindings(self, *words: str) -> List[str]:
-        """What the bindings wrote. Each is a process of its own, so that their order is by chance where frames come at once."""
+        """What the bindings wrote. Each is a process of its own, so that their order is by chance where
+        frames come at once."""
         folder = self.folder / "sway"
         shutil.rmtree(folder, ignore_errors=True)
         folder.mkdir()

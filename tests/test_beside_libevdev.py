@@ -1,4 +1,5 @@
-"""The real libevdev beside the library's reader, on one played device: random records, and what may differ."""
+"""The real libevdev beside the library's reader, on one played device: random records, and what may
+differ."""
 
 import os
 import re
@@ -47,7 +48,8 @@ class Beside(FolderCase):
             total.add(tally)
         self.assertEqual([], total.unexplained)
         self.assertEqual(RECORDS, total.numbers["records"])
-        # What is compared is there, each kind of difference too: a loss on a device without contacts among them.
+        # What is compared is there, each kind of difference too: a loss on a device without contacts among
+        # them.
         self.assertGreater(total.numbers["losses"], 100)
         self.assertGreater(total.numbers["values"], 10000)
         self.assertEqual(set(names_of_program()), set(total.known))

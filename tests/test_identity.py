@@ -55,27 +55,31 @@ class Forms(DeskCase):
     def test_udevadm_and_procfs_describe_one_device(self) -> None:
         for name in ("keyboard", "touchpad"):
             by_procfs = self.written("describe", DATA / f"{name}.proc", "--device", "2").splitlines()
-            self.assertEqual(by_procfs[1:], self.written("describe", DATA / f"{name}.udevadm").splitlines()[1:])
+            by_udevadm = self.written("describe", DATA / f"{name}.udevadm").splitlines()
+            self.assertEqual(by_procfs[1:], by_udevadm[1:])
 
     def test_what_udevadm_exports(self) -> None:
         text = self.written("describe", self.file("db", EXPORTED))
-        self.assertEqual(["# name: Lamp Keyboard", "# phys: usb-1/input0", "# uniq: 00:1f", "# id: 0003 046d c31c 0110"],
-                         identity_lines(text))
+        wanted = ["# name: Lamp Keyboard", "# phys: usb-1/input0", "# uniq: 00:1f", "# id: 0003 046d c31c 0110"]
+        self.assertEqual(wanted, identity_lines(text))
         self.assertIn("cap EV_LED LED_CAPSL\n", text)
         bad = EXPORTED.replace("KEY=1000000000007", "KEY=10000zz")
-        self.refused("describe", self.file("bad", bad), because="the bits of capabilities/key are no hexadecimal words")
+        because = "the bits of capabilities/key are no hexadecimal words"
+        self.refused("describe", self.file("bad", bad), because=because)
 
     def test_a_record_keeps_them(self) -> None:
         first = self.written("describe", DATA / "touchpad.udevadm")
         again = self.written("describe", self.file("first.rec", first))
         self.assertEqual(TOUCHPAD, identity_lines(again))
-        self.assertEqual(TOUCHPAD[0], identity_lines(self.written("describe", self.file("again.rec", again)))[0])
+        third = self.written("describe", self.file("again.rec", again))
+        self.assertEqual(TOUCHPAD, identity_lines(third))
 
     def test_a_second_description(self) -> None:
         capture, other = DATA / "keyboard.evtest", DATA / "keyboard.proc"
         self.assertEqual(KEYBOARD, identity_lines(self.written("record", capture, "--identity", other)))
         # The file has two devices, and none of them has the mouse's name.
-        self.refused("record", DATA / "mouse.evtest", "--identity", other, because='no one device "Logitech M705"; there')
+        because = 'no one device "Logitech M705"; there are'
+        self.refused("record", DATA / "mouse.evtest", "--identity", other, because=because)
         self.refused("record", capture, "--identity", self.folder / "none", because="No such file")
 
 
@@ -95,7 +99,8 @@ udevice b\r
 # id: 3 46d c31c
 source s
 """
-        self.assertEqual([Identity('A  "b"', "", "", Ids(3, 0x46D, 0xC31C, 0x110), [1]), Identity(uniq="12")], identities_of(text))
+        first = Identity('A  "b"', "", "", Ids(3, 0x46D, 0xC31C, 0x110), [1])
+        self.assertEqual([first, Identity(uniq="12")], identities_of(text))
 
     def test_evemu_gets_them(self) -> None:
         text = self.written("record", DATA / "touchpad.evemu")
@@ -108,7 +113,8 @@ source s
 
 class Umockdev(DeskCase):
     def described(self, name):
-        return umockdev_text(self.written("record", DATA / f"{name}.evtest", "--identity", DATA / f"{name}.udevadm"))
+        words = [DATA / f"{name}.evtest", "--identity", DATA / f"{name}.udevadm"]
+        return umockdev_text(self.written("record", *words))
 
     def test_it_is_what_udev_says(self) -> None:
         """The same properties and attributes as udev had of these devices."""
@@ -124,14 +130,16 @@ class Umockdev(DeskCase):
     def test_nodes_are_numbered(self) -> None:
         text = "inputrecord 1\ndevice a\ncap EV_KEY KEY_A\ndevice b\ncap EV_REL REL_X\n"
         ours = umockdev_text(text, 3)
-        for wanted in ("P: /devices/virtual/input/input93\n", "N: input/event4\n", "E: MINOR=68\n", 'E: NAME="b"\n'):
+        place = "P: /devices/virtual/input/input93\n"
+        for wanted in (place, "N: input/event4\n", "E: MINOR=68\n", 'E: NAME="b"\n'):
             self.assertIn(wanted, ours)
 
     def test_export_writes_it(self) -> None:
         path = self.file("case.rec", self.written("describe", DATA / "keyboard.udevadm"))
         self.assertEqual(umockdev_text(path.read_text()), self.written("export", path, "--umockdev"))
         self.refused("export", path, "--umockdev", "--16", because="--umockdev has all devices")
-        self.refused("export", self.file("none.rec", "inputrecord 1\n"), "--umockdev", because="it has no device")
+        none = self.file("none.rec", "inputrecord 1\n")
+        self.refused("export", none, "--umockdev", because="it has no device")
 
     @unittest.skipUnless(shutil.which("umockdev-run"), "umockdev is not installed")
     def test_umockdev_takes_it(self) -> None:

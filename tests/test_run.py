@@ -1,8 +1,8 @@
 """Real programs on played devices: those of this list that are installed, unchanged.
 
-Each is run twice by tools/run with --frames, and both runs write the same. One that is not installed is skipped by its
-name; docs/RUN.md has the packages. All are skipped, by one line, where the library is not built (`tools/build --library`)
-or no C compiler is there; the server and the shim are compiled anew.
+Each is run twice by tools/run with --frames, and both runs write the same. One that is not installed is skipped
+by its name; docs/RUN.md has the packages. All are skipped, by one line, where the library is not built
+(`tools/build --library`) or no C compiler is there; the server and the shim are compiled anew.
 """
 
 import unittest
@@ -25,7 +25,8 @@ class NotBuilt(unittest.TestCase):
         self.skipTest(why_not())
 
 
-def load_tests(loader: unittest.TestLoader, tests: unittest.TestSuite, _pattern: Optional[str]) -> unittest.TestSuite:
+def load_tests(loader: unittest.TestLoader, tests: unittest.TestSuite,
+               _pattern: Optional[str]) -> unittest.TestSuite:
     if why_not():
         return tests
     suite = unittest.TestSuite()

@@ -1,7 +1,8 @@
-/* What beside_server.c and beside_libevdev.c say to each other: the library's reader and the real libevdev read one device.
+/* What beside_server.c and beside_libevdev.c say to each other: the library's reader and the real libevdev
+ * read one device.
  *
- * The program with libevdev orders, by a socket of their own. The server plays so many frames, has its reader take so many
- * events, and reports. Then the program reads through the shim, as any program does. */
+ * The program with libevdev orders, by a socket of their own. The server plays so many frames, has its reader
+ * take so many events, and reports. Then the program reads through the shim, as any program does. */
 #ifndef INPUTPLAY_RUN_TESTS_BESIDE_H
 #define INPUTPLAY_RUN_TESTS_BESIDE_H
 
@@ -24,8 +25,8 @@ struct handed {
     uint32_t how; /**< enum handing */
 };
 
-/** What comes back: this, then the events, then the values that the reader believes: those of keys, switches, LEDs and axes
- * that the device has, by type and code; then those of each slot; then the current slot. */
+/** What comes back: this, then the events, then the values that the reader believes: those of keys, switches,
+ * LEDs and axes that the device has, by type and code; then those of each slot; then the current slot. */
 struct report {
     uint32_t has_more; /**< Lines are left. */
     uint32_t has_all;  /**< The reader found nothing more to read. */

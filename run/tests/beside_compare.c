@@ -33,8 +33,10 @@ static void note_known(enum known known, bool *is_noted) {
 
 /* What both believe */
 
-/* A value that differs is known where it is stale in libevdev: a key by its repeat, or the id of a contact. */
-static void compare_value(uint32_t at, int32_t believed, unsigned type, unsigned code, int slot, bool *is_noted) {
+/* A value that differs is known where it is stale in libevdev: a key by its repeat, or the id of a contact.
+ */
+static void compare_value(uint32_t at, int32_t believed, unsigned type, unsigned code, int slot,
+                          bool *is_noted) {
     int32_t other = reader_side.values[at];
     tally.values++;
     if (believed == other)
@@ -44,7 +46,8 @@ static void compare_value(uint32_t at, int32_t believed, unsigned type, unsigned
     else if (slot >= 0 && code == ABS_MT_TRACKING_ID && libevdev_side.has_stale_id[slot])
         note_known(HIDDEN_IDS, &is_noted[HIDDEN_IDS]);
     else
-        differs("%s of slot %d: libevdev %d, reader %d", libevdev_event_code_get_name(type, code), slot, believed, other);
+        differs("%s of slot %d: libevdev %d, reader %d", libevdev_event_code_get_name(type, code), slot,
+                believed, other);
 }
 
 static bool is_of_slots(unsigned type, unsigned code) {
@@ -63,7 +66,8 @@ static uint32_t compare_type(struct libevdev *device, unsigned type, uint32_t at
 static uint32_t compare_slot(struct libevdev *device, unsigned slot, uint32_t at, bool *is_noted) {
     for (unsigned code = ABS_MT_TOUCH_MAJOR; code <= ABS_MT_TOOL_Y; code++)
         if (libevdev_has_event_code(device, EV_ABS, code))
-            compare_value(at++, libevdev_get_slot_value(device, slot, code), EV_ABS, code, (int)slot, is_noted);
+            compare_value(at++, libevdev_get_slot_value(device, slot, code), EV_ABS, code, (int)slot,
+                          is_noted);
     return at;
 }
 
@@ -85,15 +89,17 @@ void compare_values(struct libevdev *device) {
 /* What both handed out */
 
 static bool is_same(const struct handed *one, const struct handed *other) {
-    return one->type == other->type && one->code == other->code && one->value == other->value && one->how == other->how;
+    return one->type == other->type && one->code == other->code && one->value == other->value &&
+           one->how == other->how;
 }
 
-/* Whether an event that libevdev made is of contacts, as are the buttons that tell how many fingers there are. */
+/* Whether an event that libevdev made is of contacts, as are the buttons that tell how many fingers there
+ * are. */
 static bool is_made_of_contacts(const struct handed *event) {
     bool is_finger = event->code == BTN_TOOL_FINGER || event->code == BTN_TOOL_QUINTTAP ||
                      (event->code >= BTN_TOOL_DOUBLETAP && event->code <= BTN_TOOL_QUADTAP);
-    return event->how == HANDED_MADE && (is_of_slots(event->type, event->code) || (event->type == EV_KEY && is_finger) ||
-                                         event->type == EV_SYN);
+    return event->how == HANDED_MADE && (is_of_slots(event->type, event->code) || event->type == EV_SYN ||
+                                         (event->type == EV_KEY && is_finger));
 }
 
 /* Leaves out of a side the events that stand for contacts after a loss; how many there were. */
@@ -138,8 +144,8 @@ static void show_side(const char *name, const struct side *side) {
     putchar('\n');
 }
 
-/* The events of a round. After a loss on one side or both in a round in which one left something unread, they may differ,
- * since libevdev's own queue holds what the reader's ring would. */
+/* The events of a round. After a loss on one side or both in a round in which one left something unread, they
+ * may differ, since libevdev's own queue holds what the reader's ring would. */
 static void compare_events(struct libevdev *device) {
     if (is_alike(0))
         return;
@@ -151,7 +157,8 @@ static void compare_events(struct libevdev *device) {
         tally.known[HIDDEN_IDS]++;
         return;
     }
-    bool has_contacts = has_slots(device) && libevdev_side.losses && libevdev_side.losses == reader_side.losses;
+    bool has_contacts =
+        has_slots(device) && libevdev_side.losses && libevdev_side.losses == reader_side.losses;
     if (has_contacts && leave_out_contacts(&libevdev_side) + leave_out_contacts(&reader_side) &&
         is_alike(round_now.hidden_ids)) {
         tally.known[OTHER_CONTACTS]++;
@@ -173,8 +180,8 @@ void compare_round(struct libevdev *device) {
 }
 
 void print_tally(void) {
-    printf("rounds %lu events %lu %lu losses %lu %lu values %lu\n", tally.rounds, tally.events[0], tally.events[1],
-           tally.losses[0], tally.losses[1], tally.values);
+    printf("rounds %lu events %lu %lu losses %lu %lu values %lu\n", tally.rounds, tally.events[0],
+           tally.events[1], tally.losses[0], tally.losses[1], tally.values);
     for (int known = 0; known < KNOWN; known++)
         if (tally.known[known])
             printf("known %lu %s\n", tally.known[known], NAMES[known]);

@@ -1,11 +1,11 @@
-/* The real libevdev on a played device, beside the library's reader on the same one. Both read on, all there is or a part
- * of it; where both have read all, what they handed out and what they believe is compared.
+/* The real libevdev on a played device, beside the library's reader on the same one. Both read on, all there
+ * is or a part of it; where both have read all, what they handed out and what they believe is compared.
  *
  *     beside_libevdev SEED DESCRIPTOR
  *
- * It is run with the shim loaded, and beside_server at the other end of the descriptor. It prints one line of what was
- * compared, one for each kind of difference that docs/KERNEL.md has, and one for each that it has not. Status 0: none of
- * those. 1: some. 2: it could not go on. */
+ * It is run with the shim loaded, and beside_server at the other end of the descriptor. It prints one line of
+ * what was compared, one for each kind of difference that docs/KERNEL.md has, and one for each that it has
+ * not. Status 0: none of those. 1: some. 2: it could not go on. */
 #include "beside_libevdev.h"
 
 #include <errno.h>
@@ -48,8 +48,8 @@ static void note(const struct input_event *event, enum handing how) {
 
 /* libevdev says where it keeps a tracking id from its program; the slot stands at the end. */
 __attribute__((format(printf, 7, 0)))
-static void take_remark(const struct libevdev *device, enum libevdev_log_priority priority, void *data, const char *file,
-                        int line, const char *function, const char *format, va_list words) {
+static void take_remark(const struct libevdev *device, enum libevdev_log_priority priority, void *data,
+                        const char *file, int line, const char *function, const char *format, va_list words) {
     char text[256];
     int id, slot;
     (void)device, (void)priority, (void)data, (void)file, (void)line, (void)function;
@@ -63,9 +63,11 @@ static void take_remark(const struct libevdev *device, enum libevdev_log_priorit
 
 static void synchronise(struct libevdev *device) {
     struct input_event event;
-    int status;
-    while ((status = libevdev_next_event(device, LIBEVDEV_READ_FLAG_SYNC, &event)) == LIBEVDEV_READ_STATUS_SYNC)
+    int status = libevdev_next_event(device, LIBEVDEV_READ_FLAG_SYNC, &event);
+    while (status == LIBEVDEV_READ_STATUS_SYNC) {
         note(&event, HANDED_MADE);
+        status = libevdev_next_event(device, LIBEVDEV_READ_FLAG_SYNC, &event);
+    }
     if (status != -EAGAIN)
         give_up("libevdev, which synchronises", status < 0 ? -status : EPROTO);
     memset(libevdev_side.has_stale_id, 0, sizeof libevdev_side.has_stale_id);

@@ -1,4 +1,5 @@
-/* What both readers handed out and believe: libevdev in this program, and the library's reader in the server. */
+/* What both readers handed out and believe: libevdev in this program, and the library's reader in the server.
+ */
 #ifndef INPUTPLAY_RUN_TESTS_BESIDE_LIBEVDEV_H
 #define INPUTPLAY_RUN_TESTS_BESIDE_LIBEVDEV_H
 

@@ -1,5 +1,6 @@
-/* A server of tools/run with a reader of the library's own on the first device of a record. Its lines are played on order
- * (beside.h), which comes from the descriptor of the last word: beside_server --folder FOLDER RECORD DESCRIPTOR */
+/* A server of tools/run with a reader of the library's own on the first device of a record. Its lines are
+ * played on order (beside.h), which comes from the descriptor of the last word: beside_server --folder FOLDER
+ * RECORD DESCRIPTOR */
 #include "../server/client.h"
 #include "../server/connection.h"
 #include "../server/failure.h"

@@ -1,4 +1,4 @@
-"""What udev makes of an input device: the properties ID_INPUT_.. by which libinput, SDL and others know its kind.
+"""What udev makes of an input device: the properties ID_INPUT_.., by which libinput, SDL and others know it.
 
 The rules are those of systemd's `input_id` (version 252). It looks at the supported types and codes, at the
 properties, and at the bus.
@@ -23,7 +23,8 @@ REL_X, REL_Y, HWHEEL, WHEEL = 0, 1, 6, 8
 FIRST_BUTTON = 0x100
 HIGH_KEYS = (*range(0x160, 0x220), *range(0x230, 0x2C0))
 FULL_KEYBOARD = range(1, 32)
-# Ctrl, Caps Lock, Num Lock, Insert, Mute, the calculator's key, File, Mail, Play and a darker screen: what has four is none.
+# Ctrl, Caps Lock, Num Lock, Insert, Mute, the calculator's key, File, Mail, Play and a darker screen: what
+# has four is none.
 KEYS_OF_NO_JOYSTICK = (29, 58, 69, 110, 113, 140, 144, 155, 164, 224)
 
 
@@ -63,14 +64,17 @@ class Kind:
         self.is_direct = DIRECT in self.properties
 
     def is_accelerometer(self) -> bool:
-        return ACCELEROMETER in self.properties or (not self.has_keys and has_all(self.axes, (ABS_X, ABS_Y, ABS_Z)))
+        is_in_space = has_all(self.axes, (ABS_X, ABS_Y, ABS_Z))
+        return ACCELEROMETER in self.properties or (is_in_space and not self.has_keys)
 
     def has_contacts(self) -> bool:
-        """Whether it has positions of contacts. (One that has the axis before ABS_MT_SLOT has all axes there are.)"""
+        """Whether it has positions of contacts. (One that has the axis before ABS_MT_SLOT has all axes there
+        are.)"""
         return has_all(self.axes, MT_POSITION) and not has_all(self.axes, (SLOT, SLOT - 1))
 
     def surface(self) -> str:
-        """What it is where it has positions, or contacts: a tablet, a touchpad, a touchscreen, or nothing of these."""
+        """What it is where it has positions, or contacts: a tablet, a touchpad, a touchscreen, or nothing of
+        these."""
         if self.has_pen:
             return "tablet"
         if TOOL_FINGER in self.keys and not self.is_direct:
@@ -111,7 +115,8 @@ class Kind:
             and (self.is_moved or not self.has_position)
         )
         return Pointer(
-            "mouse" in surfaces or is_plain_mouse, is_touchpad, "touchscreen" in surfaces, is_joystick, is_tablet,
+            "mouse" in surfaces or is_plain_mouse, is_touchpad, "touchscreen" in surfaces, is_joystick,
+            is_tablet,
             is_wheel_pad or (is_tablet and self.has_pad_buttons),
             POINTING_STICK in self.properties or (is_plain_mouse and self.bus == BUS_I2C),
         )

@@ -1,8 +1,8 @@
 """Reads a device as `udevadm info` tells it: `udevadm info -a /dev/input/event5`, or that of a whole machine,
 `udevadm info --export-db`.
 
-It tells types and codes as /proc/bus/input/devices does, without ranges of axes and without slots, and who the
-device is. A block of its lines is an input device where it has the bits of the types.
+It tells types and codes as /proc/bus/input/devices does, without ranges of axes and without slots, and who
+the device is. A block of its lines is an input device where it has the bits of the types.
 """
 
 import re
@@ -77,5 +77,6 @@ def device_of(block: Dict[str, str], size: int) -> Device:
 def parse(text: str) -> List[Recording]:
     """The devices that a file tells of, without events."""
     blocks = blocks_of(text)
-    size = word_size([value.split() for block in blocks for name, value in block.items() if "capabilities" in name])
+    bits = [value for block in blocks for name, value in block.items() if "capabilities" in name]
+    size = word_size([value.split() for value in bits])
     return [Recording(device_of(block, size)) for block in blocks]

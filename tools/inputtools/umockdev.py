@@ -16,7 +16,10 @@ from inputtools.recordlines import parse
 FIRST_INPUT = 90
 MAJOR, FIRST_MINOR = 13, 64
 NO_IDS = Ids(0, 0, 0, 0)
-CAPABILITIES = {"ev": SYN, "key": KEY, "rel": REL, "abs": ABS, "msc": MSC, "sw": SW, "led": LED, "snd": SND, "ff": 0x15}
+FF = 0x15
+CAPABILITIES = {
+    "ev": SYN, "key": KEY, "rel": REL, "abs": ABS, "msc": MSC, "sw": SW, "led": LED, "snd": SND, "ff": FF,
+}
 WORD = 64
 
 
@@ -68,7 +71,8 @@ def device_lines(device: Device, number: int) -> List[str]:
     """The lines of a device and of its event node."""
     identity, place = device.identity, f"/devices/virtual/input/input{FIRST_INPUT + number}"
     attributes, ids = attributes_of(device, identity), identity.ids or NO_IDS
-    kinds = [f"E: {name}={value}" for name, value in properties_of(device, identity.properties, ids.bus).items()]
+    found = properties_of(device, identity.properties, ids.bus)
+    kinds = [f"E: {name}={value}" for name, value in found.items()]
     told = [f"E: {name}={value}" for name, value in environment_of(attributes, ids).items()]
     files = [f"A: {name}={escaped(value)}\\n" for name, value in attributes.items()]
     minor = FIRST_MINOR + number
