@@ -14,7 +14,7 @@ import unittest
 from concurrent.futures import ThreadPoolExecutor
 from dataclasses import dataclass
 from pathlib import Path
-from typing import Dict, List, Mapping, Sequence, Tuple
+from typing import Dict, List, Mapping, Sequence
 
 from playing import PROGRAM, TOP, FolderCase
 
@@ -180,8 +180,7 @@ class RunCase(FolderCase):
         return first
 
 
-def events_of(record: Path) -> Tuple[int, int]:
-    """How many events a record's source sends behind its start, and how many frames they are."""
+def sent(record: Path, pattern: str = "") -> int:
+    """How many events with a pattern a record's source sends behind its start."""
     text = record.read_text().partition("# The capture.\n")[2]
-    sent = [line for line in text.splitlines() if " event " in line]
-    return len(sent), sum("SYN_REPORT" in line for line in sent)
+    return sum(" event " in line and bool(re.search(pattern, line)) for line in text.splitlines())

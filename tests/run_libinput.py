@@ -3,7 +3,7 @@
 import subprocess
 from typing import List
 
-from run_cases import EXAMPLES, RunCase, events_of, needs, variables
+from run_cases import EXAMPLES, RunCase, needs, sent, variables
 from run_readers import AT_ONCE, NODE, STEPS
 
 from playing import TOP
@@ -28,18 +28,22 @@ class Libinput(RunCase):
         self.says(done, "^Size: +98x61mm", 1)
 
     def test_keyboard(self) -> None:
-        done = self.twice([*STEPS, "int", self.records / "keyboard.rec"], self.debug_events(), but=TIMES)
-        # (libinput leaves autorepeats out)
-        self.says(done, r"KEYBOARD_KEY .*(pressed|released)", 119)
+        record = self.records / "keyboard.rec"
+        done = self.twice([*STEPS, "int", record], self.debug_events(), but=TIMES)
+        # (libinput leaves autorepeats out, and the release of a key that it did not see go down)
+        keys = sent(record, r" EV_KEY \S+ [01]$") - 1
+        self.says(done, r"KEYBOARD_KEY .*(pressed|released)", keys)
 
     def test_mouse(self) -> None:
-        done = self.twice([*STEPS, "int", self.records / "mouse.rec"], self.debug_events(), but=TIMES)
-        self.says(done, "POINTER_BUTTON", 14)
-        self.assertGreater(done.count("POINTER_MOTION"), 80, self.shown(done))
+        record = self.records / "mouse.rec"
+        done = self.twice([*STEPS, "int", record], self.debug_events(), but=TIMES)
+        self.says(done, "POINTER_BUTTON", sent(record, " EV_KEY "))
+        self.assertGreater(done.count("POINTER_MOTION"), 40, self.shown(done))
 
     def test_touchpad(self) -> None:
-        """At the record's times. (Its gestures wait by timers, so that two runs need not say the same.)"""
-        words = ["--as", "reader", "--end", "int", self.records / "touchpad.rec"]
+        """At the record's times. (Its gestures wait by timers, so that two runs need not say the same.) Its contacts
+        begin behind the open: libinput leaves out those that were there before."""
+        words = ["--end", "int", self.records / "touchpad.rec"]
         done = self.ran(words, self.debug_events())
         self.assertGreater(done.count("POINTER_MOTION|GESTURE"), 20, self.shown(done))
 
@@ -60,7 +64,7 @@ class Libinput(RunCase):
         path = self.folder / "again.yml"
         path.write_bytes(done.text)
         again = self.built.record("again.rec", path).read_text().splitlines()
-        self.assertEqual(events_of(record)[0], sum(" event " in line for line in again), self.shown(done))
+        self.assertEqual(sent(record), sum(" event " in line for line in again), self.shown(done))
 
     def test_a_key_sticks(self) -> None:
         """The example's desktop is libinput: the key sticks in it, and the tools tell why."""
