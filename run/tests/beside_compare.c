@@ -102,11 +102,18 @@ static bool is_made_of_contacts(const struct handed *event) {
                                          (event->type == EV_KEY && is_finger));
 }
 
-/* Leaves out of a side the events that stand for contacts after a loss; how many there were. */
-static uint32_t leave_out_contacts(struct side *side) {
+/* Whether an event that one of both made is of a key that libevdev took for pressed, since it repeated; or is
+ * the report behind it. */
+static bool is_made_of_repeats(const struct handed *event) {
+    return event->how == HANDED_MADE &&
+           (event->type == EV_SYN || (event->type == EV_KEY && round_now.was_repeated[event->code]));
+}
+
+/* Leaves such events out of a side; how many there were. */
+static uint32_t leave_out(struct side *side, bool (*is_left_out)(const struct handed *event)) {
     uint32_t kept = 0;
     for (uint32_t i = 0; i < side->count; i++)
-        if (!is_made_of_contacts(&side->events[i]))
+        if (!is_left_out(&side->events[i]))
             side->events[kept++] = side->events[i];
     uint32_t left_out = side->count - kept;
     side->count = kept;
@@ -144,6 +151,15 @@ static void show_side(const char *name, const struct side *side) {
     putchar('\n');
 }
 
+/* Whether both lists are the same but for events that were made after a loss, of which a row says that they
+ * may differ. */
+static bool is_alike_without(bool (*is_left_out)(const struct handed *event), enum known known) {
+    bool has_any = leave_out(&libevdev_side, is_left_out) + leave_out(&reader_side, is_left_out);
+    bool is_same_now = has_any && is_alike(round_now.hidden_ids);
+    tally.known[known] += is_same_now;
+    return is_same_now;
+}
+
 /* The events of a round. After a loss on one side or both in a round in which one left something unread, they
  * may differ, since libevdev's own queue holds what the reader's ring would. */
 static void compare_events(struct libevdev *device) {
@@ -157,13 +173,11 @@ static void compare_events(struct libevdev *device) {
         tally.known[HIDDEN_IDS]++;
         return;
     }
-    bool has_contacts =
-        has_slots(device) && libevdev_side.losses && libevdev_side.losses == reader_side.losses;
-    if (has_contacts && leave_out_contacts(&libevdev_side) + leave_out_contacts(&reader_side) &&
-        is_alike(round_now.hidden_ids)) {
-        tally.known[OTHER_CONTACTS]++;
+    bool has_loss = libevdev_side.losses && libevdev_side.losses == reader_side.losses;
+    if (has_loss && has_slots(device) && is_alike_without(is_made_of_contacts, OTHER_CONTACTS))
         return;
-    }
+    if (has_loss && is_alike_without(is_made_of_repeats, REPEATS))
+        return;
     differs("other events");
     show_side("libevdev", &libevdev_side);
     show_side("reader", &reader_side);

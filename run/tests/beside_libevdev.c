@@ -70,6 +70,8 @@ static void synchronise(struct libevdev *device) {
     }
     if (status != -EAGAIN)
         give_up("libevdev, which synchronises", status < 0 ? -status : EPROTO);
+    for (size_t code = 0; code < KEY_CNT; code++)
+        round_now.was_repeated[code] |= libevdev_side.is_repeated[code];
     memset(libevdev_side.has_stale_id, 0, sizeof libevdev_side.has_stale_id);
     memset(libevdev_side.is_repeated, 0, sizeof libevdev_side.is_repeated);
 }
