@@ -167,6 +167,9 @@ class Statuses(RunCase):
         self.ends(126, [], "a RECORD and, behind --, a PROGRAM are wanted")
         self.ends(126, ["--speed", "0", HERE / "keys.rec", "--", "true"], "--speed 0 is no number above 0")
         self.ends(126, [self.folder / "none.rec", "--", "true"], "none.rec: No such file")
+        self.ends(
+            126, ["--as", "s", HERE / "keys.rec", "--", "true"], "has no client, tap or joystick of this name"
+        )
         self.ends(127, [HERE / "keys.rec", "--", self.folder / "none"], "No such file")
         self.ends(
             128,
