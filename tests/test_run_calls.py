@@ -15,12 +15,14 @@ import subprocess
 import sys
 import tempfile
 from functools import lru_cache
+from itertools import cycle
 from pathlib import Path
 from typing import Dict, List, Optional, Sequence, Tuple
 
-from playing import TOP, FolderCase
+from playing import EXAMPLES, TOP, FolderCase
 
 from inputtools import runbuild
+from inputtools.names import CODES, TYPES
 from inputtools.running import BUILT_VARIABLE
 
 HERE = TOP / "tests" / "run_calls"
@@ -52,6 +54,12 @@ def compiled(source: Path, program: Path, flags: Sequence[str] = (), more: Seque
     if done.returncode:
         raise AssertionError(f"{source.name}: {done.stdout}")
     return str(program)
+
+
+def numbers(kind: str, code: str, value: str) -> str:
+    """An event of a report, in numbers."""
+    number = TYPES.get(kind, kind)
+    return f"{number} {CODES.get(number, {}).get(code, code)} {value}"
 
 
 def why_not() -> Optional[str]:
@@ -167,6 +175,9 @@ class Statuses(RunCase):
         self.ends(126, [], "a RECORD and, behind --, a PROGRAM are wanted")
         self.ends(126, ["--speed", "0", HERE / "keys.rec", "--", "true"], "--speed 0 is no number above 0")
         self.ends(126, [self.folder / "none.rec", "--", "true"], "none.rec: No such file")
+        self.ends(
+            126, ["--as", "s", HERE / "keys.rec", "--", "true"], "has no client, tap or joystick of this name"
+        )
         self.ends(127, [HERE / "keys.rec", "--", self.folder / "none"], "No such file")
         self.ends(
             128,
@@ -219,6 +230,36 @@ class Histories(RunCase):
         self.assertEqual(one, other)
         self.assertEqual(80, one.count("do s event"))
         self.assertIn("do python3 read ", one)
+
+    def test_what_was_read_is_what_the_history_tells(self) -> None:
+        for record, (frames, events) in zip(
+            sorted(EXAMPLES.glob("*.rec")), cycle(((1, 64), (7, 3), (100000, 2)))
+        ):
+            with self.subTest(record=record.name, frames=frames):
+                self.reads_as_told(record, frames, events)
+
+    def reads_as_told(self, record: Path, frames: int, events: int) -> None:
+        """A program that reads so many events at once reads those of its history's report."""
+        history = self.folder / "history.rec"
+        options = [
+            "--as",
+            "*",
+            "--end",
+            "gone",
+            "--clock",
+            "record",
+            "--frames",
+            frames,
+            "--history",
+            history,
+        ]
+        done = self.run_tool([*options, record, "--", *PYTHON, HERE / "reader.py", events])
+        self.assertEqual(0, done.returncode, done.stderr)
+        # (the first device stands first in the report)
+        report = self.tool("play", history).split("\ndevice ")[0]
+        took = [line.split()[2:] for line in report.splitlines() if line.startswith("took ")]
+        told = [f"{time} {numbers(*event)}" for time, *event in took]
+        self.assertEqual(told, done.stdout.splitlines())
 
     def test_the_first_loss_comes_at_a_place(self) -> None:
         for place in (0, 50):

@@ -150,6 +150,17 @@ static char *newest_text(const char *name, const uint8_t *text, size_t length) {
     return newest;
 }
 
+/* A wrong name of --as would leave the program beside the one that it is to be. */
+static void check_program(void) {
+    const char *name = settings.actor;
+    if (!name || !strcmp(name, "*"))
+        return;
+    for (size_t i = 0; i < record.actor_count; i++)
+        if (record.actors[i].is_program)
+            return;
+    fail("--as %s: %s has no client, tap or joystick of this name", name, settings.record);
+}
+
 void record_read(void) {
     size_t length;
     struct reading reading = {0};
@@ -163,6 +174,7 @@ void record_read(void) {
     end_description(&reading);
     if (!device_count)
         fail("%s has no device", settings.record);
+    check_program();
     identities_take((const char *)bytes, length);
     for (int i = 0; i < device_count; i++)
         nodes_make(&devices[i]);

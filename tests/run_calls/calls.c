@@ -23,6 +23,10 @@
 #define NODE "/dev/input/event0"
 #define PLAIN "/dev/input/event1"
 
+/** That a call with a place that is not there is EFAULT. (Under valgrind there are none: it tells of each.) */
+#define FAULTS(call) CHECK(!has_bad_places || ((call) == -1 && errno == EFAULT))
+
+static int has_bad_places;
 static struct input_event events[64];
 static unsigned char bits[KEY_CNT / 8];
 

@@ -7,7 +7,6 @@
 #include <stdlib.h>
 
 static int checked, failed;
-static int has_bad_places = 1; /* (under valgrind there are none: it tells of each) */
 
 /** What has to be so. */
 #define CHECK(what) check((what), __LINE__, #what)
@@ -22,9 +21,6 @@ static inline void check(int is_so, int line, const char *what) {
 
 /** That a call fails with this errno. */
 #define FAILS(call, with) CHECK((call) == -1 && errno == (with))
-
-/** That a call with a place that is not there is EFAULT. */
-#define FAULTS(call) CHECK(!has_bad_places || ((call) == -1 && errno == EFAULT))
 
 static inline int all_told(void) {
     printf("%d checks, %d failed\n", checked, failed);

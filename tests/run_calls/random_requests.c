@@ -31,7 +31,7 @@ static uint32_t random_number(void) {
 
 /* A place: in memory, before its end, behind it, nowhere. */
 static void *place(void) {
-    switch (random_below(8)) {
+    switch (random_below(12)) {
     case 0: return NULL;
     case 1: return room + ROOM;
     case 2: return room + ROOM - random_below(256);
@@ -89,13 +89,13 @@ static void once(void) {
     int *file = &files[random_below(FILES)];
     uint32_t kind = random_below(100);
     long result = 0;
-    if (kind < 2)
+    if (kind < 2 || *file < 0)
         reopen(file);
     else if (kind < 10)
         result = read(*file, place(), random_below(1u << random_below(17)));
     else if (kind < 16)
         result = write(*file, place(), random_below(1u << random_below(12)));
-    else if (kind < 17)
+    else if (kind < 17 && random_below(10) == 0)
         result = ioctl(*file, EVIOCREVOKE, 0);
     else
         result = request_once(*file);

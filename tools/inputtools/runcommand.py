@@ -193,26 +193,27 @@ def run_alone(asked: argparse.Namespace, program: List[str]) -> int:
         running.remove_folder(folder)
 
 
+def start_kept(asked: argparse.Namespace, folder: str, record: Given) -> Run:
+    """Starts a server that stays, and says how it is used."""
+    try:
+        os.makedirs(folder, mode=0o700)
+    except OSError as fault:
+        raise Wrong(f"{folder}: {fault.strerror}") from None
+    history = os.path.join(folder, running.HISTORY)
+    run = running.start_server(folder, settings_of(asked), server_words(asked, record, history), is_kept=True)
+    running.keep(run)
+    say("run", f"the server stays: run --server {asked.server} -- PROGRAM uses it, and --stop ends it")
+    return run
+
+
 def run_kept(asked: argparse.Namespace, program: List[str]) -> int:
     """A run whose server stays, or is there already."""
     folder = os.path.abspath(asked.server)
     if asked.stop:
         running.stop(folder)
         return 0
-    record = None
-    if asked.record is not None:
-        record = Given(asked.record)
-        try:
-            os.makedirs(folder, mode=0o700)
-        except OSError as fault:
-            raise Wrong(f"{folder}: {fault.strerror}") from None
-        history = os.path.join(folder, running.HISTORY)
-        run = running.start_server(
-            folder, settings_of(asked), server_words(asked, record, history), is_kept=True
-        )
-        running.keep(run)
-    else:
-        run = running.join(folder)
+    record = None if asked.record is None else Given(asked.record)
+    run = running.join(folder) if record is None else start_kept(asked, folder, record)
     return run_program(run, asked, program, record) if program else 0
 
 

@@ -5,6 +5,7 @@ from __future__ import annotations
 
 import json
 import os
+import shlex
 import shutil
 import signal
 import subprocess
@@ -138,7 +139,7 @@ def keep(run: Run) -> None:
         json.dump(asdict(kept), file)
     with open(run.path(ENVIRONMENT), "w", encoding="utf-8") as file:
         for name, value in environment(run).items():
-            file.write(f"export {name}='{value}'\n")
+            file.write(f"export {name}={shlex.quote(value)}\n")
 
 
 def kept_in(folder: str) -> Kept:
