@@ -31,7 +31,8 @@ module _ (d : Description) (past other : List Step) (x : Step) (h : AreAlike d p
   unfolding clock_of
   clock_more client = cc (h.clocks client)
 
-  mask_more : (client kind index : ℕ) → mask_bit (x ∷ past) client kind index ≡ mask_bit (x ∷ other) client kind index
+  mask_more : (client kind index : ℕ)
+      → mask_bit (x ∷ past) client kind index ≡ mask_bit (x ∷ other) client kind index
   unfolding mask_bit
   mask_more client kind index = cc (h.masks client kind index)
 
@@ -59,14 +60,21 @@ module _ (d : Description) (past other : List Step) (x : Step) (h : AreAlike d p
     filters = filters_more d past other x h;
   }
 
-after_by : (d : Description) (past other : List Step) (x : Step) (b also : Bool) → b ≡ also → AreAlike d past other → AreAlike d (if b then x ∷ past else past) (if also then x ∷ other else other)
+after_by : (d : Description) (past other : List Step) (x : Step) (b also : Bool) → b ≡ also
+    → AreAlike d past other → AreAlike d (if b then x ∷ past else past) (if also then x ∷ other else other)
 after_by d past other x true true e h = step_more d past other x h
 after_by d past other x false false e h = h
 after_by d past other x true false e h = absurd (cc e)
 after_by d past other x false true e h = absurd (cc e)
 
-pub later : (d : Description) (past other : List Step) (x : Step) → AreAlike d past other → is_full d past ≡ is_full d other
-    → AreAnswersAlike (answer d past x) (answer d other x) × AreAlike d (past_after (answer d past x).reply x past) (past_after (answer d other x).reply x other)
+pub later : (d : Description) (past other : List Step) (x : Step) → AreAlike d past other
+    → is_full d past ≡ is_full d other
+    → AreAnswersAlike (answer d past x) (answer d other x) × AreAlike d
+    (past_after (answer d past x).reply x past) (past_after (answer d other x).reply x other)
 later d past other x h full =
-    let same = answer_alike d past other x h full in
-    (same, after_by d past other x (is_accepted (answer d past x).reply) (is_accepted (answer d other x).reply) (entered_alike (answer d past x).reply (answer d other x).reply same.reply) h)
+    let same = answer_alike d past other x h full in (
+      same,
+      after_by d past other x (is_accepted (answer d past x).reply)
+          (is_accepted (answer d other x).reply)
+          (entered_alike (answer d past x).reply (answer d other x).reply same.reply) h,
+    )

@@ -1,5 +1,5 @@
--- When two pasts of a device are alike: each later step is then answered alike, but for places and times. So this is all that a
--- tool has to know of a device which asks what may come of it (docs/EXPLORE.md, "What a state is").
+-- When two pasts of a device are alike: each later step is then answered alike, but for places and times. So
+-- a tool that asks what may come of a device has to keep no more of it.
 use Rattle.std.specs.Prelude.{◌≡◌, ℕ, ℤ, List, ◌++◌, map}
 use Rattle.inp_model.specs.declared.event.Event.{Event}
 use Rattle.inp_model.specs.declared.taken.Taken.{Taken}
@@ -34,10 +34,12 @@ pub record AreItemsAlike (d : Description) (r s : List RawItem) : Type 0 where
 
 -- After these events the filters decide each later one alike, whatever else comes before it.
 abbrev pub DecideAlike : List Filter → List Timed → List Timed → Type 0
-DecideAlike fs given other = (later : List Timed) (x : Timed) → is_eaten fs x (later ++ given) ≡ is_eaten fs x (later ++ other)
+DecideAlike fs given other =
+    (later : List Timed) (x : Timed) → is_eaten fs x (later ++ given) ≡ is_eaten fs x (later ++ other)
 
--- All that a later step can tell of a past, but for places and times: state, batch, timer, holder, inhibition, clients with
--- their queues (their events alone), clocks, masks and revocations, filters, and how many sources are done.
+-- All that a later step can tell of a past, but for places and times: state, batch, timer, holder, inhibition,
+-- clients with their queues (their events alone), clocks, masks and revocations, filters, and how many sources
+-- are done.
 pub record AreAlike (d : Description) (past other : List Step) : Type 0 where
   pub items : AreItemsAlike d (raw d past) (raw d other)
   pub timers : timer d past ≡ timer d other
@@ -76,6 +78,7 @@ pub record AreAnswersAlike (one other : Answer) : Type 0 where
 -- Alike pasts answer each step alike, and are alike after it.
 abbrev pub AreAnsweredAlike : Type 0
 AreAnsweredAlike =
-    (d : Description) (past other : List Step) (x : Step) → AreAlike d past other → is_full d past ≡ is_full d other
+    (d : Description) (past other : List Step) (x : Step) → AreAlike d past other → is_full d past ≡
+    is_full d other
     → AreAnswersAlike (answer d past x) (answer d other x)
     × AreAlike d (past_after (answer d past x).reply x past) (past_after (answer d other x).reply x other)
