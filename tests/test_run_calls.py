@@ -132,6 +132,10 @@ class Calls(RunCase):
         self.says_all(done, r"\A\d+ checks, 0 failed")
         self.assertEqual(2, done.stderr.count("is not served, and answered EINVAL"), done.stderr)
 
+    def test_signals_and_a_read_that_blocks(self) -> None:
+        program = compiled(HERE / "signals.c", self.folder / "signals")
+        self.says_all(self.run_tool(["--quiet", 60000, HERE / "calls.rec", "--", program]), r"8 checks, 0 failed")
+
     def test_several_processes_have_one_device(self) -> None:
         done = self.run_tool(["--frames", 1, HERE / "keys.rec", "--", *PYTHON, HERE / "processes.py"])
         self.says_ok(done, PROCESS_CHECKS)
