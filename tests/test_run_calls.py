@@ -235,7 +235,11 @@ class Histories(RunCase):
             "KEY_LEFTCTRL: down for it, up on the device", self.tool("stuck", self.folder / "history.rec")
         )
         record.write_text("#= desktop drops 0\n" + STUCK.read_text())
-        self.assertIn("1 of 1 expectation held", self.ran("--as", "desktop", "--frames", 1, record)[1])
+        page = self.folder / "page.html"
+        self.assertIn(
+            "1 of 1 expectation held", self.ran("--as", "desktop", "--frames", 1, "--draw", page, record)[1]
+        )
+        self.assertIn("KEY_LEFTCTRL", page.read_text())
 
     def test_it_is_the_same_at_each_run(self) -> None:
         one, other = (self.ran("--frames", frames, HERE / "keys.rec")[0] for frames in (3, 3))
