@@ -32,6 +32,9 @@ COMPILER = os.environ.get("CC", "cc")
 SECONDS = 120
 REQUESTS, MESSAGES, PROCESS_CHECKS, LIMIT_CHECKS = 5000, 2000, 20, 6
 RING = 128
+# The programs of calls, and how each is run.
+ALONE = ["--quiet", "60000"]
+PROGRAMS = {"calls": ["--frames", "1", "--end", "gone"], "signals": ALONE, "threads": ALONE}
 PYTHON = [sys.executable, "-B"]
 
 
@@ -126,11 +129,20 @@ class RunCase(FolderCase):
 
 
 class Calls(RunCase):
+    def ran(self, name: str) -> subprocess.CompletedProcess[str]:
+        program = compiled(HERE / f"{name}.c", self.folder / name)
+        return self.run_tool([*PROGRAMS[name], HERE / "calls.rec", "--", program])
+
     def test_each_call_of_evdev(self) -> None:
-        program = compiled(HERE / "calls.c", self.folder / "calls")
-        done = self.run_tool(["--frames", 1, "--end", "gone", HERE / "calls.rec", "--", program])
+        done = self.ran("calls")
         self.says_all(done, r"\A\d+ checks, 0 failed")
         self.assertEqual(2, done.stderr.count("is not served, and answered EINVAL"), done.stderr)
+
+    def test_signals_and_a_read_that_blocks(self) -> None:
+        self.says_all(self.ran("signals"), r"8 checks, 0 failed")
+
+    def test_threads_that_ask_at_once(self) -> None:
+        self.says_all(self.ran("threads"), r"9 checks, 0 failed")
 
     def test_several_processes_have_one_device(self) -> None:
         done = self.run_tool(["--frames", 1, HERE / "keys.rec", "--", *PYTHON, HERE / "processes.py"])
@@ -223,7 +235,11 @@ class Histories(RunCase):
             "KEY_LEFTCTRL: down for it, up on the device", self.tool("stuck", self.folder / "history.rec")
         )
         record.write_text("#= desktop drops 0\n" + STUCK.read_text())
-        self.assertIn("1 of 1 expectation held", self.ran("--as", "desktop", "--frames", 1, record)[1])
+        page = self.folder / "page.html"
+        self.assertIn(
+            "1 of 1 expectation held", self.ran("--as", "desktop", "--frames", 1, "--draw", page, record)[1]
+        )
+        self.assertIn("KEY_LEFTCTRL", page.read_text())
 
     def test_it_is_the_same_at_each_run(self) -> None:
         one, other = (self.ran("--frames", frames, HERE / "keys.rec")[0] for frames in (3, 3))
@@ -294,24 +310,27 @@ class Sanitized(RunCase):
 
     is_long = True
 
-    def checks(self, sanitizer: str, options: Dict[str, str]) -> None:
+    def checks(self, sanitizer: str, options: Dict[str, str], names: Sequence[str]) -> None:
         flags = [f"-fsanitize={sanitizer}", "-fno-sanitize-recover=all"]
         runbuild.compile_by(runbuild.server_words(COMPILER, runbuild.archive(), self.folder, flags))
-        shim = ["-fvisibility=hidden", "-I", str(runbuild.SOURCES), *runbuild.sources("shim")]
-        program = compiled(HERE / "calls.c", self.folder / "calls", flags, shim)
         shutil.copy(self.built / runbuild.SHIM, self.folder)
+        shim = ["-fvisibility=hidden", "-I", str(runbuild.SOURCES), *runbuild.sources("shim")]
         plain = ["env", "-u", "LD_PRELOAD", *(f"{name}={value}" for name, value in options.items())]
-        done = self.run_tool(
-            ["--frames", 1, "--end", "gone", HERE / "calls.rec", "--", *plain, program], self.folder
-        )
-        self.says_all(done, r"\A\d+ checks, 0 failed")
-        self.assertNotIn("Sanitizer", done.stderr)
+        for name in names:
+            with self.subTest(name):
+                program = compiled(HERE / f"{name}.c", self.folder / name, flags, shim)
+                done = self.run_tool(
+                    [*PROGRAMS[name], HERE / "calls.rec", "--", *plain, program], self.folder
+                )
+                self.says_all(done, r"\d+ checks, 0 failed")
+                self.assertNotIn("Sanitizer", done.stderr)
 
     def test_address_and_undefined(self) -> None:
-        self.checks("address,undefined", {"ASAN_OPTIONS": "detect_leaks=1"})
+        self.checks("address,undefined", {"ASAN_OPTIONS": "detect_leaks=1"}, list(PROGRAMS))
 
     def test_thread(self) -> None:
-        self.checks("thread", {})
+        # (this sanitizer runs a signal's handler later than the signal comes)
+        self.checks("thread", {}, ["calls", "threads"])
 
 
 class Valgrind(RunCase):

@@ -45,12 +45,26 @@ const struct run *shim_run(void);
 /** Whether this process may have a descriptor of a node. Where not, no call looks at descriptors. (run.c) */
 extern atomic_bool may_have_nodes;
 
-/** The node that a path names, or -1. (paths.c) */
-int node_of_path(const char *path);
+/** The node that a path below /dev names, or -1. (paths.c) */
+int node_of_dev_path(const char *path);
 
-/** Where a path stands in truth: a path below /dev/input in the run's folder, any other where it is.
- * (paths.c) */
-const char *true_path(const char *path, char *room, size_t size);
+/** Where a path below /dev or /run stands in truth. (paths.c) */
+const char *true_dev_path(const char *path, char *room, size_t size);
+
+/** Whether a path begins as those do that the shim may have to do with. Most do not. */
+static inline bool may_be_mapped(const char *path) {
+    return path && path[0] == '/' && (path[1] == 'd' || path[1] == 'r');
+}
+
+/** The node that a path names, or -1. */
+static inline int node_of_path(const char *path) {
+    return may_be_mapped(path) ? node_of_dev_path(path) : -1;
+}
+
+/** Where a path stands in truth: one below /dev/input in the run's folder, any other where it is. */
+static inline const char *true_path(const char *path, char *room, size_t size) {
+    return may_be_mapped(path) ? true_dev_path(path, room, size) : path;
+}
 
 /** The minor number of a node. (paths.c) */
 unsigned minor_of_node(int node);

@@ -41,7 +41,7 @@ def server_words(compiler: str, library: Path, out: Path, more: Sequence[str] = 
 
 def shim_words(compiler: str, out: Path, more: Sequence[str] = ()) -> List[str]:
     """The words that compile the shim."""
-    shared = ["-fPIC", "-shared", "-fvisibility=hidden", "-Wl,-z,relro,-z,now"]
+    shared = ["-fPIC", "-shared", "-fvisibility=hidden", "-Wl,-z,relro,-z,now,-z,defs"]
     return [
         compiler,
         *FLAGS,
