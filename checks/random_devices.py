@@ -1,8 +1,8 @@
 #!/usr/bin/env python3
 """Makes a random record of one device and its driver: checks/random_devices.py SEED [--raw] > FILE
 
-The driver does as drivers do: each contact ends before another one begins in its slot. With --raw it does not,
-and sends autorepeats of keys, whether they are down or not."""
+The driver does as drivers do: each contact ends before another one begins in its slot. With --raw it does
+not, and sends autorepeats of keys, whether they are down or not."""
 
 from __future__ import annotations
 

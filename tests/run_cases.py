@@ -1,5 +1,5 @@
-"""What the tests of tools/run share: they build the server and the shim, run a program on a record's devices, and look
-for what it has to write."""
+"""What the tests of tools/run share: they build the server and the shim, run a program on a record's devices,
+and look for what it has to write."""
 
 import atexit
 import difflib

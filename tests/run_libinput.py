@@ -75,6 +75,6 @@ class Libinput(RunCase):
         self.says(done, r"KEY_LEFTCTRL \(29\) pressed", 1)
         self.says(done, r"KEY_LEFTCTRL \(29\) released", 0)
         stuck = [TOP / "tools" / "stuck", history]
-        told = subprocess.run(stuck, env=variables(self.built), capture_output=True, text=True, check=False).stdout
-        self.assertIn("KEY_LEFTCTRL: down for it, up on the device\n", told)
-        self.assertIn("grab of remapper", told)
+        told = subprocess.run(stuck, env=variables(self.built), capture_output=True, text=True, check=False)
+        self.assertIn("KEY_LEFTCTRL: down for it, up on the device\n", told.stdout)
+        self.assertIn("grab of remapper", told.stdout)

@@ -1,7 +1,7 @@
 """Real programs on played devices: those of this list that are installed, unchanged.
 
-Each is run twice by tools/run with --frames, and both runs write the same. One that is not installed is skipped
-by its name; docs/RUN.md has the packages. All are skipped, by one line, where the library is not built
+Each is run twice by tools/run with --frames, and both runs write the same. One that is not installed is left
+out by its name; docs/RUN.md has the packages. All are skipped, by one line, where the library is not built
 (`tools/build --library`) or no C compiler is there; the server and the shim are compiled anew.
 """
 

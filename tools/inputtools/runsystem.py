@@ -12,15 +12,15 @@ from inputtools.recordfile import read_text
 from inputtools.umockdev import umockdev_text
 
 RUNNER, DESCRIPTION = "umockdev-run", "devices.umockdev"
-MISSING = f"{RUNNER} is not there (Debian: umockdev): a program that looks into /sys or asks udev finds no device"
+MISSING = f"{RUNNER} is not there (Debian: umockdev), so a program that looks into /sys finds no device"
 
 
 def with_system_files(program: List[str], record: str, folder: str, first: int) -> List[str]:
     """The words by which a program is started so that it finds what the system would have of the record's
     devices.
 
-    `folder` is the run's, for files that have to be written; `first` is the number of the first node. The shim
-    is loaded before what umockdev-run loads, which adds its own behind: nodes are ours, and the rest is its."""
+    `folder` is the run's, for files that have to be written; `first` is the number of the first node. The
+    shim is loaded before what umockdev-run loads: nodes are answered by the shim, and the rest by umockdev."""
     if shutil.which(RUNNER) is None:
         say("run", MISSING)
         return program
