@@ -25,7 +25,7 @@ struct side {
 struct round {
     bool is_partial;     /**< One of both left something unread meanwhile. */
     uint32_t hidden_ids; /**< How many tracking ids libevdev kept from its program. */
-    bool was_repeated[KEY_CNT]; /**< The last event of the key was an autorepeat when libevdev synchronised. */
+    bool was_repeated[KEY_CNT]; /**< Its last event was an autorepeat when libevdev synchronised. */
 };
 
 /** The kinds of difference that docs/KERNEL.md has a row of. */

@@ -20,7 +20,7 @@ def with_system_files(program: List[str], record: str, folder: str, first: int) 
     devices.
 
     `folder` is the run's, for files that have to be written; `first` is the number of the first node. The
-    shim is loaded before what umockdev-run loads: nodes are answered by the shim, and the rest by umockdev."""
+    shim is loaded before what umockdev-run loads: nodes are the shim's, and the rest is umockdev's."""
     if shutil.which(RUNNER) is None:
         say("run", MISSING)
         return program
