@@ -12,10 +12,11 @@ import run_games
 import run_libinput
 import run_page
 import run_readers
+import run_remapper
 import run_sway
 from run_cases import why_not
 
-MODULES = (run_readers, run_libinput, run_games, run_sway, run_page)
+MODULES = (run_readers, run_libinput, run_games, run_sway, run_remapper, run_page)
 
 
 class NotBuilt(unittest.TestCase):
