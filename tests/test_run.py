@@ -14,7 +14,7 @@ import run_page
 import run_readers
 import run_remapper
 import run_sway
-from run_cases import why_not
+from run_cases import build, why_not
 
 MODULES = (run_readers, run_libinput, run_games, run_sway, run_remapper, run_page)
 
@@ -30,6 +30,7 @@ def load_tests(loader: unittest.TestLoader, tests: unittest.TestSuite,
                _pattern: Optional[str]) -> unittest.TestSuite:
     if why_not():
         return tests
+    build()  # (once, before the tests are shared out)
     suite = unittest.TestSuite()
     for module in MODULES:
         suite.addTests(loader.loadTestsFromModule(module))
