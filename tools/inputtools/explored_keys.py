@@ -1,0 +1,255 @@
+"""The key of a state: two states with one key go on alike, but for places and times.
+
+A field that follows from the others is left out. How many lines an actor has done says which masks, which clock and
+which revocations its client has. What was sent to a device matters to its owner alone, and the autorepeat's timer
+where a tick is to come. For each field there is a record on which leaving it out gives other numbers
+(`tests/test_explore_key.py`).
+"""
+
+from __future__ import annotations
+
+from typing import Any, FrozenSet, List, NamedTuple, Optional, Tuple
+
+from inputtools.explored_state import FINISHED, ActorState, Answer, ExploredClient, ExploredDevice, Mark, copy_of_view
+from second.device import DROPPED, Filter
+from second.names import KEY, LED, SW, SYN
+from second.reader import Reader, View
+
+Events = Tuple[Any, ...]
+
+
+class CoreKey(NamedTuple):
+    """What a device is, whoever has opened it."""
+
+    keys: FrozenSet[int]
+    switches: FrozenSet[int]
+    leds: FrozenSet[int]
+    axes: Tuple[int, ...]
+    fuzz: Tuple[int, ...]
+    cells: Tuple[Tuple[int, ...], ...]
+    staged: int
+    announced: int
+    at_frame: int
+    batch: Events
+    inhibited: bool
+    repeat: Tuple[int, ...]
+    filters: Tuple[Events, ...]
+    waiting: Events
+    sent: Events
+
+
+class DeviceKey(NamedTuple):
+    """A device: its core, who holds the grab, the timer of the autorepeat, how many sources are done, and, where
+    a limit may be met, how many clients are open and how many steps and feedback calls there were."""
+
+    core: CoreKey
+    holder: Optional[int]
+    due: Optional[int]
+    repeat_key: Optional[int]
+    ends: int
+    open: int
+    steps: int
+    calls: int
+
+
+class ViewKey(NamedTuple):
+    """What a client or a tap knows."""
+
+    keys: FrozenSet[int]
+    leds: FrozenSet[int]
+    switches: FrozenSet[int]
+    axes: Tuple[int, ...]
+    slot: int
+    cells: Tuple[Tuple[int, ...], ...]
+
+
+class ReaderKey(NamedTuple):
+    """A reader: where it stands, what it knows, the events that it has read and not handed out, and those that it
+    made."""
+
+    phase: str
+    view: ViewKey
+    read: Events
+    made: Events
+
+
+class ActorKey(NamedTuple):
+    """An actor: its client and what waits for it, what it knows, whether it stopped, and how far a line is that goes
+    on call by call."""
+
+    client: int
+    queue: Optional[Events]
+    knows: Any
+    is_stopped: bool
+    losses: int
+    handed: int
+    is_begun: bool
+    told: Tuple[Any, ...]
+
+
+class StateKey(NamedTuple):
+    """A state: how far each actor is, what was met on the way, the device, and the actors."""
+
+    positions: Tuple[int, ...]
+    marks: FrozenSet[Mark]
+    device: DeviceKey
+    actors: Tuple[ActorKey, ...]
+    last: Optional[int]
+    preemptions: int
+
+
+class Limits(NamedTuple):
+    """What a key needs beside what always matters."""
+
+    counts_steps: bool
+    has_owner: bool
+    has_tick: bool
+
+
+# Devices
+
+
+def events_of(queue: List[Any]) -> Events:
+    """The events of a queue, without their times and places."""
+    return tuple([item[0] for item in queue])
+
+
+def waiting_events(client: ExploredClient) -> Events:
+    """The events that wait for a client."""
+    if client.events is None:
+        client.events = events_of(client.queue)
+    events: Events = client.events
+    return events
+
+
+def filter_key(each: Filter) -> Events:
+    """What a filter needs of the past: a chord and a bounce the events on their keys."""
+    if each.form in ("eat", "norepeat"):
+        return ()
+    keys = each.words[: 2 if each.form == "chord" else 1]
+    return tuple(item for item in each.given if item[0][0] == KEY and item[0][1] in keys)
+
+
+def core_key(device: ExploredDevice, has_owner: bool) -> CoreKey:
+    on, outputs = device.on, device.outputs
+    return CoreKey(
+        frozenset(on[KEY]),
+        frozenset(on[SW]),
+        frozenset(on[LED]),
+        tuple(device.axes.values()),
+        tuple([info[3] for info in device.infos.values()]),
+        tuple(map(tuple, device.cells)),
+        device.staged,
+        device.announced,
+        device.at_frame,
+        tuple(device.batch),
+        device.inhibited,
+        tuple(device.repeat),
+        tuple(map(filter_key, device.filters)),
+        tuple(outputs.waiting) if has_owner else (),
+        tuple(sorted(outputs.last.items())) if has_owner else (),
+    )
+
+
+def device_key(device: ExploredDevice, limits: Limits) -> DeviceKey:
+    if device.core_key is None:
+        device.core_key = core_key(device, limits.has_owner)
+    has_tick, counts = limits.has_tick, limits.counts_steps
+    return DeviceKey(
+        device.core_key,
+        device.holder,
+        device.due if has_tick else None,
+        device.repeat_key if has_tick and device.due is not None else None,
+        device.ends,
+        len(device.clients) if counts else 0,
+        len(device.history) if counts else 0,
+        device.outputs.calls if counts else 0,
+    )
+
+
+# Actors
+
+
+def view_key(view: View) -> ViewKey:
+    on = view.on
+    return ViewKey(
+        frozenset(on[KEY]),
+        frozenset(on[LED]),
+        frozenset(on[SW]),
+        tuple(view.axes),
+        view.slot,
+        tuple(map(tuple, view.cells)),
+    )
+
+
+def reader_key(reader: Reader) -> ReaderKey:
+    return ReaderKey(reader.phase, view_key(reader.view), events_of(reader.queue), tuple(reader.synthesised))
+
+
+def told_key(told: Tuple[Answer, ...]) -> Tuple[Any, ...]:
+    """The answers to the calls of a line, without their places."""
+    rows = []
+    for reply, written in told:
+        events = events_of(written) if reply[0] == "took" else tuple(written or ())
+        rows.append((reply[0], *(str(word) for word in reply[2:]), events))
+    return tuple(rows)
+
+
+def knowledge_key(actor: ActorState) -> Any:
+    if actor.is_bystander or actor.role == "source":
+        return None
+    if actor.role == "client":
+        return reader_key(actor.reader)
+    if actor.role == "tap":
+        return view_key(actor.view)
+    if actor.role == "joy":
+        joystick = actor.joystick
+        return reader_key(joystick.reader), tuple(joystick.startup), tuple(joystick.down), tuple(joystick.values)
+    return tuple(sorted(actor.heard.items()))
+
+
+def actor_key(actor: ActorState, device: ExploredDevice) -> ActorKey:
+    number = actor.present_client()
+    client = device.clients.get(number)
+    if actor.own_key is None:
+        actor.own_key = knowledge_key(actor), told_key(actor.told)
+    knows, told = actor.own_key
+    queue = None if client is None else waiting_events(client)
+    is_stopped = actor.stop != FINISHED
+    return ActorKey(number, queue, knows, is_stopped, actor.losses, actor.handed, actor.is_begun, told)
+
+
+# Folding
+
+
+def is_alike_when_read(actor: ActorState, device: ExploredDevice) -> bool:
+    """Is it the same when this actor reads what waits for it, as far as it is itself concerned? Where it is to
+    synchronise, or SYN_DROPPED waits, it is not."""
+    if actor.is_bystander or actor.role not in ("client", "tap"):
+        return False
+    if actor.told or actor.handed or actor.stop != FINISHED:
+        return False
+    if actor.role == "client" and actor.reader.phase != "plain":
+        return False
+    client = device.clients.get(actor.present_client())
+    return client is None or not client.queue or client.queue[0][0][:2] != (SYN, DROPPED)
+
+
+def folded_key(actor: ActorState, device: ExploredDevice) -> ActorKey:
+    """The key of an actor that will read all that waits, whenever it does: with what it knows then."""
+    client = device.clients.get(actor.present_client())
+    if actor.folded is None or actor.folded[0] is not client:
+        actor.folded = client, folded_with(actor, client)
+    key: ActorKey = actor.folded[1]
+    return key
+
+
+def folded_with(actor: ActorState, client: Optional[ExploredClient]) -> ActorKey:
+    items = list(actor.reader.queue) if actor.role == "client" else []
+    if client is not None and not client.revoked:
+        items += client.queue
+    view = copy_of_view(actor.belief())
+    for item in items:
+        view.take(item[0])
+    is_open = None if client is None else ()
+    return ActorKey(actor.present_client(), is_open, view_key(view), False, actor.losses, 0, False, ())
