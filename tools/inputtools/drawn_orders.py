@@ -55,7 +55,8 @@ class Draws:
     def order(self, number: int) -> Tuple[DrawnOrder, State]:
         """A whole order, and the state at its end."""
         source, problem = random.Random(f"{self.seed} {number}"), self.problem
-        state, actors, changes, overtaken = problem.start, [], 0, 0
+        state, changes, overtaken = problem.start, 0, 0
+        actors: List[int] = []
         while True:
             successors = dict(problem.successors(state))
             if not successors:

@@ -118,7 +118,8 @@ class Output:
     """The lines of a run, and its status."""
 
     def __init__(self, asked: Any) -> None:
-        self.asked, self.lines = asked, [str(line) for line in ()]
+        self.asked = asked
+        self.lines: List[str] = []
         self.answers: List[Answer] = []
         self.names: List[str] = []
 
@@ -143,7 +144,7 @@ class Output:
         except OSError as fault:
             raise Wrong(f"{path}: {fault.strerror}") from None
         if not (self.asked.json or self.asked.shard):
-            self.lines += [f"  {found.thing or found.kind}: tools/stuck {path}", f"  {'':3}tools/draw {path} > order.html"]
+            self.lines.append(f"  {found.thing or found.kind} by `tools/stuck {path}` and `tools/draw {path}`")
 
     def file_name(self, answer: Answer, found: Found) -> str:
         stem = os.path.basename(answer.record)

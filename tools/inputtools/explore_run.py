@@ -155,21 +155,24 @@ class Exploration:
         if not graph.is_whole:
             return replace(answer, is_whole=False, is_all=False, why=why_text(graph))
         counts = Counts(graph)
-        nodes: Dict[Thing, List[int]] = {}
+        ends: Dict[Thing, List[int]] = {}
         for node, state in graph.ends.items():
             for thing in things_at(state, problem):
-                nodes.setdefault(thing, []).append(node)
-        least = LeastOrders(graph) if nodes else None
-        found = []
-        for thing, ends in nodes.items():
-            assert least is not None
-            orders = sum(counts.orders[node] for node in ends)
-            chance = None if asked.preemptions is not None else sum(counts.chances[node] for node in ends)
-            best = min(ends, key=lambda node: (least.cost(node), node))
-            changes, overtaken = least.cost(best)
+                ends.setdefault(thing, []).append(node)
+        found = self.found_in(graph, counts, ends) if ends else []
+        return replace(answer, orders=counts.total, is_all=not problem.is_cut, found=in_order(found))
+
+    def found_in(self, graph: Graph, counts: Counts, ends: Dict[Thing, List[int]]) -> List[Found]:
+        """The things of a whole graph, each with the least order to one of its ends."""
+        problem, least, found = graph.problem, LeastOrders(graph), []
+        for thing, nodes in ends.items():
+            orders = sum(counts.orders[node] for node in nodes)
+            chance = None if problem.asked.preemptions is not None else sum(counts.chances[node] for node in nodes)
+            costs = [(least.cost(node), node) for node in nodes]
+            (changes, overtaken), best = min(costs)
             one = found_of(thing, orders, chance, changes, overtaken, None)
             found.append(self.with_order(problem, one, thing, least.order(best), orders == counts.total))
-        return replace(answer, orders=counts.total, is_all=not problem.is_cut, found=in_order(found))
+        return found
 
     def drawn(self, asked: Asked, numbers: Sequence[int]) -> Answer:
         """Orders that are drawn."""

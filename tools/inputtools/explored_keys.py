@@ -8,9 +8,9 @@ where a tick is to come. For each field there is a record on which leaving it ou
 
 from __future__ import annotations
 
-from typing import Any, FrozenSet, List, NamedTuple, Optional, Tuple
+from typing import Any, Dict, FrozenSet, List, NamedTuple, Optional, Tuple
 
-from inputtools.explored_state import FINISHED, ActorState, Answer, ExploredClient, ExploredDevice, Mark, copy_of_view
+from inputtools.explored_state import FINISHED, ActorState, Answer, ExploredDevice, Mark, copy_of_view
 from second.device import DROPPED, Filter
 from second.names import KEY, LED, SW, SYN
 from second.reader import Reader, View
@@ -39,10 +39,10 @@ class CoreKey(NamedTuple):
 
 
 class DeviceKey(NamedTuple):
-    """A device: its core, who holds the grab, the timer of the autorepeat, how many sources are done, and, where
-    a limit may be met, how many clients are open and how many steps and feedback calls there were."""
+    """A device: the number of its core's key, who holds the grab, the timer of the autorepeat, how many sources are
+    done, and, where a limit may be met, how many clients are open and how many steps and feedback calls there were."""
 
-    core: CoreKey
+    core: int
     holder: Optional[int]
     due: Optional[int]
     repeat_key: Optional[int]
@@ -88,14 +88,24 @@ class ActorKey(NamedTuple):
 
 
 class StateKey(NamedTuple):
-    """A state: how far each actor is, what was met on the way, the device, and the actors."""
+    """A state: how far each actor is, what was met on the way, the device, and the numbers of the actors' keys."""
 
     positions: Tuple[int, ...]
     marks: FrozenSet[Mark]
     device: DeviceKey
-    actors: Tuple[ActorKey, ...]
+    actors: Tuple[int, ...]
     last: Optional[int]
     preemptions: int
+
+
+class Numbers:
+    """Numbers keys, equal ones alike: a key of many parts is hashed and kept once."""
+
+    def __init__(self) -> None:
+        self.numbers: Dict[Any, int] = {}
+
+    def of(self, key: Any) -> int:
+        return self.numbers.setdefault(key, len(self.numbers))
 
 
 class Limits(NamedTuple):
@@ -112,14 +122,6 @@ class Limits(NamedTuple):
 def events_of(queue: List[Any]) -> Events:
     """The events of a queue, without their times and places."""
     return tuple([item[0] for item in queue])
-
-
-def waiting_events(client: ExploredClient) -> Events:
-    """The events that wait for a client."""
-    if client.events is None:
-        client.events = events_of(client.queue)
-    events: Events = client.events
-    return events
 
 
 def filter_key(each: Filter) -> Events:
@@ -151,12 +153,12 @@ def core_key(device: ExploredDevice, has_owner: bool) -> CoreKey:
     )
 
 
-def device_key(device: ExploredDevice, limits: Limits) -> DeviceKey:
-    if device.core_key is None:
-        device.core_key = core_key(device, limits.has_owner)
+def device_key(device: ExploredDevice, limits: Limits, numbers: Numbers) -> DeviceKey:
+    if device.core_number is None:
+        device.core_number = numbers.of(core_key(device, limits.has_owner))
     has_tick, counts = limits.has_tick, limits.counts_steps
     return DeviceKey(
-        device.core_key,
+        device.core_number,
         device.holder,
         device.due if has_tick else None,
         device.repeat_key if has_tick and device.due is not None else None,
@@ -211,12 +213,9 @@ def knowledge_key(actor: ActorState) -> Any:
 def actor_key(actor: ActorState, device: ExploredDevice) -> ActorKey:
     number = actor.present_client()
     client = device.clients.get(number)
-    if actor.own_key is None:
-        actor.own_key = knowledge_key(actor), told_key(actor.told)
-    knows, told = actor.own_key
-    queue = None if client is None else waiting_events(client)
-    is_stopped = actor.stop != FINISHED
-    return ActorKey(number, queue, knows, is_stopped, actor.losses, actor.handed, actor.is_begun, told)
+    queue = None if client is None else events_of(client.queue)
+    state = actor.losses, actor.handed, actor.is_begun, told_key(actor.told)
+    return ActorKey(number, queue, knowledge_key(actor), actor.stop != FINISHED, *state)
 
 
 # Folding
@@ -238,13 +237,6 @@ def is_alike_when_read(actor: ActorState, device: ExploredDevice) -> bool:
 def folded_key(actor: ActorState, device: ExploredDevice) -> ActorKey:
     """The key of an actor that will read all that waits, whenever it does: with what it knows then."""
     client = device.clients.get(actor.present_client())
-    if actor.folded is None or actor.folded[0] is not client:
-        actor.folded = client, folded_with(actor, client)
-    key: ActorKey = actor.folded[1]
-    return key
-
-
-def folded_with(actor: ActorState, client: Optional[ExploredClient]) -> ActorKey:
     items = list(actor.reader.queue) if actor.role == "client" else []
     if client is not None and not client.revoked:
         items += client.queue

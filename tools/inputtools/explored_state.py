@@ -108,7 +108,6 @@ class ExploredClient(Client):
     def __init__(self, places: int, is_bystander: bool) -> None:
         super().__init__(places)
         self.is_bystander = is_bystander
-        self.events: Any = None
 
     def admits(self, event: Event) -> bool:
         return not self.is_bystander and super().admits(event)
@@ -116,7 +115,7 @@ class ExploredClient(Client):
     def copy(self) -> ExploredClient:
         new = ExploredClient.__new__(ExploredClient)
         new.__dict__.update(self.__dict__)
-        new.queue, new.events = self.queue[:], None
+        new.queue = self.queue[:]
         new.clear_bits = set(self.clear_bits) if self.clear_bits else set()
         return new
 
@@ -138,7 +137,8 @@ class ExploredDevice(Device):
         self.call: Optional[OneCall] = None
         self.log: Optional[List[Step]] = None
         self.opens_bystander = False
-        self.core_key: Any = None
+        # (the number of the key of its core, where it is known)
+        self.core_number: Optional[int] = None
 
     def copy(self, is_core_changed: bool, client: int) -> ExploredDevice:
         """A copy; its core and all clients are its own where a unit may change them, else one client alone."""
@@ -156,7 +156,7 @@ class ExploredDevice(Device):
         new.clients = {number: each.copy() for number, each in self.clients.items()}
         new.filters = [copy_of_filter(each) for each in self.filters]
         new.outputs = self.outputs.copy()
-        new.core_key = None
+        new.core_number = None
         return new
 
     def step(self, step: Step) -> Answer:
@@ -233,13 +233,11 @@ class ActorState(Actor):
         self.waits_for: Optional[int] = None
         # (is a guarded line begun, which goes on call by call?)
         self.is_begun = False
-        self.own_key: Any = None
-        self.folded: Any = None
 
     def copy(self) -> ActorState:
         new = ActorState.__new__(ActorState)
         new.__dict__.update(self.__dict__)
-        new.marks, new.kept, new.own_key, new.folded = set(), None, None, None
+        new.marks, new.kept = set(), None
         if self.role == "client":
             new.reader = copy_of_reader(self.reader)
         elif self.role == "tap":
@@ -356,7 +354,7 @@ class State:
     counted, who went on last and how often one was left that could go on. `made` is the call that led here, where orders
     are of calls."""
 
-    __slots__ = ("device", "actors", "positions", "marks", "last", "preemptions", "made")
+    __slots__ = ("device", "actors", "positions", "marks", "last", "preemptions", "made", "keys")
 
     def __init__(
         self,
@@ -370,18 +368,30 @@ class State:
     ) -> None:
         self.device, self.actors, self.positions, self.marks = device, actors, positions, marks
         self.last, self.preemptions, self.made = last, preemptions, made
+        # The numbers of the actors' keys, where they are known.
+        self.keys: List[Optional[int]] = [None] * len(actors)
 
     def moved(
-        self, number: int, device: ExploredDevice, actor: ActorState, is_done: bool, made: Optional[Step] = None
+        self,
+        number: int,
+        device: ExploredDevice,
+        actor: ActorState,
+        changes_core: bool,
+        is_done: bool = True,
+        made: Optional[Step] = None,
     ) -> State:
-        """The state behind a unit, or a call, of an actor."""
+        """The state behind a unit, or a call, of an actor. Where the core did not change no other actor's key did."""
         actors = list(self.actors)
         actors[number] = actor
         positions = self.positions
         if is_done:
             positions = (*positions[:number], positions[number] + 1, *positions[number + 1 :])
         marks = self.marks | actor.marks if actor.marks else self.marks
-        return State(device, actors, positions, marks, self.last, self.preemptions, made)
+        new = State(device, actors, positions, marks, self.last, self.preemptions, made)
+        if not changes_core:
+            new.keys = self.keys[:]
+            new.keys[number] = None
+        return new
 
     def at(self, number: int, position: int) -> State:
         """The same state, but that an actor is at another unit."""

@@ -8,11 +8,14 @@ a limit may be met, of steps or of open clients, all are left in as they are.
 from __future__ import annotations
 
 from dataclasses import dataclass
+from operator import le
 from typing import Any, Callable, List, Optional, Sequence, Set, Tuple
 
 from inputtools.explored_ends import moment_marks
 from inputtools.explored_expectations import expected_of
-from inputtools.explored_keys import Limits, StateKey, actor_key, device_key, folded_key, is_alike_when_read
+from inputtools.explored_keys import (
+    ActorKey, Limits, Numbers, StateKey, actor_key, device_key, folded_key, is_alike_when_read,
+)
 from inputtools.explored_record import ExploredActor, ExploredRecord, Line, Unit, units_of
 from inputtools.explored_state import (
     FINISHED, ActorState, ExploredDevice, OneCall, Pause, State, is_core_changed,
@@ -138,12 +141,14 @@ class Problem:
         if asked.waits:
             self.add_ends()
         self.counts = [len(units) for units in self.units]
+        self.changes_core = [[is_core_changed(unit) for unit in units] for units in self.units]
         self.is_bystander = [target not in (None, actor.name) and is_passive(actor) and not is_tight for actor in actors]
         self.start = self.state_at_start()
         self.sources = sum(actor.role == "source" for actor in actors)
         self.limits = Limits(is_tight, any(actor.role == "owner" for actor in actors), False)
+        self.limits_before_tick = self.limits._replace(has_tick=True)
         self.ticks = [last_unit(units, lambda unit: "tick" in unit.commands()) for units in self.units]
-        self.before = self.counts_before()
+        self.before, self.numbers = self.counts_before(), Numbers()
         # Did a bound leave out an order?
         self.is_cut = False
         self.prepare_folding()
@@ -274,18 +279,20 @@ class Problem:
         if self.asked.grain == "call":
             return self.step_by_call(state, number, unit)
         new = old.copy()
-        device = state.device.copy(is_core_changed(unit), old.present_client())
+        changes_core = self.changes_core[number][state.positions[number]]
+        device = state.device.copy(changes_core, old.present_client())
         for line in unit.lines:
             new.do_on(device, line.words)
         if self.asked.moments:
             new.marks |= moment_marks(new, device, unit)
-        return state.moved(number, device, new, True)
+        return state.moved(number, device, new, changes_core)
 
     def step_by_call(self, state: State, number: int, unit: Unit) -> Optional[State]:
         old, words = state.actors[number], unit.first.words
         new = old.copy()
         new.told, new.waits_for = (), self.sources if self.asked.waits else None
-        device = state.device.copy(is_core_changed(unit), old.present_client())
+        changes_core = self.changes_core[number][state.positions[number]]
+        device = state.device.copy(changes_core, old.present_client())
         device.call = call = OneCall(old.told)
         is_done = True
         try:
@@ -298,7 +305,7 @@ class Problem:
         device.call, new.is_begun = None, unit.first.is_guarded and not is_done
         if is_done and self.asked.moments:
             new.marks |= moment_marks(new, device, unit)
-        return state.moved(number, device, new, is_done, call.made)
+        return state.moved(number, device, new, changes_core, is_done, call.made)
 
     def paused(self, new: ActorState, old: ActorState, call: OneCall, words: Sequence[str]) -> ActorState:
         """The actor in the midst of a line, as it goes on by the next call."""
@@ -312,17 +319,21 @@ class Problem:
     # Keys
 
     def key(self, state: State) -> StateKey:
-        limits, device = self.limits, state.device
-        if any(at <= last for at, last in zip(state.positions, self.ticks)):
-            limits = limits._replace(has_tick=True)
-        keys = []
-        for number, actor in enumerate(state.actors):
-            folds = self.folds and state.positions[number] >= self.folds_from[number]
-            is_folded = folds and is_alike_when_read(actor, device)
-            keys.append(folded_key(actor, device) if is_folded else actor_key(actor, device))
-        return StateKey(
-            state.positions, state.marks, device_key(device, limits), tuple(keys), state.last, state.preemptions
-        )
+        has_tick = any(map(le, state.positions, self.ticks))
+        limits = self.limits_before_tick if has_tick else self.limits
+        keys: List[int] = []
+        for number, known in enumerate(state.keys):
+            keys.append(self.numbers.of(self.actor_key(state, number)) if known is None else known)
+        state.keys = list(keys)
+        device = device_key(state.device, limits, self.numbers)
+        return StateKey(state.positions, state.marks, device, tuple(keys), state.last, state.preemptions)
+
+    def actor_key(self, state: State, number: int) -> ActorKey:
+        actor, device = state.actors[number], state.device
+        folds = self.folds and state.positions[number] >= self.folds_from[number]
+        if folds and is_alike_when_read(actor, device):
+            return folded_key(actor, device)
+        return actor_key(actor, device)
 
 
 def has_influence(actor: ExploredActor) -> bool:

@@ -8,6 +8,7 @@ that were overtaken.
 
 from __future__ import annotations
 
+import gc
 import time
 from collections import deque
 from typing import Callable, Deque, Dict, List, NamedTuple, Optional, Tuple
@@ -52,16 +53,22 @@ class Graph:
         self.numbers: Dict[StateKey, int] = {}
         self.is_whole, self.is_stopped = True, False
         self.waiting: Deque[Tuple[int, State]] = deque()
+        # (states have no cycles, and there are many of them: looking for cycles takes a third of the time)
+        gc.disable()
         try:
             self.explore()
         except KeyboardInterrupt:
             self.is_whole, self.is_stopped = False, True
+        finally:
+            gc.enable()
         self.numbers = {}
 
     def explore(self) -> None:
         self.number_of(self.problem.start)
         while self.waiting and self.is_whole:
             node, state = self.waiting.popleft()
+            if len(self.edges) > self.most_states:
+                self.is_whole = False
             if node % LOOKED_EVERY == 0:
                 self.look(state)
             successors = self.problem.successors(state)
@@ -80,8 +87,8 @@ class Graph:
         return number
 
     def look(self, state: State) -> None:
-        """Is it too much? And how far it is."""
-        if len(self.edges) > self.most_states or time.monotonic() > self.end_time:
+        """Does it take too long? And how far it is."""
+        if time.monotonic() > self.end_time:
             self.is_whole = False
         if self.tell is not None:
             self.tell(len(self.edges), sum(state.positions))
