@@ -19,6 +19,7 @@ from inputtools.exploring import Asked, Problem
 from inputtools.exploring_graph import Counts, Graph, LeastOrders
 from inputtools.program import PLAYED
 from inputtools.progress import progress
+from inputtools.recordfile import read_text
 from inputtools.replaying import judge, player_of_orders
 from inputtools.schedules import Turn, is_record, record_of, shortened, turns_of
 from inputtools.slips import refusal_text
@@ -62,11 +63,10 @@ def record_at(name: str, path: str, folder: str) -> ExploredRecord:
 
 def checked_record(given: Given) -> ExploredRecord:
     """A record, which the program plays."""
-    player = player_of_orders()
-    status, written = player.play(given.path, given.folder)
-    record_text = open(given.path, encoding="latin-1", newline="").read()
+    text = read_text(given.path)
+    status, written = player_of_orders().play(given.path, given.folder)
     if status not in PLAYED:
-        raise Wrong(f"{given.name}: {refusal_text(record_text, written, status, given.folder)}")
+        raise Wrong(f"{given.name}: {refusal_text(text, written, status, given.folder)}")
     record = record_at(given.name, given.path, given.folder)
     for actor in record.actors:
         if actor.role not in ("client", "tap") and any(line.is_guarded for line in actor.lines):

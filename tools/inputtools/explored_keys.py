@@ -12,6 +12,7 @@ from typing import Any, Dict, FrozenSet, List, NamedTuple, Optional, Tuple
 
 from inputtools.explored_state import FINISHED, ActorState, Answer, ExploredDevice, Mark, copy_of_view
 from second.device import DROPPED, Filter
+from second.joystick import Joystick
 from second.names import KEY, LED, SW, SYN
 from second.reader import Reader, View
 
@@ -71,6 +72,15 @@ class ReaderKey(NamedTuple):
     view: ViewKey
     read: Events
     made: Events
+
+
+class JoystickKey(NamedTuple):
+    """A joystick: its reader, the records of its startup that it has not handed out, and what its records told."""
+
+    reader: ReaderKey
+    startup: Tuple[Any, ...]
+    down: Tuple[int, ...]
+    values: Tuple[int, ...]
 
 
 class ActorKey(NamedTuple):
@@ -188,6 +198,11 @@ def reader_key(reader: Reader) -> ReaderKey:
     return ReaderKey(reader.phase, view_key(reader.view), events_of(reader.queue), tuple(reader.synthesised))
 
 
+def joystick_key(joystick: Joystick) -> JoystickKey:
+    records = tuple(joystick.startup), tuple(joystick.down), tuple(joystick.values)
+    return JoystickKey(reader_key(joystick.reader), *records)
+
+
 def told_key(told: Tuple[Answer, ...]) -> Tuple[Any, ...]:
     """The answers to the calls of a line, without their places."""
     rows = []
@@ -205,8 +220,7 @@ def knowledge_key(actor: ActorState) -> Any:
     if actor.role == "tap":
         return view_key(actor.view)
     if actor.role == "joy":
-        joystick = actor.joystick
-        return reader_key(joystick.reader), tuple(joystick.startup), tuple(joystick.down), tuple(joystick.values)
+        return joystick_key(actor.joystick)
     return tuple(sorted(actor.heard.items()))
 
 
