@@ -100,13 +100,17 @@ class AtEnd:
     def belief(self):
         return self.actor.reader.view if self.role == "client" else self.actor.view
 
+    def __getattr__(self, name):
+        return getattr(self.actor, name)
+
     def has_opened(self):
-        return (self.actor.reader.client if self.role == "client" else self.actor.client) != NO_CLIENT
+        clients = {"client": self.actor.reader.client, "joy": self.joystick.reader.client, "tap": self.actor.client}
+        return clients.get(self.role) != NO_CLIENT
 
 
 def played_things(problem):
-    """Every order played by the second program: of each client and tap how often each thing is apart."""
-    found = {actor.name: Counter() for actor in problem.actors if actor.role in ("client", "tap")}
+    """Every order played by the second program: of each reader how often each thing is apart."""
+    found = {actor.name: Counter() for actor in problem.actors if actor.role in ("client", "tap", "joy")}
     for order in all_orders(problem.counts):
         (device,), actors = run(text_in_order(problem, order))
         for actor in actors:
@@ -140,8 +144,8 @@ FILTERS = ("filter eat EV_KEY KEY_B", "filter norepeat", "filter chord KEY_A KEY
 
 
 class RandomRecord:
-    """A small record by a seed: keys, an LED, maybe an axis, slots, autorepeat and a filter; one source or two; a
-    client or tap more than one."""
+    """A small record by a seed: keys, an LED, maybe an axis, slots, autorepeat, a filter and a short log; one source
+    or two, and two clients, taps or joysticks."""
 
     def __init__(self, seed):
         self.random = random.Random(seed)
@@ -152,7 +156,7 @@ class RandomRecord:
     def text(self):
         lines = ["inputrecord 2", *self.description()]
         lines += ["source s", "source z"] if self.has_two_sources else ["source s"]
-        names = [(f"c{number}", self.random.choice(("client", "client", "tap"))) for number in range(2)]
+        names = [(f"c{number}", self.random.choice(("client", "client", "tap", "tap", "joy"))) for number in range(2)]
         lines += [f"{role} {name}" for name, role in names]
         decks = self.source_decks() + [[[f"do {name} {line}"] for line in self.own_lines(role)] for name, role in names]
         return "".join(line + "\n" for line in lines + self.shuffled(decks))
@@ -161,6 +165,8 @@ class RandomRecord:
         choice, rows = self.random.choice, ["device d"]
         rows.append(f"hint {choice((8, 8, 2))}")
         rows += ["type EV_REP"] if self.has_repeat else []
+        rows += [f"log {self.random.randint(4, 16)}"] if self.random.random() < 0.15 else []
+        rows += ["cap EV_KEY BTN_TRIGGER"] if self.random.random() < 0.3 else []
         rows += ["cap EV_KEY KEY_A", "cap EV_KEY KEY_B", "cap EV_LED LED_CAPSL"]
         rows += [f"axis ABS_X 0 -100 100 {choice((0, 0, 4))} 0 0"] if self.has_axis else []
         rows += ["slots 2", "axis ABS_MT_POSITION_X 0 0 4000 0 0 0"] if self.has_slots else []
@@ -182,7 +188,8 @@ class RandomRecord:
                            f"EV_ABS ABS_MT_POSITION_X {self.random.randint(0, 9)}"))
         if self.has_axis and kind < 0.5:
             return f"EV_ABS ABS_X {self.random.randint(-9, 9)}"
-        return f"EV_KEY KEY_{choice('AB')} {choice((0, 1, 1))}"
+        key = choice(("KEY_A", "KEY_B", "KEY_A", "KEY_B", "BTN_TRIGGER"))
+        return f"EV_KEY {key} {choice((0, 1, 1))}"
 
     def source_unit(self, name):
         self.now += self.random.choice((1000, 3000, 260000))
@@ -203,6 +210,8 @@ class RandomRecord:
 
     def own_lines(self, role):
         """An actor's lines: it opens, and does a few of three commands, or of grabs."""
+        if role == "joy":
+            return ["open", *(f"read {self.random.choice((1, 2, 9))}" for _ in range(self.random.choice((1, 2))))]
         own = ["open"] if role == "client" or self.random.random() < 0.8 else []
         if role == "tap" and own and self.random.random() < 0.7:
             own.append("keys")

@@ -76,6 +76,7 @@ def checked_record(given: Given) -> ExploredRecord:
 
 def items_of(givens: Sequence[Given], settings: Settings) -> Tuple[List[Item], List[str]]:
     """The actors that are judged, and what is wrong with records that cannot be explored."""
+    record_at.cache_clear()
     items: List[Item] = []
     wrong: List[str] = []
     names = set()

@@ -1,9 +1,10 @@
 """The key of a state: two states with one key go on alike, but for places and times.
 
-A field that follows from the others is left out. How many lines an actor has done says which masks, which clock and
-which revocations its client has. What was sent to a device matters to its owner alone, and the autorepeat's timer
-where a tick is to come. For each field there is a record on which leaving it out gives other numbers
-(`tests/test_explore_key.py`).
+What follows from the fields is left out. How many lines an actor has done says which masks, which clock and which
+revocations its client has, how many feedback calls an owner made, and which sources are done. The slot that was announced last is that of the
+open frame, else that of the last one. What a joystick's records told is what its reader knows, but for the startup that
+it has not handed out. What was sent to a device matters to its owner alone, and the autorepeat's timer where a tick is
+to come. For each field there is a record on which leaving it out gives other numbers (`tests/test_explore_key.py`).
 """
 
 from __future__ import annotations
@@ -29,7 +30,6 @@ class CoreKey(NamedTuple):
     fuzz: Tuple[int, ...]
     cells: Tuple[Tuple[int, ...], ...]
     staged: int
-    announced: int
     at_frame: int
     batch: Events
     inhibited: bool
@@ -40,17 +40,15 @@ class CoreKey(NamedTuple):
 
 
 class DeviceKey(NamedTuple):
-    """A device: the number of its core's key, who holds the grab, the timer of the autorepeat, how many sources are
-    done, and, where a limit may be met, how many clients are open and how many steps and feedback calls there were."""
+    """A device: the number of its core's key, who holds the grab, the timer of the autorepeat, and, where a limit may
+    be met, how many clients are open and how many steps there were."""
 
     core: int
     holder: Optional[int]
     due: Optional[int]
     repeat_key: Optional[int]
-    ends: int
     open: int
     steps: int
-    calls: int
 
 
 class ViewKey(NamedTuple):
@@ -75,12 +73,10 @@ class ReaderKey(NamedTuple):
 
 
 class JoystickKey(NamedTuple):
-    """A joystick: its reader, the records of its startup that it has not handed out, and what its records told."""
+    """A joystick: its reader, and the records of its startup that it has not handed out."""
 
     reader: ReaderKey
     startup: Tuple[Any, ...]
-    down: Tuple[int, ...]
-    values: Tuple[int, ...]
 
 
 class ActorKey(NamedTuple):
@@ -122,6 +118,7 @@ class Limits(NamedTuple):
     """What a key needs beside what always matters."""
 
     counts_steps: bool
+    counts_open: bool
     has_owner: bool
     has_tick: bool
 
@@ -152,7 +149,6 @@ def core_key(device: ExploredDevice, has_owner: bool) -> CoreKey:
         tuple([info[3] for info in device.infos.values()]),
         tuple(map(tuple, device.cells)),
         device.staged,
-        device.announced,
         device.at_frame,
         tuple(device.batch),
         device.inhibited,
@@ -166,16 +162,14 @@ def core_key(device: ExploredDevice, has_owner: bool) -> CoreKey:
 def device_key(device: ExploredDevice, limits: Limits, numbers: Numbers) -> DeviceKey:
     if device.core_number is None:
         device.core_number = numbers.of(core_key(device, limits.has_owner))
-    has_tick, counts = limits.has_tick, limits.counts_steps
+    has_tick = limits.has_tick
     return DeviceKey(
         device.core_number,
         device.holder,
         device.due if has_tick else None,
         device.repeat_key if has_tick and device.due is not None else None,
-        device.ends,
-        len(device.clients) if counts else 0,
-        len(device.history) if counts else 0,
-        device.outputs.calls if counts else 0,
+        len(device.clients) if limits.counts_open else 0,
+        len(device.history) if limits.counts_steps else 0,
     )
 
 
@@ -199,8 +193,7 @@ def reader_key(reader: Reader) -> ReaderKey:
 
 
 def joystick_key(joystick: Joystick) -> JoystickKey:
-    records = tuple(joystick.startup), tuple(joystick.down), tuple(joystick.values)
-    return JoystickKey(reader_key(joystick.reader), *records)
+    return JoystickKey(reader_key(joystick.reader), tuple(joystick.startup))
 
 
 def told_key(told: Tuple[Answer, ...]) -> Tuple[Any, ...]:

@@ -74,13 +74,17 @@ def queries_of(caps: Caps) -> int:
     return 4 + len(caps.axes) + (caps.slots > 0)
 
 
-def may_meet_limit(actors: Sequence[ExploredActor], caps: Caps) -> bool:
-    """May the history be full, or more clients be open than a device has?"""
+def may_fill_log(actors: Sequence[ExploredActor], caps: Caps) -> bool:
+    """May the history be full?"""
     lines = sum(len(actor.lines) for actor in actors)
     readers = sum(actor.role != "source" for actor in actors)
     steps = (lines + readers * (most_events(actors, caps) + 3)) * (queries_of(caps) + 1)
-    opens = sum(line.words[0] == "open" for actor in actors for line in actor.lines)
-    return steps >= caps.log or opens > MOST_OPEN
+    return steps >= caps.log
+
+
+def may_open_too_many(actors: Sequence[ExploredActor]) -> bool:
+    """May more clients be open than a device has?"""
+    return sum(line.words[0] == "open" for actor in actors for line in actor.lines) > MOST_OPEN
 
 
 class Window:
@@ -132,7 +136,8 @@ class Problem:
         self.expected = expected_of(expectations or ())
         self.device_name, self.caps = record.descriptions[number]
         actors = record.actors_of(number)
-        is_tight = may_meet_limit(actors, self.caps)
+        counts_steps, counts_open = may_fill_log(actors, self.caps), may_open_too_many(actors)
+        is_tight = counts_steps or counts_open
         if target is not None and not is_tight:
             actors = [actor for actor in actors if actor.name == target or has_influence(actor)]
         self.actors = actors
@@ -145,7 +150,8 @@ class Problem:
         self.is_bystander = [target not in (None, actor.name) and is_passive(actor) and not is_tight for actor in actors]
         self.start = self.state_at_start()
         self.sources = sum(actor.role == "source" for actor in actors)
-        self.limits = Limits(is_tight, any(actor.role == "owner" for actor in actors), False)
+        has_owner = any(actor.role == "owner" for actor in actors)
+        self.limits = Limits(counts_steps, counts_open, has_owner, False)
         self.limits_before_tick = self.limits._replace(has_tick=True)
         self.ticks = [last_unit(units, lambda unit: "tick" in unit.commands()) for units in self.units]
         self.before, self.numbers = self.counts_before(), Numbers()
@@ -196,8 +202,9 @@ class Problem:
             window = Window(self.actors, asked.within)
             readers = [actor for actor, aside in zip(self.actors, self.is_bystander) if reads_events(actor) and not aside]
             is_lossless = all(window.most_waiting(actor) < ring for actor in readers)
-        # (at grain "call" what waits says how many calls a line makes)
-        is_asked = asked.folds and asked.grain != "call" and not asked.moments
+        # (what waits says how many calls a line makes, of which a log has so many and no more)
+        counts_calls = asked.grain == "call" or self.limits.counts_steps
+        is_asked = asked.folds and not counts_calls and not asked.moments
         self.folds = is_asked and self.expected.is_nothing() and is_lossless
         self.folds_from = []
         for actor, units in zip(self.actors, self.units):
