@@ -79,15 +79,16 @@ def count_of_orders(counts):
     return product
 
 
-def text_in_order(problem, order):
-    """The record whose units stand in an order, with the reads of the end."""
+def text_in_order(problem, order, names):
+    """The record whose units stand in an order, with the reads of the end of some actors."""
     at, lines = [0] * len(problem.names), list(problem.record.head)
     for actor in order:
         unit = problem.units[actor][at[actor]]
         at[actor] += 1
         lines += [" ".join(("do", problem.names[actor], *line.words)) for line in unit.lines]
     for actor in problem.actors:
-        lines += [" ".join(("do", actor.name, *words)) for words in READS.get(actor.role, ())]
+        if actor.name in names:
+            lines += [" ".join(("do", actor.name, *words)) for words in READS.get(actor.role, ())]
     return "".join(line + "\n" for line in lines)
 
 
@@ -111,12 +112,14 @@ class AtEnd:
 def played_things(problem):
     """Every order played by the second program: of each reader how often each thing is apart."""
     found = {actor.name: Counter() for actor in problem.actors if actor.role in ("client", "tap", "joy")}
+    # (where the history may be full, the reads of one keep steps from another)
+    groups = [[name] for name in found] if problem.limits.counts_steps else [list(found)]
     for order in all_orders(problem.counts):
-        (device,), actors = run(text_in_order(problem, order))
-        for actor in actors:
-            end = AtEnd(actor)
-            if actor.name in found and end.has_opened():
-                found[actor.name].update(differences(end, device))
+        for names in groups:
+            (device,), actors = run(text_in_order(problem, order, names))
+            for end in map(AtEnd, actors):
+                if end.name in names and end.has_opened():
+                    found[end.name].update(differences(end, device))
     return found
 
 

@@ -79,7 +79,7 @@ class Numbers(unittest.TestCase):
         """A remapper that asks before it grabs: 19 and 18 of a hundred orders still end wrong."""
         rows = self.has(DATA / "grabs_when_no_key_is_down.rec", "compositor", 7512,
                         {"KEY_LEFTCTRL": 1432, "KEY_ENTER": 1380})
-        self.assertEqual(252, rows["waits", "", ""])
+        self.assertEqual(252, rows["waits", "remapper", ""])
 
     def test_barrier(self):
         self.has(DATA / "opens_under_a_grab.rec", "compositor", 630, {"KEY_ENTER": 180, "KEY_LEFTCTRL": 36})
@@ -162,7 +162,7 @@ class Actors(unittest.TestCase):
         text = HEAD + "do c open\n#~ if no key\ndo c grab\n"
         self.assertEqual((1, {}), things_of(text, "c"))
         _, rows = things_of(HEAD + PRESS + "#~\ndo c open\n#~ if no key\ndo c grab\n", "c")
-        self.assertEqual({("waits", "", ""): 1}, rows)
+        self.assertEqual({("waits", "remapper", ""): 1}, rows)
 
     def test_an_open_frame_is_told_apart(self):
         _, rows = things_of(HEAD + "do c open\n#~\ndo s event 1 EV_KEY KEY_A 1\n", "c")

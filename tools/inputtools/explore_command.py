@@ -125,17 +125,16 @@ class Output:
 
     def add(self, answer: Answer) -> None:
         self.answers.append(answer)
+        paths = [self.written(answer, found) for found in answer.found]
         if self.asked.json or self.asked.shard:
             self.lines += answer_lines(answer)
         else:
-            self.lines += answer_text(answer)
-        for found in answer.found:
-            self.add_record(answer, found)
+            self.lines += answer_text(answer, paths)
 
-    def add_record(self, answer: Answer, found: Found) -> None:
-        """Writes the order of what was found as a record."""
+    def written(self, answer: Answer, found: Found) -> Optional[str]:
+        """The record of the order of what was found, which is written where that is asked for."""
         if self.asked.out is None or not found.lines:
-            return
+            return None
         path = os.path.join(self.asked.out, self.file_name(answer, found))
         try:
             os.makedirs(self.asked.out, exist_ok=True)
@@ -143,8 +142,7 @@ class Output:
                 file.write("".join(line + "\n" for line in found.lines))
         except OSError as fault:
             raise Wrong(f"{path}: {fault.strerror}") from None
-        if not (self.asked.json or self.asked.shard):
-            self.lines.append(f"  {found.thing or found.kind} by `tools/stuck {path}` and `tools/draw {path}`")
+        return path
 
     def file_name(self, answer: Answer, found: Found) -> str:
         stem = os.path.basename(answer.record)

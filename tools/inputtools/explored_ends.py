@@ -124,7 +124,7 @@ def has_line(actor: ActorState, expectation: Any) -> bool:
 def waiting(state: State, problem: Problem) -> List[Thing]:
     """The actors that have lines left at an end, since nobody can go on."""
     names = [actor.name for number, actor in enumerate(state.actors) if state.positions[number] < problem.counts[number]]
-    return [Thing("waits", name) for name in names]
+    return [Thing("waits", name, name) for name in names]
 
 
 def thing_of(mark: Mark) -> Thing:

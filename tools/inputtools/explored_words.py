@@ -2,7 +2,7 @@
 
 from __future__ import annotations
 
-from typing import List, Sequence
+from typing import List, Optional, Sequence
 
 from inputtools.command import counted
 from inputtools.explored_answers import Answer, Found
@@ -14,6 +14,10 @@ def number_text(number: int) -> str:
         return f"{number:,}"
     digits = str(number)
     return f"{digits[0]}.{digits[1]}e{len(digits) - 1}"
+
+
+def counted_text(count: int, one: str) -> str:
+    return f"{number_text(count)} {one}" if count == 1 else f"{number_text(count)} {one}s"
 
 
 def share_text(share: float) -> str:
@@ -53,7 +57,7 @@ def head_line(answer: Answer) -> str:
     who = f"{answer.record}: {answer.actor}{others}"
     if not answer.is_whole and answer.drawn is None:
         return f"{who}: not all was explored: {answer.why}"
-    states = "" if answer.states is None else f", {counted(answer.states, 'state')}"
+    states = "" if answer.states is None else f", {counted_text(answer.states, 'state')}"
     rest = f" ({answer.why})" if answer.why else ""
     return f"{who}: {of_text(answer)}{states}{rest}"
 
@@ -82,7 +86,7 @@ def what_text(found: Found) -> str:
     if found.kind == "missed":
         return f"`{found.thing}` is missed"
     if found.kind == "waits":
-        return "lines are left, which wait for ever"
+        return f"{found.thing} waits for ever, with lines left,"
     if found.kind == "lost":
         return "it loses events"
     if found.kind == "refused":
@@ -97,7 +101,9 @@ def count_text(answer: Answer, found: Found) -> str:
         every = "in the order" if answer.orders == 1 else f"in each of {of_text(answer)}"
         return f"{every}: this is no race, and tools/stuck tells it" if answer.drawn is None else every
     chance = "" if found.chance is None else f", by chance {share_text(found.chance)}"
-    return f"in {number_text(found.orders)} of {of_text(answer)}: {share_text(share)} of a hundred{chance}"
+    is_bounded = answer.drawn is not None or bounds_text(answer) != ""
+    of_these = f"these {number_text(answer.orders)} orders" if is_bounded else of_text(answer)
+    return f"in {number_text(found.orders)} of {of_these}: {share_text(share)} of a hundred{chance}"
 
 
 def order_lines(found: Found) -> List[str]:
@@ -111,22 +117,25 @@ def order_lines(found: Found) -> List[str]:
     return lines + [f"      {name:{width}}  {', '.join(texts)}" for name, texts in found.units]
 
 
-def found_lines(answer: Answer, found: Found) -> List[str]:
+def found_lines(answer: Answer, found: Found, path: Optional[str]) -> List[str]:
     lines = [f"  {what_text(found)} {count_text(answer, found)}"]
     if found.text is not None and found.is_wrong():
         lines.append(f"    why: {found.text}")
     if found.plays is False:
         lines.append("    BUT: played again, this order does not have it; keep the record, and report it")
-    return lines + order_lines(found)
+    lines += order_lines(found)
+    if path is not None:
+        lines += [f"    why in full:  tools/stuck {path}", f"    the picture:  tools/draw {path} > order.html"]
+    return lines
 
 
-def answer_text(answer: Answer) -> List[str]:
-    """The lines on an actor."""
+def answer_text(answer: Answer, paths: Sequence[Optional[str]]) -> List[str]:
+    """The lines on an actor. `paths` are the records of the orders that are shown, where they were written."""
     lines = [head_line(answer)]
     if not answer.is_whole and answer.drawn is None:
         return lines
     if not any(found.is_wrong() for found in answer.found):
         lines.append(nothing_line(answer))
-    for found in answer.found:
-        lines += found_lines(answer, found)
+    for found, path in zip(answer.found, paths):
+        lines += found_lines(answer, found, path)
     return lines
