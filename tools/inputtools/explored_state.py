@@ -86,18 +86,24 @@ class Length(List[Any]):
 
 
 class LastOutputs(Outputs):
-    """What was sent to a device, with the last value of each lasting thing, which its owner is compared with."""
+    """What was sent to a device, with the last value of each lasting thing, which its owner is compared with. Nothing
+    is kept where there is no owner."""
 
-    def __init__(self, most_calls: int) -> None:
+    def __init__(self, most_calls: int, has_owner: bool) -> None:
         super().__init__(most_calls)
+        self.has_owner = has_owner
         self.last: Dict[Tuple[int, int], int] = {}
 
     def send(self, events: List[Event]) -> None:
+        if not self.has_owner:
+            return
         super().send(events)
         self.last.update({event[:2]: event[2] for event in events if is_output(event) and event[0] in LASTING})
 
     def copy(self) -> LastOutputs:
-        new = LastOutputs(self.most_calls)
+        if not self.has_owner:
+            return self
+        new = LastOutputs(self.most_calls, True)
         new.waiting, new.calls, new.last = self.waiting, self.calls, dict(self.last)
         return new
 
@@ -130,10 +136,10 @@ class ExploredDevice(Device):
     """A device that can be copied. An actor's clients are numbered by the actor, so the order in which actors open
     makes no other state."""
 
-    def __init__(self, name: str, caps: Caps) -> None:
+    def __init__(self, name: str, caps: Caps, has_owner: bool) -> None:
         super().__init__(name, caps)
         self.history = Length()
-        self.outputs = LastOutputs(caps.log)
+        self.outputs = LastOutputs(caps.log, has_owner)
         self.call: Optional[OneCall] = None
         self.log: Optional[List[Step]] = None
         self.opens_bystander = False
@@ -224,6 +230,8 @@ class ActorState(Actor):
         super().__init__(name, role, device)
         self.number, self.opened = number, 0
         self.is_watched = self.is_bystander = False
+        # (a source that is never refused a call stays as it is)
+        self.may_stop = True
         self.expected: Sequence[ExpectedEvent] = ()
         self.heard: Dict[Tuple[int, int], int] = {}
         self.losses, self.counts_losses = 0, False
@@ -235,6 +243,8 @@ class ActorState(Actor):
         self.is_begun = False
 
     def copy(self) -> ActorState:
+        if self.role == "source" and not self.may_stop:
+            return self
         new = ActorState.__new__(ActorState)
         new.__dict__.update(self.__dict__)
         new.marks, new.kept = set(), None

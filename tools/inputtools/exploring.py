@@ -18,7 +18,7 @@ from inputtools.explored_keys import (
 )
 from inputtools.explored_record import ExploredActor, ExploredRecord, Line, Unit, units_of
 from inputtools.explored_state import (
-    FINISHED, ActorState, ExploredDevice, OneCall, Pause, State, is_core_changed,
+    EFFECTS, FINISHED, ActorState, ExploredDevice, OneCall, Pause, State, is_core_changed,
 )
 from second.device import Caps, is_slot_value
 from second.model import event_of
@@ -27,6 +27,8 @@ from second.names import ABS, KEY
 MOST_OPEN = 64
 ALWAYS = 10**9
 INFLUENCES = ("grab", "write", "setaxis")
+# The lines of an actor, of which nobody reads, that others may notice.
+NOTICED = ("open", *EFFECTS)
 # The lines before which it matters what was read: they lose what waits, or tell a later state than it does.
 BREAKS = {
     "client": ("open", "clock", "close", "revoke"),
@@ -148,10 +150,10 @@ class Problem:
         self.counts = [len(units) for units in self.units]
         self.changes_core = [[is_core_changed(unit) for unit in units] for units in self.units]
         self.is_bystander = [target not in (None, actor.name) and is_passive(actor) and not is_tight for actor in actors]
-        self.start = self.state_at_start()
-        self.sources = sum(actor.role == "source" for actor in actors)
         has_owner = any(actor.role == "owner" for actor in actors)
         self.limits = Limits(counts_steps, counts_open, has_owner, False)
+        self.start = self.state_at_start()
+        self.sources = sum(actor.role == "source" for actor in actors)
         self.limits_before_tick = self.limits._replace(has_tick=True)
         self.ticks = [last_unit(units, lambda unit: "tick" in unit.commands()) for units in self.units]
         self.before, self.numbers = self.counts_before(), Numbers()
@@ -167,12 +169,13 @@ class Problem:
                 units.append(Unit((Line(ALWAYS, stage, ("end",), False),)))
 
     def state_at_start(self) -> State:
-        device = ExploredDevice(self.device_name, self.caps)
+        device = ExploredDevice(self.device_name, self.caps, self.limits.has_owner)
         states = []
         for number, actor in enumerate(self.actors):
             state = ActorState(actor.name, actor.role, number, device)
             state.is_bystander = self.is_bystander[number]
             state.is_watched = self.target in (None, actor.name)
+            state.may_stop = self.limits.counts_steps or self.asked.grain == "call"
             if actor.name == self.target:
                 state.expected, state.counts_losses = self.expected.events, self.expected.counts_losses
             states.append(state)
@@ -285,6 +288,8 @@ class Problem:
         old = state.actors[number]
         if self.asked.grain == "call":
             return self.step_by_call(state, number, unit)
+        if old.is_bystander and unit.first.words[0] not in NOTICED:
+            return state.moved(number, state.device, old, False)
         new = old.copy()
         changes_core = self.changes_core[number][state.positions[number]]
         device = state.device.copy(changes_core, old.present_client())
