@@ -1,5 +1,5 @@
-"""What the tests of tools/explore share: records that are explored, small random ones, and every order of a record
-played by the second program as it is."""
+"""What the tests of tools/explore share: records that are explored, small random ones, and every order
+of a record played by the second program as it is."""
 
 import random
 import sys
@@ -11,7 +11,11 @@ from pathlib import Path
 TOP = Path(__file__).resolve().parents[1]
 sys.path[:0] = [str(TOP), str(TOP / "tools")]
 
-from inputtools.explored_ends import READS, differences, things_at  # noqa: E402  (the folders have to be on the path)
+from inputtools.explored_ends import (
+    READS,
+    differences,
+    things_at,
+)  # noqa: E402  (the folders have to be on the path)
 from inputtools.explored_record import ExploredRecord  # noqa: E402
 from inputtools.exploring import Asked, Problem  # noqa: E402
 from inputtools.exploring_graph import Counts, Graph  # noqa: E402
@@ -46,8 +50,8 @@ def counted_things(graph, counts):
 
 
 def things_of(text, target, folder=".", **asked):
-    """How many orders a record has for an actor, and in how many each thing comes: (kind, name, why) or, of what is
-    apart, (kind, name, believed, present)."""
+    """How many orders a record has for an actor, and in how many each thing comes: (kind, name, why)
+    or, of what is apart, (kind, name, believed, present)."""
     graph, counts = whole_graph(explored_record(text, folder), target, **asked)
     rows = {}
     for thing, orders in counted_things(graph, counts).items():
@@ -105,7 +109,11 @@ class AtEnd:
         return getattr(self.actor, name)
 
     def has_opened(self):
-        clients = {"client": self.actor.reader.client, "joy": self.joystick.reader.client, "tap": self.actor.client}
+        clients = {
+            "client": self.actor.reader.client,
+            "joy": self.joystick.reader.client,
+            "tap": self.actor.client,
+        }
         return clients.get(self.role) != NO_CLIENT
 
 
@@ -137,18 +145,44 @@ def graph_things(record, target, share, folds):
 # Random records
 
 OF_CLIENT = (
-    "follow", "grab", "ungrab", "force", "next 1", "skip 2", "revoke", "close", "open", "write 900 EV_LED LED_CAPSL 1",
-    "write 900 EV_LED LED_CAPSL 0", "clock monotonic 2000", "mask EV_KEY 0 0x0",
+    "follow",
+    "grab",
+    "ungrab",
+    "force",
+    "next 1",
+    "skip 2",
+    "revoke",
+    "close",
+    "open",
+    "write 900 EV_LED LED_CAPSL 1",
+    "write 900 EV_LED LED_CAPSL 0",
+    "clock monotonic 2000",
+    "mask EV_KEY 0 0x0",
 )
 OF_TAP = (
-    "read 64", "read 1", "grab", "ungrab", "discard", "keys", "open", "close", "revoke", "leds", "clock boottime 2000",
+    "read 64",
+    "read 1",
+    "grab",
+    "ungrab",
+    "discard",
+    "keys",
+    "open",
+    "close",
+    "revoke",
+    "leds",
+    "clock boottime 2000",
 )
-FILTERS = ("filter eat EV_KEY KEY_B", "filter norepeat", "filter chord KEY_A KEY_B", "filter bounce KEY_A 5000")
+FILTERS = (
+    "filter eat EV_KEY KEY_B",
+    "filter norepeat",
+    "filter chord KEY_A KEY_B",
+    "filter bounce KEY_A 5000",
+)
 
 
 class RandomRecord:
-    """A small record by a seed: keys, an LED, maybe an axis, slots, autorepeat, a filter and a short log; one source
-    or two, and two clients, taps or joysticks."""
+    """A small record by a seed: keys, an LED, maybe an axis, slots, autorepeat, a filter and a short
+    log; one source or two, and two clients, taps or joysticks."""
 
     def __init__(self, seed):
         self.random = random.Random(seed)
@@ -159,9 +193,14 @@ class RandomRecord:
     def text(self):
         lines = ["inputrecord 2", *self.description()]
         lines += ["source s", "source z"] if self.has_two_sources else ["source s"]
-        names = [(f"c{number}", self.random.choice(("client", "client", "tap", "tap", "joy"))) for number in range(2)]
+        names = [
+            (f"c{number}", self.random.choice(("client", "client", "tap", "tap", "joy")))
+            for number in range(2)
+        ]
         lines += [f"{role} {name}" for name, role in names]
-        decks = self.source_decks() + [[[f"do {name} {line}"] for line in self.own_lines(role)] for name, role in names]
+        decks = self.source_decks() + [
+            [[f"do {name} {line}"] for line in self.own_lines(role)] for name, role in names
+        ]
         return "".join(line + "\n" for line in lines + self.shuffled(decks))
 
     def description(self):
@@ -187,8 +226,13 @@ class RandomRecord:
     def event(self):
         choice, kind = self.random.choice, self.random.random()
         if self.has_slots and kind < 0.3:
-            return choice((f"EV_ABS ABS_MT_SLOT {choice((0, 1))}", f"EV_ABS ABS_MT_TRACKING_ID {choice((-1, 5, 6))}",
-                           f"EV_ABS ABS_MT_POSITION_X {self.random.randint(0, 9)}"))
+            return choice(
+                (
+                    f"EV_ABS ABS_MT_SLOT {choice((0, 1))}",
+                    f"EV_ABS ABS_MT_TRACKING_ID {choice((-1, 5, 6))}",
+                    f"EV_ABS ABS_MT_POSITION_X {self.random.randint(0, 9)}",
+                )
+            )
         if self.has_axis and kind < 0.5:
             return f"EV_ABS ABS_X {self.random.randint(-9, 9)}"
         key = choice(("KEY_A", "KEY_B", "KEY_A", "KEY_B", "BTN_TRIGGER"))
@@ -214,20 +258,27 @@ class RandomRecord:
     def own_lines(self, role):
         """An actor's lines: it opens, and does a few of three commands, or of grabs."""
         if role == "joy":
-            return ["open", *(f"read {self.random.choice((1, 2, 9))}" for _ in range(self.random.choice((1, 2))))]
+            return [
+                "open",
+                *(f"read {self.random.choice((1, 2, 9))}" for _ in range(self.random.choice((1, 2)))),
+            ]
         own = ["open"] if role == "client" or self.random.random() < 0.8 else []
         if role == "tap" and own and self.random.random() < 0.7:
             own.append("keys")
         commands = OF_CLIENT if role == "client" else OF_TAP
-        commands += (("axis ABS_X",) if self.has_axis else ()) + (("syncslots",) if self.has_slots else ()) if role == "tap" else ()
+        commands += (
+            (("axis ABS_X",) if self.has_axis else ()) + (("syncslots",) if self.has_slots else ())
+            if role == "tap"
+            else ()
+        )
         picked = [*self.random.sample(commands, 2), commands[0]]
         picked += ["grab", "grab", "ungrab"] if self.random.random() < 0.4 else []
         return own + [self.random.choice(picked) for _ in range(1 if self.has_two_sources else 2)]
 
 
 def compare_by_seed(seed, most):
-    """What differs of a random record between the graph, in both forms, and every order as it is played; None where
-    it has more orders than `most`. And how many things were compared."""
+    """What differs of a random record between the graph, in both forms, and every order as it is
+    played; None where it has more orders than `most`. And how many things were compared."""
     text = RandomRecord(seed).text()
     record = explored_record(text)
     joint = Problem(record, 0, None, Asked(folds=False))

@@ -77,8 +77,12 @@ class Numbers(unittest.TestCase):
 
     def test_guard(self):
         """A remapper that asks before it grabs: 19 and 18 of a hundred orders still end wrong."""
-        rows = self.has(DATA / "grabs_when_no_key_is_down.rec", "compositor", 7512,
-                        {"KEY_LEFTCTRL": 1432, "KEY_ENTER": 1380})
+        rows = self.has(
+            DATA / "grabs_when_no_key_is_down.rec",
+            "compositor",
+            7512,
+            {"KEY_LEFTCTRL": 1432, "KEY_ENTER": 1380},
+        )
         self.assertEqual(252, rows["waits", "remapper", ""])
 
     def test_barrier(self):
@@ -90,7 +94,10 @@ class Numbers(unittest.TestCase):
 
     def test_two_sources(self):
         _, rows = things_of((DATA / "two_sources_stage_slots.rec").read_text(), "c")
-        self.assertEqual({"the current slot": 16, "slot 0 ABS_MT_POSITION_X": 9, "slot 1 ABS_MT_POSITION_X": 16}, apart(rows))
+        self.assertEqual(
+            {"the current slot": 16, "slot 0 ABS_MT_POSITION_X": 9, "slot 1 ABS_MT_POSITION_X": 16},
+            apart(rows),
+        )
 
     def test_bounds(self):
         path = STUCK.read_text()
@@ -113,7 +120,9 @@ class Units(unittest.TestCase):
     def test_frames(self):
         self.assertEqual([2], self.units(HEAD + PRESS))
         self.assertEqual([1, 1], self.units(HEAD + PRESS, "line"))
-        self.assertEqual([2, 1, 2, 1], self.units(HEAD + PRESS + "do s tick 5\n" + PRESS + PRESS.splitlines()[0] + "\n"))
+        self.assertEqual(
+            [2, 1, 2, 1], self.units(HEAD + PRESS + "do s tick 5\n" + PRESS + PRESS.splitlines()[0] + "\n")
+        )
 
     def test_a_barrier_ends_a_frame(self):
         first, second = PRESS.splitlines(keepends=True)
@@ -135,7 +144,9 @@ class Actors(unittest.TestCase):
         self.assertEqual((1, {}), things_of(HEAD + PRESS, "c"))
 
     def test_who_never_opens_is_not_judged(self):
-        self.assertEqual((2, {("refused", "grab", "bad-client"): 2}), things_of(HEAD + PRESS + "do c grab\n", "c"))
+        self.assertEqual(
+            (2, {("refused", "grab", "bad-client"): 2}), things_of(HEAD + PRESS + "do c grab\n", "c")
+        )
 
     def test_others_who_only_read_are_left_out(self):
         text = HEAD + "client other\n" + PRESS + OPEN + "do other open\ndo other follow\n"
@@ -144,7 +155,13 @@ class Actors(unittest.TestCase):
         self.assertEqual(["s", "c", "other"], graph.problem.names)
 
     def test_a_short_log_has_all_stay(self):
-        text = HEAD.replace("hint 8\n", "hint 8\nlog 5\n") + "client other\n" + PRESS + OPEN + "do other open\ndo other follow\n"
+        text = (
+            HEAD.replace("hint 8\n", "hint 8\nlog 5\n")
+            + "client other\n"
+            + PRESS
+            + OPEN
+            + "do other open\ndo other follow\n"
+        )
         _, rows = things_of(text, "c")
         self.assertIn(("full", "", ""), rows)
         self.assertNotEqual(things_of(text.replace("log 5\n", ""), "c"), (_, rows))
@@ -188,8 +205,16 @@ class Command(DeskCase):
 
     def test_nothing_wrong(self):
         path = self.record(HEAD + PRESS + OPEN)
-        self.assertEqual((0, [f"{path}: c with s: all 3 orders, 6 states", "  in none of them is anything wrong at the end"]),
-                         self.explore(path, "--fail"))
+        self.assertEqual(
+            (
+                0,
+                [
+                    f"{path}: c with s: all 3 orders, 6 states",
+                    "  in none of them is anything wrong at the end",
+                ],
+            ),
+            self.explore(path, "--fail"),
+        )
 
     def test_one_order(self):
         path = self.record(HEAD + OPEN)
@@ -199,20 +224,41 @@ class Command(DeskCase):
         status, lines = self.explore(STUCK, "--of", "desktop")
         self.assertEqual(0, status)
         self.assertEqual(
-            ["  KEY_LEFTCTRL: down for it, up on the device, in 147 of all 2,520 orders: 5.83 of a hundred, by chance 1.37",
-             "    why: grab of remapper from place 4 (0.001 s) on",
-             "    a short order, 3 changes of actor, 7 of 12 lines:",
-             "      usb       KEY_LEFTCTRL 1, SYN_REPORT 0",
-             "      remapper  open, grab",
-             "      desktop   open",
-             "      usb       KEY_LEFTCTRL 0, SYN_REPORT 0"], lines[1:])
+            [
+                "  KEY_LEFTCTRL: down for it, up on the device, in 147 of all 2,520 orders: 5.83 of a hundred, by chance 1.37",
+                "    why: grab of remapper from place 4 (0.001 s) on",
+                "    a short order, 3 changes of actor, 7 of 12 lines:",
+                "      usb       KEY_LEFTCTRL 1, SYN_REPORT 0",
+                "      remapper  open, grab",
+                "      desktop   open",
+                "      usb       KEY_LEFTCTRL 0, SYN_REPORT 0",
+            ],
+            lines[1:],
+        )
 
     def test_json(self):
         explored, thing = self.objects(STUCK, "--of", "desktop")
-        self.assertEqual(("explored", "desktop", ["usb", "remapper"], 2520, True), tuple(
-            explored[name] for name in ("kind", "actor", "others", "orders", "is_all")))
-        self.assertEqual(("thing", "apart", "KEY_LEFTCTRL", "down", "up", 147, 4, "grab", True), tuple(
-            thing[name] for name in ("kind", "what", "thing", "believed", "present", "orders", "changes", "cause", "plays")))
+        self.assertEqual(
+            ("explored", "desktop", ["usb", "remapper"], 2520, True),
+            tuple(explored[name] for name in ("kind", "actor", "others", "orders", "is_all")),
+        )
+        self.assertEqual(
+            ("thing", "apart", "KEY_LEFTCTRL", "down", "up", 147, 4, "grab", True),
+            tuple(
+                thing[name]
+                for name in (
+                    "kind",
+                    "what",
+                    "thing",
+                    "believed",
+                    "present",
+                    "orders",
+                    "changes",
+                    "cause",
+                    "plays",
+                )
+            ),
+        )
         self.assertEqual("inputrecord 2", thing["lines"][0])
 
     def test_a_bound_is_named(self):
@@ -229,19 +275,29 @@ class Command(DeskCase):
 
     def test_what_draws_do_not_show(self):
         path = self.record(HEAD + PRESS + OPEN)
-        self.assertEqual(["  in none of them is anything wrong: at most 3 in 40 are, with 95 of a hundred"],
-                         self.explore(path, "--draw", "40")[1][1:])
+        self.assertEqual(
+            ["  in none of them is anything wrong: at most 3 in 40 are, with 95 of a hundred"],
+            self.explore(path, "--draw", "40")[1][1:],
+        )
 
     def test_too_many_states(self):
         status, lines = self.explore(STUCK, "--of", "desktop", "--states", "90", "--fail")
         self.assertEqual(1, status)
-        self.assertTrue(lines[0].endswith("all 6 orders with at most 0 changes of actor that nobody needed, 36 states"))
+        self.assertTrue(
+            lines[0].endswith("all 6 orders with at most 0 changes of actor that nobody needed, 36 states")
+        )
         drawn = next(line for line in lines if "drawn" in line)
-        self.assertTrue(drawn.endswith("1,000 orders drawn with seed 1 (there are more than 90 states)"), drawn)
+        self.assertTrue(
+            drawn.endswith("1,000 orders drawn with seed 1 (there are more than 90 states)"), drawn
+        )
 
     def test_moments(self):
-        things = [each for each in self.objects(STUCK, "--of", "desktop", "--moments") if each["kind"] == "thing"]
-        self.assertEqual([("apart", 147), ("moment", 291)], [(each["what"], each["orders"]) for each in things])
+        things = [
+            each for each in self.objects(STUCK, "--of", "desktop", "--moments") if each["kind"] == "thing"
+        ]
+        self.assertEqual(
+            [("apart", 147), ("moment", 291)], [(each["what"], each["orders"]) for each in things]
+        )
 
     # Its records
 
@@ -251,8 +307,16 @@ class Command(DeskCase):
             self.explore(record, "--out", out)
         paths = sorted(out.glob("*.rec"))
         names = [path.stem for path in paths if "lost" not in path.stem]
-        self.assertEqual(["handed_over_grab-compositor-KEY_ENTER", "handed_over_grab-compositor-KEY_LEFTCTRL",
-                          "lid-applet-SW_LID", "lid-logind-SW_LID", "stuck_key-desktop-KEY_LEFTCTRL"], names)
+        self.assertEqual(
+            [
+                "handed_over_grab-compositor-KEY_ENTER",
+                "handed_over_grab-compositor-KEY_LEFTCTRL",
+                "lid-applet-SW_LID",
+                "lid-logind-SW_LID",
+                "stuck_key-desktop-KEY_LEFTCTRL",
+            ],
+            names,
+        )
         for path in paths:
             with self.subTest(path.stem):
                 status, text, lines = self.tool("stuck", "--fail", path)
@@ -289,13 +353,22 @@ class Command(DeskCase):
     def test_expectations(self):
         path = self.record(HEAD + self.EXPECTS + PRESS + OPEN)
         things = [each for each in self.objects(path, "--expect") if each["kind"] == "thing"]
-        self.assertEqual([("missed", "c takes KEY_A 1", 1)], [(each["what"], each["thing"], each["orders"]) for each in things])
+        self.assertEqual(
+            [("missed", "c takes KEY_A 1", 1)],
+            [(each["what"], each["thing"], each["orders"]) for each in things],
+        )
         self.assertEqual(1, self.explore(path, "--expect", "--fail")[0])
         path = self.record(HEAD + self.EXPECTS.replace("takes KEY_A 1", "at-end keys KEY_A") + PRESS + OPEN)
         self.assertEqual(0, self.explore(path, "--expect", "--fail")[0])
 
     def test_drops(self):
-        lines = "do c open\n" + PRESS + "do c clock monotonic 5\n" + PRESS.replace(" 1\n", " 0\n") + "do c follow\n"
+        lines = (
+            "do c open\n"
+            + PRESS
+            + "do c clock monotonic 5\n"
+            + PRESS.replace(" 1\n", " 0\n")
+            + "do c follow\n"
+        )
         path = self.record(HEAD + "#= c drops 0\n" + lines)
         things = [each for each in self.objects(path, "--expect") if each["kind"] == "thing"]
         self.assertEqual(["c drops 0"], [each["thing"] for each in things])
@@ -308,9 +381,16 @@ class Command(DeskCase):
     def test_statuses(self):
         good, bad = self.record(HEAD + PRESS + OPEN), self.record((STUCK).read_text(), "bad.rec")
         for words, status in (
-            ((good,), 0), ((good, "--fail"), 0), ((bad,), 0), ((bad, "--fail"), 1), ((good, "--fail", "--draw", "9"), 3),
-            ((good, "--fail", "--within", "0"), 3), ((good, "--fail", "--within", "9"), 0),
-            ((good, "--fail", "--preemptions", "0"), 3), ((good, bad, "--fail"), 1), ((self.folder, "--fail"), 1),
+            ((good,), 0),
+            ((good, "--fail"), 0),
+            ((bad,), 0),
+            ((bad, "--fail"), 1),
+            ((good, "--fail", "--draw", "9"), 3),
+            ((good, "--fail", "--within", "0"), 3),
+            ((good, "--fail", "--within", "9"), 0),
+            ((good, "--fail", "--preemptions", "0"), 3),
+            ((good, bad, "--fail"), 1),
+            ((self.folder, "--fail"), 1),
             ((good, "--fail", "--states", "2"), 3),
         ):
             with self.subTest([str(word) for word in words]):
@@ -319,9 +399,12 @@ class Command(DeskCase):
     def test_wrong_words(self):
         path = self.record(HEAD + OPEN)
         for words, because in (
-            (("--within", "x", path), "--within x is no number"), (("--waits", path), "--waits wants --grain call"),
-            (("--of", "d", path), "no actor of these records is named d"), (("--shard", "3/2", path), "is not K/N"),
-            (("--draw", "0", path), "--draw 0 is not in 1"), ((self.folder / "none.rec",), "No such file"),
+            (("--within", "x", path), "--within x is no number"),
+            (("--waits", path), "--waits wants --grain call"),
+            (("--of", "d", path), "no actor of these records is named d"),
+            (("--shard", "3/2", path), "is not K/N"),
+            (("--draw", "0", path), "--draw 0 is not in 1"),
+            ((self.folder / "none.rec",), "No such file"),
             (("--draw", "5", "--preemptions", "1", path), "it goes without --preemptions"),
         ):
             with self.subTest([str(word) for word in words]):
@@ -331,14 +414,17 @@ class Command(DeskCase):
 
     def test_wrong_records(self):
         for text, because in (
-            ("inputrecord 2\ndevice d\nhint 1\n", "bad-hint"), (HEAD + "#~ if a key\n" + OPEN, "is neither"),
+            ("inputrecord 2\ndevice d\nhint 1\n", "bad-hint"),
+            (HEAD + "#~ if a key\n" + OPEN, "is neither"),
             (HEAD + "#~ if no key\n" + PRESS, "stands before a line of s"),
         ):
             with self.subTest(because):
                 self.refused("explore", self.record(text), because=because)
 
     def test_others_are_explored_beside_a_wrong_one(self):
-        status, text, lines = self.tool("explore", self.record("nothing\n"), self.record(HEAD + OPEN, "other.rec"))
+        status, text, lines = self.tool(
+            "explore", self.record("nothing\n"), self.record(HEAD + OPEN, "other.rec")
+        )
         self.assertEqual((2, 1, 2), (status, len(lines), len(text.splitlines())))
 
     def test_standard_input(self):
@@ -372,14 +458,24 @@ class Command(DeskCase):
         self.addCleanup(signal.signal, signal.SIGINT, signal.getsignal(signal.SIGINT))
         heed_stops()
         status, text, lines = self.tool("explore", STUCK, EXAMPLES / "gamepad.rec", "--states", "9999999")
-        self.assertEqual((130, ["explore: stopped: what is written is not all that was asked for"]), (status, lines))
+        self.assertEqual(
+            (130, ["explore: stopped: what is written is not all that was asked for"]), (status, lines)
+        )
         self.assertIn("KEY_LEFTCTRL: down for it, up on the device, in 147 of all 2,520 orders", text)
-        self.assertIn("gamepad.rec: overlay with xpad, game and tester: not all was explored: stopped from the keyboard", text)
+        self.assertIn(
+            "gamepad.rec: overlay with xpad, game and tester: not all was explored: stopped from the keyboard",
+            text,
+        )
 
     # Parts
 
     def test_parts_are_the_whole(self):
-        for words in (("--draw", "60"), ("--draw", "60", "--grain", "call", "--waits"), ("--states", "90"), ()):
+        for words in (
+            ("--draw", "60"),
+            ("--draw", "60", "--grain", "call", "--waits"),
+            ("--states", "90"),
+            (),
+        ):
             for form in ((), ("--json",)):
                 with self.subTest(words + form):
                     self.is_the_sum_of_parts(words, form)
@@ -398,17 +494,24 @@ class Command(DeskCase):
         self.assertEqual(self.written("explore", *records), self.written("explore", "-j", "3", *records))
 
     def test_parts_that_are_no_whole(self):
-        parts = [self.file(f"{n}.json", self.written("explore", STUCK, "--shard", f"{n}/3")) for n in (1, 2, 3)]
+        parts = [
+            self.file(f"{n}.json", self.written("explore", STUCK, "--shard", f"{n}/3")) for n in (1, 2, 3)
+        ]
         other = self.file("other.json", self.written("explore", STUCK, "--shard", "3/3", "--seed", "2"))
         for paths, because in (
-            (parts[:2], "look at 3"), ([*parts, parts[0]], "look at 1"), ([*parts[:2], other], "a shard of another run"),
-            ([STUCK], "no JSON of tools/explore"), ([self.file("none.json", "")], "it is no shard"),
+            (parts[:2], "look at 3"),
+            ([*parts, parts[0]], "look at 1"),
+            ([*parts[:2], other], "a shard of another run"),
+            ([STUCK], "no JSON of tools/explore"),
+            ([self.file("none.json", "")], "it is no shard"),
         ):
             with self.subTest(because):
                 self.refused("explore", "--join", *paths, because=because)
 
     def test_one_seed_the_same_draws(self):
-        first, again, other = (self.written("explore", STUCK, "--draw", "80", "--seed", seed) for seed in "112")
+        first, again, other = (
+            self.written("explore", STUCK, "--draw", "80", "--seed", seed) for seed in "112"
+        )
         self.assertEqual(first, again)
         self.assertNotEqual(first, other.replace("seed 2", "seed 1"))
 

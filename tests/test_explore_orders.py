@@ -1,5 +1,6 @@
-"""tools/explore: every order of small random records, played by the second program as it is, ends as the graph has
-it, in both forms: each actor apart with states folded, and all actors together with none folded.
+"""tools/explore: every order of small random records, played by the second program as it is, ends as
+the graph has it, in both forms: each actor apart with states folded, and all actors together with none
+folded.
 
 1,000 such records were compared by hand (`tests/explore_cases.py`, `compare_by_seed`).
 """

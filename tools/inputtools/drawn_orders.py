@@ -1,8 +1,8 @@
-"""Orders that are drawn: each next actor by how many units it has left, so that each order is as likely as any other
-where nothing keeps an actor back.
+"""Orders that are drawn: each next actor by how many units it has left, so that each order is as likely
+as any other where nothing keeps an actor back.
 
-Each draw has a seed of its own, made of the seed, of what is explored and of the draw's number. So draws can be made
-in any parts, on any machines, and are the same.
+Each draw has a seed of its own, made of the seed, of what is explored and of the draw's number. So
+draws can be made in any parts, on any machines, and are the same.
 """
 
 from __future__ import annotations
@@ -17,8 +17,8 @@ from inputtools.exploring import Problem
 
 
 class DrawnOrder(NamedTuple):
-    """An order that was drawn: its changes of actor, the units that were overtaken, the number of the draw, and the
-    actors."""
+    """An order that was drawn: its changes of actor, the units that were overtaken, the number of the
+    draw, and the actors."""
 
     changes: int
     overtaken: int
@@ -27,7 +27,8 @@ class DrawnOrder(NamedTuple):
 
 
 class Draws:
-    """What draws gave: how many there were, and of each thing in how many it came, with the least of these orders."""
+    """What draws gave: how many there were, and of each thing in how many it came, with the least of
+    these orders."""
 
     def __init__(self, problem: Problem, seed: int, numbers: Iterable[int], seconds: float) -> None:
         self.problem, self.seed = problem, f"{seed} {problem.number} {problem.target}"

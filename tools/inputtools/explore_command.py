@@ -15,26 +15,28 @@ from inputtools.explored_words import answer_text
 from inputtools.exploring import Asked
 from inputtools.source import Given, read_bytes, shown
 
-HELP = """Says in how many orders of a record's lines a client believes something wrong at the end, and shows a
-short one of them, as a record that plays in that order.
+HELP = """Says in how many orders of a record's lines a client believes something wrong at the end, and
+shows a short one of them, as a record that plays in that order.
 
-In an order each actor's own lines keep theirs. All orders are looked at where that can be: what a device and its
-actors are is kept once, however many orders lead there. At the end of each order a client reads what waits for it, and
-what it believes is compared with its device. What is shown is played again and judged as tools/stuck does.
+In an order each actor's own lines keep theirs. All orders are looked at where that can be: what a
+device and its actors are is kept once, however many orders lead there. At the end of each order a
+client reads what waits for it, and what it believes is compared with its device. What is shown is
+played again and judged as tools/stuck does.
 
 Two comments of a record say which orders there are:
 
   #~              a barrier: all lines before it come before all behind it
   #~ if no key    a guard before a line of a client or tap: it does the line only while it knows of no key that is down
 
-Where there are more states than --states says, or it takes longer than --seconds, the orders with few changes of actor
-that nobody needed are looked at, and 1,000 that are drawn. Each answer says which orders it is of. A share of orders
-is no chance: the chance beside it is that of a scheduler which draws among the actors that can go on."""
+Where there are more states than --states says, or it takes longer than --seconds, the orders with few
+changes of actor that nobody needed are looked at, and 1,000 that are drawn. Each answer says which
+orders it is of. A share of orders is no chance: the chance beside it is that of a scheduler which draws
+among the actors that can go on."""
 
-STATUSES = """Status 0: it was explored. 1: with --fail, an order ends wrong, or misses an expectation. 2: wrong words, or a
-record that cannot be explored. 3: with --fail, nothing wrong came, but not all orders were looked at. 4: standard
-output failed. 5: an order that is shown is not so when it is played again. 130: stopped from the keyboard; what was
-found until then is written."""
+STATUSES = """Status 0: it was explored. 1: with --fail, an order ends wrong, or misses an expectation.
+2: wrong words, or a record that cannot be explored. 3: with --fail, nothing wrong came, but not all
+orders were looked at. 4: standard output failed. 5: an order that is shown is not so when it is played
+again. 130: stopped from the keyboard; what was found until then is written."""
 
 FOUND_WRONG, NOT_ALL, DIFFERS = 1, 3, 5
 MOST = 10**9
@@ -42,25 +44,48 @@ MOST = 10**9
 
 def words_of_command() -> Words:
     words = Words(prog="explore", description=HELP, epilog=STATUSES)
-    words.add_argument("records", metavar="RECORD", nargs="+", help="a record, or a folder of them; - is standard input")
-    words.add_argument("--of", metavar="NAME", action="append", help="judge this actor alone; may be given again")
-    words.add_argument("--grain", choices=GRAINS, default="frame",
-                       help="what no other line comes between: a frame of a source (the default), a line, or a call")
-    words.add_argument("--waits", action="store_true",
-                       help="a follow waits until all sources are done, as with --threads; for calls alone")
-    words.add_argument("--within", metavar="N", help="nothing goes ahead of what begins more than N lines before it")
+    words.add_argument(
+        "records", metavar="RECORD", nargs="+", help="a record, or a folder of them; - is standard input"
+    )
+    words.add_argument(
+        "--of", metavar="NAME", action="append", help="judge this actor alone; may be given again"
+    )
+    words.add_argument(
+        "--grain",
+        choices=GRAINS,
+        default="frame",
+        help="what no other line comes between: a frame of a source (the default), a line, or a call",
+    )
+    words.add_argument(
+        "--waits",
+        action="store_true",
+        help="a follow waits until all sources are done, as with --threads; for calls alone",
+    )
+    words.add_argument(
+        "--within", metavar="N", help="nothing goes ahead of what begins more than N lines before it"
+    )
     words.add_argument("--preemptions", metavar="K", help="at most K changes of actor that nobody needed")
     words.add_argument("--draw", metavar="N", help="look at N orders that are drawn")
     words.add_argument("--seed", metavar="S", default="1", help="the seed of what is drawn (1)")
-    words.add_argument("--states", metavar="N", default="200000", help="look at so many states of an actor at most")
+    words.add_argument(
+        "--states", metavar="N", default="200000", help="look at so many states of an actor at most"
+    )
     words.add_argument("--seconds", metavar="S", default="60", help="look for so long at an actor at most")
-    words.add_argument("--moments", action="store_true", help="judge each time that nothing was left to read, too")
-    words.add_argument("--expect", action="store_true", help="judge what the record expects of its actors (#=) instead")
-    words.add_argument("--fail", action="store_true", help="end in status 1 or 3 where not all orders end well")
+    words.add_argument(
+        "--moments", action="store_true", help="judge each time that nothing was left to read, too"
+    )
+    words.add_argument(
+        "--expect", action="store_true", help="judge what the record expects of its actors (#=) instead"
+    )
+    words.add_argument(
+        "--fail", action="store_true", help="end in status 1 or 3 where not all orders end well"
+    )
     words.add_argument("--json", action="store_true", help="write one JSON object a line (docs/JSON.md)")
     words.add_argument("--out", metavar="FOLDER", help="write each order that is shown as a record in FOLDER")
     words.add_argument("--shard", metavar="K/N", help="do the K-th of N parts, and write JSON for --join")
-    words.add_argument("--join", action="store_true", help="the files are the JSON of all parts: put them together")
+    words.add_argument(
+        "--join", action="store_true", help="the files are the JSON of all parts: put them together"
+    )
     words.add_argument("-j", dest="processes", metavar="N", default="1", help="look at N actors at a time")
     return words
 
@@ -83,8 +108,14 @@ def settings_of(asked: Any) -> Settings:
     preemptions = natural(asked.preemptions, "--preemptions")
     how = Asked(asked.grain, asked.waits, within, preemptions, asked.moments)
     return Settings(
-        how, tuple(asked.of or ()), asked.expect, natural(asked.draw, "--draw", 1), natural(asked.seed, "--seed") or 0,
-        natural(asked.states, "--states", 1) or 1, natural(asked.seconds, "--seconds", 1) or 1, shard_of(asked.shard),
+        how,
+        tuple(asked.of or ()),
+        asked.expect,
+        natural(asked.draw, "--draw", 1),
+        natural(asked.seed, "--seed") or 0,
+        natural(asked.states, "--states", 1) or 1,
+        natural(asked.seconds, "--seconds", 1) or 1,
+        shard_of(asked.shard),
     )
 
 

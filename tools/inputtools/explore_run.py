@@ -70,7 +70,9 @@ def checked_record(given: Given) -> ExploredRecord:
     record = record_at(given.name, given.path, given.folder)
     for actor in record.actors:
         if actor.role not in ("client", "tap") and any(line.is_guarded for line in actor.lines):
-            raise Wrong(f"{given.name}: `#~ if no key` stands before a line of {actor.name}, which knows of no keys")
+            raise Wrong(
+                f"{given.name}: `#~ if no key` stands before a line of {actor.name}, which knows of no keys"
+            )
     return record
 
 
@@ -110,7 +112,9 @@ class Exploration:
         self.record = record_at(item.name, item.path, item.folder)
         self.expectations = None
         if settings.expects:
-            self.expectations = [each for each in expectations_on_actors(self.record) if each.actor == item.actor]
+            self.expectations = [
+                each for each in expectations_on_actors(self.record) if each.actor == item.actor
+            ]
         self.player = player_of_orders()
         self.is_stopped = False
 
@@ -168,7 +172,9 @@ class Exploration:
         problem, least, found = graph.problem, LeastOrders(graph), []
         for thing, nodes in ends.items():
             orders = sum(counts.orders[node] for node in nodes)
-            chance = None if problem.asked.preemptions is not None else sum(counts.chances[node] for node in nodes)
+            chance = (
+                None if problem.asked.preemptions is not None else sum(counts.chances[node] for node in nodes)
+            )
             costs = [(least.cost(node), node) for node in nodes]
             (changes, overtaken), best = min(costs)
             one = found_of(thing, orders, chance, changes, overtaken, None)
@@ -187,15 +193,35 @@ class Exploration:
             least = draws.least[thing]
             one = found_of(thing, orders, None, least.changes, least.overtaken, least.number)
             found.append(self.with_order(problem, one, thing, least.actors, False))
-        why = "stopped from the keyboard" if draws.is_stopped else "the time was over" if draws.is_late else ""
-        answer = replace(self.answer(problem, None), drawn=draws.drawn, seed=self.settings.seed, orders=draws.drawn)
+        why = (
+            "stopped from the keyboard" if draws.is_stopped else "the time was over" if draws.is_late else ""
+        )
+        answer = replace(
+            self.answer(problem, None), drawn=draws.drawn, seed=self.settings.seed, orders=draws.drawn
+        )
         return replace(answer, is_whole=not why, is_all=False, why=why, found=in_order(found))
 
     def answer(self, problem: Problem, states: Optional[int]) -> Answer:
         asked, others = problem.asked, tuple(name for name in problem.names if name != self.item.actor)
         return Answer(
-            self.item.number, self.item.name, problem.device_name, self.item.actor, others, sum(problem.counts),
-            asked.grain, asked.waits, asked.within, asked.preemptions, None, None, 0, states, True, True, "", (),
+            self.item.number,
+            self.item.name,
+            problem.device_name,
+            self.item.actor,
+            others,
+            sum(problem.counts),
+            asked.grain,
+            asked.waits,
+            asked.within,
+            asked.preemptions,
+            None,
+            None,
+            0,
+            states,
+            True,
+            True,
+            "",
+            (),
         )
 
     def with_order(
@@ -234,7 +260,9 @@ def found_of(
     believed = present = None
     if thing.believed is not None:
         believed, present = value_text(thing.what, thing.believed), value_text(thing.what, thing.present)
-    return Found(thing.kind, thing.name(), thing.why, believed, present, orders, chance, changes, overtaken, draw)
+    return Found(
+        thing.kind, thing.name(), thing.why, believed, present, orders, chance, changes, overtaken, draw
+    )
 
 
 # All actors
@@ -256,7 +284,8 @@ def ignore_stops() -> None:
 
 
 def explored(items: Sequence[Item], settings: Settings, processes: int) -> Iterator[List[Answer]]:
-    """The answers of one actor after another. A stop from the keyboard ends it; what was found until then came."""
+    """The answers of one actor after another. A stop from the keyboard ends it; what was found until
+    then came."""
     tasks = [(item, settings) for item in of_this_shard(items, settings)]
     if processes == 1:
         for task in tasks:

@@ -1,5 +1,5 @@
-"""What was explored and found, as values: their JSON, one object a line, and how the parts of several runs become the
-whole again."""
+"""What was explored and found, as values: their JSON, one object a line, and how the parts of several
+runs become the whole again."""
 
 from __future__ import annotations
 
@@ -18,9 +18,10 @@ Units = Tuple[Tuple[str, Tuple[str, ...]], ...]
 class Found:
     """A thing that orders have: in how many they are, and the least of them, made short.
 
-    `believed` and `present` are in words. `chance` is that of a scheduler which draws among the actors that can go on.
-    `draw` is the number of the draw. `units` are the short order, and `lines` its record. `plays` says whether a play
-    of that record has the thing too, and is None where it was not played.
+    `believed` and `present` are in words. `chance` is that of a scheduler which draws among the actors
+    that can go on. `draw` is the number of the draw. `units` are the short order, and `lines` its
+    record. `plays` says whether a play of that record has the thing too, and is None where it was not
+    played.
     """
 
     kind: str
@@ -50,9 +51,9 @@ class Found:
 
 @dataclass(frozen=True)
 class Answer:
-    """What was explored of an actor, and what was found. `item` counts actors over all records. `orders` is how many
-    orders were looked at, and `is_whole` says whether those were all that are spoken of; `is_all`, whether no order
-    was left out by a bound."""
+    """What was explored of an actor, and what was found. `item` counts actors over all records.
+    `orders` is how many orders were looked at, and `is_whole` says whether those were all that are
+    spoken of; `is_all`, whether no order was left out by a bound."""
 
     item: int
     record: str
@@ -143,11 +144,19 @@ def merged(parts: Sequence[Answer]) -> Answer:
     for each in (each for part in parts for each in part.found):
         key = each.kind, each.thing, each.why, each.believed, each.present
         known = found.get(key)
-        found[key] = each if known is None else replace(
-            min(known, each, key=Found.rank), orders=known.orders + each.orders
+        found[key] = (
+            each
+            if known is None
+            else replace(min(known, each, key=Found.rank), orders=known.orders + each.orders)
         )
-    return replace(first, drawn=drawn, orders=drawn, why=why, is_whole=all(part.is_whole for part in parts),
-                   found=in_order(found.values()))
+    return replace(
+        first,
+        drawn=drawn,
+        orders=drawn,
+        why=why,
+        is_whole=all(part.is_whole for part in parts),
+        found=in_order(found.values()),
+    )
 
 
 def joined(files: Iterable[Tuple[str, str]]) -> List[Answer]:
@@ -160,9 +169,11 @@ def joined(files: Iterable[Tuple[str, str]]) -> List[Answer]:
     numbers = sorted(shard["shard"] for _, shard, _ in shards)
     if numbers != list(range(1, first["of"] + 1)):
         wanted = [number for number in range(1, first["of"] + 1) if numbers.count(number) != 1]
-        raise Wrong(f"of the shards 1 to {first['of']} each is wanted once: look at {', '.join(map(str, wanted))}")
+        raise Wrong(
+            f"of the shards 1 to {first['of']} each is wanted once: look at {', '.join(map(str, wanted))}"
+        )
     parts: Dict[Tuple[Any, ...], List[Answer]] = {}
-    for _, shard, answers in sorted(shards, key=lambda each: each[1]["shard"]):
+    for _, shard, answers in sorted(shards, key=lambda each: int(each[1]["shard"])):
         for answer in answers:
             parts.setdefault((*answer.place(), answer.preemptions), []).append(answer)
     return [merged(rows) for _, rows in sorted(parts.items(), key=lambda each: each[0][:2])]
@@ -171,5 +182,9 @@ def joined(files: Iterable[Tuple[str, str]]) -> List[Answer]:
 def in_order(found: Iterable[Found]) -> Tuple[Found, ...]:
     """What is wrong at the end first, and what comes most often."""
     kinds = (*WRONG_KINDS, "waits", "lost", "refused", "full")
-    return tuple(sorted(found, key=lambda each: (kinds.index(each.kind), -each.orders, each.thing, each.why,
-                                                 str(each.believed), str(each.present))))
+
+    def place(each: Found) -> Tuple[int, int, str, str, str, str]:
+        values = str(each.believed), str(each.present)
+        return (kinds.index(each.kind), -each.orders, each.thing, each.why, *values)
+
+    return tuple(sorted(found, key=place))

@@ -1,5 +1,5 @@
-"""What is wrong at the end of an order: of each judged actor the things in which it differs from its device, once it
-has read all that waits, and what it met on its way.
+"""What is wrong at the end of an order: of each judged actor the things in which it differs from its
+device, once it has read all that waits, and what it met on its way.
 
 The reads of the end are those of `tools/stuck`; so what is not read yet is no fault.
 """
@@ -36,11 +36,11 @@ Difference = Tuple[Any, int, int]
 
 
 class Thing(NamedTuple):
-    """Something that an end has: its kind, whose it is, what is apart or what was refused, what is believed and what
-    is so on the device, and why a call was refused.
+    """Something that an end has: its kind, whose it is, what is apart or what was refused, what is
+    believed and what is so on the device, and why a call was refused.
 
-    Kinds are `apart` and `open-frame` at the end, `moment` on the way, `lost`, `refused`, `full`, `waits` for an
-    actor whose guard never let it go on, and `missed` for an expectation.
+    Kinds are `apart` and `open-frame` at the end, `moment` on the way, `lost`, `refused`, `full`,
+    `waits` for an actor whose guard never let it go on, and `missed` for an expectation.
     """
 
     kind: str
@@ -54,7 +54,7 @@ class Thing(NamedTuple):
         return self.kind in ("apart", "open-frame", "moment", "missed")
 
     def name(self) -> str:
-        return thing_text(self.what) if isinstance(self.what, tuple) else str(self.what)
+        return str(thing_text(self.what) if isinstance(self.what, tuple) else self.what)
 
 
 def drained(state: State, number: int, log: Optional[List[Step]] = None) -> Tuple[ActorState, ExploredDevice]:
@@ -85,7 +85,11 @@ def things_at(state: State, problem: Problem) -> List[Thing]:
         marks = state.marks | {mark for mark in actor.marks if mark.kind == "lost"}
         if has_opened(actor):
             things += [apart(actor.name, device, row) for row in differences(actor, device)]
-        things += [thing_of(mark) for mark in sorted(marks, key=str) if mark.actor == actor.name and mark.kind != "took"]
+        things += [
+            thing_of(mark)
+            for mark in sorted(marks, key=str)
+            if mark.actor == actor.name and mark.kind != "took"
+        ]
     return things + waiting(state, problem)
 
 
@@ -117,13 +121,19 @@ def has_line(actor: ActorState, expectation: Any) -> bool:
     count = len(expectation.line)
     words = next((row[count:] for row in rows if row[:count] == expectation.line), None)
     if words is None:
-        raise Wrong(f"line {expectation.number}: the view of {actor.name} has no line {' '.join(expectation.line)}")
+        raise Wrong(
+            f"line {expectation.number}: the view of {actor.name} has no line {' '.join(expectation.line)}"
+        )
     return bool(is_line_held(expectation, words))
 
 
 def waiting(state: State, problem: Problem) -> List[Thing]:
     """The actors that have lines left at an end, since nobody can go on."""
-    names = [actor.name for number, actor in enumerate(state.actors) if state.positions[number] < problem.counts[number]]
+    names = [
+        actor.name
+        for number, actor in enumerate(state.actors)
+        if state.positions[number] < problem.counts[number]
+    ]
     return [Thing("waits", name, name) for name in names]
 
 
@@ -144,7 +154,9 @@ def things_of_batch(device: ExploredDevice) -> Set[Any]:
         is_of_slot = kind == ABS and FIRST <= code <= LAST
         if (kind, code) == (ABS, SLOT):
             slot = value
-        things.add(("slot", slot, code_text(kind, code)) if is_of_slot else (kind_text(kind), code_text(kind, code)))
+        things.add(
+            ("slot", slot, code_text(kind, code)) if is_of_slot else (kind_text(kind), code_text(kind, code))
+        )
     return things
 
 
@@ -157,7 +169,11 @@ def differences(actor: ActorState, device: ExploredDevice) -> List[Difference]:
         return differences_of_joystick(actor, device)
     if actor.role == "owner":
         return differences_of_owner(actor, device)
-    return differences_of_bits(actor, device) + differences_of_axes(actor, device) + differences_of_slots(actor, device)
+    return (
+        differences_of_bits(actor, device)
+        + differences_of_axes(actor, device)
+        + differences_of_slots(actor, device)
+    )
 
 
 def differences_of_joystick(actor: ActorState, device: ExploredDevice) -> List[Difference]:
@@ -185,7 +201,13 @@ def differences_of_bits(actor: ActorState, device: ExploredDevice) -> List[Diffe
     on, rows = actor.belief().on, []
     for kind in (KEY, SW, LED):
         for code in sorted(on[kind] ^ device.on[kind]):
-            rows.append(((kind_text(kind), code_text(kind, code)), int(code in on[kind]), int(code in device.on[kind])))
+            rows.append(
+                (
+                    (kind_text(kind), code_text(kind, code)),
+                    int(code in on[kind]),
+                    int(code in device.on[kind]),
+                )
+            )
     return rows
 
 
@@ -198,12 +220,15 @@ def differences_of_axes(actor: ActorState, device: ExploredDevice) -> List[Diffe
 
 
 def differences_of_slots(actor: ActorState, device: ExploredDevice) -> List[Difference]:
-    view, rows = actor.belief(), []
+    view = actor.belief()
+    rows: List[Difference] = []
     codes = [code for code in sorted(device.caps.axes) if FIRST <= code <= LAST]
     for slot, (believed, present) in enumerate(zip(view.cells, device.cells)):
         for code in codes:
             if believed[code - FIRST] != present[code - FIRST]:
-                rows.append((("slot", slot, code_text(ABS, code)), believed[code - FIRST], present[code - FIRST]))
+                rows.append(
+                    (("slot", slot, code_text(ABS, code)), believed[code - FIRST], present[code - FIRST])
+                )
     if device.caps.slots and view.slot != device.at_frame:
         rows.append((CURRENT, view.slot, device.at_frame))
     return rows
@@ -211,7 +236,12 @@ def differences_of_slots(actor: ActorState, device: ExploredDevice) -> List[Diff
 
 def moment_marks(actor: ActorState, device: ExploredDevice, unit: Unit) -> Set[Mark]:
     """The things in which an actor is apart where nothing was left to read and no frame is open."""
-    if not actor.is_watched or unit.lines[-1].words[0] not in READING or device.batch or actor.stop != FINISHED:
+    if (
+        not actor.is_watched
+        or unit.lines[-1].words[0] not in READING
+        or device.batch
+        or actor.stop != FINISHED
+    ):
         return set()
     client = device.clients.get(actor.present_client())
     if client is None or client.revoked or client.visible():

@@ -1,5 +1,5 @@
-"""What a record expects of an actor, as it is judged over all orders: `agrees` and `at-end` at the end, and `never`,
-`takes` and `drops` of what the actor is handed on its way."""
+"""What a record expects of an actor, as it is judged over all orders: `agrees` and `at-end` at the end,
+and `never`, `takes` and `drops` of what the actor is handed on its way."""
 
 from __future__ import annotations
 
@@ -37,7 +37,8 @@ def expected_event(expectation: Any) -> ExpectedEvent:
 
 
 def expectations_on_actors(record: ExploredRecord) -> List[Any]:
-    """The expectations of a record that are of its actors. The report and the status are those of one order."""
+    """The expectations of a record that are of its actors. The report and the status are those of one
+    order."""
     try:
         found = [each for each in expectations_of(record.text) if each.actor is not None]
     except Wrong as wrong:

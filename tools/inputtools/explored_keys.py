@@ -1,10 +1,11 @@
 """The key of a state: two states with one key go on alike, but for places and times.
 
-What follows from the fields is left out. How many lines an actor has done says which masks, which clock and which
-revocations its client has, how many feedback calls an owner made, and which sources are done. The slot that was announced last is that of the
-open frame, else that of the last one. What a joystick's records told is what its reader knows, but for the startup that
-it has not handed out. What was sent to a device matters to its owner alone, and the autorepeat's timer where a tick is
-to come. For each field there is a record on which leaving it out gives other numbers (`tests/test_explore_key.py`).
+What follows from the fields is left out. How many lines an actor has done says which masks, which clock
+and which revocations its client has, how many feedback calls an owner made, and which sources are done.
+The slot that was announced last is that of the open frame, else that of the last one. What a joystick's
+records told is what its reader knows, but for the startup that it has not handed out. What was sent to
+a device matters to its owner alone, and the autorepeat's timer where a tick is to come. For each field
+there is a record on which leaving it out gives other numbers (`tests/test_explore_key.py`).
 """
 
 from __future__ import annotations
@@ -40,8 +41,8 @@ class CoreKey(NamedTuple):
 
 
 class DeviceKey(NamedTuple):
-    """A device: the number of its core's key, who holds the grab, the timer of the autorepeat, and, where a limit may
-    be met, how many clients are open and how many steps there were."""
+    """A device: the number of its core's key, who holds the grab, the timer of the autorepeat, and,
+    where a limit may be met, how many clients are open and how many steps there were."""
 
     core: int
     holder: Optional[int]
@@ -63,8 +64,8 @@ class ViewKey(NamedTuple):
 
 
 class ReaderKey(NamedTuple):
-    """A reader: where it stands, what it knows, the events that it has read and not handed out, and those that it
-    made."""
+    """A reader: where it stands, what it knows, the events that it has read and not handed out, and
+    those that it made."""
 
     phase: str
     view: ViewKey
@@ -80,8 +81,8 @@ class JoystickKey(NamedTuple):
 
 
 class ActorKey(NamedTuple):
-    """An actor: its client and what waits for it, what it knows, whether it stopped, and how far a line is that goes
-    on call by call."""
+    """An actor: its client and what waits for it, what it knows, whether it stopped, and how far a line
+    is that goes on call by call."""
 
     client: int
     queue: Optional[Events]
@@ -94,7 +95,8 @@ class ActorKey(NamedTuple):
 
 
 class StateKey(NamedTuple):
-    """A state: how far each actor is, what was met on the way, the device, and the numbers of the actors' keys."""
+    """A state: how far each actor is, what was met on the way, the device, and the numbers of the
+    actors' keys."""
 
     positions: Tuple[int, ...]
     marks: FrozenSet[Mark]
@@ -229,8 +231,8 @@ def actor_key(actor: ActorState, device: ExploredDevice) -> ActorKey:
 
 
 def is_alike_when_read(actor: ActorState, device: ExploredDevice) -> bool:
-    """Is it the same when this actor reads what waits for it, as far as it is itself concerned? Where it is to
-    synchronise, or SYN_DROPPED waits, it is not."""
+    """Is it the same when this actor reads what waits for it, as far as it is itself concerned? Where
+    it is to synchronise, or SYN_DROPPED waits, it is not."""
     if actor.is_bystander or actor.role not in ("client", "tap"):
         return False
     if actor.told or actor.handed or actor.stop != FINISHED:

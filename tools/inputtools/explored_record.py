@@ -1,12 +1,14 @@
-"""A record as it is explored: its actors' lines in units, and the comments that say which orders there are.
+"""A record as it is explored: its actors' lines in units, and the comments that say which orders there
+are.
 
-A comment `#~` between action lines is a barrier: in each order all lines before it come before all behind it. A
-comment `#~ if no key` is a guard: the actor does its next line only while it knows of no key that is down. Both are
-comments, so a record with them is played as one without.
+A comment `#~` between action lines is a barrier: in each order all lines before it come before all
+behind it. A comment `#~ if no key` is a guard: the actor does its next line only while it knows of no
+key that is down. Both are comments, so a record with them is played as one without.
 """
 
 from __future__ import annotations
 
+from dataclasses import dataclass
 from typing import Dict, List, NamedTuple, Sequence, Tuple
 
 from inputtools.command import at_line
@@ -21,9 +23,10 @@ GRAINS = ("frame", "line", "call")
 EVENT_COMMANDS = ("event", "write")
 
 
-class Line(NamedTuple):
-    """An action line: its place among the action lines, how many barriers stand before it, its words behind the
-    actor's name, and whether a guard stands before it."""
+@dataclass(frozen=True)
+class Line:
+    """An action line: its place among the action lines, how many barriers stand before it, its words
+    behind the actor's name, and whether a guard stands before it."""
 
     index: int
     stage: int
@@ -50,7 +53,8 @@ class Unit(NamedTuple):
         return [line.words[0] for line in self.lines]
 
 
-class ExploredActor(NamedTuple):
+@dataclass(frozen=True)
+class ExploredActor:
     """An actor of a record: its name, its role, the number of its device, and its lines."""
 
     name: str
@@ -60,7 +64,8 @@ class ExploredActor(NamedTuple):
 
 
 class ExploredRecord:
-    """A record: its descriptions, and its actors with their lines. The events of a stream are lines of their own."""
+    """A record: its descriptions, and its actors with their lines. The events of a stream are lines of
+    their own."""
 
     def __init__(self, name: str, path: str, folder: str) -> None:
         self.name, self.text = name, read_text(path)
@@ -72,7 +77,9 @@ class ExploredRecord:
         own: Dict[str, List[Line]] = {name: [] for name, _, _ in parsed.actors}
         for actor, line in self.lines:
             own[actor].append(line)
-        self.actors = [ExploredActor(*each, tuple(own[each[0]])) for each in parsed.actors]
+        self.actors = [
+            ExploredActor(name, role, device, tuple(own[name])) for name, role, device in parsed.actors
+        ]
 
     def read(self, folder: str) -> None:
         """Reads the lines of description, and the action lines with what stands between them."""
@@ -106,8 +113,8 @@ def is_guard(words: Sequence[str], number: int) -> bool:
 
 
 def units_of(lines: Sequence[Line], grain: str) -> List[Unit]:
-    """The lines of an actor in units: at grain "frame" the events up to a report are one. No unit goes on over a
-    barrier or a guard."""
+    """The lines of an actor in units: at grain "frame" the events up to a report are one. No unit goes
+    on over a barrier or a guard."""
     units: List[Unit] = []
     frame: List[Line] = []
     for line in lines:
@@ -120,5 +127,3 @@ def units_of(lines: Sequence[Line], grain: str) -> List[Unit]:
             units.append(Unit(tuple(frame)))
             frame = []
     return units + ([Unit(tuple(frame))] if frame else [])
-
-

@@ -1,7 +1,8 @@
 """A device with its actors as one state, which is copied and moved on by one unit of one actor.
 
-The device, its clients, the reader, the joystick and what an actor does at a line are those of the second program
-(`second`). What it tells people, places and times, is not kept: nothing that a client believes comes of it.
+The device, its clients, the reader, the joystick and what an actor does at a line are those of the
+second program (`second`). What it tells people, places and times, is not kept: nothing that a client
+believes comes of it.
 """
 
 from __future__ import annotations
@@ -31,8 +32,8 @@ FINISHED, FULL = "finished", "full"
 
 
 class Mark(NamedTuple):
-    """What an actor met on its way: a loss, a call that was refused and why, a full history, a thing in which it
-    was apart at a moment, or an event that was expected."""
+    """What an actor met on its way: a loss, a call that was refused and why, a full history, a thing in
+    which it was apart at a moment, or an event that was expected."""
 
     kind: str
     actor: str
@@ -48,7 +49,8 @@ class Pause(Exception):
 
 
 class OneCall:
-    """A line that goes on by one call: the earlier calls are answered as they were, and the one behind it waits."""
+    """A line that goes on by one call: the earlier calls are answered as they were, and the one behind
+    it waits."""
 
     def __init__(self, told: Sequence[Answer]) -> None:
         self.told, self.next = list(told), 0
@@ -86,8 +88,8 @@ class Length(List[Any]):
 
 
 class LastOutputs(Outputs):
-    """What was sent to a device, with the last value of each lasting thing, which its owner is compared with. Nothing
-    is kept where there is no owner."""
+    """What was sent to a device, with the last value of each lasting thing, which its owner is compared
+    with. Nothing is kept where there is no owner."""
 
     def __init__(self, most_calls: int, has_owner: bool) -> None:
         super().__init__(most_calls)
@@ -98,7 +100,9 @@ class LastOutputs(Outputs):
         if not self.has_owner:
             return
         super().send(events)
-        self.last.update({event[:2]: event[2] for event in events if is_output(event) and event[0] in LASTING})
+        self.last.update(
+            {event[:2]: event[2] for event in events if is_output(event) and event[0] in LASTING}
+        )
 
     def copy(self) -> LastOutputs:
         if not self.has_owner:
@@ -133,8 +137,10 @@ def copy_of_filter(old: Filter) -> Filter:
 
 
 class ExploredDevice(Device):
-    """A device that can be copied. An actor's clients are numbered by the actor, so the order in which actors open
-    makes no other state."""
+    """A device that can be copied. An actor's clients are numbered by the actor, so the order in which
+    actors open makes no other state."""
+
+    outputs: LastOutputs
 
     def __init__(self, name: str, caps: Caps, has_owner: bool) -> None:
         super().__init__(name, caps)
@@ -147,7 +153,8 @@ class ExploredDevice(Device):
         self.core_number: Optional[int] = None
 
     def copy(self, is_core_changed: bool, client: int) -> ExploredDevice:
-        """A copy; its core and all clients are its own where a unit may change them, else one client alone."""
+        """A copy; its core and all clients are its own where a unit may change them, else one client
+        alone."""
         new = ExploredDevice.__new__(ExploredDevice)
         new.__dict__.update(self.__dict__)
         new.history = Length(len(self.history))
@@ -169,7 +176,8 @@ class ExploredDevice(Device):
         if self.log is not None:
             self.log.append(step)
         if self.call is None:
-            return super().step(step)
+            answer: Answer = super().step(step)
+            return answer
         if not self.call.is_told():
             if self.call.made is not None:
                 raise Pause
@@ -187,8 +195,8 @@ class ExploredDevice(Device):
 
 
 class ExpectedEvent(NamedTuple):
-    """An event that a record speaks of: the number of the line, its type, its code or None for all, and its value or
-    None for any."""
+    """An event that a record speaks of: the number of the line, its type, its code or None for all, and
+    its value or None for any."""
 
     number: int
     kind: int
@@ -223,8 +231,8 @@ def copy_of_joystick(old: Joystick) -> Joystick:
 
 
 class ActorState(Actor):
-    """An actor in the midst of its lines. Of one that is watched what it meets is marked; a bystander does no more
-    than what others notice."""
+    """An actor in the midst of its lines. Of one that is watched what it meets is marked; a bystander
+    does no more than what others notice."""
 
     def __init__(self, name: str, role: str, number: int, device: ExploredDevice) -> None:
         super().__init__(name, role, device)
@@ -360,9 +368,9 @@ class ActorState(Actor):
 
 
 class State:
-    """A device, its actors, how many units each has done, what was met on the way, and, where changes of actor are
-    counted, who went on last and how often one was left that could go on. `made` is the call that led here, where orders
-    are of calls."""
+    """A device, its actors, how many units each has done, what was met on the way, and, where changes
+    of actor are counted, who went on last and how often one was left that could go on. `made` is the
+    call that led here, where orders are of calls."""
 
     __slots__ = ("device", "actors", "positions", "marks", "last", "preemptions", "made", "keys")
 
@@ -390,7 +398,8 @@ class State:
         is_done: bool = True,
         made: Optional[Step] = None,
     ) -> State:
-        """The state behind a unit, or a call, of an actor. Where the core did not change no other actor's key did."""
+        """The state behind a unit, or a call, of an actor. Where the core did not change no other
+        actor's key did."""
         actors = list(self.actors)
         actors[number] = actor
         positions = self.positions

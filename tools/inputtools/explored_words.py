@@ -1,4 +1,5 @@
-"""What was explored and found, as lines for people. Each claim says of how many orders it is, and of which."""
+"""What was explored and found, as lines for people. Each claim says of how many orders it is, and of
+which."""
 
 from __future__ import annotations
 
@@ -34,7 +35,9 @@ def bounds_text(answer: Answer) -> str:
     """Which orders are spoken of, behind their number."""
     texts = []
     if answer.within is not None:
-        texts.append(f"in which nothing goes ahead of what begins more than {counted(answer.within, 'line')} before it")
+        texts.append(
+            f"in which nothing goes ahead of what begins more than {counted(answer.within, 'line')} before it"
+        )
     if answer.preemptions is not None:
         texts.append(f"with at most {counted(answer.preemptions, 'change')} of actor that nobody needed")
     return "".join(f" {text}" for text in texts)
@@ -46,7 +49,9 @@ def of_text(answer: Answer) -> str:
     orders = one if answer.orders == 1 else one.replace("order", "orders", 1)
     waits = ", followers waiting," if answer.waits else ""
     if answer.drawn is not None:
-        return f"{number_text(answer.orders)} {orders} drawn with seed {answer.seed}{waits}{bounds_text(answer)}"
+        return (
+            f"{number_text(answer.orders)} {orders} drawn with seed {answer.seed}{waits}{bounds_text(answer)}"
+        )
     every = "the one" if answer.orders == 1 else f"all {number_text(answer.orders)}"
     return f"{every} {orders}{waits}{bounds_text(answer)}"
 
@@ -66,7 +71,11 @@ def nothing_line(answer: Answer) -> str:
     """Nothing is wrong in any of the orders that were looked at."""
     if answer.drawn is not None:
         most = f"3 in {number_text(answer.orders)}"
-        return f"  in none of them is anything wrong: at most {most} are, with 95 of a hundred" if answer.orders else ""
+        return (
+            f"  in none of them is anything wrong: at most {most} are, with 95 of a hundred"
+            if answer.orders
+            else ""
+        )
     where = "in it nothing is wrong" if answer.orders == 1 else "in none of them is anything wrong"
     return f"  {where} at the end"
 
@@ -125,12 +134,16 @@ def found_lines(answer: Answer, found: Found, path: Optional[str]) -> List[str]:
         lines.append("    BUT: played again, this order does not have it; keep the record, and report it")
     lines += order_lines(found)
     if path is not None:
-        lines += [f"    why in full:  tools/stuck {path}", f"    the picture:  tools/draw {path} > order.html"]
+        lines += [
+            f"    why in full:  tools/stuck {path}",
+            f"    the picture:  tools/draw {path} > order.html",
+        ]
     return lines
 
 
 def answer_text(answer: Answer, paths: Sequence[Optional[str]]) -> List[str]:
-    """The lines on an actor. `paths` are the records of the orders that are shown, where they were written."""
+    """The lines on an actor. `paths` are the records of the orders that are shown, where they were
+    written."""
     lines = [head_line(answer)]
     if not answer.is_whole and answer.drawn is None:
         return lines

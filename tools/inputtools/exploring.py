@@ -1,8 +1,9 @@
-"""What is explored of a device, for one actor that is judged: which units may come next, and what comes of them.
+"""What is explored of a device, for one actor that is judged: which units may come next, and what comes
+of them.
 
-Devices are explored apart, since no actor of one sees the other. Of the other actors those are left in who change
-what the judged one is told: sources, and who grabs, writes or describes an axis. Their reads are of no concern. Where
-a limit may be met, of steps or of open clients, all are left in as they are.
+Devices are explored apart, since no actor of one sees the other. Of the other actors those are left in
+who change what the judged one is told: sources, and who grabs, writes or describes an axis. Their reads
+are of no concern. Where a limit may be met, of steps or of open clients, all are left in as they are.
 """
 
 from __future__ import annotations
@@ -14,11 +15,25 @@ from typing import Any, Callable, List, Optional, Sequence, Set, Tuple
 from inputtools.explored_ends import moment_marks
 from inputtools.explored_expectations import expected_of
 from inputtools.explored_keys import (
-    ActorKey, Limits, Numbers, StateKey, actor_key, device_key, folded_key, is_alike_when_read,
+    ActorKey,
+    Limits,
+    Numbers,
+    StateKey,
+    actor_key,
+    device_key,
+    folded_key,
+    is_alike_when_read,
 )
 from inputtools.explored_record import ExploredActor, ExploredRecord, Line, Unit, units_of
 from inputtools.explored_state import (
-    EFFECTS, FINISHED, ActorState, ExploredDevice, OneCall, Pause, State, is_core_changed,
+    EFFECTS,
+    FINISHED,
+    ActorState,
+    ExploredDevice,
+    OneCall,
+    Pause,
+    State,
+    is_core_changed,
 )
 from second.device import Caps, is_slot_value
 from second.model import event_of
@@ -90,8 +105,8 @@ def may_open_too_many(actors: Sequence[ExploredActor]) -> bool:
 
 
 class Window:
-    """How many events wait at most for an actor, where no line goes ahead of one that begins so many lines before it:
-    those between two of its reads, and so many lines around."""
+    """How many events wait at most for an actor, where no line goes ahead of one that begins so many
+    lines before it: those between two of its reads, and so many lines around."""
 
     def __init__(self, actors: Sequence[ExploredActor], within: int) -> None:
         sizes = {line.index: events_of_line(line) for actor in actors for line in actor.lines}
@@ -122,8 +137,8 @@ def reads_all(line: Line) -> bool:
 
 
 class Problem:
-    """The units of a device's actors, and the state before them all. Judged are the target, or all where there is
-    none."""
+    """The units of a device's actors, and the state before them all. Judged are the target, or all
+    where there is none."""
 
     def __init__(
         self,
@@ -149,7 +164,9 @@ class Problem:
             self.add_ends()
         self.counts = [len(units) for units in self.units]
         self.changes_core = [[is_core_changed(unit) for unit in units] for units in self.units]
-        self.is_bystander = [target not in (None, actor.name) and is_passive(actor) and not is_tight for actor in actors]
+        self.is_bystander = [
+            target not in (None, actor.name) and is_passive(actor) and not is_tight for actor in actors
+        ]
         has_owner = any(actor.role == "owner" for actor in actors)
         self.limits = Limits(counts_steps, counts_open, has_owner, False)
         self.start = self.state_at_start()
@@ -196,14 +213,18 @@ class Problem:
         return rows
 
     def prepare_folding(self) -> None:
-        """Where may it make no difference when an actor reads? Where no loss can come, and behind its last line before
-        which it matters."""
+        """Where may it make no difference when an actor reads? Where no loss can come, and behind its
+        last line before which it matters."""
         asked, caps = self.asked, self.caps
         ring = caps.ring() - 1
         is_lossless = most_events(self.actors, caps) < ring
         if not is_lossless and asked.within is not None:
             window = Window(self.actors, asked.within)
-            readers = [actor for actor, aside in zip(self.actors, self.is_bystander) if reads_events(actor) and not aside]
+            readers = [
+                actor
+                for actor, aside in zip(self.actors, self.is_bystander)
+                if reads_events(actor) and not aside
+            ]
             is_lossless = all(window.most_waiting(actor) < ring for actor in readers)
         # (what waits says how many calls a line makes, of which a log has so many and no more)
         counts_calls = asked.grain == "call" or self.limits.counts_steps
@@ -267,8 +288,11 @@ class Problem:
         most = self.asked.preemptions
         return moved if most is None else self.within_preemptions(state, moved, most)
 
-    def within_preemptions(self, state: State, moved: List[Tuple[int, State]], most: int) -> List[Tuple[int, State]]:
-        """Those behind at most so many changes of actor that nobody needed: the one that is left could go on."""
+    def within_preemptions(
+        self, state: State, moved: List[Tuple[int, State]], most: int
+    ) -> List[Tuple[int, State]]:
+        """Those behind at most so many changes of actor that nobody needed: the one that is left could
+        go on."""
         could_go_on = any(number == state.last for number, _ in moved)
         kept = []
         for number, new in moved:

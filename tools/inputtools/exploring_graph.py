@@ -1,9 +1,9 @@
 """The graph of all states that the orders of a device's actors reach, and what is counted on it.
 
-It is explored breadth first. It has no cycle, so one pass in which each state comes behind those before it counts the
-orders that lead to each state, in whole numbers of any size, and what chance a scheduler has that draws among the
-actors that can go on. Another pass finds the least order: of the fewest changes of actor, then of the fewest units
-that were overtaken.
+It is explored breadth first. It has no cycle, so one pass in which each state comes behind those before
+it counts the orders that lead to each state, in whole numbers of any size, and what chance a scheduler
+has that draws among the actors that can go on. Another pass finds the least order: of the fewest
+changes of actor, then of the fewest units that were overtaken.
 """
 
 from __future__ import annotations
@@ -29,8 +29,8 @@ class Edge(NamedTuple):
 
 
 class Least(NamedTuple):
-    """The least order to a state by an actor: its changes of actor, the units that were overtaken, and where it
-    comes from, with who went on last there."""
+    """The least order to a state by an actor: its changes of actor, the units that were overtaken, and
+    where it comes from, with who went on last there."""
 
     changes: int
     overtaken: int
@@ -42,10 +42,12 @@ Tell = Callable[[int, int], None]
 
 
 class Graph:
-    """All states that were reached, with edges. The states themselves are kept of ends alone, where nobody can go
-    on."""
+    """All states that were reached, with edges. The states themselves are kept of ends alone, where
+    nobody can go on."""
 
-    def __init__(self, problem: Problem, most_states: int, seconds: float, tell: Optional[Tell] = None) -> None:
+    def __init__(
+        self, problem: Problem, most_states: int, seconds: float, tell: Optional[Tell] = None
+    ) -> None:
         self.problem, self.most_states, self.tell = problem, most_states, tell
         self.end_time = time.monotonic() + seconds
         self.edges: List[List[Edge]] = []
@@ -75,7 +77,9 @@ class Graph:
             if not successors:
                 self.ends[node] = state
             for actor, new in successors:
-                self.edges[node].append(Edge(actor, self.number_of(new), self.problem.overtaken(state, actor)))
+                self.edges[node].append(
+                    Edge(actor, self.number_of(new), self.problem.overtaken(state, actor))
+                )
 
     def number_of(self, state: State) -> int:
         """The number of a state, which is explored where it is new."""

@@ -1,5 +1,6 @@
-"""An order that is shown is played again, as the record that it is, by the program where it is built, else by the
-second program. `tools/stuck` judges that play: it says why a thing is as it is, or that it is not so."""
+"""An order that is shown is played again, as the record that it is, by the program where it is built,
+else by the second program. `tools/stuck` judges that play: it says why a thing is as it is, or that it
+is not so."""
 
 from __future__ import annotations
 

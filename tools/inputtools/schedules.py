@@ -1,7 +1,7 @@
 """An order of units as a record that plays in this order, and a short one in which a thing still comes.
 
-At grain "call" a client becomes a tap that makes the same calls one by one. A joystick's calls have no lines of their
-own, so an order of them is no record.
+At grain "call" a client becomes a tap that makes the same calls one by one. A joystick's calls have no
+lines of their own, so an order of them is no record.
 """
 
 from __future__ import annotations
@@ -43,7 +43,8 @@ def stepped(problem: Problem, state: State, actor: int) -> State:
 
 
 class Replay:
-    """An order, played on the graph's own states: the state at its end, and the record's rows as (actor, words)."""
+    """An order, played on the graph's own states: the state at its end, and the record's rows as
+    (actor, words)."""
 
     def __init__(self, problem: Problem, turns: Sequence[Turn]) -> None:
         self.problem, self.state = problem, problem.start
@@ -129,7 +130,8 @@ def shortened(problem: Problem, turns: Sequence[Turn], thing: Thing) -> List[Tur
 
 
 def is_shortened(thing: Thing) -> bool:
-    """Is a thing the same in a shorter order? Lines that are left out may miss an expectation by themselves."""
+    """Is a thing the same in a shorter order? Lines that are left out may miss an expectation by
+    themselves."""
     if thing.kind == "missed":
         return str(thing.what).split()[1] in ("agrees", "never")
     return thing.kind != "waits"
@@ -151,17 +153,25 @@ class OrderRecord(NamedTuple):
     units: Tuple[Tuple[str, Tuple[str, ...]], ...]
 
 
-def record_of(problem: Problem, turns: Sequence[Turn], target: str, expectation: Optional[str] = None) -> OrderRecord:
+def record_of(
+    problem: Problem, turns: Sequence[Turn], target: str, expectation: Optional[str] = None
+) -> OrderRecord:
     """The record that plays in an order, and whose target reads all that waits at its end."""
     replay = Replay(problem, turns)
-    lines = action_lines(problem, replay) if problem.asked.grain != "call" else call_lines(problem, replay, target)
+    lines = (
+        action_lines(problem, replay)
+        if problem.asked.grain != "call"
+        else call_lines(problem, replay, target)
+    )
     if problem.asked.grain != "call":
         role = problem.actors[problem.names.index(target)].role
         lines += [" ".join(("do", target, *words)) for words in READS[role]]
     head = [as_tap(line) if problem.asked.grain == "call" else line for line in problem.record.head]
     head = ["inputrecord 2", *(line for line in head if not line.startswith("inputrecord"))]
     head[1:1] = [] if expectation is None else [f"#= {expectation}"]
-    return OrderRecord("".join(line + "\n" for line in head + lines), tuple(lines), units_shown(problem, replay))
+    return OrderRecord(
+        "".join(line + "\n" for line in head + lines), tuple(lines), units_shown(problem, replay)
+    )
 
 
 def as_tap(line: str) -> str:
@@ -185,10 +195,14 @@ def action_lines(problem: Problem, replay: Replay) -> List[str]:
 
 def call_lines(problem: Problem, replay: Replay, target: str) -> List[str]:
     """The lines that make the calls of an order, those of the end among them."""
-    rows = [" ".join(("do", problem.names[actor], *words)) for actor, words in replay.rows if words != ("end",)]
+    rows = [
+        " ".join(("do", problem.names[actor], *words)) for actor, words in replay.rows if words != ("end",)
+    ]
     number = problem.names.index(target)
     if problem.actors[number].role in ("source", "owner"):
-        return rows + [" ".join(("do", target, *words)) for words in READS.get(problem.actors[number].role, ())]
+        return rows + [
+            " ".join(("do", target, *words)) for words in READS.get(problem.actors[number].role, ())
+        ]
     log: List[Step] = []
     drained(replay.state, number, log)
     return rows + [" ".join(("do", target, *words_of_call(step, ()))) for step in log]
@@ -207,8 +221,11 @@ def units_shown(problem: Problem, replay: Replay) -> Tuple[Tuple[str, Tuple[str,
 def shown_rows(problem: Problem, replay: Replay) -> List[Tuple[str, str]]:
     if problem.asked.grain == "call":
         return [(problem.names[actor], shown_line(words)) for actor, words in replay.rows]
-    return [(problem.names[turn.actor], shown_line(line.words)) for turn in replay.units
-            for line in problem.units[turn.actor][turn.unit].lines]
+    return [
+        (problem.names[turn.actor], shown_line(line.words))
+        for turn in replay.units
+        for line in problem.units[turn.actor][turn.unit].lines
+    ]
 
 
 def shown_line(words: Sequence[str]) -> str:
