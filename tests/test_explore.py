@@ -2,6 +2,7 @@
 
 import json
 import os
+import re
 import signal
 import subprocess
 import unittest
@@ -225,7 +226,8 @@ class Command(DeskCase):
         self.assertEqual(0, status)
         self.assertEqual(
             [
-                "  KEY_LEFTCTRL: down for it, up on the device, in 147 of all 2,520 orders: 5.83 of a hundred, by chance 1.37",
+                "  KEY_LEFTCTRL: down for it, up on the device, "
+                "in 147 of all 2,520 orders: 5.83 of a hundred, by chance 1.37",
                 "    why: grab of remapper from place 4 (0.001 s) on",
                 "    a short order, 3 changes of actor, 7 of 12 lines:",
                 "      usb       KEY_LEFTCTRL 1, SYN_REPORT 0",
@@ -298,6 +300,18 @@ class Command(DeskCase):
         self.assertEqual(
             [("apart", 147), ("moment", 291)], [(each["what"], each["orders"]) for each in things]
         )
+
+    def test_each_field_is_told(self):
+        """docs/JSON.md tells each object with all of its fields."""
+        section = (TOP / "docs" / "JSON.md").read_text().split("\n## explore\n")[1].split("\n## ")[0]
+        rows = [row.split("|")[1:3] for row in section.splitlines() if row.startswith("| `")]
+        told = {kind.strip(" `"): set(re.findall("`([a-z_]+)`", names)) for kind, names in rows[1:]}
+        text = self.written("explore", STUCK, "--of", "desktop", "--shard", "1/1")
+        for line in text.splitlines():
+            each = json.loads(line)
+            kind = each.pop("kind")
+            self.assertEqual(told[kind], set(each), kind)
+        self.assertEqual({"shard", "explored", "thing"}, set(told))
 
     # Its records
 
@@ -463,7 +477,7 @@ class Command(DeskCase):
         )
         self.assertIn("KEY_LEFTCTRL: down for it, up on the device, in 147 of all 2,520 orders", text)
         self.assertIn(
-            "gamepad.rec: overlay with xpad, game and tester: not all was explored: stopped from the keyboard",
+            "overlay with xpad, game and tester: not all was explored: stopped from the keyboard",
             text,
         )
 

@@ -368,7 +368,7 @@ CASES = {
             do("c", "read 2"),
         )
     ),
-    # A loss is met by the first read or by the second, so a startup is at its end or not; and what was read is closed.
+    # A loss is met by the first read or by the second, so a startup is at its end or not; then it is closed.
     "JoystickKey.startup": Case(
         record(
             BUTTONS + MSC,

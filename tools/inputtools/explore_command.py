@@ -26,7 +26,8 @@ played again and judged as tools/stuck does.
 Two comments of a record say which orders there are:
 
   #~              a barrier: all lines before it come before all behind it
-  #~ if no key    a guard before a line of a client or tap: it does the line only while it knows of no key that is down
+  #~ if no key    a guard before a line of a client or tap: it does the line only while it knows of no
+                  key that is down
 
 Where there are more states than --states says, or it takes longer than --seconds, the orders with few
 changes of actor that nobody needed are looked at, and 1,000 that are drawn. Each answer says which
@@ -42,51 +43,40 @@ FOUND_WRONG, NOT_ALL, DIFFERS = 1, 3, 5
 MOST = 10**9
 
 
+# The words of the command, each with how argparse takes it.
+NAMED = (
+    ("--of", "NAME", "judge this actor alone; may be given again"),
+    ("--within", "N", "nothing goes ahead of what begins more than N lines before it"),
+    ("--preemptions", "K", "at most K changes of actor that nobody needed"),
+    ("--draw", "N", "look at N orders that are drawn"),
+    ("--seed", "S", "the seed of what is drawn; 1 where none is given"),
+    ("--states", "N", "look at so many states of an actor at most; 200000 where none is given"),
+    ("--seconds", "S", "look for so long at an actor at most; 60 where none is given"),
+    ("--out", "FOLDER", "write each order that is shown as a record in FOLDER"),
+    ("--shard", "K/N", "do the K-th of N parts, and write JSON for --join"),
+    ("-j", "N", "look at N actors at a time"),
+)
+FLAGS = (
+    ("--waits", "a follow waits until all sources are done, as with --threads; for calls alone"),
+    ("--moments", "judge each time that nothing was left to read, too"),
+    ("--expect", "judge what the record expects of its actors (#=) instead"),
+    ("--fail", "end in status 1 or 3 where not all orders end well"),
+    ("--json", "write one JSON object a line (docs/JSON.md)"),
+    ("--join", "the files are the JSON of all parts: put them together"),
+)
+GRAIN_HELP = "what no other line comes between: a frame of a source (the default), a line, or a call"
+
+
 def words_of_command() -> Words:
     words = Words(prog="explore", description=HELP, epilog=STATUSES)
-    words.add_argument(
-        "records", metavar="RECORD", nargs="+", help="a record, or a folder of them; - is standard input"
-    )
-    words.add_argument(
-        "--of", metavar="NAME", action="append", help="judge this actor alone; may be given again"
-    )
-    words.add_argument(
-        "--grain",
-        choices=GRAINS,
-        default="frame",
-        help="what no other line comes between: a frame of a source (the default), a line, or a call",
-    )
-    words.add_argument(
-        "--waits",
-        action="store_true",
-        help="a follow waits until all sources are done, as with --threads; for calls alone",
-    )
-    words.add_argument(
-        "--within", metavar="N", help="nothing goes ahead of what begins more than N lines before it"
-    )
-    words.add_argument("--preemptions", metavar="K", help="at most K changes of actor that nobody needed")
-    words.add_argument("--draw", metavar="N", help="look at N orders that are drawn")
-    words.add_argument("--seed", metavar="S", default="1", help="the seed of what is drawn (1)")
-    words.add_argument(
-        "--states", metavar="N", default="200000", help="look at so many states of an actor at most"
-    )
-    words.add_argument("--seconds", metavar="S", default="60", help="look for so long at an actor at most")
-    words.add_argument(
-        "--moments", action="store_true", help="judge each time that nothing was left to read, too"
-    )
-    words.add_argument(
-        "--expect", action="store_true", help="judge what the record expects of its actors (#=) instead"
-    )
-    words.add_argument(
-        "--fail", action="store_true", help="end in status 1 or 3 where not all orders end well"
-    )
-    words.add_argument("--json", action="store_true", help="write one JSON object a line (docs/JSON.md)")
-    words.add_argument("--out", metavar="FOLDER", help="write each order that is shown as a record in FOLDER")
-    words.add_argument("--shard", metavar="K/N", help="do the K-th of N parts, and write JSON for --join")
-    words.add_argument(
-        "--join", action="store_true", help="the files are the JSON of all parts: put them together"
-    )
-    words.add_argument("-j", dest="processes", metavar="N", default="1", help="look at N actors at a time")
+    files = "a record, or a folder of them; - is standard input"
+    words.add_argument("records", metavar="RECORD", nargs="+", help=files)
+    words.add_argument("--grain", choices=GRAINS, default="frame", help=GRAIN_HELP)
+    for word, value, text in NAMED:
+        words.add_argument(word, metavar=value, action="append" if word == "--of" else "store", help=text)
+    for word, text in FLAGS:
+        words.add_argument(word, action="store_true", help=text)
+    words.set_defaults(seed="1", states="200000", seconds="60", j="1")
     return words
 
 
@@ -200,7 +190,7 @@ class Output:
 
 def asked_text(asked: Any) -> str:
     """What is asked of all parts of a run, which must be the same for all."""
-    left_out = ("shard", "out", "json", "processes", "fail", "join")
+    left_out = ("shard", "out", "json", "j", "fail", "join")
     return json.dumps({key: value for key, value in sorted(vars(asked).items()) if key not in left_out})
 
 
@@ -213,7 +203,7 @@ def command(arguments: Sequence[str]) -> Tuple[str, List[str], int]:
             output.add(answer)
         return output.text(), [], output.status()
     settings = settings_of(asked)
-    processes = natural(asked.processes, "-j", 1) or 1
+    processes = natural(asked.j, "-j", 1) or 1
     items, wrong = items_of(givens_of(asked.records), settings)
     for text in wrong:
         say("explore", text)
