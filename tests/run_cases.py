@@ -58,7 +58,7 @@ class Built:
     def record(self, name: str, *words: object) -> Path:
         """Has tools/record make a record."""
         path = self.folder / name
-        command = [TOP / "tools" / "record", *map(str, words)]
+        command = [str(TOP / "tools" / "record"), *map(str, words)]
         made = subprocess.run(command, capture_output=True, text=True, check=True)
         path.write_text(made.stdout)
         return path

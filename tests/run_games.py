@@ -4,7 +4,7 @@ from run_cases import EXAMPLES, RunCase, compiled, needs, sent
 
 from checks.random_pads import RandomPad
 
-READER = ("--frames", "1", "--as", "reader")
+READER = ("--frames", "1", "--end", "term", "--as", "reader")
 # Without udev's data SDL is told the node.
 NODE = {"SDL_JOYSTICK_DEVICE": "/dev/input/event0"}
 
@@ -15,7 +15,7 @@ class Sdl(RunCase):
         self.program = compiled(self, self.built, "sdl.c", "sdl2", "libsdl2-dev")
 
     def test_joystick(self) -> None:
-        words = ["--frames", "1", "--as", "*", EXAMPLES / "gamepad.rec"]
+        words = ["--frames", "1", "--end", "term", "--as", "*", EXAMPLES / "gamepad.rec"]
         done = self.twice(words, [self.program, "joystick"], more=NODE)
         self.says(done, "^joystick ", 1)
         self.says(done, "^(axis|button|hat)", 8)
@@ -38,7 +38,7 @@ class Sdl(RunCase):
         pad = RandomPad(1, 60)
         path = self.folder / "pad.rec"
         path.write_text(pad.record())
-        done = self.twice(["--frames", "1", path], [self.program, "joystick"], more=NODE)
+        done = self.twice(["--frames", "1", "--end", "term", path], [self.program, "joystick"], more=NODE)
         self.assertEqual(pad.stands(), done.lines()[-1], self.shown(done))
 
 

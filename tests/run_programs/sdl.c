@@ -1,10 +1,10 @@
-/* Prints what SDL tells until nothing came for a while: of a joystick, and how it stands then (sdl joystick), or of keys and
- * the mouse (sdl keys). No screen is needed. */
+/* Prints what SDL tells until a signal asks it to end, or nothing came for long: of a joystick, and how it stands
+ * then (sdl joystick), or of keys and the mouse (sdl keys). No screen is needed. */
 #include <SDL.h>
 #include <stdio.h>
 #include <string.h>
 
-enum { QUIET_MS = 400 };
+enum { QUIET_MS = 10000 };
 
 static void show(const SDL_Event *event) {
     switch (event->type) {
@@ -27,9 +27,11 @@ static void show(const SDL_Event *event) {
 static void show_events(void) {
     SDL_Event event;
     Uint32 last = SDL_GetTicks();
-    while (SDL_GetTicks() - last < QUIET_MS) {
+    int is_over = 0;
+    while (!is_over && SDL_GetTicks() - last < QUIET_MS) {
         if (SDL_PollEvent(&event)) {
             show(&event);
+            is_over = event.type == SDL_QUIT;
             last = SDL_GetTicks();
         } else {
             SDL_Delay(1);
