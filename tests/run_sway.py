@@ -21,8 +21,7 @@ class Sway(RunCase):
             self.skipTest(f"a seatd runs here ({SOCKET})")
 
     def bindings(self, *words: str) -> List[str]:
-        """What the bindings wrote. Each is a process of its own, so that their order is by chance where
-        frames come at once."""
+        """What the bindings wrote. Each is a process of its own, so that their order is by chance."""
         folder = self.folder / "sway"
         shutil.rmtree(folder, ignore_errors=True)
         folder.mkdir()
@@ -33,6 +32,7 @@ class Sway(RunCase):
         return sorted(done.lines())
 
     def test_bindings(self) -> None:
+        """At the record's times, since a compositor says nowhere that it has set a keyboard up."""
         for run in range(2):
             with self.subTest(run=run):
-                self.assertEqual(["pressed-a", "released-b"], self.bindings("--frames", "1"))
+                self.assertEqual(["pressed-a", "released-b"], self.bindings("--quiet", "2500"))
