@@ -15,8 +15,8 @@ use Rattle.inp_client.specs.Member.{Member, ring_of, client_in, cells_in, number
 use Rattle.inp_client.specs.Numbers.{held_numbers}
 use Rattle.inp_client.specs.Locations.{client_at, clients_in, IsPlaceFor}
 use Rattle.inp_client.specs.Kept.{kept_view, AreKept}
-use Rattle.inp_client.proofs.CellCounts.{wanted_few}
-use Rattle.inp_client.proofs.RingsLeft.{rings_of, held_numbers-rings, fewer_remove, numbers_in-insert}
+use Rattle.inp_client.proofs.CellCounts.{wanted_few, rings_of, held_numbers-rings}
+use Rattle.inp_client.proofs.RingsLeft.{fewer_remove, numbers_in-insert}
 use Rattle.inp_client.proofs.Locations.{client_at_found, members_long, member_in_location, member_number, members_apart, members_after_removal, members_after_insert, place_of_member}
 use Rattle.inp_client.proofs.OtherClients.{member_held, others_stay, stored_after_removal, cells_after_removal, stored_after_insert, cells_after_insert, cells_same}
 

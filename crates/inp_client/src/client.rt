@@ -14,7 +14,7 @@ ghost use Rattle.inp_client.specs.Masks.{admits_of, full_masks};
 ghost use Rattle.inp_client.specs.Client.{new_client, with_events, is_offered_to, after_take, after_flush, after_mask, after_clock, after_revoke};
 ghost use Rattle.inp_client.specs.Offered.{with_run};
 ghost use Rattle.inp_client.specs.Member.{ring_of, client_in, after_event, HasFewer, IsMemberChanged};
-ghost use Rattle.inp_client.specs.Numbers.{admitted_number, IsPutBehind};
+ghost use Rattle.inp_client.specs.Numbers.{IsRingStored, IsRingOnClock};
 
 use crate::masks::Masks;
 use inp_caps::Caps;
@@ -99,8 +99,8 @@ impl Client {
         requires held { AreHeld store.old self.old.ring.events }
         ensures set { IsMemberChanged store.old store.new self.old self.new
             (after_clock clock now place) }
-        ensures one { (self.new.ring.events ≡ self.old.ring.events)
-            ⊎ (length self.new.ring.events ≤ 1) }
+        ensures stored { IsRingOnClock (is_same_clock self.old.clock clock) store.new
+            self.old.ring.events self.new.ring.events }
     {
         if is_same_clock(self.clock, clock) {
             return;
@@ -202,9 +202,7 @@ impl Client {
             self.old.ring.events self.new.ring.events number result }
         ensures offered { client_in store.new self.new
             ≡ after_event (cell_at store.old number) holder (client_in store.old self.old) }
-        ensures numbered { IsPutBehind (admitted_number self.old.masks event number)
-            (nat_lt (length self.new.ring.events) (length self.old.ring.events))
-            self.old.ring.events self.new.ring.events }
+        ensures stored { IsRingStored number holder store.old store.new self.old self.new }
     {
         if !self.is_offered_to(holder) || !self.admits(event) {
             return false;

@@ -14,7 +14,7 @@ ghost use Rattle.inp_client.specs.Clients.{has_client, has_revoked_client, event
 ghost use Rattle.inp_client.specs.Read.{clients_on};
 ghost use Rattle.inp_client.specs.Locations.{clients_in, AreLocated};
 ghost use Rattle.inp_ring.specs.Ring.{times};
-ghost use Rattle.inp_client.specs.Numbers.{held_numbers, stored_of, held_places, loses, HoldNoneNew, IsStoredOnce};
+ghost use Rattle.inp_client.specs.Numbers.{held_numbers, stored_of, held_places, loses, is_lost_to_clock, HoldNoneNew, IsStoredOnce, IsClockStored};
 ghost use Rattle.inp_client.specs.declared.open_refused.OpenRefused.TheVariants.{TooMany};
 
 use crate::client::Client;
@@ -184,7 +184,11 @@ impl Clients {
         requires moment { now ≤ MOMENT_MAX }
         ensures set { self.new.list
             ≡ map_client number (after_clock clock now place) self.old.list }
-        ensures stored { stored_of self.new ≤ stored_of self.old + 1 }
+
+        // The other rings stay, and a client that loses its queue has one SYN_DROPPED.
+        ensures once { IsClockStored number clock self.old self.new }
+        ensures stored { stored_of self.new ≤ stored_of self.old
+            + count_by (is_lost_to_clock number clock) self.old.list }
     {
         let key = key_of(&self.locations, &self.slab, number);
         self.slab[key].set_clock(&mut self.store, clock, now, place);
