@@ -232,24 +232,24 @@ pub record AreGrownBy (frame : List Event) (now place : ℕ) (holder : Option �
   pub rings : (length old.rings ≡ length old.list) × (length new.rings ≡ length old.list)
   pub each : (i : ℕ) → i < length old.list → IsGrown given (loses frame now place holder (client_of_index old i)) (ring_of_index old i) (ring_of_index new i)
 
-pub grown_by : (frame : List Event) (now place : ℕ) (holder : Option ℕ) (old new : ClientsView) → length old.rings ≡ length old.list → IsStoredOnce frame now place holder old new → AreGrownBy frame now place holder old new
-grown_by [] now place holder old new rings same = record {
+pub grown_by : (frame : List Event) (now place : ℕ) (holder : Option ℕ) (old new : ClientsView) → IsStoredOnce frame now place holder old new → AreGrownBy frame now place holder old new
+grown_by [] now place holder old new once = record {
   given = [];
   long = refl;
-  rings = (rings, ap (λ (v : ClientsView). length v.rings) same ∙ rings);
+  rings = (once.0, ap (λ (v : ClientsView). length v.rings) once.1 ∙ once.0);
   each = λ i in_i.
-      subst (λ (v : ClientsView). IsGrown [] false (ring_of_index old i) (ring_of_index v i)) (sym same) (grown_none [] false (ring_of_index old i));
+      subst (λ (v : ClientsView). IsGrown [] false (ring_of_index old i) (ring_of_index v i)) (sym once.1) (grown_none [] false (ring_of_index old i));
 }
-grown_by (e ∷ frame) now place holder old new rings once =
+grown_by (e ∷ frame) now place holder old new once =
     let mid : ClientsView = once.0 in
     let x : Cell = cell_of_event now place e in
     let first : IsEventStored x holder old mid = once.1 in
     let long : length mid.list ≡ length old.list = ap length first.clients ∙ length-map old.list (after_event x holder) in
-    let rest : AreGrownBy frame now place holder mid new = grown_by frame now place holder mid new (first.rings.1 ∙ sym long) once.2 in
+    let rest : AreGrownBy frame now place holder mid new = grown_by frame now place holder mid new once.2 in
     record {
       given = first.number ∷ rest.given;
       long = ap suc rest.long;
-      rings = (rings, rest.rings.1 ∙ long);
+      rings = (first.rings.0, rest.rings.1 ∙ long);
       each = λ i in_i.
           let c : ClientView Cell = client_of_index old i in
           let a : Bool = loses_event x holder c in
@@ -366,15 +366,15 @@ clock_grown {number} {clock} old new long is i in_i =
     by true = subst (λ (e : Bool). IsGrown [] (not same && not e) ring (clock_changed same is.loss ring)) (empty_alike ring c.ring.events (long i in_i)) (grown_by_clock same is.loss ring)
 
 -- The different numbers grow by one at most for each event of the frame, and for each client that lost its queue.
-pub stored_few : (frame : List Event) (now place : ℕ) (holder : Option ℕ) (old new : ClientsView) → length old.rings ≡ length old.list → IsStoredOnce frame now place holder old new
+pub stored_few : (frame : List Event) (now place : ℕ) (holder : Option ℕ) (old new : ClientsView) → IsStoredOnce frame now place holder old new
     → stored_of new ≤ stored_of old + length frame + count_by (loses frame now place holder) old.list
-stored_few frame now place holder old new rings once =
+stored_few frame now place holder old new once =
     let lost : ClientView Cell → Bool = λ c. loses frame now place holder c in
-    let is : AreGrownBy frame now place holder old new = grown_by frame now place holder old new rings once in
+    let is : AreGrownBy frame now place holder old new = grown_by frame now place holder old new once in
     omega (arith, is.long, stored_among lost is.given old new old.list is.rings.0 is.rings.1 is.each)
 
 -- By a change of clock they grow by one at most, where a queue is lost.
-pub stored_clock : {number : ℕ} {clock : Clock} (old new : ClientsView) → ((i : ℕ) → i < length old.list → length (ring_of_index old i) ≡ length (client_of_index old i).ring.events) → IsClockStored number clock old new
+pub stored_clock : {number : ℕ} {clock : Clock} (old new : ClientsView) → length new.list ≡ length old.list → ((i : ℕ) → i < length old.list → length (ring_of_index old i) ≡ length (client_of_index old i).ring.events) → IsClockStored number clock old new
     → stored_of new ≤ stored_of old + count_by (is_lost_to_clock number clock) old.list
-stored_clock {number} {clock} old new long is =
-    omega (arith, stored_among (is_lost_to_clock number clock) [] old new old.list is.rings.0 is.rings.1 (λ i in_i. clock_grown old new long is i in_i))
+stored_clock {number} {clock} old new same long is =
+    omega (arith, stored_among (is_lost_to_clock number clock) [] old new old.list is.rings.0 (is.rings.1 ∙ same) (λ i in_i. clock_grown old new long is i in_i))

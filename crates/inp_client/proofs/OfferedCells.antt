@@ -379,7 +379,7 @@ event_offered {cell} {holder} {number} {locations} {before} {slab} {first} {stor
   clients = clients_are;
   once = record {
     clients = clients_are;
-    rings = (long_rings s locations before ∙ sym (long_list s locations before), long_rings after locations slab ∙ sym (long_list s locations before));
+    rings = (long_rings s locations before ∙ sym (long_list s locations before), long_rings after locations slab ∙ sym (long_list after locations slab));
     event = event_in first;
     told = λ j in_j.
         let within : j < length locations = omega (arith, in_j, long_list s locations before) in

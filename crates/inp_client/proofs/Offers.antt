@@ -23,7 +23,7 @@ use Rattle.inp_client.proofs.Lists.{map_over, map_same}
 use Rattle.inp_client.proofs.OtherClients.{stored_stays, cells_stay, spare_some}
 use Rattle.inp_client.proofs.OneClient.{kept_known}
 use Rattle.inp_client.proofs.Locations.{members_long}
-use Rattle.inp_client.proofs.OfferedCells.{owing_same, owing_other}
+use Rattle.inp_client.proofs.OfferedCells.{owing_same, owing_other, long_list, long_rings}
 
 -- A new cell is in no ring.
 module _ {locations : List Location} {slab : Slab Member} {s after : StoreView} (shared : AreShared locations slab s) (number : ℕ) (cell : Cell) (new : held_under s number ≡ None) (put : IsPut s after number (held_by 0 cell)) where
@@ -175,7 +175,7 @@ module _ {f : Frame} {locations : List Location} {before slab : Slab Member} {fi
         ∙ to.rest;
     once =
         let D : List Event → Type 0 = λ es. AreStoredOnce f es (view_of store locations slab) (view_of store locations slab) in
-        to.once (view_of store locations slab) (subst D (sym (drop_all i f.events.now past)) refl);
+        to.once (view_of store locations slab) (subst D (sym (drop_all i f.events.now past)) (long_rings store locations slab ∙ sym (long_list store locations slab), refl));
     wanted = to.wanted;
     capacity = to.capacity;
   }

@@ -14,7 +14,7 @@ use Rattle.inp_model.specs.declared.clock.Clock.{Clock}
 use Rattle.inp_model.specs.Description.{Description, offset}
 use Rattle.inp_model.specs.Event.{syn_dropped}
 use Rattle.inp_model.specs.Step.{Query, is_part_of}
-use Rattle.inp_model.specs.Queue.{is_empty, is_same_clock, clock_changed}
+use Rattle.inp_model.specs.Queue.{is_empty, flush, is_same_clock, clock_changed}
 use Rattle.inp_model.proofs.Removal.{flush-all}
 use Rattle.inp_ring.specs.declared.cell.Cell.{Cell}
 use Rattle.inp_ring.specs.Store.{StoreView, event_of_cell, cell_taken, HasCell, IsIdle}
@@ -25,8 +25,8 @@ use Rattle.inp_client.specs.declared.clients.Clients.TheInside.{Inside}
 use Rattle.inp_client.specs.Client.{ClientView, new_client, cell_of_event, after_take, after_flush, after_mask, after_clock, after_revoke}
 use Rattle.inp_client.specs.Clients.{has_number, ClientsView, has_client, client_named, events_of, has_revoked_client, map_client}
 use Rattle.inp_client.specs.Read.{client_on, clients_on}
-use Rattle.inp_client.specs.Member.{Member, ring_of, client_in, cells_in, times_in, wanted, AreStored, HasFewer, IsMemberChanged}
-use Rattle.inp_client.specs.Numbers.{held_numbers, stored_of, client_of_index, ring_of_index, loses_to_clock, is_lost_to_clock, HoldNoneNew, IsClockStored, IsRingOnClock}
+use Rattle.inp_client.specs.Member.{Member, ring_of, client_in, cells_in, times_in, wanted, AreStored, IsMemberChanged}
+use Rattle.inp_client.specs.Numbers.{held_numbers, stored_of, client_of_index, ring_of_index, loses_to_clock, is_lost_to_clock, event_in, IsClockStored, IsRingOnClock, IsRingChanged, IsRingFlushed}
 use Rattle.inp_client.specs.Locations.{client_at, clients_in}
 use Rattle.inp_client.specs.Kept.{kept_view, AreKept}
 use Rattle.inp_client.proofs.Lists.{list_any-map}
@@ -34,8 +34,8 @@ use Rattle.inp_client.proofs.Locations.{client_at_found, located_after_write, me
 use Rattle.inp_client.proofs.OtherClients.{held_known, member_held, member_timed, member_ring, spare_some, others_stay, stored_after_write, cells_after_write, client_named-cells_in}
 use Rattle.inp_client.proofs.OnClock.{client_named-on}
 use Rattle.inp_client.proofs.CellCounts.{rings_of, times-view_in}
-use Rattle.inp_client.proofs.Numbers.{stored_clock}
-use Rattle.inp_client.proofs.RingsLeft.{fewer_set, rings_in, long_in}
+use Rattle.inp_client.proofs.Numbers.{stored_clock, told_in}
+use Rattle.inp_client.proofs.RingsLeft.{rings_in, long_in}
 
 -- a client is open whatever its cells are
 pub has_client-cells_in : (s : StoreView) (ms : List Member) (number : ℕ) → has_client number (cells_in s ms) ≡ has_client number ms
@@ -161,34 +161,66 @@ module _ (k : Inside) (kept : AreKept k) (number key : ℕ) (location : Contains
     rings_after_call same =
         ap rings_of members_next ∙ map-set_same (λ (m : Member). m.ring.events) members location.0 new (new_client 0 0) (same ∙ sym (ap (λ (m : Member). m.ring.events) here))
 
-    pub fewer_after_call : HasFewer old new → HoldNoneNew (kept_view k) (kept_view next)
-    fewer_after_call fewer client n =
-        omega (
-          arith,
-          ap (λ (ms : List Member). times n (get_or (rings_of ms) client [])) members_next,
-          fewer_set members location.0 new (new_client 0 0) client n in_members (λ j. omega (arith, fewer j, ap (λ (m : Member). times j m.ring.events) here)),
-        )
+    -- The rings that there are then, and those that there were
+
+    ring_next : (i : ℕ) → i < length members → ring_of_index (kept_view next) i ≡ (get_or (set members location.0 new) i (new_client 0 0)).ring.events
+    ring_next i in_i =
+        ap (λ (ms : List Member). get_or (rings_of ms) i []) members_next
+        ∙ get_or-map (λ (m : Member). m.ring.events) (set members location.0 new) i (new_client 0 0) [] (omega (arith, in_i, length-set members location.0 new))
+
+    ring_was : (i : ℕ) → i < length members → ring_of_index (kept_view k) i ≡ (get_or members i (new_client 0 0)).ring.events
+    ring_was i in_i = get_or-map (λ (m : Member). m.ring.events) members i (new_client 0 0) [] in_i
+
+    client_was : (i : ℕ) → i < length members → client_of_index (kept_view k) i ≡ client_in k.store (get_or members i (new_client 0 0))
+    client_was i in_i = get_or-map (client_in k.store) members i (new_client 0 0) (new_client 0 0) in_i
+
+    -- the client of the number is the one that was named
+    is_here : has_number number (client_in k.store (get_or members location.0 (new_client 0 0))) ≡ true
+    is_here = eq-eqb _ _ numbered
+
+    is_other : (i : ℕ) → i ≢ location.0 → i < length members → has_number number (client_in k.store (get_or members i (new_client 0 0))) ≡ false
+    is_other i d in_i = ne_eqb _ _ (λ e. apart i in_i d (e ∙ sym numbered))
+
+    told_was : (i : ℕ) → i < length (kept_view k).list → map (event_in k.store) (ring_of_index (kept_view k) i) ≡ map event_of_cell (client_of_index (kept_view k) i).ring.events
+    told_was i in_i =
+        let within : i < length members = omega (arith, in_i, length-map members (client_in k.store)) in
+        ap (map (event_in k.store)) (ring_was i within)
+        ∙ told_in k.store (get_or members i (new_client 0 0)).ring.events
+        ∙ ap (λ (c : ClientView Cell). map event_of_cell c.ring.events) (sym (client_was i within))
+
+    -- What a call leaves of the numbers that a ring has, where it makes this of it.
+    module _ (makes : List ℕ → List ℕ) (left : new.ring.events ≡ makes old.ring.events) where
+      made_at : (i : ℕ) → i < length members
+          → (get_or (set members location.0 new) i (new_client 0 0)).ring.events
+          ≡ (if has_number number (client_in k.store (get_or members i (new_client 0 0))) then makes (get_or members i (new_client 0 0)).ring.events else (get_or members i (new_client 0 0)).ring.events)
+      made_at =
+          at_each _ location.0
+          (λ in_i. ap (λ (m : Member). m.ring.events) (get_or-set_same members location.0 new (new_client 0 0) in_members)
+          ∙ left
+          ∙ ap (λ (m : Member). makes m.ring.events) (sym here)
+          ∙ sym (cond-true (has_number number (client_in k.store (get_or members location.0 (new_client 0 0)))) _ _ is_here))
+          (λ i d in_i. ap (λ (m : Member). m.ring.events) (get_or-set_other members location.0 i new (new_client 0 0) d)
+          ∙ sym (cond-false (has_number number (client_in k.store (get_or members i (new_client 0 0)))) _ _ (is_other i d in_i)))
+
+      pub ring_after_call : IsRingChanged number makes (kept_view k) (kept_view next)
+      ring_after_call = record {
+        rings = (
+          rings_in k.store members,
+          length-map (clients_in k.locations.items (with_value k.slab key new)) (λ (m : Member). m.ring.events)
+          ∙ ap (λ (ms : List Member). length ms) members_next ∙ length-set members location.0 new ∙ sym (length-map members (λ (m : Member). m.ring.events)),
+        );
+        each = λ i in_i.
+            let within : i < length members = omega (arith, in_i, length-map members (client_in k.store)) in
+            ring_next i within ∙ made_at i within
+            ∙ ap (λ (c : ClientView Cell). if has_number number c then makes (get_or members i (new_client 0 0)).ring.events else (get_or members i (new_client 0 0)).ring.events) (sym (client_was i within))
+            ∙ ap (λ (q : List ℕ). if has_number number (client_of_index (kept_view k) i) then makes q else q) (sym (ring_was i within));
+      }
+
+    pub flushed_after_call : (query : Query) → new.ring.events ≡ flush (event_in k.store) (is_part_of query) old.ring.events → IsRingFlushed number query (kept_view k) (kept_view next)
+    flushed_after_call query left = record { event = event_in k.store; told = told_was; flushed = ring_after_call (flush (event_in k.store) (is_part_of query)) left }
 
     -- What a choice of a clock leaves of all numbers.
     module _ (clock : Clock) (ring : IsRingOnClock (is_same_clock old.clock clock) after old.ring.events new.ring.events) where
-      ring_next : (i : ℕ) → i < length members → ring_of_index (kept_view next) i ≡ (get_or (set members location.0 new) i (new_client 0 0)).ring.events
-      ring_next i in_i =
-          ap (λ (ms : List Member). get_or (rings_of ms) i []) members_next
-          ∙ get_or-map (λ (m : Member). m.ring.events) (set members location.0 new) i (new_client 0 0) [] (omega (arith, in_i, length-set members location.0 new))
-
-      ring_was : (i : ℕ) → i < length members → ring_of_index (kept_view k) i ≡ (get_or members i (new_client 0 0)).ring.events
-      ring_was i in_i = get_or-map (λ (m : Member). m.ring.events) members i (new_client 0 0) [] in_i
-
-      client_was : (i : ℕ) → i < length members → client_of_index (kept_view k) i ≡ client_in k.store (get_or members i (new_client 0 0))
-      client_was i in_i = get_or-map (client_in k.store) members i (new_client 0 0) (new_client 0 0) in_i
-
-      -- the client of the number is the one that was named
-      is_here : has_number number (client_in k.store (get_or members location.0 (new_client 0 0))) ≡ true
-      is_here = eq-eqb _ _ numbered
-
-      is_other : (i : ℕ) → i ≢ location.0 → i < length members → has_number number (client_in k.store (get_or members i (new_client 0 0))) ≡ false
-      is_other i d in_i = ne_eqb _ _ (λ e. apart i in_i d (e ∙ sym numbered))
-
       each_at : (i : ℕ) → i < length members
           → (get_or (set members location.0 new) i (new_client 0 0)).ring.events
           ≡ (let c = client_in k.store (get_or members i (new_client 0 0)) in
@@ -223,11 +255,7 @@ module _ (k : Inside) (kept : AreKept k) (number key : ℕ) (location : Contains
 
       pub clock_after_call : IsClockStored number clock (kept_view k) (kept_view next)
       clock_after_call = record {
-        rings = (
-          rings_in k.store members,
-          length-map (clients_in k.locations.items (with_value k.slab key new)) (λ (m : Member). m.ring.events)
-          ∙ ap (λ (ms : List Member). length ms) members_next ∙ length-set members location.0 new ∙ sym (length-map members (client_in k.store)),
-        );
+        rings = (rings_in k.store members, rings_in after (clients_in k.locations.items (with_value k.slab key new)));
         loss = ring.loss;
         alone = λ i in_i h.
             let within : i < length members = omega (arith, in_i, length-map members (client_in k.store)) in
@@ -240,4 +268,4 @@ module _ (k : Inside) (kept : AreKept k) (number key : ℕ) (location : Contains
       }
 
       pub stored_on_clock : stored_of (kept_view next) ≤ stored_of (kept_view k) + count_by (is_lost_to_clock number clock) (kept_view k).list
-      stored_on_clock = stored_clock (kept_view k) (kept_view next) (long_in k.store members) clock_after_call
+      stored_on_clock = stored_clock (kept_view k) (kept_view next) (ap length list_after_call ∙ length-map (kept_view k).list (λ c. if has_number number c then change c else c)) (long_in k.store members) clock_after_call

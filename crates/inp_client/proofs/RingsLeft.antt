@@ -1,36 +1,57 @@
 -- What a call leaves of the numbers of all rings.
-use Rattle.std.proofs.Common.{◌≡◌, ◌≤◌, ◌<◌, ℕ, zero, suc, ◌+◌, List, [], ◌∷◌, ◌++◌, length, map, get_or, set, Option, refl, sym, ap, ◌∙◌, subst, inl, inr, arith}
-use Rattle.std.specs.Prelude.{count_by}
+use Rattle.std.proofs.Common.{◌≡◌, ◌≤◌, ◌<◌, ℕ, zero, suc, ◌+◌, Bool, true, false, if◌then◌else◌, List, [], ◌∷◌, ◌++◌, length, map, get_or, set, Option, refl, sym, ap, ◌∙◌, subst, inl, inr, arith}
+use Rattle.std.specs.Prelude.{flat_map, count_by}
 use Rattle.std.specs.List.{remove, insert}
-use Rattle.std.proofs.lemmas.List.{length-map, get_or-map, nil_from_length}
-use Rattle.std.proofs.lemmas.List.Sums.{sum_by-remove}
+use Rattle.std.proofs.lemmas.List.{length-map, get_or-map, get_or_past, nil_from_length}
+use Rattle.std.proofs.lemmas.Bool.{cases_lt}
+use Rattle.inp_client.specs.Clients.{ClientsView, has_number}
 use Rattle.inp_model.specs.declared.event.Event.{Event}
 use Rattle.inp_ring.specs.declared.cell.Cell.{Cell}
 use Rattle.inp_ring.specs.Store.{StoreView}
 use Rattle.inp_ring.specs.Ring.{times, cell_at}
+use Rattle.inp_ring.proofs.Times.{times-append}
 use Rattle.inp_client.specs.declared.clients.Clients.TheInside.{Inside}
 use Rattle.inp_client.specs.declared.frame.Frame.{Frame}
 use Rattle.inp_client.specs.Client.{ClientView, new_client}
-use Rattle.inp_client.specs.Member.{Member, client_in, view_in, numbers_in, HasFewer}
+use Rattle.inp_client.specs.Member.{Member, client_in, view_in, numbers_in}
 use Rattle.inp_client.specs.Locations.{client_at, clients_in}
 use Rattle.inp_client.specs.Kept.{kept_view}
-use Rattle.inp_client.specs.Numbers.{stored_of, loses, client_of_index, ring_of_index, IsStoredOnce}
+use Rattle.inp_client.specs.Numbers.{held_numbers, stored_of, loses, client_of_index, ring_of_index, HaveRings, IsStoredOnce, IsRingChanged, IsRingClosed}
 use Rattle.inp_client.specs.Offered.{IsOffered}
-use Rattle.inp_client.proofs.CellCounts.{rings_of, times-numbers_in}
+use Rattle.inp_client.proofs.CellCounts.{rings_of}
 use Rattle.inp_client.proofs.Numbers.{stored_few}
 use Rattle.slab.specs.Slab.{Slab}
 
 -- A ring of which only numbers are taken has none that it did not have, and the others stay.
-pub fewer_set : (ms : List Member) (i : ℕ) (new d : Member) (client n : ℕ) → i < length ms → HasFewer (get_or ms i d) new → times n (get_or (rings_of (set ms i new)) client []) ≤ times n (get_or (rings_of ms) client [])
-fewer_set [] i new d client n in_i fewer = absurd (omega (arith, in_i))
-fewer_set (m ∷ ms) zero new d zero n in_i fewer = fewer n
-fewer_set (m ∷ ms) zero new d (suc client) n in_i fewer = omega arith
-fewer_set (m ∷ ms) (suc i) new d zero n in_i fewer = omega arith
-fewer_set (m ∷ ms) (suc i) new d (suc client) n in_i fewer = fewer_set ms i new d client n (omega (arith, in_i)) fewer
+pub fewer_in : (number : ℕ) (change : List ℕ → List ℕ) (old new : ClientsView) → ((n : ℕ) (q : List ℕ) → times n (change q) ≤ times n q) → IsRingChanged number change old new
+    → (i n : ℕ) → times n (ring_of_index new i) ≤ times n (ring_of_index old i)
+fewer_in number change old new fewer is i n = elim (cases_lt i (length old.list)) [
+  | inl in_i ↦ omega (arith, ap (times n) (is.each i in_i), one (has_number number (client_of_index old i)))
+  | inr past ↦ omega (arith, ap (times n) (get_or_past new.rings i [] (omega (arith, past, is.rings.0, is.rings.1))))
+]
+  where
+    one : (b : Bool) → times n (if b then change (ring_of_index old i) else ring_of_index old i) ≤ times n (ring_of_index old i)
+    one true = fewer n (ring_of_index old i)
+    one false = omega arith
 
 -- a ring that goes takes its numbers along
-pub fewer_remove : (ms : List Member) (i : ℕ) (d : Member) (n : ℕ) → i < length ms → times n (numbers_in (remove ms i)) ≤ times n (numbers_in ms)
-fewer_remove ms i d n in_i = omega (arith, times-numbers_in n (remove ms i), times-numbers_in n ms, sum_by-remove (λ (m : Member). times n m.ring.events) ms i d in_i)
+pub rings_of-remove : (ms : List Member) (i : ℕ) → rings_of (remove ms i) ≡ remove (rings_of ms) i
+rings_of-remove [] zero = refl
+rings_of-remove [] (suc i) = refl
+rings_of-remove (m ∷ ms) zero = refl
+rings_of-remove (m ∷ ms) (suc i) = ap (λ (rings : List (List ℕ)). m.ring.events ∷ rings) (rings_of-remove ms i)
+
+abbrev all_of : List (List ℕ) → List ℕ
+all_of rings = flat_map (λ q. q) rings
+
+fewer_remove : (rings : List (List ℕ)) (i n : ℕ) → times n (all_of (remove rings i)) ≤ times n (all_of rings)
+fewer_remove [] zero n = omega arith
+fewer_remove [] (suc i) n = omega arith
+fewer_remove (q ∷ rings) zero n = omega (arith, times-append n q (all_of rings))
+fewer_remove (q ∷ rings) (suc i) n = omega (arith, fewer_remove rings i n, times-append n q (all_of rings), times-append n q (all_of (remove rings i)))
+
+pub fewer_closed : (number : ℕ) (old new : ClientsView) → IsRingClosed number old new → (n : ℕ) → times n (held_numbers new) ≤ times n (held_numbers old)
+fewer_closed number old new is n = omega (arith, ap (λ (rings : List (List ℕ)). times n (all_of rings)) is.rings, fewer_remove old.rings is.index n)
 
 -- an empty ring has none
 pub numbers_in-insert : (ms : List Member) (i : ℕ) (new : Member) → i ≤ length ms → new.ring.events ≡ [] → numbers_in (insert ms i new) ≡ numbers_in ms
@@ -39,7 +60,7 @@ numbers_in-insert [] (suc i) new within none = absurd (omega (arith, within))
 numbers_in-insert (m ∷ ms) (suc i) new within none = ap (λ (q : List ℕ). m.ring.events ++ q) (numbers_in-insert ms i new (omega (arith, within)) none)
 
 -- each client has its ring
-pub rings_in : (s : StoreView) (ms : List Member) → length (view_in s ms).rings ≡ length (view_in s ms).list
+pub rings_in : (s : StoreView) (ms : List Member) → HaveRings (view_in s ms)
 rings_in s ms = length-map ms (λ (m : Member). m.ring.events) ∙ sym (length-map ms (client_in s))
 
 -- with as many numbers as its queue has events
@@ -53,11 +74,11 @@ long_in s ms i in_i =
 -- A frame was offered.
 pub stored_after_offer : {f : Frame} (k : Inside) (slab : Slab Member) (store : StoreView) (is : IsOffered f k.locations.items k.slab slab k.store store)
     → stored_of (kept_view (record k { slab = slab; store = store })) ≤ stored_of (kept_view k) + length f.events.now + count_by (loses f.events.now f.moment f.place f.holder) (kept_view k).list
-stored_after_offer {f} k slab store is = stored_few f.events.now f.moment f.place f.holder (kept_view k) (kept_view (record k { slab = slab; store = store })) (rings_in k.store (clients_in k.locations.items k.slab)) is.once
+stored_after_offer {f} k slab store is = stored_few f.events.now f.moment f.place f.holder (kept_view k) (kept_view (record k { slab = slab; store = store })) is.once
 
 -- where no client is open nothing is put
 none_stored : (frame : List Event) (now place : ℕ) (holder : Option ℕ) → IsStoredOnce frame now place holder (record { list = []; rings = [] }) (record { list = []; rings = [] })
-none_stored [] now place holder = refl
+none_stored [] now place holder = (refl, refl)
 none_stored (e ∷ frame) now place holder = (
   record { list = []; rings = [] },
   record {

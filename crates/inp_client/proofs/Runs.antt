@@ -29,6 +29,7 @@ use Rattle.inp_client.proofs.MaskBits.{admits_of-full_masks}
 use Rattle.inp_client.proofs.Lists.{flag_other, map_over, map_same}
 use Rattle.inp_client.proofs.CellCounts.{rings_of, times-view_in}
 use Rattle.inp_client.proofs.Numbers.{told_in}
+use Rattle.inp_client.proofs.RingsLeft.{rings_in}
 use Rattle.inp_client.proofs.Locations.{located_after_write, member_written, member_kept, members_long, member_in_location, member_found}
 
 -- A frame whose reports are apart
@@ -352,8 +353,10 @@ module _ (store : StoreView) (now place : ℕ) (holder : Option ℕ) where
   run_stored : (frame : List Event) (numbers : List ℕ) (ms : List Member) → length numbers ≡ length frame → map (cell_at store) numbers ≡ map (cell_of_event now place) frame → AreDifferent numbers
       → ((n : ℕ) → 1 ≤ times n numbers → times_in n ms ≡ 0) → ((j : ℕ) → j < length ms → FitsRun store frame holder (get_or ms j (new_client 0 0)))
       → IsStoredOnce frame now place holder (view_in store ms) (view_in store (map (with_run holder numbers) ms))
-  run_stored [] [] ms long there different absent fits =
-      ap (view_in store) (map_same (with_run holder []) (λ m. m) ms (λ j d in_j. run_none (get_or ms j d)) ∙ map-id ms)
+  run_stored [] [] ms long there different absent fits = (
+    rings_in store ms,
+    ap (view_in store) (map_same (with_run holder []) (λ m. m) ms (λ j d in_j. run_none (get_or ms j d)) ∙ map-id ms),
+  )
   run_stored [] (x ∷ numbers) ms long there different absent fits = absurd (omega (arith, long))
   run_stored (e ∷ frame) [] ms long there different absent fits = absurd (omega (arith, long))
   run_stored (e ∷ frame) (x ∷ numbers) ms long there different absent fits = (
@@ -364,7 +367,7 @@ module _ (store : StoreView) (now place : ℕ) (holder : Option ℕ) where
           ∙ map_over (λ m. client_in store (with_run holder (x ∷ []) m)) (client_in store) (after_event (cell_of_event now place e) holder) ms
           (All-from_get_or (λ m. client_in store (with_run holder (x ∷ []) m) ≡ after_event (cell_of_event now place e) holder (client_in store m)) ms (new_client 0 0)
           (λ j in_j. one_seen e frame x (get_or ms j (new_client 0 0)) first (fits j in_j)));
-      rings = (rings_long ms, rings_long mid ∙ length-map mid (client_in store) ∙ length-map ms (with_run holder (x ∷ [])) ∙ sym (length-map ms (client_in store)));
+      rings = (rings_in store ms, rings_in store mid);
       event = event_in store;
       told = λ j in_j.
           let within : j < length ms = omega (arith, in_j, length-map ms (client_in store)) in
@@ -395,9 +398,6 @@ module _ (store : StoreView) (now place : ℕ) (holder : Option ℕ) where
 
       first : cell_at store x ≡ cell_of_event now place e
       first = ap (λ (q : List Cell). get_or q 0 (cell_of_event now place e)) there
-
-      rings_long : (l : List Member) → length (view_in store l).rings ≡ length (view_in store l).list
-      rings_long l = length-map l (λ (m : Member). m.ring.events) ∙ sym (length-map l (client_in store))
 
       ring_was : (l : List Member) (j : ℕ) → j < length l → ring_of_index (view_in store l) j ≡ (get_or l j (new_client 0 0)).ring.events
       ring_was l j in_j = get_or-map (λ (m : Member). m.ring.events) l j (new_client 0 0) [] in_j

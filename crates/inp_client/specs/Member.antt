@@ -51,10 +51,6 @@ pub record AreStored (s : StoreView) (ms : List Member) (owed : ℕ → ℕ) : T
   pub timed : All (λ m. AreFit (map (cell_at s) m.ring.events)) ms
   pub room : wanted ms ≤ cell_count s + s.spare
 
--- no number came into its ring
-abbrev pub HasFewer : Member → Member → Type 0
-HasFewer old new = (n : ℕ) → times n new.ring.events ≤ times n old.ring.events
-
 -- A call on one client left this of it and of the store.
 pub record IsMemberChanged (s after : StoreView) (old new : Member) (change : ClientView Cell → ClientView Cell) : Type 0 where
   pub number : new.number ≡ old.number

@@ -1,9 +1,11 @@
 -- Which cells clients share, by the numbers of their rings: a cell that several rings hold has one number.
 use Rattle.std.specs.Prelude.{◌≡◌, ◌≤◌, ◌<◌, ◌&&◌, ◌||◌, not, ℕ, Bool, true, false, if◌then◌else◌, nat_lt, suc, List, [], ◌∷◌, length, map, flat_map, get_or, Option}
+use Rattle.std.specs.List.{remove}
 use Rattle.inp_model.specs.declared.event.Event.{Event}
 use Rattle.inp_model.specs.declared.clock.Clock.{Clock}
 use Rattle.inp_model.specs.Event.{is_report}
-use Rattle.inp_model.specs.Queue.{is_empty, ends_in_report, put, is_same_clock, clock_changed}
+use Rattle.inp_model.specs.Step.{Query, is_part_of}
+use Rattle.inp_model.specs.Queue.{is_empty, ends_in_report, put, flush, is_same_clock, clock_changed}
 use Rattle.inp_ring.specs.declared.cell.Cell.{Cell}
 use Rattle.inp_ring.specs.Store.{StoreView, holders, event_of_cell}
 use Rattle.inp_ring.specs.Ring.{times, cell_at}
@@ -23,10 +25,6 @@ stored_of clients = length (distinct (held_numbers clients))
 -- the places in the history of all queued events, each once: events of different steps are different cells
 abbrev pub held_places : List (ClientView Cell) → List ℕ
 held_places clients = distinct (flat_map (λ c. map (λ cell. cell.place) c.ring.events) clients)
-
--- no ring has a number that it did not have, and none oftener
-abbrev pub HoldNoneNew : ClientsView → ClientsView → Type 0
-HoldNoneNew old new = (client n : ℕ) → times n (get_or new.rings client []) ≤ times n (get_or old.rings client [])
 
 -- a client is offered an event, and admits it
 abbrev pub takes_event : Cell → Option ℕ → ClientView Cell → Bool
@@ -59,11 +57,14 @@ client_of_index clients i = get_or clients.list i (new_client 0 0)
 abbrev pub ring_of_index : ClientsView → ℕ → List ℕ
 ring_of_index clients i = get_or clients.rings i []
 
+-- each client has its ring
+abbrev pub HaveRings : ClientsView → Type 0
+HaveRings clients = length clients.rings ≡ length clients.list
+
 -- One event was offered, and is stored once: it has one number, whoever takes it.
 pub record IsEventStored (cell : Cell) (holder : Option ℕ) (old new : ClientsView) : Type 0 where
   pub clients : new.list ≡ map (after_event cell holder) old.list
-  -- each client has its ring, before and after
-  pub rings : (length old.rings ≡ length old.list) × (length new.rings ≡ length old.list)
+  pub rings : HaveRings old × HaveRings new
   -- the event that each number stands for: a ring is its numbers with their events, which are those of the queue
   pub event : ℕ → Event
   pub told : (i : ℕ) → i < length old.list → map event (ring_of_index old i) ≡ map event_of_cell (client_of_index old i).ring.events
@@ -82,7 +83,7 @@ pub record IsEventStored (cell : Cell) (holder : Option ℕ) (old new : ClientsV
 -- it when the event comes. So the numbers that rings have in the end are different for different events and
 -- losses, and none of the frame's is one that stayed.
 abbrev pub IsStoredOnce : List Event → ℕ → ℕ → Option ℕ → ClientsView → ClientsView → Type 0
-IsStoredOnce [] now place holder old new = new ≡ old
+IsStoredOnce [] now place holder old new = HaveRings old × (new ≡ old)
 IsStoredOnce (e ∷ frame) now place holder old new =
     (mid : ClientsView) × IsEventStored (cell_of_event now place e) holder old mid × IsStoredOnce frame now place holder mid new
 
@@ -96,13 +97,33 @@ is_lost_to_clock number clock c = has_number number c && loses_to_clock clock c
 
 -- A clock was chosen for the client with a number. The other rings stay as they are.
 pub record IsClockStored (number : ℕ) (clock : Clock) (old new : ClientsView) : Type 0 where
-  pub rings : (length old.rings ≡ length old.list) × (length new.rings ≡ length old.list)
+  pub rings : HaveRings old × HaveRings new
   -- the number of the client's SYN_DROPPED, where it loses its queue: it stands nowhere else
   pub loss : ℕ
   pub alone : (i : ℕ) → i < length old.list → is_lost_to_clock number clock (client_of_index old i) ≡ true → times loss (held_numbers new) ≡ 1
   pub each : (i : ℕ) → i < length old.list
       → let c = client_of_index old i in
       ring_of_index new i ≡ (if has_number number c then clock_changed (is_same_clock c.clock clock) loss (ring_of_index old i) else ring_of_index old i)
+
+-- A call made something else of the ring of the client with a number. The other rings stay as they are.
+pub record IsRingChanged (number : ℕ) (change : List ℕ → List ℕ) (old new : ClientsView) : Type 0 where
+  pub rings : HaveRings old × (length new.rings ≡ length old.rings)
+  pub each : (i : ℕ) → i < length old.list
+      → ring_of_index new i ≡ (if has_number number (client_of_index old i) then change (ring_of_index old i) else ring_of_index old i)
+
+-- What the answer to a query tells whole left that ring: the numbers whose events stay are in it still.
+pub record IsRingFlushed (number : ℕ) (query : Query) (old new : ClientsView) : Type 0 where
+  -- the event that each number stands for
+  pub event : ℕ → Event
+  pub told : (i : ℕ) → i < length old.list → map event (ring_of_index old i) ≡ map event_of_cell (client_of_index old i).ring.events
+  pub flushed : IsRingChanged number (flush event (is_part_of query)) old new
+
+-- A client with this number went, and its ring with it. The others stay.
+pub record IsRingClosed (number : ℕ) (old new : ClientsView) : Type 0 where
+  pub index : ℕ
+  pub within : index < length old.list
+  pub named : has_number number (client_of_index old index) ≡ true
+  pub rings : new.rings ≡ remove old.rings index
 
 -- the event under each number of a store
 abbrev pub event_in : StoreView → ℕ → Event
