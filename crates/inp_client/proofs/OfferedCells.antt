@@ -16,7 +16,7 @@ use Rattle.inp_client.specs.declared.location.Location.{Location}
 use Rattle.inp_client.specs.Client.{ClientView, new_client}
 use Rattle.inp_client.specs.Member.{Member, ring_of, client_in, cells_in, times_in, wanted, after_event, AreStored}
 use Rattle.inp_client.specs.Locations.{client_at, clients_in, AreLocated}
-use Rattle.inp_client.specs.Numbers.{loses_event, ring_after, event_in, client_of_index, ring_of_index, IsEventStored, IsRingStored}
+use Rattle.inp_client.specs.Numbers.{loses_event, ring_after, event_in, client_of_index, ring_of_index, IsRingStored}
 use Rattle.inp_client.specs.Offered.{AreShared, IsEnteredTo, IsEventOffered, owing, member_at, seen_at, ring_at, view_of}
 use Rattle.inp_client.proofs.Lists.{flag_other, map_over}
 use Rattle.inp_client.proofs.Locations.{located_after_write, members_after_write, member_written, member_kept, members_long, member_in_location, member_found}

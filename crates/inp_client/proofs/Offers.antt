@@ -1,5 +1,5 @@
 -- A frame is offered event by event.
-use Rattle.std.proofs.Common.{◌≡◌, ◌≤◌, ◌<◌, ℕ, ◌+◌, Bool, true, false, ◌&&◌, if◌then◌else◌, List, [], ◌∷◌, ◌++◌, length, map, drop, get_or, Option, Some, None, refl, sym, ap, ◌∙◌, subst, arith}
+use Rattle.std.proofs.Common.{◌≡◌, ◌≤◌, ◌<◌, ℕ, ◌+◌, Bool, true, false, ◌&&◌, if◌then◌else◌, List, [], ◌∷◌, length, map, drop, get_or, Option, Some, None, refl, sym, ap, ◌∙◌, subst, arith}
 use Rattle.std.specs.Prelude.{filter}
 use Rattle.std.proofs.lemmas.Bool.{cond-true, cond-false, cond_both}
 use Rattle.std.proofs.lemmas.List.{drop_more, drop_all, map-id}
@@ -13,9 +13,9 @@ use Rattle.inp_ring.proofs.Times.{at_each}
 use Rattle.inp_client.specs.declared.frame.Frame.{Frame}
 use Rattle.inp_client.specs.declared.location.Location.{Location}
 use Rattle.inp_client.specs.Masks.{admits_of}
-use Rattle.inp_client.specs.Client.{ClientView, new_client, with_events, is_offered_to, cell_of_event, after_offer}
-use Rattle.inp_client.specs.Member.{Member, client_in, cells_in, times_in, wanted, after_event, AreStored}
-use Rattle.inp_client.specs.Locations.{client_at, clients_in}
+use Rattle.inp_client.specs.Client.{ClientView, with_events, is_offered_to, cell_of_event, after_offer}
+use Rattle.inp_client.specs.Member.{Member, cells_in, times_in, wanted, after_event, AreStored}
+use Rattle.inp_client.specs.Locations.{clients_in}
 use Rattle.inp_client.specs.Clients.{ClientsView}
 use Rattle.inp_client.specs.Numbers.{IsStoredOnce}
 use Rattle.inp_client.specs.Offered.{AreShared, IsEnteredTo, IsEventOffered, IsOffered, after_frame, view_of}

@@ -207,7 +207,7 @@ module _ (k : Inside) (kept : AreKept k) (number key : ℕ) (location : Contains
         rings = (
           rings_in k.store members,
           length-map (clients_in k.locations.items (with_value k.slab key new)) (λ (m : Member). m.ring.events)
-          ∙ ap (λ (ms : List Member). length ms) members_next ∙ length-set members location.0 new ∙ sym (length-map members (λ (m : Member). m.ring.events)),
+              ∙ ap (λ (ms : List Member). length ms) members_next ∙ length-set members location.0 new ∙ sym (length-map members (λ (m : Member). m.ring.events)),
         );
         each = λ i in_i.
             let within : i < length members = omega (arith, in_i, length-map members (client_in k.store)) in

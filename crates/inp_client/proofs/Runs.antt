@@ -390,7 +390,7 @@ module _ (store : StoreView) (now place : ℕ) (holder : Option ℕ) where
           ∙ ap (λ (q : List ℕ). ring_after (event_in store) (cell_of_event now place e) holder x 0 (client_of_index (view_in store ms) j) q) (sym (ring_was ms j within));
     },
     subst (λ (next : List Member). IsStoredOnce frame now place holder (view_in store mid) (view_in store next)) run_whole
-    (run_stored frame numbers mid (omega (arith, long)) (ap (drop 1) there) different_rest absent_rest fits_mid),
+        (run_stored frame numbers mid (omega (arith, long)) (ap (drop 1) there) different_rest absent_rest fits_mid),
   )
     where
       mid : List Member

@@ -1,5 +1,5 @@
 -- Which cells clients share, by the numbers of their rings: a cell that several rings hold has one number.
-use Rattle.std.specs.Prelude.{◌≡◌, ◌≤◌, ◌<◌, ◌&&◌, ◌||◌, not, ℕ, Bool, true, false, if◌then◌else◌, nat_lt, suc, List, [], ◌∷◌, length, map, flat_map, get_or, Option}
+use Rattle.std.specs.Prelude.{◌≡◌, ◌<◌, ◌&&◌, ◌||◌, not, ℕ, Bool, true, false, if◌then◌else◌, nat_lt, suc, List, [], ◌∷◌, length, map, flat_map, get_or, Option}
 use Rattle.std.specs.List.{remove}
 use Rattle.inp_model.specs.declared.event.Event.{Event}
 use Rattle.inp_model.specs.declared.clock.Clock.{Clock}
