@@ -7,14 +7,14 @@ use inp_caps::Caps;
 use inp_joy::{Joy, JoyRead};
 use inp_model::{Injected, NoMemory, Reply, Stamped, Step, Taken};
 use inp_reader::{Mode, Next, Reader, Started};
-use inp_uinput::Udev;
+use inp_uinput::Owned;
 use std::alloc::Global;
 
 /// A device with its reader and its joystick client.
 #[derive(Drop)]
 pub struct KeptDevice {
-    /// The device.
-    pub udev: Udev,
+    /// The device with its owner. The calls of the reader and of the joystick client leave what the owner has.
+    pub udev: Owned,
     /// The reader, which is of the device's description.
     pub reader: Reader,
     /// The joystick client, which is of the device's description.
@@ -27,6 +27,7 @@ impl KeptDevice {
     ghost use Rattle.inp_model.specs.Reply.{HasRoom};
     ghost use Rattle.inp_c.specs.Steps.{IsKeptStep};
     ghost use Rattle.inp_c.specs.ReaderCalls.{IsKeptStart, IsKeptNext};
+    ghost use Rattle.inp_c.specs.History.{history_of};
     ghost use Rattle.inp_c.specs.Fresh.{fresh_udev, IsFreshReader, IsFreshJoy};
     ghost use Rattle.inp_c.specs.Injection.{are_timely, IsKeptInjectAll};
     ghost use Rattle.inp_c.specs.Joystick.{IsKeptJoyStart, IsKeptJoyRead};
@@ -39,8 +40,24 @@ impl KeptDevice {
     {
         let reader = Reader::new(alloc, &caps)?;
         let joy = Joy::new(alloc, &caps)?;
-        let udev = Udev::new(alloc, caps)?;
+        let udev = Owned::new(alloc, caps)?;
         Ok(KeptDevice { udev, reader, joy })
+    }
+
+    /// The device's description.
+    pub(crate) fn caps(&self) -> &Caps
+        ensures description { result.now ≡ self.now.udev.description }
+    {
+        let owned = &self.udev;
+        owned.udev.caps()
+    }
+
+    /// The steps that the device accepted, oldest first.
+    pub(crate) fn history(&self) -> &[Step]
+        ensures history { result.now ≡ history_of self.now }
+    {
+        let owned = &self.udev;
+        owned.udev.history()
     }
 
     /// Makes a step. What it reads stands at the front of the arrays.
@@ -50,7 +67,8 @@ impl KeptDevice {
         ensures { IsKeptStep self.old self.new step result
             events.old events.new cells.old cells.new }
     {
-        self.udev.step(step, events, cells)
+        let owned = &mut self.udev;
+        owned.udev.step(step, events, cells)
     }
 
     /// Injects an event. It is fewer instructions than a step `Inject`, whose reply has room for that of any step.
@@ -58,7 +76,8 @@ impl KeptDevice {
         requires moment { stamped.now ≤ MOMENT_MAX }
         ensures { IsKeptInjectAll self.old self.new (stamped ∷ []) result }
     {
-        self.udev.inject_all(&[stamped])
+        let owned = &mut self.udev;
+        owned.udev.inject_all(&[stamped])
     }
 
     /// Injects events, each at its own moment.
@@ -66,7 +85,8 @@ impl KeptDevice {
         requires timely { are_timely events.now ≡ true }
         ensures { IsKeptInjectAll self.old self.new events.now result }
     {
-        self.udev.inject_all(events)
+        let owned = &mut self.udev;
+        owned.udev.inject_all(events)
     }
 
     /// Starts the reader.
