@@ -1,6 +1,7 @@
 -- Devices and records that are made of a text, and what C is told of a text that is no device and no record.
 use Rattle.std.specs.Prelude.{◌≡◌, ◌≢◌, ◌⊎◌, ◌<◌, ◌≤◌, ℕ, false, List, [], length, replicate, slice_get, Option, Some, None, Result, Ok, Err}
 use Rattle.inp_edge.specs.declared.input.TheConstants.{INPUT_LIMIT}
+use Rattle.inp_model.specs.Description.{Description}
 use Rattle.inp_actors.specs.Record.{RecordView}
 use Rattle.inp_actors.specs.declared.device_text.DeviceText.{DeviceText}
 use Rattle.inp_record.specs.declared.refused.Refused.{Refused}
@@ -47,6 +48,15 @@ pub record IsMakingAnswer (before : Option Kept) (text : List ℕ) (status line 
   pub fits : status ≢ IN_USE → status ≢ TOO_LONG → length text ≤ INPUT_LIMIT
   pub no_line : status ≢ REFUSED → line ≡ 0
   pub no_cause : status ≢ REFUSED → cause ≡ 0
+
+-- what is kept is a device of this description, with a history that is empty, and a reader and a joystick client
+-- that have not started
+pub record IsFreshKept (d : Description) (kept : Kept) : Type 0 where
+  pub device : KeptDevice
+  pub is : kept ≡ Device device
+  pub udev : device.udev ≡ fresh_udev d
+  pub reader : IsFreshReader d device.reader
+  pub joy : IsFreshJoy d device.joy
 
 -- what is kept is the device of this number of a record, with a history that is empty, and a reader and a
 -- joystick client that have not started

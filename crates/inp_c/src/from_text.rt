@@ -1,7 +1,7 @@
 //! Devices and records made of a text, for C.
-ghost use Rattle.std.specs.Prelude.{◌≡◌, ◌≢◌, ◌⊎◌, ◌≤◌, length};
+ghost use Rattle.std.specs.Prelude.{◌≡◌, ◌≢◌, ◌⊎◌, ◌≤◌, length, IfOk};
 ghost use Rattle.inp_c.specs.Contents.{contents};
-ghost use Rattle.inp_c.specs.FromText.{IsMakingAnswer, IsDeviceMade, IsDeviceKept, LacksDevice, IsRecordMade, IsRecordKept};
+ghost use Rattle.inp_c.specs.FromText.{IsMakingAnswer, IsDeviceMade, IsDeviceKept, IsFreshKept, LacksDevice, IsRecordMade, IsRecordKept};
 
 use crate::handle::Handle;
 use crate::kept::Kept;
@@ -9,6 +9,8 @@ use crate::kept_device::KeptDevice;
 use crate::kept_record::KeptRecord;
 use crate::record_text::read_text;
 use crate::status::{BAD_ARGUMENT, IN_USE, NO_MEMORY, OK};
+use inp_caps::Caps;
+use inp_model::NoMemory;
 use inp_record::Record;
 use std::alloc::Global;
 
@@ -49,15 +51,24 @@ fn keep_device(alloc: Global, recorded: &Record, number: u32, handle: &mut Handl
         return BAD_ARGUMENT;
     }
     let caps = recorded.devices().get(number as usize).caps.copy();
-    let Ok(device) = KeptDevice::new(alloc, caps) else {
-        return NO_MEMORY;
-    };
-    match Box::new(alloc, Kept::Device(device)) {
+    match boxed_device(alloc, caps) {
         Ok(kept) => {
             *handle = Handle::of(kept);
             OK
         }
-        Err(_) => NO_MEMORY,
+        Err(NoMemory) => NO_MEMORY,
+    }
+}
+
+/// A device of this description, in a box. Apart, so that the function above has no device on its stack, which every fact of
+/// its proof would carry.
+fn boxed_device(alloc: Global, caps: Caps) -> Result<Box<Kept>, NoMemory>
+    ensures { IfOk result (λ kept. IsFreshKept caps kept.value) }
+{
+    let device = KeptDevice::new(alloc, caps)?;
+    match Box::new(alloc, Kept::Device(device)) {
+        Ok(kept) => Ok(kept),
+        Err(_) => Err(NoMemory),
     }
 }
 

@@ -48,16 +48,14 @@ impl KeptDevice {
     pub(crate) fn caps(&self) -> &Caps
         ensures description { result.now ≡ self.now.udev.description }
     {
-        let owned = &self.udev;
-        owned.udev.caps()
+        self.udev.udev.caps()
     }
 
     /// The steps that the device accepted, oldest first.
     pub(crate) fn history(&self) -> &[Step]
         ensures history { result.now ≡ history_of self.now }
     {
-        let owned = &self.udev;
-        owned.udev.history()
+        self.udev.udev.history()
     }
 
     /// Makes a step. What it reads stands at the front of the arrays.
@@ -67,8 +65,7 @@ impl KeptDevice {
         ensures { IsKeptStep self.old self.new step result
             events.old events.new cells.old cells.new }
     {
-        let owned = &mut self.udev;
-        owned.udev.step(step, events, cells)
+        self.udev.udev.step(step, events, cells)
     }
 
     /// Injects an event. It is fewer instructions than a step `Inject`, whose reply has room for that of any step.
@@ -76,8 +73,7 @@ impl KeptDevice {
         requires moment { stamped.now ≤ MOMENT_MAX }
         ensures { IsKeptInjectAll self.old self.new (stamped ∷ []) result }
     {
-        let owned = &mut self.udev;
-        owned.udev.inject_all(&[stamped])
+        self.udev.udev.inject_all(&[stamped])
     }
 
     /// Injects events, each at its own moment.
@@ -85,8 +81,7 @@ impl KeptDevice {
         requires timely { are_timely events.now ≡ true }
         ensures { IsKeptInjectAll self.old self.new events.now result }
     {
-        let owned = &mut self.udev;
-        owned.udev.inject_all(events)
+        self.udev.udev.inject_all(events)
     }
 
     /// Starts the reader.
