@@ -33,14 +33,14 @@ impl KeptDevice {
     ghost use Rattle.inp_c.specs.Joystick.{IsKeptJoyStart, IsKeptJoyRead};
 
     /// A device of this description that keeps nothing yet, with a reader that has not started.
-    pub(crate) fn new(alloc: Global, caps: Caps) -> Result<KeptDevice, NoMemory>
-        ensures udev { IfOk result (λ kept. kept.udev ≡ fresh_udev caps) }
-        ensures reader { IfOk result (λ kept. IsFreshReader caps kept.reader) }
-        ensures joy { IfOk result (λ kept. IsFreshJoy caps kept.joy) }
+    pub(crate) fn new(alloc: Global, caps: &Caps) -> Result<KeptDevice, NoMemory>
+        ensures udev { IfOk result (λ kept. kept.udev ≡ fresh_udev caps.now) }
+        ensures reader { IfOk result (λ kept. IsFreshReader caps.now kept.reader) }
+        ensures joy { IfOk result (λ kept. IsFreshJoy caps.now kept.joy) }
     {
-        let reader = Reader::new(alloc, &caps)?;
-        let joy = Joy::new(alloc, &caps)?;
-        let udev = Owned::new(alloc, caps)?;
+        let reader = Reader::new(alloc, caps)?;
+        let joy = Joy::new(alloc, caps)?;
+        let udev = Owned::new(alloc, caps.copy())?;
         Ok(KeptDevice { udev, reader, joy })
     }
 

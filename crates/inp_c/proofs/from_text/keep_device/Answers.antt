@@ -1,8 +1,6 @@
-use Rattle.std.proofs.Common.{List, ap, ◌∙◌, sym, subst, Some}
+use Rattle.std.proofs.Common.{List, ap, ◌∙◌, sym, Some}
 use Rattle.std.specs.Prelude.{slice_get}
-use Rattle.inp_model.specs.Description.{Description}
 use Rattle.inp_actors.specs.declared.device_text.DeviceText.{DeviceText}
-use Rattle.inp_c.specs.Fresh.{fresh_udev, IsFreshReader, IsFreshJoy}
 use Rattle.inp_c.proofs.from_text.keep_device.Goals as goal
 
 pub returns-in-Ok-clause-made : goal.returns-in-Ok-clause-made
@@ -13,7 +11,7 @@ returns-in-Ok-clause-made c = λ _.
       device = fresh.device;
       there = ap (λ (devices : List DeviceText). slice_get devices c.args.number) (sym c.devices-2.ensures.devices) ∙ c.get.ensures.item;
       is = c.of.ensures ∙ ap Some fresh.is;
-      udev = fresh.udev ∙ ap fresh_udev c.copy-caps.ensures.same;
-      reader = subst (λ (d : Description). IsFreshReader d fresh.device.reader) c.copy-caps.ensures.same fresh.reader;
-      joy = subst (λ (d : Description). IsFreshJoy d fresh.device.joy) c.copy-caps.ensures.same fresh.joy;
+      udev = fresh.udev;
+      reader = fresh.reader;
+      joy = fresh.joy;
     }
