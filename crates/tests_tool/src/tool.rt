@@ -3,7 +3,6 @@
 
 use crate::common::{arguments, input_of, sink_of};
 use crate::texts::{ONE_KEY_REPORT, STREAM, STREAM_AND_BAD_LINE, STREAM_TWICE, STREAMS_REPORT};
-use inp_args::WordsFault;
 use inp_edge::{Gate, Input, MemSink, OpenGate};
 use inp_tool::{End, inputplay};
 use std::alloc::Global;
@@ -141,13 +140,5 @@ fn ends_in_its_report_or_in_want_of_memory(rt: HostRuntime) -> Result<(), Fail> 
         _ => "another status",
     };
     assert_eq!(rt; sink.bytes(), want.as_bytes());
-    Ok(())
-}
-
-// The program writes how it is used instead.
-#[test]
-fn a_fault_of_the_words_has_a_text(rt: HostRuntime) -> Result<(), Fail> {
-    let text = format!(in rt.alloc(); "{}", WordsFault::Usage)?;
-    assert_eq!(rt; text.as_str(), "the words are not accepted");
     Ok(())
 }
