@@ -1,7 +1,7 @@
 """The names of event types and codes: each that the program writes and reads, and that there are no others.
 
-`tests/data/codes.txt` has them with their numbers, as the kernel's header has them. It was made from the header, and not
-from the program.
+`tests/data/codes.txt` has them with their numbers, as the kernel's header has them. It was made from the
+header, and not from the program.
 """
 
 from typing import List, NamedTuple
@@ -62,10 +62,11 @@ class Codes(FolderCase):
         self.assertEqual(named, self.written(named))
 
     def test_no_other_number_has_a_name(self) -> None:
-        names = {(row.kind, row.code): (row.kind_name, row.name) for row in codes()}
         kinds = {row.kind: row.kind_name for row in codes()}
-        pairs = [(kind, code) for kind in range(32) for code in range(1024)] + [(65535, 65535), (1, 65535), (6, 65535)]
-        wanted = [event(*names.get(pair, (kinds.get(pair[0], pair[0]), pair[1]))) for pair in pairs]
+        names = {(row.kind, row.code): row.name for row in codes()}
+        pairs = [(kind, code) for kind in range(32) for code in range(1024)]
+        pairs += [(65535, 65535), (1, 65535), (6, 65535)]
+        wanted = [event(kinds.get(kind, kind), names.get((kind, code), code)) for kind, code in pairs]
         self.assertEqual(wanted, self.written([event(*pair) for pair in pairs]))
 
     def test_no_other_word_is_a_name(self) -> None:

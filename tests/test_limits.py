@@ -1,7 +1,7 @@
-"""Each kind of step is refused on a device whose history is full, and accepted where there is room for one step more.
+"""Each kind of step is refused where a device's history is full, and accepted where there is room for it.
 
-Both reports were worked out by docs/RULES.md ("The limit of a history") and docs/FORMATS.md ("Steps and replies"). A step
-that is refused is in no history, and the actor stops there.
+Both reports were worked out by docs/RULES.md ("The limit of a history") and docs/FORMATS.md ("Steps and
+replies"). A step that is refused is in no history, and the actor stops there.
 """
 
 from typing import NamedTuple, Tuple
@@ -24,7 +24,7 @@ GRABBED = ("do t open", "do t grab")
 
 
 class Step(NamedTuple):
-    """A line whose step meets the limit: the lines before it fill the history, and then what its call is and its reply."""
+    """A line whose step meets the limit, its call and reply, and the lines before it, which fill the history."""
 
     line: str
     call: str
@@ -64,19 +64,21 @@ class Limits(FolderCase):
         self.assertEqual(b"", ran.errors)
         return ran.status, ran.text.decode()
 
-    def test_a_step_of_a_client(self) -> None:
+    def test_a_step_of_a_client_is_refused(self) -> None:
         for step in OF_A_CLIENT:
-            lines, full = (*step.before, f"do t {step.line}"), len(step.before)
+            full = len(step.before)
             with self.subTest(step=step.line):
-                status, text = self.report(full, lines)
-                self.assertEqual(6, status)
-                self.assertIn(f"device pad steps {full}\n", text)
-                self.assertNotIn(f"step {full} ", text)
+                status, text = self.report(full, (*step.before, f"do t {step.line}"))
+                self.assertEqual((6, full), (status, text.count("\nstep ")))
                 self.assertIn(f"\ncall {step.call} reply refused {full} log-full\n", text)
                 self.assertTrue(text.endswith(f"\nstop full {full}\n"))
-                status, text = self.report(full + 1, lines)
-                self.assertEqual(0, status)
-                self.assertIn(f"device pad steps {full + 1}\n", text)
+
+    def test_a_step_of_a_client_is_the_last(self) -> None:
+        for step in OF_A_CLIENT:
+            full = len(step.before)
+            with self.subTest(step=step.line):
+                status, text = self.report(full + 1, (*step.before, f"do t {step.line}"))
+                self.assertEqual((0, full + 1), (status, text.count("\nstep ")))
                 self.assertIn(f"\nstep {full} {step.call}\n", text)
                 self.assertIn(f"\ncall {step.call} reply {step.reply.replace('AT', str(full))}\n", text)
                 self.assertTrue(text.endswith("\nstop finished\n"))
@@ -109,8 +111,8 @@ class Limits(FolderCase):
             with self.subTest(limit=limit):
                 (self.folder / "f").write_text(source.replace("LOG", str(limit)))
                 ran = run(["--threads", "f"], self.folder)
-                self.assertEqual((status, b""), (ran.status, ran.errors))
-                self.assertEqual(f"device pad steps {steps}\nsource s calls 1 stop {stop}\n", ran.text.decode())
+                text = f"device pad steps {steps}\nsource s calls 1 stop {stop}\n"
+                self.assertEqual((status, text, b""), (ran.status, ran.text.decode(), ran.errors))
 
     def test_that_nothing_is_visible_is_told_before_the_limit(self) -> None:
         status, text = self.report(1, (*OPENED, "do t read 16"))

@@ -1,10 +1,10 @@
 """Lines of a record that are just refused, each with its cause, and lines that are just accepted.
 
-Each table was worked out by docs/FORMATS.md ("The lines", "Action lines", "Causes") and docs/RULES.md ("What a device
-has"). `tests/test_statuses.py` has each cause once; here are the bounds of each line.
+Each table was worked out by docs/FORMATS.md ("The lines", "Action lines", "Causes") and docs/RULES.md ("What
+a device has"). `tests/test_statuses.py` has each cause once; here are the bounds of each line.
 """
 
-from typing import List, NamedTuple, Optional
+from typing import List, NamedTuple, Optional, Tuple
 
 from playing import FolderCase, Run, run
 
@@ -28,7 +28,7 @@ class Row(NamedTuple):
     """How many lines after that one the refused line comes."""
 
 
-def rows(front: str, *pairs: "tuple[str, Optional[str]]") -> List[Row]:
+def rows(front: str, *pairs: Tuple[str, Optional[str]]) -> List[Row]:
     """A row for each line, behind the same front."""
     return [Row(front, line, cause) for line, cause in pairs]
 
@@ -270,12 +270,13 @@ filter eat EV_KEY BTN_LEFT
 """,
     ),
     "a joystick": (
-        DEVICE_2 + HEAD + "tap t\njoy j\ndo j open\ndo j read 4097\ndo j read 4294967295\ndo t read 4096\ndo j close\n",
+        DEVICE_2 + HEAD + "tap t\njoy j\n"
+        "do j open\ndo j read 4097\ndo j read 4294967295\ndo t read 4096\ndo j close\n",
         None,
     ),
     "an owner": (
-        DEVICE_2 + HEAD + "udevice u\n" + HEAD + "type EV_LED\ncap EV_LED LED_CAPSL\ntap t\nowner o\ndo t open\n"
-        "do o feedback 1\ndo o feedback 4096\n",
+        DEVICE_2 + HEAD + "udevice u\n" + HEAD + "type EV_LED\ncap EV_LED LED_CAPSL\ntap t\nowner o\n"
+        "do t open\ndo o feedback 1\ndo o feedback 4096\n",
         None,
     ),
 }
@@ -285,18 +286,23 @@ class Lines(FolderCase):
     def told(self, text: str, *words: str) -> Run:
         """What the program says of a text."""
         (self.folder / "f").write_bytes(text.encode("latin1"))
-        return run([*words, "f"], self.folder)
+        ran: Run = run([*words, "f"], self.folder)
+        return ran
 
     def test_a_line_that_is_just_refused_or_accepted(self) -> None:
         for name, table in TABLES.items():
             for row in table:
                 with self.subTest(table=name, rest=row.rest, front=row.front[:60]):
-                    ran = self.told(row.front + row.rest, "--migrate")
-                    if row.cause is None:
-                        self.assertEqual((0, b""), (ran.status, ran.errors), ran.text)
-                    else:
-                        number = row.front.count("\n") + 1 + row.later
-                        self.assertEqual((1, f"inputplay: line {number}: {row.cause}\n", b""), (ran.status, ran.text.decode(), ran.errors))
+                    self.ends(row, self.told(row.front + row.rest, "--migrate"))
+
+    def ends(self, row: Row, ran: Run) -> None:
+        """A text ended as its row says: written in version 2, or refused at its line."""
+        self.assertEqual(b"", ran.errors)
+        if row.cause is None:
+            self.assertEqual((0, VERSION_2.encode()), (ran.status, ran.text[: len(VERSION_2)]))
+            return
+        number = row.front.count("\n") + 1 + row.later
+        self.assertEqual((1, f"inputplay: line {number}: {row.cause}\n"), (ran.status, ran.text.decode()))
 
     def test_a_line_is_written_as_it_was_read(self) -> None:
         for name, (text, written) in WRITTEN.items():
