@@ -10,7 +10,7 @@ use Rattle.inp_ring.specs.Store.{StoreView, held_under, cell_count, HasCell}
 use Rattle.inp_ring.specs.Ring.{times, AreDifferent, IsRing}
 use Rattle.inp_ring.proofs.Times.{once, once_same, once_other, times_first, times-append}
 use Rattle.inp_client.specs.Clients.{distinct}
-use Rattle.inp_client.specs.Member.{Member, ring_of, view_in, numbers_in, times_in, wanted}
+use Rattle.inp_client.specs.Member.{Member, ring_of, clients_view_in, numbers_in, times_in, wanted}
 use Rattle.inp_client.specs.Numbers.{held_numbers}
 
 -- the sum of f over so many numbers from k on
@@ -252,5 +252,5 @@ pub held_numbers-rings : (ms : List Member) → flat_map (λ (q : List ℕ). q) 
 held_numbers-rings [] = refl
 held_numbers-rings (m ∷ ms) = ap (λ (q : List ℕ). m.ring.events ++ q) (held_numbers-rings ms)
 
-pub times-view_in : (n : ℕ) (s : StoreView) (ms : List Member) → times n (held_numbers (view_in s ms)) ≡ times_in n ms
-times-view_in n s ms = omega (arith, ap (times n) (held_numbers-rings ms), times-numbers_in n ms)
+pub times-clients_view_in : (n : ℕ) (s : StoreView) (ms : List Member) → times n (held_numbers (clients_view_in s ms)) ≡ times_in n ms
+times-clients_view_in n s ms = omega (arith, ap (times n) (held_numbers-rings ms), times-numbers_in n ms)

@@ -17,7 +17,7 @@ use Rattle.inp_ring.proofs.Times.{times-append}
 use Rattle.inp_client.specs.Client.{ClientView, new_client, with_events, cell_of_event}
 use Rattle.inp_client.specs.Member.{Member, ring_of, client_in, after_event}
 use Rattle.inp_client.specs.Clients.{ClientsView, has_number, distinct}
-use Rattle.inp_client.specs.Numbers.{held_numbers, stored_of, takes_event, loses_event, loses, ring_after, client_of_index, ring_of_index, event_in, is_lost_to_clock, IsEventStored, IsStoredOnce, IsClockStored, IsRingStored, IsRingOnClock}
+use Rattle.inp_client.specs.Numbers.{held_numbers, stored_of, takes_event, loses_event, loses, ring_after, client_of_index, ring_of_index, event_under, is_lost_to_clock, IsEventStored, IsStoredOnce, IsClockStored, IsRingStored, IsRingOnClock}
 use Rattle.inp_client.proofs.CellCounts.{distinct_few, distinct_there}
 
 -- A queue of which it is known what event each number stands for
@@ -92,7 +92,7 @@ ring_after-same event event' cell holder number loss c ring told same =
     ∙ ap (λ (b : Bool). if takes_event cell holder c then (if is_report (event' number) && b then ring else if nat_lt (suc (length ring)) c.ring.places then ring ++ number ∷ [] else loss ∷ number ∷ []) else ring) (ends_alike event event' ring ring told)
 
 -- the events of the numbers of a queue in a store
-pub told_in : (s : StoreView) (q : List ℕ) → map (event_in s) q ≡ map event_of_cell (map (cell_at s) q)
+pub told_in : (s : StoreView) (q : List ℕ) → map (event_under s) q ≡ map event_of_cell (map (cell_at s) q)
 told_in s q = sym (map-map event_of_cell (cell_at s) q)
 
 -- What a ring makes of a number that is put tells which of the three it was.
@@ -122,9 +122,9 @@ ring_stored number holder s after old new places takes queue lost = record {
   loss = found.0;
   ring =
       found.1
-      ∙ sym (ap (λ (b : Bool). if is_report (cell_at s number).event && b then q else if nat_lt (suc (length q)) old.ring.places then q ++ number ∷ [] else found.0 ∷ number ∷ []) (ends_alike (event_in s) event_of_cell q Q (told_in s q))
+      ∙ sym (ap (λ (b : Bool). if is_report (cell_at s number).event && b then q else if nat_lt (suc (length q)) old.ring.places then q ++ number ∷ [] else found.0 ∷ number ∷ []) (ends_alike (event_under s) event_of_cell q Q (told_in s q))
       ∙ ap (λ (k : ℕ). if a then q else if nat_lt (suc k) old.ring.places then q ++ number ∷ [] else found.0 ∷ number ∷ []) (sym (length-map q (cell_at s))))
-      ∙ sym (cond-true (takes_event (cell_at s number) holder (client_in s old)) (put (event_in s) (λ n. found.0) old.ring.places q number) q takes);
+      ∙ sym (cond-true (takes_event (cell_at s number) holder (client_in s old)) (put (event_under s) (λ n. found.0) old.ring.places q number) q takes);
   alone = λ h. found.2 (sym (ap (λ (o : Bool). o && not a && not b) takes) ∙ h);
 }
   where
@@ -155,7 +155,7 @@ ring_stored number holder s after old new places takes queue lost = record {
 pub ring_stored_none : (number : ℕ) (holder : Option ℕ) (s after : StoreView) (old new : Member) → takes_event (cell_at s number) holder (client_in s old) ≡ false → new.ring.events ≡ old.ring.events → IsRingStored number holder s after old new
 ring_stored_none number holder s after old new takes same = record {
   loss = 0;
-  ring = same ∙ sym (cond-false (takes_event (cell_at s number) holder (client_in s old)) (put (event_in s) (λ n. 0) old.ring.places old.ring.events number) old.ring.events takes);
+  ring = same ∙ sym (cond-false (takes_event (cell_at s number) holder (client_in s old)) (put (event_under s) (λ n. 0) old.ring.places old.ring.events number) old.ring.events takes);
   alone = λ h. absurd (false≢true (sym (ap (λ (o : Bool). o && not (leaves_out event_of_cell (map (cell_at s) old.ring.events) (cell_at s number).event) && not (nat_lt (suc (length (map (cell_at s) old.ring.events))) old.ring.places)) takes) ∙ h));
 }
 

@@ -16,11 +16,11 @@ use Rattle.inp_client.specs.declared.location.Location.{Location}
 use Rattle.inp_client.specs.Client.{ClientView, new_client}
 use Rattle.inp_client.specs.Member.{Member, ring_of, client_in, cells_in, times_in, wanted, after_event, AreStored}
 use Rattle.inp_client.specs.Locations.{client_at, clients_in, AreLocated}
-use Rattle.inp_client.specs.Numbers.{loses_event, ring_after, event_in, client_of_index, ring_of_index, IsRingStored}
-use Rattle.inp_client.specs.Offered.{AreShared, IsEnteredTo, IsEventOffered, owing, member_at, seen_at, ring_at, view_of}
+use Rattle.inp_client.specs.Numbers.{loses_event, ring_after, event_under, client_of_index, ring_of_index, IsRingStored}
+use Rattle.inp_client.specs.Offered.{AreShared, IsEnteredTo, IsEventOffered, owing, member_at, seen_at, ring_at, clients_view_of}
 use Rattle.inp_client.proofs.Lists.{flag_other, map_over}
 use Rattle.inp_client.proofs.Locations.{located_after_write, members_after_write, member_written, member_kept, members_long, member_in_location, member_found}
-use Rattle.inp_client.proofs.CellCounts.{times-view_in}
+use Rattle.inp_client.proofs.CellCounts.{times-clients_view_in}
 use Rattle.inp_client.proofs.Numbers.{after_event-cases, put_cases, lost_ring, ring_after-same, told_in}
 use Rattle.inp_client.proofs.OtherClients.{two_sum, held_known, member_held, member_timed, member_ring, spare_some, others_stay, stored_after_write}
 
@@ -160,10 +160,10 @@ module _ {cell : Cell} {holder : Option ℕ} {number : ℕ} {locations : List Lo
       was_ring = sym (to.rest i (omega arith) in_i) ∙ ap (λ (m : Member). m.ring.events) old_is
 
       -- the rings that the first clients have
-      told : (j : ℕ) → map (event_in first) (ring_at locations before j) ≡ map event_of_cell (seen_at first locations before j).ring.events
+      told : (j : ℕ) → map (event_under first) (ring_at locations before j) ≡ map event_of_cell (seen_at first locations before j).ring.events
       told j = told_in first (ring_at locations before j)
 
-      same_first : event_in first number ≡ cell.event
+      same_first : event_under first number ≡ cell.event
       same_first = ap (λ (x : Cell). x.event) to.begun
 
       abbrev losses_next : ℕ → ℕ
@@ -176,30 +176,30 @@ module _ {cell : Cell} {holder : Option ℕ} {number : ℕ} {locations : List Lo
       loss_other j d = cond-false (nat_eq j i) stored.loss (to.losses j) (ne_eqb j i d)
 
       -- what was offered to this one, as it was first
-      told_here : map (event_in store) (ring_at locations before i) ≡ map (event_in first) (ring_at locations before i)
+      told_here : map (event_under store) (ring_at locations before i) ≡ map (event_under first) (ring_at locations before i)
       told_here =
           told_in store (ring_at locations before i)
           ∙ ap (λ (q : List ℕ). map event_of_cell (map (cell_at store) q)) was_ring
           ∙ ap (λ (c : ClientView Cell). map event_of_cell c.ring.events) was_seen
           ∙ sym (told i)
 
-      put_here : new.ring.events ≡ ring_after (event_in first) cell holder number stored.loss (seen_at first locations before i) (ring_at locations before i)
+      put_here : new.ring.events ≡ ring_after (event_under first) cell holder number stored.loss (seen_at first locations before i) (ring_at locations before i)
       put_here =
           stored.ring
-          ∙ ap (λ (x : Cell). ring_after (event_in store) x holder number stored.loss (client_in store old) old.ring.events) same_cell
-          ∙ ap (λ (c : ClientView Cell). ring_after (event_in store) cell holder number stored.loss c old.ring.events) was_seen
-          ∙ ap (λ (q : List ℕ). ring_after (event_in store) cell holder number stored.loss (seen_at first locations before i) q) (sym was_ring)
-          ∙ ring_after-same (event_in store) (event_in first) cell holder number stored.loss (seen_at first locations before i) (ring_at locations before i) told_here
+          ∙ ap (λ (x : Cell). ring_after (event_under store) x holder number stored.loss (client_in store old) old.ring.events) same_cell
+          ∙ ap (λ (c : ClientView Cell). ring_after (event_under store) cell holder number stored.loss c old.ring.events) was_seen
+          ∙ ap (λ (q : List ℕ). ring_after (event_under store) cell holder number stored.loss (seen_at first locations before i) q) (sym was_ring)
+          ∙ ring_after-same (event_under store) (event_under first) cell holder number stored.loss (seen_at first locations before i) (ring_at locations before i) told_here
           (ap (λ (x : Cell). x.event) same_cell ∙ sym same_first)
 
       next_numbered : (j : ℕ) → j < i + 1 → j < length locations
-          → ring_at locations next_slab j ≡ ring_after (event_in first) cell holder number (losses_next j) (seen_at first locations before j) (ring_at locations before j)
+          → ring_at locations next_slab j ≡ ring_after (event_under first) cell holder number (losses_next j) (seen_at first locations before j) (ring_at locations before j)
       next_numbered =
           at_each _ i
           (λ below in_j. ap (λ (m : Member). m.ring.events) member_here ∙ put_here
-          ∙ ap (λ (l : ℕ). ring_after (event_in first) cell holder number l (seen_at first locations before i) (ring_at locations before i)) (sym loss_here))
+          ∙ ap (λ (l : ℕ). ring_after (event_under first) cell holder number l (seen_at first locations before i) (ring_at locations before i)) (sym loss_here))
           (λ j d below in_j. ap (λ (m : Member). m.ring.events) (member_other j d) ∙ to.numbered j (omega (arith, d)) in_j
-          ∙ ap (λ (l : ℕ). ring_after (event_in first) cell holder number l (seen_at first locations before j) (ring_at locations before j)) (sym (loss_other j d)))
+          ∙ ap (λ (l : ℕ). ring_after (event_under first) cell holder number l (seen_at first locations before j) (ring_at locations before j)) (sym (loss_other j d)))
 
       -- The number of a loss stands in the one ring.
 
@@ -208,7 +208,7 @@ module _ {cell : Cell} {holder : Option ℕ} {number : ℕ} {locations : List Lo
 
       lost_here : is_lost i → (new.ring.events ≡ stored.loss ∷ number ∷ []) × (holders after stored.loss ≡ 1)
       lost_here h = (
-        put_here ∙ lost_ring (event_in first) cell holder number stored.loss (seen_at first locations before i) (ring_at locations before i) (told i) same_first h,
+        put_here ∙ lost_ring (event_under first) cell holder number stored.loss (seen_at first locations before i) (ring_at locations before i) (told i) same_first h,
         stored.alone (ap (λ (x : Cell). loses_event x holder (client_in store old)) same_cell ∙ ap (loses_event cell holder) was_seen ∙ h),
       )
 
@@ -221,7 +221,7 @@ module _ {cell : Cell} {holder : Option ℕ} {number : ℕ} {locations : List Lo
       lost_before : (j : ℕ) → j < i → is_lost j → ring_at locations slab j ≡ to.losses j ∷ number ∷ []
       lost_before j below h =
           to.numbered j below (omega (arith, below))
-          ∙ lost_ring (event_in first) cell holder number (to.losses j) (seen_at first locations before j) (ring_at locations before j) (told j) same_first h
+          ∙ lost_ring (event_under first) cell holder number (to.losses j) (seen_at first locations before j) (ring_at locations before j) (told j) same_first h
 
       sums : (n : ℕ) → times_in n (clients_in locations next_slab) + times n old.ring.events ≡ times_in n (clients_in locations slab) + times n new.ring.events
       sums n =
@@ -277,7 +277,7 @@ module _ {cell : Cell} {holder : Option ℕ} {number : ℕ} {locations : List Lo
             let P : ClientView Cell → Bool → List ℕ → Type 0 = λ x b q. (b ≡ true → once (to.losses j) stored.loss ≡ 0) → times (to.losses j) q ≡ 0 in
             let was : times (to.losses j) (ring_at locations before i) ≡ 0 = ap (times (to.losses j)) was_ring ∙ not_old in
             ap (times (to.losses j)) put_here
-            ∙ put_cases P (event_in first) cell holder number stored.loss (seen_at first locations before i) (ring_at locations before i) (told i) same_first
+            ∙ put_cases P (event_under first) cell holder number stored.loss (seen_at first locations before i) (ring_at locations before i) (told i) same_first
             (λ g. was)
             (λ g. omega (arith, was, times_push (to.losses j) number (ring_at locations before i), not_number))
             (λ _ g. omega (arith, g refl, not_number))
@@ -356,14 +356,14 @@ seen_is s locations slab j in_j =
     (omega (arith, in_j, length-map locations (λ at. client_at slab at.key)))
 
 -- the ring of a client among those
-pub ring_is : (s : StoreView) (locations : List Location) (slab : Slab Member) (j : ℕ) → j < length locations → ring_of_index (view_of s locations slab) j ≡ ring_at locations slab j
+pub ring_is : (s : StoreView) (locations : List Location) (slab : Slab Member) (j : ℕ) → j < length locations → ring_of_index (clients_view_of s locations slab) j ≡ ring_at locations slab j
 ring_is s locations slab j in_j =
     get_or-map (λ (m : Member). m.ring.events) (clients_in locations slab) j (new_client 0 0) [] (omega (arith, in_j, length-map locations (λ at. client_at slab at.key)))
 
-pub long_list : (s : StoreView) (locations : List Location) (slab : Slab Member) → length (view_of s locations slab).list ≡ length locations
+pub long_list : (s : StoreView) (locations : List Location) (slab : Slab Member) → length (clients_view_of s locations slab).list ≡ length locations
 long_list s locations slab = length-map (clients_in locations slab) (client_in s) ∙ length-map locations (λ at. client_at slab at.key)
 
-pub long_rings : (s : StoreView) (locations : List Location) (slab : Slab Member) → length (view_of s locations slab).rings ≡ length locations
+pub long_rings : (s : StoreView) (locations : List Location) (slab : Slab Member) → length (clients_view_of s locations slab).rings ≡ length locations
 long_rings s locations slab = length-map (clients_in locations slab) (λ (m : Member). m.ring.events) ∙ length-map locations (λ at. client_at slab at.key)
 
 -- The event was offered, also as seen from a store that had no cell of it yet.
@@ -380,26 +380,26 @@ event_offered {cell} {holder} {number} {locations} {before} {slab} {first} {stor
   once = record {
     clients = clients_are;
     rings = (long_rings s locations before ∙ sym (long_list s locations before), long_rings after locations slab ∙ sym (long_list after locations slab));
-    event = event_in first;
+    event = event_under first;
     told = λ j in_j.
         let within : j < length locations = omega (arith, in_j, long_list s locations before) in
-        ap (map (event_in first)) (ring_is s locations before j within)
+        ap (map (event_under first)) (ring_is s locations before j within)
         ∙ told_in first (ring_at locations before j)
         ∙ ap (λ (c : ClientView Cell). map event_of_cell c.ring.events) (seen_same j within);
     number = number;
     same = ap (λ (x : Cell). x.event) to.begun;
-    fresh = times-view_in number s (clients_in locations before) ∙ absent;
+    fresh = times-clients_view_in number s (clients_in locations before) ∙ absent;
     losses = to.losses;
     alone = λ j in_j h.
         let within : j < length locations = omega (arith, in_j, long_list s locations before) in
-        times-view_in (to.losses j) after (clients_in locations slab)
+        times-clients_view_in (to.losses j) after (clients_in locations slab)
         ∙ to.alone j (omega (arith, within)) within (ap (loses_event cell holder) (seen_same j within) ∙ h);
     each = λ j in_j.
         let within : j < length locations = omega (arith, in_j, long_list s locations before) in
         ring_is after locations slab j within
         ∙ to.numbered j (omega (arith, within)) within
-        ∙ ap (λ (c : ClientView Cell). ring_after (event_in first) cell holder number (to.losses j) c (ring_at locations before j)) (seen_same j within)
-        ∙ ap (λ (q : List ℕ). ring_after (event_in first) cell holder number (to.losses j) (client_of_index (view_of s locations before) j) q) (sym (ring_is s locations before j within));
+        ∙ ap (λ (c : ClientView Cell). ring_after (event_under first) cell holder number (to.losses j) c (ring_at locations before j)) (seen_same j within)
+        ∙ ap (λ (q : List ℕ). ring_after (event_under first) cell holder number (to.losses j) (client_of_index (clients_view_of s locations before) j) q) (sym (ring_is s locations before j within));
   };
   wanted = to.wanted;
   capacity = to.capacity;
@@ -408,7 +408,7 @@ event_offered {cell} {holder} {number} {locations} {before} {slab} {first} {stor
     clients_are : cells_in after (clients_in locations slab) ≡ map (after_event cell holder) (cells_in s (clients_in locations before))
     clients_are = stay ∙ entered_all to past ∙ ap (map (after_event cell holder)) same
 
-    seen_same : (j : ℕ) → j < length locations → seen_at first locations before j ≡ client_of_index (view_of s locations before) j
+    seen_same : (j : ℕ) → j < length locations → seen_at first locations before j ≡ client_of_index (clients_view_of s locations before) j
     seen_same j in_j =
         sym (seen_is first locations before j in_j)
         ∙ ap (λ (cs : List (ClientView Cell)). get_or cs j (new_client 0 0)) same

@@ -18,7 +18,7 @@ use Rattle.inp_client.specs.Member.{Member, cells_in, times_in, wanted, after_ev
 use Rattle.inp_client.specs.Locations.{clients_in}
 use Rattle.inp_client.specs.Clients.{ClientsView}
 use Rattle.inp_client.specs.Numbers.{IsStoredOnce}
-use Rattle.inp_client.specs.Offered.{AreShared, IsEnteredTo, IsEventOffered, IsOffered, after_frame, view_of}
+use Rattle.inp_client.specs.Offered.{AreShared, IsEnteredTo, IsEventOffered, IsOffered, after_frame, clients_view_of}
 use Rattle.inp_client.proofs.Lists.{map_over, map_same}
 use Rattle.inp_client.proofs.OtherClients.{stored_stays, cells_stay, spare_some}
 use Rattle.inp_client.proofs.OneClient.{kept_known}
@@ -133,7 +133,7 @@ pub record IsOfferedTo (f : Frame) (locations : List Location) (before slab : Sl
   pub wanted : wanted (clients_in locations slab) ≡ wanted (clients_in locations before)
   pub capacity : slab.capacity ≡ before.capacity
   -- where the others are stored once after them, all are
-  pub once : (new : ClientsView) → AreStoredOnce f (drop i f.events.now) (view_of store locations slab) new → AreStoredOnce f f.events.now (view_of first locations before) new
+  pub once : (new : ClientsView) → AreStoredOnce f (drop i f.events.now) (clients_view_of store locations slab) new → AreStoredOnce f f.events.now (clients_view_of first locations before) new
 
 module _ {f : Frame} {locations : List Location} {before slab : Slab Member} {first store : StoreView} {i : ℕ}
     (to : IsOfferedTo f locations before slab first store i) where
@@ -151,8 +151,8 @@ module _ {f : Frame} {locations : List Location} {before slab : Slab Member} {fi
     wanted = has.wanted ∙ to.wanted;
     capacity = has.capacity ∙ to.capacity;
     once = λ new more.
-        let D : List Event → Type 0 = λ es. AreStoredOnce f es (view_of store locations slab) new in
-        to.once new (subst D (sym (drop_more f.events.now i d in_i)) (view_of after locations next, has.once, more));
+        let D : List Event → Type 0 = λ es. AreStoredOnce f es (clients_view_of store locations slab) new in
+        to.once new (subst D (sym (drop_more f.events.now i d in_i)) (clients_view_of after locations next, has.once, more));
   }
     where
       e : Event
@@ -174,8 +174,8 @@ module _ {f : Frame} {locations : List Location} {before slab : Slab Member} {fi
         ∙ ap (λ (es : List Event). map (after_some f es) (cells_in store (clients_in locations slab))) (sym (drop_all i f.events.now past))
         ∙ to.rest;
     once =
-        let D : List Event → Type 0 = λ es. AreStoredOnce f es (view_of store locations slab) (view_of store locations slab) in
-        to.once (view_of store locations slab) (subst D (sym (drop_all i f.events.now past)) (long_rings store locations slab ∙ sym (long_list store locations slab), refl));
+        let D : List Event → Type 0 = λ es. AreStoredOnce f es (clients_view_of store locations slab) (clients_view_of store locations slab) in
+        to.once (clients_view_of store locations slab) (subst D (sym (drop_all i f.events.now past)) (long_rings store locations slab ∙ sym (long_list store locations slab), refl));
     wanted = to.wanted;
     capacity = to.capacity;
   }

@@ -26,14 +26,14 @@ use Rattle.inp_client.specs.Client.{ClientView, new_client, cell_of_event, after
 use Rattle.inp_client.specs.Clients.{has_number, ClientsView, has_client, client_named, events_of, has_revoked_client, map_client}
 use Rattle.inp_client.specs.Read.{client_on, clients_on}
 use Rattle.inp_client.specs.Member.{Member, ring_of, client_in, cells_in, times_in, wanted, AreStored, IsMemberChanged}
-use Rattle.inp_client.specs.Numbers.{held_numbers, stored_of, client_of_index, ring_of_index, loses_to_clock, is_lost_to_clock, event_in, IsClockStored, IsRingOnClock, IsRingChanged, IsRingFlushed}
+use Rattle.inp_client.specs.Numbers.{held_numbers, stored_of, client_of_index, ring_of_index, loses_to_clock, is_lost_to_clock, event_under, IsClockStored, IsRingOnClock, IsRingChanged, IsRingFlushed}
 use Rattle.inp_client.specs.Locations.{client_at, clients_in}
 use Rattle.inp_client.specs.Kept.{kept_view, AreKept}
 use Rattle.inp_client.proofs.Lists.{list_any-map}
 use Rattle.inp_client.proofs.Locations.{client_at_found, located_after_write, members_after_write, members_long, member_in_location, member_number, members_apart}
 use Rattle.inp_client.proofs.OtherClients.{held_known, member_held, member_timed, member_ring, spare_some, others_stay, stored_after_write, cells_after_write, client_named-cells_in}
 use Rattle.inp_client.proofs.OnClock.{client_named-on}
-use Rattle.inp_client.proofs.CellCounts.{rings_of, times-view_in}
+use Rattle.inp_client.proofs.CellCounts.{rings_of, times-clients_view_in}
 use Rattle.inp_client.proofs.Numbers.{stored_clock, told_in}
 use Rattle.inp_client.proofs.RingsLeft.{rings_in, long_in}
 
@@ -181,10 +181,10 @@ module _ (k : Inside) (kept : AreKept k) (number key : ℕ) (location : Contains
     is_other : (i : ℕ) → i ≢ location.0 → i < length members → has_number number (client_in k.store (get_or members i (new_client 0 0))) ≡ false
     is_other i d in_i = ne_eqb _ _ (λ e. apart i in_i d (e ∙ sym numbered))
 
-    told_was : (i : ℕ) → i < length (kept_view k).list → map (event_in k.store) (ring_of_index (kept_view k) i) ≡ map event_of_cell (client_of_index (kept_view k) i).ring.events
+    told_was : (i : ℕ) → i < length (kept_view k).list → map (event_under k.store) (ring_of_index (kept_view k) i) ≡ map event_of_cell (client_of_index (kept_view k) i).ring.events
     told_was i in_i =
         let within : i < length members = omega (arith, in_i, length-map members (client_in k.store)) in
-        ap (map (event_in k.store)) (ring_was i within)
+        ap (map (event_under k.store)) (ring_was i within)
         ∙ told_in k.store (get_or members i (new_client 0 0)).ring.events
         ∙ ap (λ (c : ClientView Cell). map event_of_cell c.ring.events) (sym (client_was i within))
 
@@ -216,8 +216,8 @@ module _ (k : Inside) (kept : AreKept k) (number key : ℕ) (location : Contains
             ∙ ap (λ (q : List ℕ). if has_number number (client_of_index (kept_view k) i) then makes q else q) (sym (ring_was i within));
       }
 
-    pub flushed_after_call : (query : Query) → new.ring.events ≡ flush (event_in k.store) (is_part_of query) old.ring.events → IsRingFlushed number query (kept_view k) (kept_view next)
-    flushed_after_call query left = record { event = event_in k.store; told = told_was; flushed = ring_after_call (flush (event_in k.store) (is_part_of query)) left }
+    pub flushed_after_call : (query : Query) → new.ring.events ≡ flush (event_under k.store) (is_part_of query) old.ring.events → IsRingFlushed number query (kept_view k) (kept_view next)
+    flushed_after_call query left = record { event = event_under k.store; told = told_was; flushed = ring_after_call (flush (event_under k.store) (is_part_of query)) left }
 
     -- What a choice of a clock leaves of all numbers.
     module _ (clock : Clock) (ring : IsRingOnClock (is_same_clock old.clock clock) after old.ring.events new.ring.events) where
@@ -242,7 +242,7 @@ module _ (k : Inside) (kept : AreKept k) (number key : ℕ) (location : Contains
           ∙ sym (ap (λ (b : Bool). b && loses_to_clock clock (client_in k.store (get_or members location.0 (new_client 0 0)))) is_here) ∙ h in
           omega (
             arith,
-            times-view_in ring.loss after (clients_in k.locations.items (with_value k.slab key new)),
+            times-clients_view_in ring.loss after (clients_in k.locations.items (with_value k.slab key new)),
             ap (times_in ring.loss) members_next,
             stored_next.held ring.loss,
             ring.alone (ap (λ (b : Bool). not (is_same_clock old.clock clock) && not b) (empty_cells old.ring.events) ∙ lost),

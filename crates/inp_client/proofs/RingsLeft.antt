@@ -13,7 +13,7 @@ use Rattle.inp_ring.proofs.Times.{times-append}
 use Rattle.inp_client.specs.declared.clients.Clients.TheInside.{Inside}
 use Rattle.inp_client.specs.declared.frame.Frame.{Frame}
 use Rattle.inp_client.specs.Client.{ClientView, new_client}
-use Rattle.inp_client.specs.Member.{Member, client_in, view_in, numbers_in}
+use Rattle.inp_client.specs.Member.{Member, client_in, clients_view_in, numbers_in}
 use Rattle.inp_client.specs.Locations.{client_at, clients_in}
 use Rattle.inp_client.specs.Kept.{kept_view}
 use Rattle.inp_client.specs.Numbers.{held_numbers, stored_of, loses, client_of_index, ring_of_index, HaveRings, IsStoredOnce, IsRingChanged, IsRingClosed}
@@ -60,11 +60,11 @@ numbers_in-insert [] (suc i) new within none = absurd (omega (arith, within))
 numbers_in-insert (m ∷ ms) (suc i) new within none = ap (λ (q : List ℕ). m.ring.events ++ q) (numbers_in-insert ms i new (omega (arith, within)) none)
 
 -- each client has its ring
-pub rings_in : (s : StoreView) (ms : List Member) → HaveRings (view_in s ms)
+pub rings_in : (s : StoreView) (ms : List Member) → HaveRings (clients_view_in s ms)
 rings_in s ms = length-map ms (λ (m : Member). m.ring.events) ∙ sym (length-map ms (client_in s))
 
 -- with as many numbers as its queue has events
-pub long_in : (s : StoreView) (ms : List Member) (i : ℕ) → i < length (view_in s ms).list → length (ring_of_index (view_in s ms) i) ≡ length (client_of_index (view_in s ms) i).ring.events
+pub long_in : (s : StoreView) (ms : List Member) (i : ℕ) → i < length (clients_view_in s ms).list → length (ring_of_index (clients_view_in s ms) i) ≡ length (client_of_index (clients_view_in s ms) i).ring.events
 long_in s ms i in_i =
     let in_ms : i < length ms = omega (arith, in_i, length-map ms (client_in s)) in
     ap length (get_or-map (λ (m : Member). m.ring.events) ms i (new_client 0 0) [] in_ms)
@@ -98,6 +98,6 @@ none_stored (e ∷ frame) now place holder = (
 
 pub once_none : (frame : List Event) (now place : ℕ) (holder : Option ℕ) (k : Inside) → length k.locations.items ≡ 0 → IsStoredOnce frame now place holder (kept_view k) (kept_view k)
 once_none frame now place holder k none =
-    let P : List Member → Type 0 = λ ms. IsStoredOnce frame now place holder (view_in k.store ms) (view_in k.store ms) in
+    let P : List Member → Type 0 = λ ms. IsStoredOnce frame now place holder (clients_view_in k.store ms) (clients_view_in k.store ms) in
     let empty : clients_in k.locations.items k.slab ≡ [] = nil_from_length (clients_in k.locations.items k.slab) (length-map k.locations.items (λ at. client_at k.slab at.key) ∙ none) in
     subst P (sym empty) (none_stored frame now place holder)

@@ -21,13 +21,13 @@ use Rattle.inp_client.specs.declared.frame.Frame.{Frame}
 use Rattle.inp_client.specs.declared.location.Location.{Location}
 use Rattle.inp_client.specs.Masks.{MaskView, admits_of, full_masks}
 use Rattle.inp_client.specs.Client.{ClientView, new_client, with_events, is_offered_to, cell_of_event, after_offer}
-use Rattle.inp_client.specs.Member.{Member, ring_of, client_in, cells_in, view_in, times_in, wanted, after_event, AreStored}
-use Rattle.inp_client.specs.Numbers.{takes_event, loses_event, ring_after, event_in, client_of_index, ring_of_index, IsStoredOnce}
+use Rattle.inp_client.specs.Member.{Member, ring_of, client_in, cells_in, clients_view_in, times_in, wanted, after_event, AreStored}
+use Rattle.inp_client.specs.Numbers.{takes_event, loses_event, ring_after, event_under, client_of_index, ring_of_index, IsStoredOnce}
 use Rattle.inp_client.specs.Locations.{client_at, clients_in, AreLocated}
 use Rattle.inp_client.specs.Offered.{AreShared, FitsInOneRun, IsOffered, TakesFrame, takers_in, with_run, are_reports_apart, member_at}
 use Rattle.inp_client.proofs.MaskBits.{admits_of-full_masks}
 use Rattle.inp_client.proofs.Lists.{flag_other, map_over, map_same}
-use Rattle.inp_client.proofs.CellCounts.{rings_of, times-view_in}
+use Rattle.inp_client.proofs.CellCounts.{rings_of, times-clients_view_in}
 use Rattle.inp_client.proofs.Numbers.{told_in}
 use Rattle.inp_client.proofs.RingsLeft.{rings_in}
 use Rattle.inp_client.proofs.Locations.{located_after_write, member_written, member_kept, members_long, member_in_location, member_found}
@@ -309,15 +309,15 @@ module _ (store : StoreView) (now place : ℕ) (holder : Option ℕ) where
         ∙ cond-true (nat_lt (suc (length m.ring.events)) m.ring.places) (Q ++ cell ∷ []) (dropped_cell cell ∷ cell ∷ []) (room_here h))))
         (λ h. sym (cond-false (takes_event cell holder (client_in store m)) (with_events (put event_of_cell dropped_cell m.ring.places Q cell) (client_in store m)) (client_in store m) (takes_not h)))
 
-    one_ring : (with_run holder (x ∷ []) m).ring.events ≡ ring_after (event_in store) cell holder x 0 (client_in store m) m.ring.events
+    one_ring : (with_run holder (x ∷ []) m).ring.events ≡ ring_after (event_under store) cell holder x 0 (client_in store m) m.ring.events
     one_ring =
         let q : List ℕ = m.ring.events in
-        cond_both (is_offered_to holder m) _ _ (λ (n : Member). n.ring.events ≡ ring_after (event_in store) cell holder x 0 (client_in store m) q)
-        (λ h. sym (cond-true (takes_event cell holder (client_in store m)) (put (event_in store) (λ n. 0) m.ring.places q x) q (takes_one h)
-        ∙ cond-false (is_report (event_in store x) && (is_empty q || ends_in_report (event_in store) q)) q (if nat_lt (suc (length q)) m.ring.places then q ++ x ∷ [] else 0 ∷ x ∷ [])
-        (ap (λ (c : Cell). is_report c.event && (is_empty q || ends_in_report (event_in store) q)) there ∙ ap (λ (b : Bool). is_report e && b) (sym (ends_map store q)) ∙ apart_here h)
+        cond_both (is_offered_to holder m) _ _ (λ (n : Member). n.ring.events ≡ ring_after (event_under store) cell holder x 0 (client_in store m) q)
+        (λ h. sym (cond-true (takes_event cell holder (client_in store m)) (put (event_under store) (λ n. 0) m.ring.places q x) q (takes_one h)
+        ∙ cond-false (is_report (event_under store x) && (is_empty q || ends_in_report (event_under store) q)) q (if nat_lt (suc (length q)) m.ring.places then q ++ x ∷ [] else 0 ∷ x ∷ [])
+        (ap (λ (c : Cell). is_report c.event && (is_empty q || ends_in_report (event_under store) q)) there ∙ ap (λ (b : Bool). is_report e && b) (sym (ends_map store q)) ∙ apart_here h)
         ∙ cond-true (nat_lt (suc (length q)) m.ring.places) (q ++ x ∷ []) (0 ∷ x ∷ []) (room_here h)))
-        (λ h. sym (cond-false (takes_event cell holder (client_in store m)) (put (event_in store) (λ n. 0) m.ring.places q x) q (takes_not h)))
+        (λ h. sym (cond-false (takes_event cell holder (client_in store m)) (put (event_under store) (λ n. 0) m.ring.places q x) q (takes_not h)))
 
     one_keeps : loses_event cell holder (client_in store m) ≡ false
     one_keeps =
@@ -352,15 +352,15 @@ module _ (store : StoreView) (now place : ℕ) (holder : Option ℕ) where
   -- the numbers of a frame's cells came into all rings in one run
   run_stored : (frame : List Event) (numbers : List ℕ) (ms : List Member) → length numbers ≡ length frame → map (cell_at store) numbers ≡ map (cell_of_event now place) frame → AreDifferent numbers
       → ((n : ℕ) → 1 ≤ times n numbers → times_in n ms ≡ 0) → ((j : ℕ) → j < length ms → FitsRun store frame holder (get_or ms j (new_client 0 0)))
-      → IsStoredOnce frame now place holder (view_in store ms) (view_in store (map (with_run holder numbers) ms))
+      → IsStoredOnce frame now place holder (clients_view_in store ms) (clients_view_in store (map (with_run holder numbers) ms))
   run_stored [] [] ms long there different absent fits = (
     rings_in store ms,
-    ap (view_in store) (map_same (with_run holder []) (λ m. m) ms (λ j d in_j. run_none (get_or ms j d)) ∙ map-id ms),
+    ap (clients_view_in store) (map_same (with_run holder []) (λ m. m) ms (λ j d in_j. run_none (get_or ms j d)) ∙ map-id ms),
   )
   run_stored [] (x ∷ numbers) ms long there different absent fits = absurd (omega (arith, long))
   run_stored (e ∷ frame) [] ms long there different absent fits = absurd (omega (arith, long))
   run_stored (e ∷ frame) (x ∷ numbers) ms long there different absent fits = (
-    view_in store mid,
+    clients_view_in store mid,
     record {
       clients =
           sym (map_over (λ m. client_in store (with_run holder (x ∷ []) m)) (with_run holder (x ∷ [])) (client_in store) ms (λ j d in_j. refl))
@@ -368,15 +368,15 @@ module _ (store : StoreView) (now place : ℕ) (holder : Option ℕ) where
           (All-from_get_or (λ m. client_in store (with_run holder (x ∷ []) m) ≡ after_event (cell_of_event now place e) holder (client_in store m)) ms (new_client 0 0)
           (λ j in_j. one_seen e frame x (get_or ms j (new_client 0 0)) first (fits j in_j)));
       rings = (rings_in store ms, rings_in store mid);
-      event = event_in store;
+      event = event_under store;
       told = λ j in_j.
           let within : j < length ms = omega (arith, in_j, length-map ms (client_in store)) in
-          ap (map (event_in store)) (ring_was ms j within)
+          ap (map (event_under store)) (ring_was ms j within)
           ∙ told_in store (get_or ms j (new_client 0 0)).ring.events
           ∙ ap (λ (c : ClientView Cell). map event_of_cell c.ring.events) (sym (client_was j within));
       number = x;
       same = ap (λ (c : Cell). c.event) first;
-      fresh = times-view_in x store ms ∙ absent x (times_first x numbers);
+      fresh = times-clients_view_in x store ms ∙ absent x (times_first x numbers);
       losses = λ j. 0;
       alone = λ j in_j h.
           let within : j < length ms = omega (arith, in_j, length-map ms (client_in store)) in
@@ -386,10 +386,10 @@ module _ (store : StoreView) (now place : ℕ) (holder : Option ℕ) where
           ring_was mid j (omega (arith, within, length-map ms (with_run holder (x ∷ []))))
           ∙ ap (λ (m : Member). m.ring.events) (mid_is j within)
           ∙ one_ring e frame x (get_or ms j (new_client 0 0)) first (fits j within)
-          ∙ ap (λ (c : ClientView Cell). ring_after (event_in store) (cell_of_event now place e) holder x 0 c (get_or ms j (new_client 0 0)).ring.events) (sym (client_was j within))
-          ∙ ap (λ (q : List ℕ). ring_after (event_in store) (cell_of_event now place e) holder x 0 (client_of_index (view_in store ms) j) q) (sym (ring_was ms j within));
+          ∙ ap (λ (c : ClientView Cell). ring_after (event_under store) (cell_of_event now place e) holder x 0 c (get_or ms j (new_client 0 0)).ring.events) (sym (client_was j within))
+          ∙ ap (λ (q : List ℕ). ring_after (event_under store) (cell_of_event now place e) holder x 0 (client_of_index (clients_view_in store ms) j) q) (sym (ring_was ms j within));
     },
-    subst (λ (next : List Member). IsStoredOnce frame now place holder (view_in store mid) (view_in store next)) run_whole
+    subst (λ (next : List Member). IsStoredOnce frame now place holder (clients_view_in store mid) (clients_view_in store next)) run_whole
         (run_stored frame numbers mid (omega (arith, long)) (ap (drop 1) there) different_rest absent_rest fits_mid),
   )
     where
@@ -399,10 +399,10 @@ module _ (store : StoreView) (now place : ℕ) (holder : Option ℕ) where
       first : cell_at store x ≡ cell_of_event now place e
       first = ap (λ (q : List Cell). get_or q 0 (cell_of_event now place e)) there
 
-      ring_was : (l : List Member) (j : ℕ) → j < length l → ring_of_index (view_in store l) j ≡ (get_or l j (new_client 0 0)).ring.events
+      ring_was : (l : List Member) (j : ℕ) → j < length l → ring_of_index (clients_view_in store l) j ≡ (get_or l j (new_client 0 0)).ring.events
       ring_was l j in_j = get_or-map (λ (m : Member). m.ring.events) l j (new_client 0 0) [] in_j
 
-      client_was : (j : ℕ) → j < length ms → client_of_index (view_in store ms) j ≡ client_in store (get_or ms j (new_client 0 0))
+      client_was : (j : ℕ) → j < length ms → client_of_index (clients_view_in store ms) j ≡ client_in store (get_or ms j (new_client 0 0))
       client_was j in_j = get_or-map (client_in store) ms j (new_client 0 0) (new_client 0 0) in_j
 
       mid_is : (j : ℕ) → j < length ms → get_or mid j (new_client 0 0) ≡ with_run holder (x ∷ []) (get_or ms j (new_client 0 0))
@@ -565,7 +565,7 @@ module _ {locations : List Location} {before : Slab Member} {first store : Store
       shared = shared_with;
       clients = clients_with;
       once =
-          let P : List (ClientView Cell) → List Member → Type 0 = λ l next. IsStoredOnce frame now place holder (record { list = l; rings = rings_of ms }) (view_in store next) in
+          let P : List (ClientView Cell) → List Member → Type 0 = λ l next. IsStoredOnce frame now place holder (record { list = l; rings = rings_of ms }) (clients_view_in store next) in
           subst (P (cells_in first ms)) (sym members)
           (subst (λ (l : List (ClientView Cell)). P l (map (with_run holder numbers) ms))
           (map_same (client_in store) (client_in first) ms seen_first)

@@ -28,8 +28,8 @@ abbrev pub cells_in : StoreView → List Member → List (ClientView Cell)
 cells_in s ms = map (client_in s) ms
 
 -- the same with the numbers of their rings
-abbrev pub view_in : StoreView → List Member → ClientsView
-view_in s ms = record { list = cells_in s ms; rings = map (λ m. m.ring.events) ms }
+abbrev pub clients_view_in : StoreView → List Member → ClientsView
+clients_view_in s ms = record { list = cells_in s ms; rings = map (λ m. m.ring.events) ms }
 
 -- the numbers of all their rings
 abbrev pub numbers_in : List Member → List ℕ

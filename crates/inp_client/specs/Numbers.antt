@@ -126,13 +126,13 @@ pub record IsRingClosed (number : ℕ) (old new : ClientsView) : Type 0 where
   pub rings : new.rings ≡ remove old.rings index
 
 -- the event under each number of a store
-abbrev pub event_in : StoreView → ℕ → Event
-event_in s n = event_of_cell (cell_at s n)
+abbrev pub event_under : StoreView → ℕ → Event
+event_under s n = event_of_cell (cell_at s n)
 
 -- What one ring has, where the event under a number was offered to its client: a SYN_DROPPED that came has one holder.
 pub record IsRingStored (number : ℕ) (holder : Option ℕ) (s after : StoreView) (old new : Member) : Type 0 where
   pub loss : ℕ
-  pub ring : new.ring.events ≡ ring_after (event_in s) (cell_at s number) holder number loss (client_in s old) old.ring.events
+  pub ring : new.ring.events ≡ ring_after (event_under s) (cell_at s number) holder number loss (client_in s old) old.ring.events
   pub alone : loses_event (cell_at s number) holder (client_in s old) ≡ true → holders after loss ≡ 1
 
 -- the same where a clock was chosen

@@ -14,7 +14,7 @@ ghost use Rattle.inp_client.specs.Masks.{admits_of, full_masks};
 ghost use Rattle.inp_client.specs.Client.{new_client, with_events, is_offered_to, after_take, after_flush, after_mask, after_clock, after_revoke};
 ghost use Rattle.inp_client.specs.Offered.{with_run};
 ghost use Rattle.inp_client.specs.Member.{ring_of, client_in, after_event, IsMemberChanged};
-ghost use Rattle.inp_client.specs.Numbers.{event_in, IsRingStored, IsRingOnClock};
+ghost use Rattle.inp_client.specs.Numbers.{event_under, IsRingStored, IsRingOnClock};
 
 use crate::masks::Masks;
 use inp_caps::Caps;
@@ -156,7 +156,7 @@ impl Client {
         ensures flushed { IsMemberChanged store.old store.new self.old self.new
             (after_flush event_of_cell (Codes kind)) }
         ensures left { self.new.ring.events
-            ≡ flush (event_in store.old) (is_part_of (Codes kind)) self.old.ring.events }
+            ≡ flush (event_under store.old) (is_part_of (Codes kind)) self.old.ring.events }
     {
         self.ring.flush(store, kind);
         self.ring.sound();
@@ -168,7 +168,7 @@ impl Client {
         ensures flushed { IsMemberChanged store.old store.new self.old self.new
             (after_flush event_of_cell Slots) }
         ensures left { self.new.ring.events
-            ≡ flush (event_in store.old) (is_part_of Slots) self.old.ring.events }
+            ≡ flush (event_under store.old) (is_part_of Slots) self.old.ring.events }
     {
         self.ring.flush_slots(store);
         self.ring.sound();
