@@ -152,6 +152,34 @@ stop finished
 source t calls 2 stop finished
 ";
 
+/// Two devices, each with a job of each role.
+pub const FIVE_JOBS_EACH: &str = "inputrecord 2
+udevice one
+cap EV_KEY KEY_A
+source s
+client c
+tap t
+joy j
+owner o
+udevice two
+cap EV_KEY KEY_A
+source s2
+client c2
+tap t2
+joy j2
+owner o2
+do s event 1000 EV_KEY KEY_A 1
+do c open
+do t open
+do j open
+do o feedback 1
+do s2 event 1000 EV_KEY KEY_A 1
+do c2 open
+do t2 open
+do j2 open
+do o2 feedback 1
+";
+
 /// A bell rings, and the owner of its device asks twice.
 pub const BELL: &str = "inputrecord 2
 udevice bell
