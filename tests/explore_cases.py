@@ -189,6 +189,8 @@ class RandomRecord:
         self.has_repeat, self.has_slots = self.random.random() < 0.4, self.random.random() < 0.4
         self.has_axis, self.has_two_sources = self.random.random() < 0.5, self.random.random() < 0.4
         self.now = 1000
+        # (about how many orders it has, once its text was made)
+        self.orders = 0
 
     def text(self):
         lines = ["inputrecord 2", *self.description()]
@@ -201,6 +203,7 @@ class RandomRecord:
         decks = self.source_decks() + [
             [[f"do {name} {line}"] for line in self.own_lines(role)] for name, role in names
         ]
+        self.orders = count_of_orders([len(deck) for deck in decks])
         return "".join(line + "\n" for line in lines + self.shuffled(decks))
 
     def description(self):
@@ -279,12 +282,13 @@ class RandomRecord:
 def compare_by_seed(seed, most):
     """What differs of a random record between the graph, in both forms, and every order as it is
     played; None where it has more orders than `most`. And how many things were compared."""
-    text = RandomRecord(seed).text()
+    given = RandomRecord(seed)
+    text = given.text()
+    if given.orders > most:
+        return None, 0
     record = explored_record(text)
     joint = Problem(record, 0, None, Asked(folds=False))
     total = count_of_orders(joint.counts)
-    if total > most:
-        return None, 0
     played = played_things(joint)
     together = graph_things(record, None, total, False)
     differing, count = [], 0

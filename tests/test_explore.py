@@ -180,7 +180,7 @@ class Actors(unittest.TestCase):
         text = HEAD + "do c open\n#~ if no key\ndo c grab\n"
         self.assertEqual((1, {}), things_of(text, "c"))
         _, rows = things_of(HEAD + PRESS + "#~\ndo c open\n#~ if no key\ndo c grab\n", "c")
-        self.assertEqual({("waits", "remapper", ""): 1}, rows)
+        self.assertEqual({("waits", "c", ""): 1}, rows)
 
     def test_an_open_frame_is_told_apart(self):
         _, rows = things_of(HEAD + "do c open\n#~\ndo s event 1 EV_KEY KEY_A 1\n", "c")

@@ -9,7 +9,7 @@ import unittest
 
 from explore_cases import compare_by_seed
 
-RECORDS, MOST_ORDERS = 40, 120
+RECORDS, MOST_ORDERS = 40, 70
 
 
 class EveryOrder(unittest.TestCase):
