@@ -255,8 +255,8 @@ class RandomRecord:
 
     def source_decks(self):
         if not self.has_two_sources:
-            return [[self.source_unit("s") for _ in range(3)]]
-        return [[self.source_unit("s") for _ in range(2)], [self.source_unit("z") for _ in range(2)]]
+            return [[self.source_unit("s") for _ in range(self.random.choice((1, 2, 3)))]]
+        return [[self.source_unit(name) for _ in range(self.random.choice((1, 2)))] for name in "sz"]
 
     def own_lines(self, role):
         """An actor's lines: it opens, and does a few of three commands, or of grabs."""
@@ -276,7 +276,7 @@ class RandomRecord:
         )
         picked = [*self.random.sample(commands, 2), commands[0]]
         picked += ["grab", "grab", "ungrab"] if self.random.random() < 0.4 else []
-        return own + [self.random.choice(picked) for _ in range(1 if self.has_two_sources else 2)]
+        return own + [self.random.choice(picked) for _ in range(self.random.choice((1, 1, 2)))]
 
 
 def compare_by_seed(seed, most):

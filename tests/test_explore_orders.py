@@ -9,7 +9,7 @@ import unittest
 
 from explore_cases import compare_by_seed
 
-RECORDS, MOST_ORDERS = 40, 70
+RECORDS, MOST_ORDERS = 40, 130
 
 
 class EveryOrder(unittest.TestCase):
