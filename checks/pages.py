@@ -2,10 +2,10 @@
 
 
 def marks(script):
-    """The lines before and after what a script of bench/ writes."""
+    """The lines before and after what a script of this folder writes."""
     return (
-        f"<!-- what follows is written by bench/{script} --write -->",
-        f"<!-- what was written by bench/{script} ends here -->",
+        f"<!-- what follows is written by checks/{script} --write -->",
+        f"<!-- what was written by checks/{script} ends here -->",
     )
 
 

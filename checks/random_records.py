@@ -9,9 +9,9 @@ import os
 import random
 import struct
 import sys
-from pathlib import Path
 
-sys.path.insert(0, str(Path(__file__).resolve().parent.parent))
+if not __package__:
+    import repository_path  # noqa: F401  (run as a script: the packages of this repository)
 
 from second.device import SLOT, ID
 from second.model import RECORD_FORMS, play

@@ -6,9 +6,9 @@ usage: records_at_bounds.py FOLDER
 
 import os
 import sys
-from pathlib import Path
 
-sys.path.insert(0, str(Path(__file__).resolve().parent.parent))
+if not __package__:
+    import repository_path  # noqa: F401  (run as a script: the packages of this repository)
 
 from second.model import play
 

@@ -1,19 +1,12 @@
-#!/usr/bin/env python3
-"""Plays a record as `inputplay FILE` does, and prints its report: a second program, to compare the first one with.
+"""Plays a record as `inputplay FILE` does: a second program, to compare the first one with.
 
-It was written from docs/RULES.md, docs/READER.md and docs/FORMATS.md and shares no code with the program. It takes the record
-for one that has a meaning, and plays on one thread.
-
-usage: model.py [--history] FILE
+It was written from docs/RULES.md, docs/READER.md and docs/FORMATS.md and shares no code with the program. It takes
+the record for one that has a meaning, and plays on one thread.
 """
 
 import os
 import struct
-import sys
-from pathlib import Path
 from typing import NamedTuple
-
-sys.path.insert(0, str(Path(__file__).resolve().parent.parent))
 
 from second.device import Caps, Device, FIRST, LAST, SLOT
 from second.joystick import Joystick
@@ -345,11 +338,3 @@ def play(text, folder=".", history=False):
     """The lines of the report."""
     return report(*run(text, folder), history)
 
-
-if __name__ == "__main__":
-    path = sys.argv[-1]
-    # (a comment may hold any bytes)
-    with open(path, encoding="latin1", newline="") as file:
-        lines = play(file.read(), os.path.dirname(os.path.abspath(path)), "--history" in sys.argv[1:-1])
-    for line in lines:
-        print(line)

@@ -1,5 +1,4 @@
-#!/usr/bin/env python3
-"""Checks what `inputplay --threads --history RECORD` printed.
+"""Checks what `inputplay --threads --history RECORD` printed: `python3 -m second.replay RECORD REPORT`.
 
 The printed history of each device is played on one thread, by a second program that shares no code with the
 first. Then every job does its lines of the record again. The place of each of its calls is the one that it
@@ -13,9 +12,6 @@ that are wrong or a file that cannot be read.
 import argparse
 import os
 import sys
-from pathlib import Path
-
-sys.path.insert(0, str(Path(__file__).resolve().parent.parent))
 
 from second.device import Device, Outputs, is_report
 from second.model import (
@@ -311,7 +307,7 @@ def text_of(path):
 
 
 def main():
-    parser = argparse.ArgumentParser(description=__doc__, formatter_class=argparse.RawDescriptionHelpFormatter)
+    parser = argparse.ArgumentParser(prog="second.replay", description=__doc__, formatter_class=argparse.RawDescriptionHelpFormatter)
     parser.add_argument("--idle", type=int, default=IDLE, help=f"what the program was given ({IDLE})")
     parser.add_argument("record", help="the record's file")
     parser.add_argument("report", help="what the program printed of it with --threads and --history")
@@ -322,7 +318,7 @@ def main():
     except OSError as error:
         parser.error(str(error))
     except Differs as error:
-        print(f"replay.py: {error}", file=sys.stderr)
+        print(f"second.replay: {error}", file=sys.stderr)
         return 1
     return 0
 

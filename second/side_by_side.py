@@ -1,5 +1,5 @@
-#!/usr/bin/env python3
-"""Plays a record as `inputplay --threads --history FILE` may do, with the jobs' calls in a random order.
+"""Plays a record as `inputplay --threads --history FILE` may do, with the jobs' calls in a random order:
+`python3 -m second.side_by_side RECORD SEED`.
 
 Each source, client, tap, joystick and owner is a job. One job at a time makes a call on its device, and which one is drawn by
 the seed; so the same seed gives the same run. A `follow` waits as long as a source of its device has not
@@ -9,11 +9,7 @@ ended, and stops its job after so many answers Again in a row. It shares no code
 import argparse
 import os
 import random
-import sys
 import threading
-from pathlib import Path
-
-sys.path.insert(0, str(Path(__file__).resolve().parent.parent))
 
 from second.device import Device
 from second.model import Actor, read_record, report, streams_of
@@ -121,7 +117,7 @@ def play_side_by_side(text, seed, folder=".", idle=IDLE):
 
 
 def main():
-    parser = argparse.ArgumentParser(description=__doc__, formatter_class=argparse.RawDescriptionHelpFormatter)
+    parser = argparse.ArgumentParser(prog="second.side_by_side", description=__doc__, formatter_class=argparse.RawDescriptionHelpFormatter)
     parser.add_argument("--idle", type=int, default=IDLE, help=f"answers Again in a row that end a follow ({IDLE})")
     parser.add_argument("record", help="the record's file")
     parser.add_argument("seed", type=int, help="a number that the order is drawn by")

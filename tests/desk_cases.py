@@ -10,13 +10,11 @@ import subprocess
 import sys
 from importlib.machinery import SourceFileLoader
 
-from playing import PROGRAM, TOP, FolderCase, needs_program
+from tests.playing import PROGRAM, TOP, FolderCase, needs_program
 
 TOOLS, DATA = TOP / "tools", TOP / "tests" / "data"
 
-sys.path.insert(0, str(TOOLS))
-
-from inputtools import command, names  # noqa: E402  (the tools' folder has to be on the path first)
+from inputtools import command, names
 
 
 def load(tool):

@@ -3,8 +3,8 @@
 import os
 import subprocess
 
-from desk_cases import PROGRAM, TOP, DeskCase, needs_program
-from test_stuck_page import commands
+from tests.desk_cases import PROGRAM, TOP, DeskCase, needs_program
+from tests.test_stuck_page import commands
 
 PAGE = TOP / "docs" / "CI.md"
 

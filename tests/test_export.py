@@ -4,7 +4,7 @@ import os
 import struct
 import subprocess
 
-from desk_cases import DATA, PROGRAM, TOOLS, TOP, DeskCase, raw_events, without_comments
+from tests.desk_cases import DATA, PROGRAM, TOOLS, TOP, DeskCase, raw_events, without_comments
 
 EXAMPLES = TOP / "examples"
 DEVICES = ("keyboard", "mouse", "touchpad", "lid")

@@ -6,9 +6,10 @@ import shutil
 import subprocess
 import unittest.mock
 
-from desk_cases import PROGRAM, TOOLS, TOP, DeskCase, needs_program
+from tests.desk_cases import PROGRAM, TOOLS, TOP, DeskCase, needs_program
 from inputtools.building import needed_crates
-from inputtools.unproved import Second, file_of
+from inputtools.program import SecondProgram
+from inputtools.unproved import file_of
 
 # A toolchain that says what it was asked for, and builds programs that say their words.
 TOOLCHAIN = """#!/bin/sh
@@ -147,12 +148,12 @@ class Inputplay(TreeCase):
         """It is told by its own name, whatever INPUTPLAY names."""
         model = self.tree / "second"
         model.mkdir(parents=True)
-        (model / "outcome.py").write_text("import sys\nsys.exit(1)\n")
+        (model / "__main__.py").write_text("import sys\nsys.exit(1)\n")
         (self.folder / "x.rec").write_text("inputrecord 1\ndevice d\nend\n")
         told = "inputplay: the second program (second) is not inputplay, or is broken: it wrote nothing"
         self.assertEqual((2, "", [told]), self.run_tree("bin/inputplay", "--unproved", "x.rec"))
         with unittest.mock.patch.dict(os.environ, {"INPUTPLAY": "another"}):
-            self.assertEqual("the second program (second)", Second().who())
+            self.assertEqual("the second program (second)", SecondProgram().who())
 
     def test_help(self):
         status, written, _ = self.run_tree("bin/inputplay", "--help")
@@ -174,6 +175,16 @@ class Inputplay(TreeCase):
 
 
 class Install(TreeCase):
+    def setUp(self):
+        super().setUp()
+        shutil.copytree(TOP / "second", self.tree / "second", ignore=shutil.ignore_patterns("__pycache__"))
+
+    def run_installed(self, program, *words):
+        """Runs what is installed, from elsewhere: its status, and what it writes and says."""
+        env = {key: value for key, value in os.environ.items() if key != "INPUTPLAY"}
+        done = subprocess.run([program, *words], env=env, cwd="/", capture_output=True, text=True)
+        return done.returncode, done.stdout, done.stderr
+
     def install(self, *words, **more):
         return self.run_tree("tools/install", *words, **more)
 
@@ -198,12 +209,19 @@ class Install(TreeCase):
         moved = self.folder / "moved"
         (self.folder / "here").rename(moved)
         record = self.file("x.rec", "inputrecord 1\n#= status 0\ndevice d\n")
-        env = {key: value for key, value in os.environ.items() if key != "INPUTPLAY"}
         for words, wanted in ((["inputplay", record], "device d steps 0\n"), (["inputplay-play", record], "device d steps 0\n"),
                               (["inputplay-check", record], "1 of 1 expectation held, in 1 record\n")):
             with self.subTest(words[0]):
-                done = subprocess.run([moved / "bin" / words[0], *words[1:]], env=env, cwd="/", capture_output=True, text=True)
-                self.assertEqual((0, wanted), (done.returncode, done.stdout), done.stderr)
+                self.assertEqual((0, wanted), self.run_installed(moved / "bin" / words[0], *words[1:])[:2])
+
+    def test_what_is_installed_plays_without_the_program(self):
+        self.built()
+        self.install("here")
+        (self.folder / "here" / "bin" / "inputplay").unlink()
+        record = TOP / "examples" / "stuck_key.rec"
+        status, written, said = self.run_installed(self.folder / "here" / "bin" / "inputplay-play", record)
+        self.assertEqual((0, record.with_suffix(".report").read_text()), (status, written), said)
+        self.assertIn("played by the second program (second), in Python, without proof", said)
 
     def test_it_is_built_first(self):
         status, written, lines = self.install("prefix")

@@ -3,7 +3,7 @@
 import os
 import subprocess
 
-from desk_cases import PROGRAM, TOP, DeskCase, needs_program
+from tests.desk_cases import PROGRAM, TOP, DeskCase, needs_program
 
 PAGE = TOP / "docs" / "STUCK.md"
 PROMPT = "    $ "

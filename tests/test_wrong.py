@@ -5,7 +5,7 @@ import re
 import subprocess
 import unittest
 
-from playing import TOP, FolderCase
+from tests.playing import TOP, FolderCase
 
 SCRIPT = TOP / "checks" / "wrong"
 

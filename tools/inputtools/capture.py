@@ -2,7 +2,7 @@
 
 from inputtools.command import Wrong, counted
 from inputtools.description import GREATEST_HINT, GREATEST_SLOTS, estimate, hint_of
-from inputtools.names import ABS, KEY, MSC, REP, SLOT, SYN, code_text, event_text, is_in_a_record, kernel_kind_text
+from inputtools.names import ABS, KEY, MSC, REP, SLOT, SYN, code_text, is_in_a_record, kernel_kind_text
 from inputtools.recording import Event, frames_of
 
 MSC_SCAN, REPEAT = 4, 2
@@ -120,5 +120,5 @@ def is_repeat_of_the_kernel(events):
 def refuse_other_device(device, events):
     for event in events:
         if event.kind != SYN and not device.has(event.kind, event.code):
-            raise Wrong(f"an event of it, {event_text(event[1:])} at {seconds(event.time)}, is of a code "
+            raise Wrong(f"an event of it, {event.text()} at {seconds(event.time)}, is of a code "
                         f"that the description lacks: is it another device's?")

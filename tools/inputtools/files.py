@@ -2,7 +2,7 @@
 
 import re
 
-from inputtools import evemu, evtest, kinds, libinput, procfs, raw, recordlines, source
+from inputtools import evemu, evtest, kinds, libinput, procfs, raw, record, source
 from inputtools.command import Wrong
 from inputtools.progress import progress
 
@@ -11,7 +11,7 @@ FORMS = [
     (evemu.is_evemu, evemu.parse),
     (libinput.is_libinput, libinput.parse),
     (procfs.is_procfs, procfs.parse),
-    (recordlines.is_record, recordlines.parse),
+    (record.is_record, record.parse),
     (evtest.is_evtest, evtest.parse),
 ]
 KNOWN = "evtest's output, an evemu file, a recording of libinput, /proc/bus/input/devices, a record's lines"

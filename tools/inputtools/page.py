@@ -3,15 +3,15 @@
 import re
 from html import escape
 
-from inputtools.happenings import between, gravest, happenings, lines_of, ranges_of, text_of
+from inputtools.timeline import between, gravest, lines_of, ranges_of, text_of, timeline
 from inputtools.lanes import Lanes, sections_between
 from inputtools.pagescript import SCRIPT
-from inputtools.paper import style
+from inputtools.colours import style
 from inputtools.picture import AXIS, height_of, no_picture, panes, picture
 from inputtools.progress import progress
 from inputtools.scale import WIDTH, Scale
 from inputtools.shapes import mark_shape
-from inputtools.told import device_lines
+from inputtools.stuck_text import device_lines
 
 PAGE_RULES = """body { background: var(--paper); color: var(--ink); font: 14px sans-serif; margin: 1.5em auto
 6em; padding: 0 1em; max-width: 1230px; color-scheme: light dark } h1 { font-size: 1.4em; overflow-wrap:
@@ -71,7 +71,7 @@ class DevicePart:
 
     def __init__(self, played, number):
         self.played, self.ident = played, f"d{number}"
-        self.lanes, self.found = Lanes(played), happenings(played)
+        self.lanes, self.found = Lanes(played), timeline(played)
         self.sections, self.moments = self.lanes.sections(), self.lanes.moments
         self.at, self.steps = played.state.at, len(played.report.history)
 

@@ -6,7 +6,7 @@ plot, which is moved where the paper is narrow.
 
 from html import escape
 
-from inputtools.paper import style
+from inputtools.colours import style
 from inputtools.scale import EDGE, GUTTER, WIDTH
 from inputtools.shapes import bars, lines, marks, numbers
 

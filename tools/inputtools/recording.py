@@ -1,16 +1,25 @@
 """What a file tells: a device and the events that it sent. They are cut into frames here."""
 
-from collections import namedtuple
 from dataclasses import dataclass, field
+from typing import NamedTuple, Optional
 
-from inputtools.names import KEY, LED, REP, SLOT, SW, SYN
+from inputtools.names import KEY, LED, REP, SLOT, SW, SYN, event_text
 
 LEAST, GREATEST = -(2**31), 2**31 - 1
 SYN_REPORT, SYN_CONFIG, SYN_MT_REPORT, SYN_DROPPED = 0, 1, 2, 3
 
-# An event of a capture: its time in microseconds, type, code and value. The value of a SYN_REPORT is None in
-# forms that do not tell it.
-Event = namedtuple("Event", "time kind code value")
+
+class Event(NamedTuple):
+    """An event of a capture. The value of a SYN_REPORT is None in forms that do not tell it."""
+
+    time: int
+    kind: int
+    code: int
+    value: Optional[int]
+
+    def text(self) -> str:
+        """Its type, code and value, as a line of a record has them."""
+        return event_text(self.kind, self.code, self.value)
 
 
 @dataclass

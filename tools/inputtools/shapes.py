@@ -45,9 +45,9 @@ def mark_shape(kind, x, y, height):
 def marks(row, scale, y, height):
     """The marks of a row, each point of the paper once for each kind."""
     kinds = {kind: {} for kind in MARK_KINDS}
-    for place, kind, text in row.marks.between(scale.begin, scale.end):
-        x = scale.x(place)
-        kinds[kind].setdefault(round(x), []).append((x, text))
+    for mark in row.marks.between(scale.begin, scale.end):
+        x = scale.x(mark.place)
+        kinds[mark.kind].setdefault(round(x), []).append((x, mark.text))
     dense = {kind: points for kind, points in kinds.items() if len(points) > DENSE}
     shapes = [dense_marks(kind, sorted(points), y, height) for kind, points in dense.items()]
     shapes += strips([point for points in dense.values() for point in points.values()], y, height)
@@ -103,14 +103,14 @@ def bars(row, scale, y, height):
     return shapes
 
 
-def columns(span, scale):
-    """The points of a line's span between the scale's ends; of those on one point of the paper the first,
+def columns(stretch, scale):
+    """The points of a line's stretch between the scale's ends; of those on one point of the paper the first,
     least, greatest, last."""
-    begin, _, points = span
-    inside = [(scale.x(place), value) for place, value in points.between(scale.begin, scale.end)]
+    begin, points = stretch.begin, stretch.values
+    inside = [(scale.x(point.place), point.value) for point in points.between(scale.begin, scale.end)]
     start = scale.x(max(begin, scale.begin)) if begin >= scale.begin else GUTTER
     found = {}
-    for x, value in [(start, value) for _, value in points.before(scale.begin)] + inside:
+    for x, value in [(start, point.value) for point in points.before(scale.begin)] + inside:
         found.setdefault(round(x), []).append(value)
     kept = []
     for x, values in found.items():
@@ -135,10 +135,10 @@ def lines(row, scale, y, height):
     for line in row.lines:
         room = (height - 10) / max(line.greatest - line.least, 1)
         path = []
-        for span in line.between(scale.begin, scale.end):
-            kept = columns(span, scale)
+        for stretch in line.between(scale.begin, scale.end):
+            kept = columns(stretch, scale)
             kept = [(x, round(y + height - 5 - room * (value - line.least))) for x, value in kept]
-            path += [stepped(kept, scale.x(min(span[1], scale.end)))] if kept else []
+            path += [stepped(kept, scale.x(min(stretch.end, scale.end)))] if kept else []
         if path:
             text = f"{line.name} from {line.least} to {line.greatest}"
             shapes.append(titled(f'<path class="{line.kind}" d="{"".join(path)}"', text))

@@ -8,11 +8,11 @@ import tempfile
 
 from inputtools.capture import seconds
 from inputtools.command import Wrong, counted
-from inputtools.names import code_text, event_text, kind_text
-from inputtools.program import PLAYED, Player
+from inputtools.names import code_text, kind_text
+from inputtools.program import PLAYED, find_player
 from inputtools.readers import Reader
-from inputtools.report import read_report
-from inputtools.slips import refusal_text
+from inputtools.report import Report, Took
+from inputtools.refusal_hints import refusal_text
 from inputtools.writing import text_of
 
 NAME = "verify"
@@ -31,11 +31,10 @@ def taken_by(text):
         path = os.path.join(folder, "verify.rec")
         with open(path, "w", encoding="ascii", newline="") as file:
             file.write(text)
-        status, written = Player().play(path, folder)
+        status, written = find_player().play(path, folder)
     if status not in PLAYED:
-        raise Wrong(f"the record is not played: {refusal_text(text, written, status)}")
-    part = read_report(written)[0].part(NAME)
-    return [(entry[2], *entry[3]) for entry in part.sight if entry[0] == "took"]
+        raise Wrong(f"the record is not played: {refusal_text(text, written, status, folder)}")
+    return [(entry.time, *entry.event) for entry in Report(written).parts[NAME].all_of(Took)]
 
 
 def as_report(event, ahead):
@@ -56,7 +55,7 @@ def verify(record):
     missed, count = [event for event, is_there in captured if not is_there], len(captured)
     said = f"{count - len(missed)} of {counted(count, 'event')} as captured"
     if missed:
-        said += f"; the first that is not is {event_text(missed[0][1:])} at {seconds(missed[0].time)}"
+        said += f"; the first that is not is {missed[0].text()} at {seconds(missed[0].time)}"
     more = len(came) - sum(found)
     if more:
         said += f"; {counted(more, 'event')} came that {'was' if more == 1 else 'were'} not captured"

@@ -7,12 +7,12 @@ from inputtools.capture import Capture, seconds
 from inputtools.command import Wrong
 from inputtools.description import comments, description_lines, hint_of, slots_of, version_of
 from inputtools.evtest import WHY_GRABBED
-from inputtools.names import ABS, SYN, TRACKING_ID, event_text
+from inputtools.names import ABS, SYN, TRACKING_ID
 from inputtools.progress import progress
 from inputtools.readers import DRIVER, Acts
 from inputtools.recording import Event
 from inputtools.renamed import hide_keys
-from inputtools.start import State, events_between, state_before, state_described
+from inputtools.initial_state import State, events_between, state_before, state_described
 
 GREATEST_TEXT = 16 * 1024 * 1024
 DEFAULT_LOG, GREATEST_LOG = 1048576, 8388608
@@ -110,7 +110,7 @@ class Record:
 
     def note_unpassed(self, unpassed):
         if unpassed:
-            first = f"{event_text(unpassed[0][1:])} at {seconds(unpassed[0].time)}"
+            first = f"{unpassed[0].text()} at {seconds(unpassed[0].time)}"
             why = "the capture lost events before it, or hides keys"
             if len(unpassed) == 1:
                 self.notes.append(f"1 event changes nothing and is not passed, {first}: {why}")
@@ -181,7 +181,7 @@ class Record:
             reader.unread = 1
 
     def event_lines(self, events):
-        return [f"do {self.driver} event {event.time} {event_text(event[1:])}" for event in events]
+        return [f"do {self.driver} event {event.time} {event.text()}" for event in events]
 
     def text(self):
         return text_of(self.lines())

@@ -14,7 +14,7 @@ MOST_DEVICES = 8
 ONE_CLOCK, ONE_CLOCK_IN_A_FILE = "evtest", "libinput record"
 
 
-class Together:
+class MergedRecord:
     """The records of several devices, each with its own driver and readers, as one record."""
 
     def __init__(self, records):
@@ -88,7 +88,7 @@ def readers_of_device(texts, number):
     return readers_of([f"{name}-{number}{colon}{options}" for name, colon, options in parts])
 
 
-def together_of(recordings, texts, options):
+def merge_devices(recordings, texts, options):
     """The record of several devices."""
     base = min(event.time for recording in recordings for event in recording.events)
     names = unlike([name_of(recording.device) for recording in recordings])
@@ -96,4 +96,4 @@ def together_of(recordings, texts, options):
     for number, (recording, name) in enumerate(zip(recordings, names), 1):
         readers, driver = readers_of_device(texts, number), f"{DRIVER}-{number}"
         records.append(record_of(recording, name, readers, options, base, driver))
-    return Together(records)
+    return MergedRecord(records)
