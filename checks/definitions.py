@@ -25,6 +25,7 @@ COMMENT = re.compile(r"^\s*(--|//)")
 
 SPEC_HEAD = re.compile(rf"^(?:abbrev |unfoldable )?(?:pub )?(?:(record|data) )?({WORD})")
 CODE_HEAD = re.compile(r"^(?:pub(?:\([a-z]+\))? )?(const|struct|enum|trait|type|fn) (\w+)")
+METHOD_HEAD = re.compile(r"^    (?:pub(?:\([a-z]+\))? )?fn (\w+)")
 MODEL_HEAD = re.compile(r"^impl(?:<.*?>)? Model for (\w+)")
 SPEC_USE = re.compile(r"^\s*(?:ghost )?use ([\w.]+?)(?:\.\{(.*)\}| as (\w+));?$")
 CODE_USE = re.compile(r"^(?:pub )?use ([\w:]+?)(?:::\{(.*?)\}| as (\w+))?;", re.S)
@@ -250,8 +251,12 @@ class Code(SourceFile):
                 above = []
                 continue
             head, model_head = CODE_HEAD.match(row), MODEL_HEAD.match(row)
+            method = METHOD_HEAD.match(row) if item is None else None
             if head:
                 item, model = self.add(head[1], head[2]), None
+            elif method and method[1] not in self.items:
+                # a method is found by its name alone, the first of its name in the file
+                item, model = self.add("fn", method[1]), None
             elif model_head:
                 item, model = None, models.setdefault(model_head[1], [])
             elif not row.startswith((" ", "}", "{", ")")):
@@ -259,7 +264,7 @@ class Code(SourceFile):
             if model is not None:
                 model.append(row)
             if item:
-                if item.kind == "fn" and row == "{":
+                if item.kind == "fn" and row.strip() == "{":
                     item = None
                     continue
                 item.lines.append(number)

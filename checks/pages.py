@@ -2,10 +2,10 @@
 
 
 def marks(script):
-    """The lines before and after what a script of this folder writes."""
+    """The lines before and after what a script writes."""
     return (
-        f"<!-- what follows is written by checks/{script} --write -->",
-        f"<!-- what was written by checks/{script} ends here -->",
+        f"<!-- what follows is written by {script} --write -->",
+        f"<!-- what was written by {script} ends here -->",
     )
 
 

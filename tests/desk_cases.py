@@ -60,7 +60,10 @@ class DeskCase(FolderCase):
             status = ended.code or 0
         finally:
             sys.argv = before
-        return status, out.getvalue(), err.getvalue().splitlines()
+        lines = err.getvalue().splitlines()
+        if f"{name}: INPUTPLAY names {PROGRAM}, which is no program" in lines:
+            needs_program()
+        return status, out.getvalue(), lines
 
     def written(self, name, *words, notes=()):
         """What a tool wrote. It said what is in `notes` on standard error, a line each, and no more."""

@@ -4,12 +4,13 @@ import difflib
 import importlib.util
 import os
 import subprocess
+import sys
 import tempfile
 import unittest
 from importlib.machinery import SourceFileLoader
 from pathlib import Path
 from types import ModuleType
-from typing import Any, Iterable, List, NamedTuple
+from typing import Any, Iterable, List, NamedTuple, Optional
 
 from tests import TOP
 
@@ -32,6 +33,7 @@ def loaded(script: Path) -> ModuleType:
     spec = importlib.util.spec_from_loader(loader.name, loader)
     assert spec is not None
     module = importlib.util.module_from_spec(spec)
+    sys.modules[loader.name] = module
     loader.exec_module(module)
     return module
 
@@ -45,10 +47,10 @@ class FolderCase(unittest.TestCase):
         self.folder = Path(folder.name)
 
 
-def needs_program(test: unittest.TestCase) -> None:
-    """Ends a test that needs the program where it is not there; `tests/run` leaves it out then."""
+def needs_program(test: Optional[unittest.TestCase] = None) -> None:
+    """Leaves out a test that needs the program where it is not there."""
     if not os.access(PROGRAM, os.X_OK):
-        test.fail(f"no program at {PROGRAM}: build it, or name one in INPUTPLAY")
+        raise unittest.SkipTest("the program is not there")
 
 
 class Run(NamedTuple):
@@ -61,6 +63,7 @@ class Run(NamedTuple):
 
 def run(words: Iterable[object], folder: Path, **more: Any) -> Run:
     """Runs the program with these words in a folder. Its text is read, unless `stdout` says where it goes."""
+    needs_program()
     more = {"stdout": subprocess.PIPE, **more}
     done = subprocess.run(
         [PROGRAM, *map(str, words)],

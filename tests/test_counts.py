@@ -58,6 +58,7 @@ fn plain(byte: u8) { // code
     "examples/a.rec": "",
     "tests/records/b.rec": "",
     "tests/records/c.rec": "",
+    "checks/wrong/low/later.edit": "",
 }
 
 WANTED = """\
@@ -68,7 +69,8 @@ WANTED = """\
       3  clauses that promise something (`ensures`)
       1  clauses that ask something of the caller (`requires`)
       1  functions whose contract is a page of worked examples
-      1  wrong versions that the prover must refuse
+      1  wrong versions that the gate has the prover refuse
+      1  wrong versions that are tried by hand
       2  test functions
       1  examples with their reports
       2  further records with theirs

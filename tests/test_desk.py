@@ -5,7 +5,7 @@ import re
 import subprocess
 import sys
 
-from tests.playing import PROGRAM, TOP, FolderCase, loaded
+from tests.playing import PROGRAM, TOP, FolderCase, loaded, needs_program
 
 SCRIPT = TOP / "checks" / "desk"
 
@@ -15,6 +15,7 @@ class Desk(FolderCase):
         return subprocess.run([SCRIPT, *map(str, words)], capture_output=True, text=True, check=False)
 
     def test_a_small_run(self):
+        needs_program(self)
         came = self.desk("--count", 2, "--jobs", 1, "--program", PROGRAM)
         self.assertEqual((0, ""), (came.returncode, came.stderr), came.stdout)
         last = came.stdout.splitlines()[-1]

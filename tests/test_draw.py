@@ -6,7 +6,7 @@ import subprocess
 import xml.etree.ElementTree as ElementTree
 from html.parser import HTMLParser
 
-from tests.desk_cases import PROGRAM, TOP, DeskCase
+from tests.desk_cases import PROGRAM, TOP, DeskCase, needs_program
 
 from inputtools.colours import COLOURS, RULES
 
@@ -426,6 +426,7 @@ def contrast(one, other):
 
 class Input(DrawCase):
     def test_standard_input(self):
+        needs_program(self)
         command = [TOP / "tools" / "draw", "-"]
         with open(EXAMPLES / "stuck_key.rec") as file:
             done = subprocess.run(command, stdin=file, capture_output=True, text=True, env=ENV)

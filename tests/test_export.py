@@ -4,7 +4,7 @@ import os
 import struct
 import subprocess
 
-from tests.desk_cases import DATA, PROGRAM, TOOLS, TOP, DeskCase, raw_events, without_comments
+from tests.desk_cases import DATA, PROGRAM, TOOLS, TOP, DeskCase, needs_program, raw_events, without_comments
 
 EXAMPLES = TOP / "examples"
 DEVICES = ("keyboard", "mouse", "touchpad", "lid")
@@ -116,11 +116,13 @@ class Raw(DeskCase):
         self.assertIn((0, 3, 0), [event[1:] for event in raw_events(data)])
 
     def test_stdout(self):
+        needs_program(self)
         done = subprocess.run([TOOLS / "export", EXAMPLES / "one_key.rec", "--raw", "t"],
                               env={**os.environ, "INPUTPLAY": PROGRAM}, capture_output=True, check=False)
         self.assertEqual((0, 48), (done.returncode, len(done.stdout)), done.stderr)
 
     def test_a_full_stdout(self):
+        needs_program(self)
         with open("/dev/full", "w") as full:
             done = subprocess.run([TOOLS / "export", EXAMPLES / "one_key.rec", "--raw", "t"], stdout=full,
                                   env={**os.environ, "INPUTPLAY": PROGRAM}, stderr=subprocess.PIPE, text=True, check=False)

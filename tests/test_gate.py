@@ -36,7 +36,7 @@ RUNS = [
     ("it passes", TEST + "pass\n", 0, "1 passed, 0 failed"),
     ("it fails", TEST + "self.assertEqual('this', 'that')\n", 1, "0 passed, 1 failed"),
     ("it dies", TEST + "1 / 0\n", 1, "0 passed, 1 failed"),
-    ("it is skipped", TEST + "self.skipTest('why')\n", 1, "0 passed, 1 failed"),
+    ("it is skipped", TEST + "self.skipTest('no compiler')\n", 0, "0 passed, 0 failed (1 left out: 1 no compiler)"),
     ("its cases pass", CASES + "pass\n", 0, "3 passed, 0 failed"),
     ("one of its cases fails", CASES + "self.assertLess(i, 2)\n", 1, "2 passed, 1 failed"),
     ("it dies behind its cases", CASES + "pass\n        1 / 0\n", 1, "3 passed, 1 failed"),
@@ -107,11 +107,15 @@ class Gate(unittest.TestCase):
         self.assertIn(str(self.top / "missing"), done.stderr)
 
     def test_a_run_without_the_program_makes_the_checks_that_need_none(self):
-        """What fails since the program is not there is left out; what fails for another cause is not."""
-        needs = "import os, subprocess\n        subprocess.run([os.environ['INPUTPLAY']])\n"
+        """A test that says that it needs the program is left out. One that fails is not, whatever its message names."""
+        (self.top / "tests" / "__init__.py").write_text((TOP / "tests" / "__init__.py").read_text())
+        shutil.copy(TOP / "tests" / "playing.py", self.top / "tests" / "playing.py")
+        needs = "from tests import playing\n        playing.needs_program(self)\n"
+        names = "import os\n        self.fail(os.environ['INPUTPLAY'])\n"
         for text, status, last in (
             (TEST + "pass\n", 0, "1 passed, 0 failed"),
-            (TEST + needs, 0, "0 passed, 0 failed (1 left out, since the program is not there)"),
+            (TEST + needs, 0, "0 passed, 0 failed (1 left out: 1 the program is not there)"),
+            (TEST + names, 1, "0 passed, 1 failed"),
             (TEST + "self.fail('another cause')\n", 1, "0 passed, 1 failed"),
         ):
             with self.subTest(text):

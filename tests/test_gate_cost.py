@@ -1,5 +1,6 @@
 """What bench/gate_cost tells of processes that a test makes up, and of commands that fail or are not there."""
 
+import os
 import subprocess
 import sys
 import tempfile
@@ -12,7 +13,7 @@ SCRIPT = TOP / "bench" / "gate_cost"
 
 
 def run(*words):
-    return subprocess.run([str(SCRIPT), *words], capture_output=True, text=True, check=False)
+    return subprocess.run([str(SCRIPT), "--no-measure", *words], capture_output=True, text=True, check=False)
 
 
 class GateCost(unittest.TestCase):
@@ -30,6 +31,20 @@ class GateCost(unittest.TestCase):
             "all                  10        5       22       37",
         ]
         self.assertEqual(loaded(SCRIPT).table(seen), want)
+
+    def test_a_page_has_the_table_and_the_machine_s_measure(self):
+        tool = loaded(SCRIPT)
+        told = tool.told_of(37.4, 2.0, 15.04)
+        want = [
+            "| Crate | Proofs | Tests | Edits | All |",
+            "|---|---|---|---|---|",
+            "| low | 10 | 0 | 3 | 13 |",
+            "| all | 10 | 0 | 3 | 13 |",
+            "",
+            f"37 seconds of one processor in all, 2.0 minutes on {os.cpu_count()} processors.",
+            "The toolchain's first library took 15.0 seconds in the same run.",
+        ]
+        self.assertEqual(want, tool.page_rows({"1": ("low", "proofs", 10.2), "2": ("low", "edits", 3.0)}, told))
 
     def test_tells_what_a_process_works_at(self):
         tool = loaded(SCRIPT)

@@ -1,8 +1,8 @@
 """The library for C, and what is built over it: C, C++, Rust and Python programs, linked and run.
 
 `rt ci` builds no static library, so these checks are made where `tools/build --library` made one, or where they are asked
-for by name: `tests/run library` then builds it first. A check whose tool is not there is no check that passed: it is left
-out, and a line `not made` names it and the tool.
+for by name: `tests/run library` then builds it first. A check whose tool is not there is left out by its name. Where all
+pass, `tests/run library` keeps over which sources they did (`tests/library/passed.json`), which the gate compares.
 """
 
 import os
@@ -13,7 +13,7 @@ import sys
 import unittest
 from importlib.util import find_spec
 
-from tests.library import declared
+from tests.library import declared, stamp
 from tests.playing import EXAMPLES, RECORDS, TOP, FolderCase
 
 BUILT = TOP / "out" / "library"
@@ -66,12 +66,6 @@ class Library(FolderCase):
 class Header(Library):
     tool = "gcc"
 
-    def test_a_struct_has_the_crate_s_fields(self):
-        for struct, file in declared.STRUCTS.items():
-            with self.subTest(struct):
-                fields = list(declared.fields_of_crate(CRATE.parent / file))
-                self.assertEqual(fields, list(declared.fields_of_header(HEADER, struct)))
-
     def test_a_struct_has_the_size_that_the_crate_proves(self):
         source = self.folder / "sizes.c"
         lines = ['#include "inputplay.h"', "int main(void) { return 0; }"]
@@ -83,18 +77,8 @@ class Header(Library):
         source.write_text("\n".join(lines) + "\n")
         self.built(source, "gcc", "-std=c11")
 
-    def test_a_number_is_the_crate_s(self):
-        for about, file, form in declared.NUMBERS:
-            with self.subTest(about):
-                wanted = declared.numbers_of_crate((CRATE / file).read_text(), form)
-                came = declared.numbers_of_header(HEADER, about)
-                self.assertEqual(wanted, came)
-
     def test_what_is_visible_is_what_is_declared(self):
         names = set(re.findall(r"^(?:uint32_t|void) (inputplay_\w+)\(", HEADER, re.M))
-        text = "".join(path.read_text() for path in (CRATE / "src").glob("*.rt"))
-        exported = set(re.findall(r"pub extern \"C\" fn (\w+)", text))
-        self.assertEqual(exported, names)
         for flag, file in (("-D", "libinputplay.so"), ("-g", "libinputplay.a")):
             came = re.findall(r"^[0-9a-f]+ T (\w+)$", run(["nm", flag, "--defined-only", BUILT / file]).stdout, re.M)
             self.assertEqual(sorted(names), sorted(came), file)
@@ -201,35 +185,42 @@ def is_there(tool):
     return tool is None or shutil.which(tool) is not None
 
 
-def not_made(what, why):
-    print(f"not made: {what}: {why}", flush=True)
-
-
 def make_library(is_asked):
-    """Links the libraries of the archive that is there; builds it too where that is asked for. Says whether they are there."""
+    """Links the libraries of the archive that is there; builds it too where that is asked for. Says why they are not there, or None."""
     if not ARCHIVE.is_file() and not is_asked:
-        not_made("the checks of the library", "it is not built; tools/build --library builds it, and tests/run library does")
-        return False
+        return "the library is not built"
     words = ["--made"] if ARCHIVE.is_file() and not is_asked else []
     done = subprocess.run([TOP / "tools" / "build", "--library", *words], check=False)
-    return done.returncode == 0 or "its build failed"
+    return "its build failed" if done.returncode else None
+
+
+def passed(counts):
+    """Keeps that all checks passed; `tests/run library` calls this where none failed."""
+    stamp.write(counts.passed, counts.told_left_out().strip())
 
 
 class Build(unittest.TestCase):
-    """Stands for all checks where the library could not be built."""
+    """Stands for all checks where the library is not there."""
+
+    why = "the library is not built"
 
     def test_the_library_is_built(self):
-        self.fail("tools/build --library failed")
+        if self.why == "its build failed":
+            self.fail("tools/build --library failed")
+        self.skipTest(self.why)
 
 
-def load_tests(loader, tests, _pattern):
+def without(case):
+    """A class of checks that are left out, since their tool is not there."""
+    return unittest.skip(f"{case.tool} is not there")(case)
+
+
+def load_tests(loader, _tests, _pattern):
     """The checks that can be made here."""
-    suite, made = unittest.TestSuite(), make_library("library" in sys.argv[1:])
-    if made is not True:
-        return loader.loadTestsFromTestCase(Build) if made else suite
-    for case in (Header, C, Valgrind, CPlusPlus, Rust, Python, Pip, Pytest):
-        if is_there(case.tool):
-            suite.addTests(loader.loadTestsFromTestCase(case))
-        else:
-            not_made(f"the library, {case.__name__}", f"{case.tool} is not there")
-    return suite
+    Build.why = make_library("library" in sys.argv[1:])
+    if Build.why:
+        return loader.loadTestsFromTestCase(Build)
+    cases = (Header, C, Valgrind, CPlusPlus, Rust, Python, Pip, Pytest)
+    return unittest.TestSuite(
+        loader.loadTestsFromTestCase(case if is_there(case.tool) else without(case)) for case in cases
+    )

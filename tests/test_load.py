@@ -124,7 +124,7 @@ class Loads(FolderCase):
 
     def test_both_programs_print_the_same(self):
         if not COMPILER:
-            return
+            self.skipTest("there is no C compiler")
         for kind, plain in (("followed", "plain_play"), ("streamed", "plain_play"), ("recorded", "plain_recorded")):
             with self.subTest(kind=kind):
                 self.written(kind, "one", "--frames", "300", "--clients", "2")
@@ -134,7 +134,7 @@ class Loads(FolderCase):
 
     def test_both_programs_refuse_the_same(self):
         if not COMPILER:
-            return
+            self.skipTest("there is no C compiler")
         plain = self.compiled("plain_recorded")
         for line in REFUSED:
             with self.subTest(line=line):

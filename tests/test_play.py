@@ -159,6 +159,7 @@ class Refused(PlayCase):
                 self.assertEqual((status, "", [message, f"  in {record}"]), (came, text, lines[1:]))
 
     def test_a_full_device(self):
+        needs_program(self)
         with open("/dev/full", "w") as full:
             done = subprocess.run(
                 [TOOLS / "play", EXAMPLES / "one_key.rec"],
@@ -171,6 +172,7 @@ class Refused(PlayCase):
         self.assertEqual((4, said), (done.returncode, done.stderr.splitlines()))
 
     def test_a_closed_output(self):
+        needs_program(self)
         done = subprocess.run(
             ["sh", "-c", f"'{TOOLS / 'play'}' '{EXAMPLES / 'one_key.rec'}' >&-"],
             env={**os.environ, "INPUTPLAY": PROGRAM},

@@ -722,6 +722,7 @@ device kbd steps """
         self.assertTrue(self.run_tool("echo dear all | tools/stuck -")[2][0].startswith(wrong))
 
     def test_an_output_that_takes_nothing(self):
+        needs_program(self)
         said = ["stuck: standard output: No space left on device"]
         self.assertEqual((4, "", said), self.run_tool("tools/stuck examples/stuck_key.rec > /dev/full"))
         said = ["stuck: standard output is closed"]
@@ -729,6 +730,7 @@ device kbd steps """
         self.assertEqual(2, self.run_tool("tools/stuck missing.rec 2>&-")[0])
 
     def test_a_file_that_cannot_be_read(self):
+        needs_program(self)
         said = self.run_tool("tools/stuck /proc/self/mem")
         self.assertEqual((2, "", ["stuck: /proc/self/mem: Input/output error"]), said)
 

@@ -47,7 +47,7 @@ class Benches(FolderCase):
 
     def test_plain_threads(self):
         if not COMPILER:
-            return
+            self.skipTest("there is no C compiler")
         plain = self.folder / "plain_turn"
         subprocess.run([COMPILER, "-O2", "-pthread", "-o", plain, BENCH / "plain_turn.c"], check=True)
         for lock in ("mutex", "spin"):

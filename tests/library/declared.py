@@ -28,6 +28,12 @@ NUMBERS = [
     ("the joystick client answers", "src/joystick.rt", r"JoyRead::(\w+)(?: \{ \.\. \})? => (\d+),"),
 ]
 
+# A limit that the header names, and the file that has it.
+LIMITS = {
+    "READ_MAX": "inp_actors/src/command.rt",
+    "FEEDBACK_MAX": "inp_feedback/src/fed.rt",
+}
+
 # Names that differ, since C has one name space.
 RENAMED = {
     "TOOMANYLINES": "TOOMANY",

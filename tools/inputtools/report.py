@@ -372,7 +372,7 @@ class Report:
             raise at_line(len(lines) - 1, "the report was cut off: its last line does not end")
         for number, line in enumerate(lines[:-1], 1):
             if number % TOLD_EVERY == 1:
-                progress.tell("the report is read, line", number - 1, len(lines))
+                progress.tell("the report is read, line", number - 1, len(lines) - 1)
             try:
                 self.take(entry_of(number, line))
             except (ValueError, IndexError):
