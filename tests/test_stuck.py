@@ -13,6 +13,7 @@ from tests.desk_cases import PROGRAM, TOOLS, TOP, DeskCase, needs_program
 from inputtools.played import play
 from inputtools.program import find_player
 from inputtools.progress import Progress
+from inputtools.report import Took
 from inputtools.source import Given
 
 EXAMPLES, RECORDS = TOP / "examples", TOP / "tests" / "records"
@@ -491,7 +492,7 @@ class Filters(StuckCase):
                 played = play(Given(self.file("case.rec", text)), find_player())[0]
                 frames = played.state.frames
                 left = [e for f in frames for e, by in zip(f.events, f.eaten) if by is None and e[0] != "EV_SYN"]
-                taken = [entry[3] for entry in played.clients[0].part.sight if entry[0] == "took"]
+                taken = [entry.event for entry in played.clients[0].part.all_of(Took)]
                 self.assertEqual(left, [event for event in taken if event[0] != "EV_SYN"])
                 self.assertLess(len(left), sum(len(f.events) - 1 for f in frames))
 

@@ -4,6 +4,14 @@ Each mark, bar and line has 3 to 1 against the paper at least, and each text 4.5
 too, and not in colour alone.
 """
 
+from pathlib import Path
+
+
+def read_rules(name: str) -> str:
+    """A style sheet or a script that stands beside this file."""
+    return (Path(__file__).parent / name).read_text(encoding="ascii")
+
+
 COLOURS = {
     "paper": ("#ffffff", "#16181d"), "ink": ("#1c1e22", "#e8e8ea"), "faint": ("#5f646d", "#a2a8b3"),
     "grid": ("#e3e5e9", "#2c3038"), "device": ("#2563ab", "#6aa9ee"), "second": ("#a34e05", "#f0a35c"),
@@ -13,24 +21,10 @@ COLOURS = {
     "parted": ("#c92a61", "#f47ba4"), "eaten": ("#0b7285", "#4fc4d6"),
 }
 
-RULES = """text { font: 11px sans-serif; fill: var(--ink) } text.faint { fill: var(--faint) } text.number {
-font-size: 10px; fill: var(--device) } text.second { stroke: none; fill: var(--second); font-size: 10px }
-.heading { font-weight: bold } .paper { fill: var(--paper) } .grid { stroke: var(--grid) } .rule { stroke:
-var(--faint) } .event { fill: var(--faint) } .report { fill: var(--ink) } .timer { fill: var(--second) }
-.frame { fill: var(--device) } .on { fill: var(--device) } .contact { fill: var(--contact); stroke:
-var(--device) } .first { stroke: var(--device); fill: none } .second { stroke: var(--second); fill: none;
-stroke-dasharray: 4 2 } .open { fill: var(--open); stroke: var(--held) } .grab { fill: var(--grab) }
-.revoked { fill: none; stroke: var(--revoked); stroke-dasharray: 2 3 } .mask { fill: none; stroke:
-var(--mask); stroke-width: 2; stroke-dasharray: 6 3 } .read { fill: var(--read) } .again { fill:
-var(--paper); stroke: var(--read) } .ask { fill: var(--ask) } .loss { stroke: var(--loss); stroke-width: 2.5;
-fill: none } .eaten { stroke: var(--eaten); stroke-width: 2; fill: none } .parted, text.differs { fill:
-var(--parted) } .hit { fill: transparent } .dense { stroke-width: 1; fill: none } .dense.event { stroke:
-var(--faint) } .dense.report { stroke: var(--ink) } .dense.timer { stroke: var(--second) } .dense.frame {
-stroke: var(--device) } .dense.read, .dense.again { stroke: var(--read) } .dense.ask { stroke: var(--ask) }
-.dense.loss { stroke: var(--loss) } .dense.eaten { stroke: var(--eaten) }"""
+RULES = read_rules("picture.css")
 
 
-def style():
+def style() -> str:
     """The rules of all pictures, for light and dark paper."""
     light = " ".join(f"--{name}: {colour};" for name, (colour, _) in COLOURS.items())
     dark = " ".join(f"--{name}: {colour};" for name, (_, colour) in COLOURS.items())

@@ -1,6 +1,7 @@
 """How a command reads its words, and how it ends: one line for wrong input and status 2, or its text."""
 
 import argparse
+import gc
 import os
 import signal
 import sys
@@ -111,6 +112,8 @@ def status_of(program: str, body: Callable[[], int]) -> int:
 def ends(program: str, body: Callable[[], int]) -> None:
     """Does what a command does, and ends in its status: 130 where it is stopped from the keyboard. Before and
     after that a stop ends the process at once."""
+    # (a tool ends soon, and what it reads has no cycles: to look for some would take a third of its time)
+    gc.disable()
     progress.begin(program)
     try:
         stop_by(signal.default_int_handler)

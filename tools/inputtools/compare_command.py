@@ -1,9 +1,10 @@
 """Compares two reports, or the results of two records."""
 
 import json
-from typing import List
+from typing import Callable, List, Optional, Sequence
 
 from inputtools.command import Result, Words, Wrong
+from inputtools.comparing import Difference
 from inputtools.comparing import compare
 from inputtools.program import PLAYED, Player, find_player
 from inputtools.progress import progress
@@ -32,19 +33,19 @@ can be played. 4: standard output failed. 130: stopped from the keyboard."""
 class Compared:
     """One of both: its report, and by which name a line of it is told."""
 
-    def __init__(self, path):
+    def __init__(self, path: str) -> None:
         self.given = Given(path)
         self.name, self.text = self.given.name, read_text(self.given.path)
         if not self.text:
             raise Wrong(f"{self.name}: the file is empty")
 
-    def play(self, player):
+    def play(self, player: Callable[[], Player]) -> None:
         status, written = player().play(self.given.path, self.given.folder)
         if status not in PLAYED:
             raise Wrong(f"{self.name}: {refusal_text(self.text, written, status, self.given.folder)}")
         self.name, self.text = f"the report of {self.name}", written
 
-    def report(self):
+    def report(self) -> Report:
         progress.tell(f"{self.name} is read")
         try:
             return Report(self.text)
@@ -52,11 +53,11 @@ class Compared:
             raise Wrong(f"{self.name}: {wrong}") from None
 
 
-def reports_of(paths):
+def reports_of(paths: Sequence[str]) -> List[Compared]:
     """The two reports. The program is looked for where a record is to be played."""
-    players = []
+    players: List[Player] = []
 
-    def player():
+    def player() -> Player:
         if not players:
             players.append(find_player())
         return players[0]
@@ -68,18 +69,18 @@ def reports_of(paths):
     return compared
 
 
-def line_text(compared, line):
+def line_text(compared: Compared, line: Optional[Entry]) -> str:
     return "nothing" if line is None else f"{compared.name}:{line.number}: {line.text}"
 
 
-def difference_text(each, first, second):
+def difference_text(each: Difference, first: Compared, second: Compared) -> str:
     who = each.actor if each.actor is not None else f"device {each.device}"
     entry = "" if each.entry is None else f", entry {each.entry}"
     lines = "" if each.first is each.second else f": {line_text(first, each.first)} | {line_text(second, each.second)}"
     return f"{who}{entry}: {each.what}{lines}"
 
 
-def difference_json(each):
+def difference_json(each: Difference) -> str:
     lines = [None if line is None else {"line": line.number, "text": line.text} for line in (each.first, each.second)]
     told = {"device": each.device, "actor": each.actor, "entry": each.entry, "what": each.what}
     return json.dumps({**told, "first": lines[0], "second": lines[1]})

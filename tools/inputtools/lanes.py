@@ -54,7 +54,7 @@ class Ordered(Generic[Placed]):
 
     def __init__(self, things: Iterable[Placed]) -> None:
         self.things: List[Placed] = sorted(things, key=lambda thing: thing.place)
-        self.places = [thing.place for thing in self.things]
+        self.places: List[float] = [thing.place for thing in self.things]
 
     def between(self, begin: float, end: float) -> List[Placed]:
         return self.things[bisect.bisect_left(self.places, begin) : bisect.bisect_left(self.places, end)]

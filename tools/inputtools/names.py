@@ -52,7 +52,7 @@ def code_text(kind: int, code: int) -> str:
     return _CODE_NAMES.get(kind, {}).get(code, str(code))
 
 
-def event_text(kind: int, code: int, value: Optional[int]) -> str:
+def event_text(kind: int, code: int, value: int) -> str:
     return f"{kind_text(kind)} {code_text(kind, code)} {value}"
 
 

@@ -84,8 +84,8 @@ def steps_of_action(line: Line, folder: str) -> int:
 def source_steps(record: Record, number: int, device: Device, folder: str) -> List[Made]:
     """The steps that the sources of a device made."""
     sources = {actor.name for actor in record.actors.values() if actor.role == "source" and actor.device == number}
-    names = [line.actor for line in record.actions if line.actor in sources
-             for _ in range(steps_of_action(line, folder))]
+    lines = (line for line in record.actions if line.actor in sources)
+    names = [line.actor for line in lines for _ in range(steps_of_action(line, folder))]
     places = [place for place, step in enumerate(device.history) if step.name in SOURCE_STEPS and step.name != "write"]
     return [Made(*each) for each in zip(places, names)]
 

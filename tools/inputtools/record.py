@@ -10,7 +10,6 @@ when the device was described, the slot that was announced, and settings of the 
 
 import os
 import re
-from dataclasses import dataclass
 from typing import Dict, Iterator, List, NamedTuple, Optional, Sequence, Set, Tuple
 
 from inputtools import raw
@@ -77,8 +76,7 @@ class Stream(NamedTuple):
         return [Event(seconds * 1000000 + micros, *event) for seconds, micros, *event in records]
 
 
-@dataclass(frozen=True)
-class Line:
+class Line(NamedTuple):
     """A line of a record: its number, its text, and its words, none for a comment."""
 
     number: int
@@ -99,7 +97,7 @@ class Line:
 
     @property
     def is_action(self) -> bool:
-        return self.first == "do" and len(self.words) > 2
+        return len(self.words) > 2 and self.words[0] == "do"
 
     @property
     def actor(self) -> str:
@@ -329,17 +327,17 @@ class Record:
         self.actors: Dict[str, Actor] = {}
         self.actions: List[Line] = []
         for line in lines_of(text):
-            if line.words and line.first != "inputrecord":
+            if line.words and line.words[0] != "inputrecord":
                 self.add(line)
         for device in self.devices:
             device.finish()
 
     def add(self, line: Line) -> None:
-        if line.names_device:
+        if line.is_action:
+            self.actions.append(line)
+        elif line.names_device:
             self.devices.append(Device(line.actor, line.first == "udevice"))
         elif line.names_actor:
             self.actors[line.actor] = Actor(line.actor, line.first, len(self.devices) - 1)
-        elif line.is_action:
-            self.actions.append(line)
         else:
             self.devices[-1].describe(line.words)

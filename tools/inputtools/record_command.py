@@ -1,16 +1,21 @@
 """Writes a whole record: a device, its driver that sends what a capture has, and readers that follow."""
 
+import argparse
 import os
-from types import SimpleNamespace
+from typing import Callable, List, Union
 
 from inputtools import files
-from inputtools.command import Words, Wrong
+from inputtools.command import Result, Words, Wrong
 from inputtools.description import name_of
 from inputtools.evtest import WHY_GRABBED
+from inputtools.merge_devices import MergedRecord
 from inputtools.readers import FORM, micros_of, readers_of
+from inputtools.readers import Reader
+from inputtools.recording import Recording
 from inputtools.source import shown, write_bytes
 from inputtools.merge_devices import recordings_of, merge_devices
 from inputtools.verifying import verify
+from inputtools.writing import Options, Record
 from inputtools.writing import Window, record_of
 
 HELP = f"""Writes a whole record of a device and of a capture of its events, to be played.
@@ -41,38 +46,40 @@ Readers: {FORM}
   mask=..   get these types and codes alone: mask=EV_KEY, mask=REL_X,REL_Y, mask=EV_KEY/656
 """
 
+Make = Callable[[], Union[Record, MergedRecord]]
+
 STATUSES = """Status 0: it was written. 1: with --verify, not each event came as it was captured. 2: wrong words, or a file
 of which no record can be made. 4: standard output failed. 130: stopped from the keyboard."""
 
 
-def command(arguments):
+def command(arguments: List[str]) -> Result:
     asked = words_of().parse_args(arguments)
     paths = [asked.description, *asked.more]
     if len(paths) > 2 and not asked.all_devices:
         raise Wrong(f"unrecognized arguments: {' '.join(paths[2:])}")
     asked.capture = paths[1] if paths[1:] else None
     window = window_of(asked)
-    options = SimpleNamespace(window=window, stream=asked.stream, hidden_keys=asked.hidden_keys,
-                              hide_keys=asked.hide_keys)
+    options = Options(window, asked.stream, asked.hidden_keys, asked.hide_keys)
     check_stream(asked, readers_of(asked.reader))
     make = all_devices(asked, paths, options) if asked.all_devices else one_device(asked, options)
     try:
         record = make()
-        text, stream = record.text(), record.stream_bytes() if asked.stream else None
+        text = record.text()
+        stream = record.stream_bytes() if asked.stream and isinstance(record, Record) else b""
     except Wrong as wrong:
         raise Wrong(f"{shown(asked.capture or asked.description)}: {wrong}") from None
     notes, status = list(record.notes), 0
     if asked.verify:
-        for each in getattr(record, "records", [record]):
+        for each in record.records if isinstance(record, MergedRecord) else [record]:
             is_right, said = verify(each)
             notes.append(said)
             status = status if is_right else 1
     if asked.stream:
         write_bytes(asked.stream, stream)
-    return text, notes, status
+    return Result(text, notes, status)
 
 
-def words_of():
+def words_of() -> Words:
     words = Words(prog="record", description=HELP, epilog=STATUSES)
     words.add_argument("description", metavar="DESCRIPTION")
     words.add_argument("more", metavar="CAPTURE", nargs="*", help="one; with --all-devices any number of files")
@@ -92,7 +99,7 @@ def words_of():
     return words
 
 
-def window_of(asked):
+def window_of(asked: argparse.Namespace) -> Window:
     """The part of the capture that is asked for."""
     begin = micros_of(asked.begin) if asked.begin is not None else None
     end = micros_of(asked.end) if asked.end is not None else None
@@ -101,14 +108,15 @@ def window_of(asked):
     return Window(begin, end)
 
 
-def one_device(asked, options):
+def one_device(asked: argparse.Namespace, options: Options) -> Make:
     """What makes the record of one device, which was read."""
     recording = read_both(asked)
+    assert recording.device is not None
     name = name_of(recording.device, asked.name)
     return lambda: record_of(recording, name, readers_of(asked.reader), options)
 
 
-def all_devices(asked, paths, options):
+def all_devices(asked: argparse.Namespace, paths: List[str], options: Options) -> Make:
     """What makes the record of all devices of the files, which were read."""
     for word, is_there in (("--name", asked.name), ("--device", asked.device), ("--stream", asked.stream),
                            ("--16", asked.is_16)):
@@ -118,7 +126,7 @@ def all_devices(asked, paths, options):
     return lambda: merge_devices(recordings, asked.reader, options)
 
 
-def read_both(asked):
+def read_both(asked: argparse.Namespace) -> Recording:
     """The recording of CAPTURE, with the device of DESCRIPTION."""
     described = files.read(asked.description, asked.device, 16 if asked.is_16 and not asked.capture else None)
     captured = described
@@ -133,7 +141,7 @@ def read_both(asked):
     return captured
 
 
-def check_stream(asked, readers):
+def check_stream(asked: argparse.Namespace, readers: List[Reader]) -> None:
     """A stream's name is a word of the record, and names none of the files that are read. It is one line, in
     which no reader can do anything."""
     path = asked.stream
@@ -144,7 +152,7 @@ def check_stream(asked, readers):
         raise Wrong(f"a stream is one line of a record: {timed.name} can do nothing at a time in it")
     if not path.isascii() or not path.isprintable() or path.split() != [path]:
         raise Wrong(f'the stream "{path}" cannot stand in a record: its name is no single word')
-    for other in filter(None, (asked.description, asked.capture)):
+    for other in (name for name in (asked.description, asked.capture) if name):
         if os.path.exists(path) and os.path.exists(other) and os.path.samefile(path, other):
             raise Wrong(f"the stream {path} would be written over {other}")
 

@@ -48,8 +48,7 @@ def event_of(kind: str, code: str, value: str) -> Event:
     return Event(kind, code, int(value))
 
 
-@dataclass(frozen=True)
-class Step:
+class Step(NamedTuple):
     """A step of a history, or that of a call: its words."""
 
     words: Tuple[str, ...]
@@ -91,8 +90,7 @@ class Step:
         return " ".join(self.words)
 
 
-@dataclass(frozen=True)
-class Reply:
+class Reply(NamedTuple):
     """The reply of a call: its words, the second of which is a place."""
 
     words: Tuple[str, ...]
@@ -316,6 +314,8 @@ def entry_of(number: int, text: str) -> Entry:
 
 # A whole report
 
+# What an actor saw.
+SIGHT = (Took, Call, Again, Made, JoyRecord, Feedback, Fed)
 
 Kind = TypeVar("Kind", bound=Entry)
 
@@ -374,7 +374,11 @@ class Report:
             if number % TOLD_EVERY == 1:
                 progress.tell("the report is read, line", number - 1, len(lines) - 1)
             try:
-                self.take(entry_of(number, line))
+                if line.startswith("step "):
+                    # (most lines of a long report are these)
+                    self.devices[-1].history.append(Step(tuple(line.split(" ")[2:])))
+                else:
+                    self.take(entry_of(number, line))
             except (ValueError, IndexError):
                 raise at_line(number - 1, f"no line of a report: {line[:60]!r}") from None
         cut_off = next((part for part in self.parts.values() if not part.end.text), None)
@@ -382,8 +386,8 @@ class Report:
             raise Wrong(f"the report was cut off: the part of {cut_off.name} has no end")
 
     def take(self, entry: Entry) -> None:
-        if isinstance(entry, StepLine):
-            self.devices[-1].history.append(entry.step)
+        if isinstance(entry, SIGHT) and self.part:
+            self.part.sight.append(entry)
         elif isinstance(entry, DeviceLine):
             self.devices.append(Device(entry))
             self.part = None
@@ -400,7 +404,7 @@ class Report:
         elif isinstance(entry, ViewLine):
             self.part.view.append(entry)
         else:
-            self.part.sight.append(entry)
+            raise ValueError
 
     def begin(self, role: str, name: str, first: Entry) -> Part:
         if name in self.parts:
