@@ -6,7 +6,7 @@ the record for one that has a meaning, and plays on one thread.
 
 import os
 import struct
-from typing import NamedTuple
+from typing import Any, List, NamedTuple, Optional, Sequence, Tuple
 
 from second.device import Caps, Device, FIRST, LAST, SLOT
 from second.joystick import Joystick
@@ -14,20 +14,20 @@ from second.names import ABS, CODES, KEY, LED, SW, TYPES, code_text, event_text,
 from second.reader import NO_CLIENT, Reader, View
 
 
-def number(word):
+def number(word: str) -> int:
     return -number(word[1:]) if word.startswith("-") else int(word, 16 if word.startswith("0x") else 10)
 
 
-def kind_of(word):
+def kind_of(word: str) -> int:
     return TYPES[word] if word in TYPES else number(word)
 
 
-def code_of(kind, word):
+def code_of(kind: int, word: str) -> int:
     names = CODES.get(kind, {})
     return names[word] if word in names else number(word)
 
 
-def event_of(words):
+def event_of(words: List[str]) -> Event:
     kind = kind_of(words[0])
     return (kind, code_of(kind, words[1]), number(words[2]))
 
@@ -35,7 +35,7 @@ def event_of(words):
 # The text of steps and replies
 
 
-def step_text(step):
+def step_text(step: Step) -> str:
     op, *words = step
     if op in ("inject", "write"):
         return " ".join([op] + [str(word) for word in words[:-1]] + [event_text(words[-1])])
@@ -48,7 +48,7 @@ def step_text(step):
     return " ".join(str(word) for word in step)
 
 
-def reply_text(reply):
+def reply_text(reply: Reply) -> str:
     if reply[0] == "bits":
         return " ".join(["bits", str(reply[1])] + [code_text(reply[2], code) for code in reply[3]])
     return " ".join(str(word) for word in reply)
@@ -58,7 +58,7 @@ def reply_text(reply):
 RECORD_FORMS = {"stream": "<QQHHi", "stream16": "<IIHHi"}
 
 
-def source_steps(words, streams):
+def source_steps(words: List[str], streams: Streams) -> List[Step]:
     """The steps of a source's command."""
     command, *words = words
     if command == "event":
@@ -69,13 +69,13 @@ def source_steps(words, streams):
 
 
 class Actor:
-    def __init__(self, name, role, device):
+    def __init__(self, name: str, role: str, device: Any) -> None:
         self.name, self.role, self.device = name, role, device
         self.sight, self.accepted, self.stop = [], 0, "finished"
         self.reader, self.view, self.client = Reader(device.caps), View(device.caps), NO_CLIENT
         self.joystick = Joystick(device.caps)
 
-    def see(self, step, reply):
+    def see(self, step: Step, reply: Reply) -> None:
         if reply[0] == "again":
             self.sight.append(f"again {reply[1]}")
         else:
@@ -85,22 +85,22 @@ class Actor:
         if reply[0] == "refused" and reply[2] == "log-full":
             self.stop = f"full {reply[1]}"
 
-    def see_taken(self, item):
+    def see_taken(self, item: Item) -> None:
         event, time, place = item
         self.sight.append(f"took {place} {time} {event_text(event)}")
 
-    def do(self, words, streams):
+    def do(self, words: List[str], streams: Streams) -> None:
         if self.stop == "finished":
             getattr(self, "do_" + self.role)(words, streams)
 
-    def do_source(self, words, streams):
+    def do_source(self, words: List[str], streams: Streams) -> None:
         for step in source_steps(words, streams):
             reply, _ = self.device.step(step)
             self.see(step, reply)
             if reply[0] == "refused":
                 return
 
-    def single_step(self, client, words):
+    def single_step(self, client: int, words: List[str]) -> Optional[Step]:
         """The step of a command that taps and clients share, or none."""
         command, *words = words
         if command in ("close", "grab", "ungrab", "revoke"):
@@ -115,7 +115,7 @@ class Actor:
             return ("setaxis", client, code_of(ABS, words[0]), *map(number, words[1:]))
         return None
 
-    def do_tap(self, words, _):
+    def do_tap(self, words: List[str], _: Streams) -> None:
         command = words[0]
         if command == "open":
             step = ("open",)
@@ -140,7 +140,7 @@ class Actor:
         else:
             self.view.answer(step, reply, written)
 
-    def do_client(self, words, _):
+    def do_client(self, words: List[str], _: Streams) -> None:
         step = self.single_step(self.reader.client, words)
         if step:
             reply, _ = self.device.step(step)
@@ -154,11 +154,11 @@ class Actor:
             self.hand_out(words[0], number(words[1]) if words[1:] else None)
         self.view = self.reader.view
 
-    def see_calls(self, calls):
+    def see_calls(self, calls: List[Tuple[Step, Reply]]) -> None:
         for step, reply in calls:
             self.see(step, reply)
 
-    def hand_out(self, command, bound):
+    def hand_out(self, command: str, bound: Optional[int]) -> None:
         handed = 0
         while bound is None or handed < bound:
             in_sync_mode = command != "skip" and self.reader.phase != "plain"
@@ -174,7 +174,7 @@ class Actor:
                 self.sight.append(f"made {event_text(values[0])}")
             handed += what != "synced"
 
-    def do_joy(self, words, _):
+    def do_joy(self, words: List[str], _: Streams) -> None:
         step = self.single_step(self.joystick.reader.client, words)
         if step:
             reply, _ = self.device.step(step)
@@ -185,7 +185,7 @@ class Actor:
         else:
             self.read_records(number(words[1]))
 
-    def read_records(self, bound):
+    def read_records(self, bound: int) -> None:
         handed = 0
         while handed < bound:
             answer = self.joystick.read(self.device)
@@ -196,29 +196,29 @@ class Actor:
                 self.sight.append("js " + " ".join(map(str, answer)))
                 handed += 1
 
-    def do_owner(self, words, _):
+    def do_owner(self, words: List[str], _: Streams) -> None:
         at, events = self.device.feedback(number(words[1]))
         if events is None:
             self.stop = f"full {at}"
         else:
             self.sight += [f"feedback {at} {len(events)}"] + [f"fed {event_text(event)}" for event in events]
 
-    def waits_on(self, reply):
+    def waits_on(self, reply: Reply) -> bool:
         """Whether a follow goes on behind its last call's reply. On one thread it never does."""
         return False
 
-    def part(self):
+    def part(self) -> List[str]:
         if self.role == "source":
             return [f"source {self.name} calls {self.accepted} stop {self.stop}"]
         end = {"joy": self.picture_lines, "owner": list}.get(self.role, self.view_lines)()
         return [f"{self.role} {self.name}"] + self.sight + end + [f"stop {self.stop}"]
 
-    def picture_lines(self):
+    def picture_lines(self) -> List[str]:
         down = [str(number) for number, value in enumerate(self.joystick.down) if value]
         values = [str(value) for value in self.joystick.values]
         return [" ".join(["buttons"] + down), " ".join(["axes"] + values)]
 
-    def view_lines(self):
+    def view_lines(self) -> List[str]:
         caps, lines = self.device.caps, []
         for kind, word in ((KEY, "keys"), (SW, "switches"), (LED, "leds")):
             if kind in caps.kinds:
@@ -235,7 +235,7 @@ class Actor:
         return lines
 
 
-def describe(caps, words):
+def describe(caps: Caps, words: List[str]) -> None:
     """A line of a device's description."""
     first, *words = words
     if first in ("hint", "log", "slots"):
@@ -255,7 +255,7 @@ def describe(caps, words):
         caps.filters.append(filter_of(words))
 
 
-def filter_of(words):
+def filter_of(words: List[str]) -> Tuple[Any, ...]:
     """What a line says behind `filter`."""
     form, *words = words
     if form == "eat":
@@ -266,7 +266,7 @@ def filter_of(words):
     return (form, *(code_of(KEY, word) for word in words))
 
 
-def read_stream(path, form):
+def read_stream(path: str, form: str) -> List[Tuple[int, Event]]:
     records = struct.iter_unpack(form, open(path, "rb").read())
     return [(seconds * 1000000 + micros, (kind, code, value)) for seconds, micros, kind, code, value in records]
 
@@ -279,7 +279,7 @@ class Record(NamedTuple):
     actions: list
 
 
-def read_record(text):
+def read_record(text: str) -> Record:
     descriptions, actors, actions = [], [], []
     for line in text.split("\n"):
         words = line.split()
@@ -298,7 +298,7 @@ def read_record(text):
     return Record(descriptions, actors, actions)
 
 
-def streams_of(folder):
+def streams_of(folder: str) -> Streams:
     return lambda file, form: read_stream(os.path.join(folder, file), form)
 
 
@@ -306,7 +306,7 @@ def streams_of(folder):
 LATER_ROLES = ("joy", "owner")
 
 
-def report(devices, actors, history):
+def report(devices: Sequence[Device], actors: Sequence[Actor], history: bool) -> List[str]:
     """The lines of the report on devices and, in record order, their actors; behind them all those on joysticks, and
     behind these those on owners."""
     lines = []
@@ -324,7 +324,7 @@ def report(devices, actors, history):
     return lines
 
 
-def run(text, folder="."):
+def run(text: str, folder: str = ".") -> Tuple[List[Device], List[Actor]]:
     """The devices and, in record order, the actors, once all lines are done."""
     record = read_record(text)
     devices = [Device(name, caps) for name, caps in record.descriptions]
@@ -334,7 +334,7 @@ def run(text, folder="."):
     return devices, list(actors.values())
 
 
-def play(text, folder=".", history=False):
+def play(text: str, folder: str = ".", history: bool = False) -> List[str]:
     """The lines of the report."""
     return report(*run(text, folder), history)
 

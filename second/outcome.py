@@ -5,6 +5,7 @@ streams are those of files beside the record.
 """
 
 import os
+from typing import Optional, Tuple
 
 from second.model import report, run
 from second.record_text import Refused, is_stream, streams_of_text
@@ -15,12 +16,12 @@ INPUT_LIMIT = 16777216
 class Ends(Exception):
     """The program ends without a report: with a status, and a line."""
 
-    def __init__(self, status, line):
+    def __init__(self, status: int, line: str) -> None:
         super().__init__(line)
         self.status, self.line = status, line
 
 
-def contents(path):
+def contents(path: str) -> bytes:
     try:
         with open(path, "rb") as file:
             data = file.read(INPUT_LIMIT + 1)
@@ -31,7 +32,7 @@ def contents(path):
     return data
 
 
-def played(path, history, folder):
+def played(path: str, history: bool, folder: str) -> Tuple[int, bytes]:
     """The status and the text of a record that is played, or `Ends` is raised."""
     data = contents(path)
     try:
@@ -45,7 +46,7 @@ def played(path, history, folder):
     return 6 if any(actor.stop != "finished" for actor in actors) else 0, text.encode()
 
 
-def outcome(path, history=False, folder=None):
+def outcome(path: str, history: bool = False, folder: Optional[str] = None) -> Tuple[int, bytes]:
     """The status that the program ends with, and all that it writes. The files of streams are those of a folder, or else
     of the record's own."""
     try:

@@ -10,6 +10,7 @@ import argparse
 import os
 import random
 import threading
+from typing import List, Optional, Tuple
 
 from second.device import Device
 from second.model import Actor, read_record, report, streams_of
@@ -20,25 +21,25 @@ IDLE = 1000000
 class Order:
     """Draws whose call is next. A job that waits for its turn stands in a list of its own place."""
 
-    def __init__(self, seed, jobs):
+    def __init__(self, seed: int, jobs: int) -> None:
         self.random = random.Random(seed)
         self.waiting = {}
         self.running = jobs
         self.lock = threading.Lock()
 
-    def next(self):
+    def next(self) -> None:
         """All jobs that have not ended wait, so one of them is drawn."""
         if self.waiting and len(self.waiting) == self.running:
             self.waiting.pop(self.random.choice(sorted(self.waiting))).set()
 
-    def turn(self, name):
+    def turn(self, name: str) -> None:
         turn = threading.Event()
         with self.lock:
             self.waiting[name] = turn
             self.next()
         turn.wait()
 
-    def end(self):
+    def end(self) -> None:
         with self.lock:
             self.running -= 1
             self.next()
@@ -47,14 +48,14 @@ class Order:
 class Share:
     """A device for one job, which waits for its turn before each call."""
 
-    def __init__(self, device, name, order):
+    def __init__(self, device: Device, name: str, order: Order) -> None:
         self.device, self.name, self.order, self.caps = device, name, order, device.caps
 
-    def step(self, step):
+    def step(self, step: Step) -> Answer:
         self.order.turn(self.name)
         return self.device.step(step)
 
-    def feedback(self, room):
+    def feedback(self, room: int) -> Tuple[int, Optional[List[Event]]]:
         self.order.turn(self.name)
         return self.device.feedback(room)
 
@@ -62,20 +63,20 @@ class Share:
 class Job(Actor):
     """An actor whose follow waits."""
 
-    def __init__(self, name, role, device, order, sources, idle):
+    def __init__(self, name: str, role: str, device: Device, order: Order, sources: int, idle: int) -> None:
         super().__init__(name, role, Share(device, name, order))
         self.shared, self.order = device, order
         self.sources, self.idle, self.agains = sources, idle, 0
 
-    def hand_out(self, command, bound):
+    def hand_out(self, command: str, bound: Optional[int]) -> None:
         self.agains = 0
         super().hand_out(command, bound)
 
-    def see_taken(self, item):
+    def see_taken(self, item: Item) -> None:
         self.agains = 0
         super().see_taken(item)
 
-    def waits_on(self, reply):
+    def waits_on(self, reply: Reply) -> bool:
         if reply[0] != "again" or self.shared.ends >= self.sources:
             return False
         self.agains += 1
@@ -84,7 +85,7 @@ class Job(Actor):
         self.stop = f"idle {self.idle} {reply[1]}"
         return False
 
-    def work(self, lines, streams):
+    def work(self, lines: List[List[str]], streams: Streams) -> None:
         try:
             for words in lines:
                 self.do(words, streams)
@@ -96,7 +97,7 @@ class Job(Actor):
             self.order.end()
 
 
-def play_side_by_side(text, seed, folder=".", idle=IDLE):
+def play_side_by_side(text: str, seed: int, folder: str = ".", idle: int = IDLE) -> List[str]:
     """The lines of the report with the history."""
     record = read_record(text)
     devices = [Device(name, caps) for name, caps in record.descriptions]
@@ -116,7 +117,7 @@ def play_side_by_side(text, seed, folder=".", idle=IDLE):
     return report(devices, jobs, history=True)
 
 
-def main():
+def main() -> None:
     parser = argparse.ArgumentParser(prog="second.side_by_side", description=__doc__, formatter_class=argparse.RawDescriptionHelpFormatter)
     parser.add_argument("--idle", type=int, default=IDLE, help=f"answers Again in a row that end a follow ({IDLE})")
     parser.add_argument("record", help="the record's file")

@@ -9,6 +9,8 @@ import struct
 import subprocess
 import sys
 from importlib.machinery import SourceFileLoader
+from types import ModuleType
+from typing import Iterable, List, Optional, Sequence, Tuple, Union
 
 from tests.playing import PROGRAM, TOP, FolderCase, needs_program
 
@@ -24,19 +26,19 @@ def load(tool):
     return module
 
 
-def heed_stops():
+def heed_stops() -> None:
     """For a new process: a stop from the keyboard is not ignored, as it is behind `&` in a script."""
     signal.signal(signal.SIGINT, signal.SIG_DFL)
 
 
-def raw_events(data, size=24):
+def raw_events(data: bytes, size: int = 24) -> List[Captured]:
     """The events of a raw capture: (time from the first one on, type, code, value)."""
     form = struct.Struct("<QQHHi" if size == 24 else "<IIHHi")
     events = [(s * 1000000 + micros, *event) for s, micros, *event in form.iter_unpack(data)]
     return [(time - events[0][0], *event) for time, *event in events]
 
 
-def raw_capture(events, size=24, base=1764252210496169):
+def raw_capture(events: Iterable[Captured], size: int = 24, base: int = 1764252210496169) -> bytes:
     form = struct.Struct("<QQHHi" if size == 24 else "<IIHHi")
     return b"".join(form.pack(*divmod(base + time, 1000000), *event) for time, *event in events)
 
@@ -44,12 +46,12 @@ def raw_capture(events, size=24, base=1764252210496169):
 class DeskCase(FolderCase):
     """A test that runs tools and plays what they write."""
 
-    def file(self, name, content):
+    def file(self, name: str, content: Union[str, bytes]) -> Path:
         path = self.folder / name
         path.write_bytes(content if isinstance(content, bytes) else content.encode())
         return path
 
-    def tool(self, name, *words):
+    def tool(self, name: str, *words: object) -> Tuple[int, str, List[str]]:
         """Runs a tool: its status, what it wrote, and the lines on standard error."""
         out, err, status, before = io.StringIO(), io.StringIO(), 0, sys.argv
         sys.argv = [name, *map(str, words)]
@@ -65,7 +67,7 @@ class DeskCase(FolderCase):
             needs_program()
         return status, out.getvalue(), lines
 
-    def written(self, name, *words, notes=()):
+    def written(self, name: str, *words: object, notes: Sequence[str] = ()) -> str:
         """What a tool wrote. It said what is in `notes` on standard error, a line each, and no more."""
         status, text, lines = self.tool(name, *words)
         self.assertEqual((0, len(notes)), (status, len(lines)), lines)
@@ -73,7 +75,7 @@ class DeskCase(FolderCase):
             self.assertIn(note, line)
         return text
 
-    def refused(self, name, *words, because):
+    def refused(self, name: str, *words: object, because: str) -> None:
         """A tool refused its input by one line, and wrote nothing else."""
         status, text, lines = self.tool(name, *words)
         self.assertEqual((2, ""), (status, text), lines)
@@ -81,7 +83,7 @@ class DeskCase(FolderCase):
         self.assertTrue(lines[0].startswith(f"{name}: "), lines[0])
         self.assertIn(because, lines[0])
 
-    def play(self, text, folder=None):
+    def play(self, text: str, folder: Optional[Path] = None) -> List[str]:
         """The lines of the report that the program prints of a record."""
         needs_program(self)
         path = self.file("played.rec", text)
@@ -90,13 +92,13 @@ class DeskCase(FolderCase):
         return done.stdout.splitlines()
 
 
-def part_of(report, name):
+def part_of(report: List[str], name: str) -> List[str]:
     """The lines of a client's part."""
     start = report.index(f"client {name}")
     return report[start : report.index("stop finished", start)]
 
 
-def taken(report, name="reader"):
+def taken(report: List[str], name: str = "reader") -> List[Captured]:
     """The events that a client took, as raw_events has them."""
     events = []
     for line in part_of(report, name):
@@ -107,12 +109,12 @@ def taken(report, name="reader"):
     return events
 
 
-def belief(report, name="reader"):
+def belief(report: List[str], name: str = "reader") -> List[str]:
     """What a client believes at the end: the lines after its last calls."""
     lines = part_of(report, name)
     first = next(i for i, line in enumerate(lines) if line.split()[0] in ("keys", "switches", "leds", "axes"))
     return lines[first:]
 
 
-def without_comments(text):
+def without_comments(text: str) -> List[str]:
     return [line for line in text.splitlines() if not line.startswith("#")]

@@ -4,6 +4,7 @@ A thing is what a belief has a value of. At first nothing is down or on, axes an
 has a contact.
 """
 
+from functools import lru_cache
 from typing import Dict, Iterable, NamedTuple, Optional, Set, Tuple
 
 from inputtools.record import Device
@@ -80,6 +81,7 @@ def is_slot_code(kind: str, code: str) -> bool:
     return kind == "EV_ABS" and code.startswith("ABS_MT_")
 
 
+@lru_cache(maxsize=65536)
 def setting_of(event: Event, current: int, slots: int) -> Optional[Setting]:
     """What an event sets, or None. The current slot is `current` of `slots`."""
     kind, code, value = event

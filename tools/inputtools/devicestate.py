@@ -178,15 +178,15 @@ def sync_points(state: DeviceState) -> Set[int]:
 def action_of(step: Step) -> str:
     """The words of the source's action for a step. A written event is a raw event as an injected one is."""
     if step.name == "write":
-        return " ".join(("event", *step.words[2:]))
-    return " ".join(("event" if step.name == "inject" else step.name, *step.words[1:]))
+        return "event " + step.rest.split(" ", 1)[1]
+    return f"event {step.rest}" if step.name == "inject" else step.text()
 
 
 def is_read_behind(step: Step, waiting: int, hint: int) -> bool:
     """Is to be read after this step? Where frames may have ended, and before more events wait than a ring
     holds."""
     is_event = step.name in ("inject", "write")
-    return not is_event or step.words[-3:-1] == ("EV_SYN", "SYN_REPORT") or waiting >= hint
+    return not is_event or " EV_SYN SYN_REPORT " in step.rest or waiting >= hint
 
 
 def is_sent(step: Step) -> bool:

@@ -103,6 +103,7 @@ class Walk:
         self.slot_of_taken: Dict[Tuple[int, str], int] = {}
         self.frame, self.reported = -1, -1
         self.taken: List[Event] = []
+        self.touched: Set[Thing] = set()
         self.differing = {thing for thing in state.changes if self.is_other(thing)}
         self.divergences: List[Divergence] = []
         self.open: Dict[Thing, Divergence] = {}
@@ -148,14 +149,15 @@ class Walk:
         (self.differing.add if self.is_other(thing) else self.differing.discard)(thing)
 
     def move_to(self, frame: int) -> None:
-        """The device's state is now that at the end of this frame."""
+        """The device's state is now that at the end of this frame. Notes all that may have changed."""
         before, self.frame = self.frame, frame
         if frame < before:
-            moved = set(self.state.changes)
+            self.touched.update(self.state.changes)
         else:
-            moved = set().union(*self.state.changed[before + 1 : frame + 1])
-        for thing in moved:
+            self.touched.update(*self.state.changed[before + 1 : frame + 1])
+        for thing in self.touched:
             self.note(thing)
+        self.touched.clear()
 
     def compare(self, point: Point) -> None:
         """Begins, goes on with and ends divergences at a point."""
@@ -235,7 +237,7 @@ class Walk:
             self.slot_of_taken[place, event.code] = self.belief.value(CURRENT)
         thing = self.belief.take(event, Origin(number, False, place))
         if thing is not None:
-            self.note(thing)
+            self.touched.add(thing)
         self.taken.append(event)
 
     def frame_of_report(self, place: int) -> int:

@@ -75,7 +75,7 @@ class Handles:
             self.grabs.append(Grab(step.client, place))
             self.grab_begins.append(place)
         elif step.name == "mask":
-            word, bits = step.words[3:]
+            word, bits = step.rest.split(" ")[2:]
             self.masks.setdefault(step.client, []).append(Mask(place, step.code, int(word), int(bits, 16)))
         elif step.name == "clock":
             self.add_clock(place, step.client, step.code)

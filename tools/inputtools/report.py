@@ -7,7 +7,7 @@ line is an entry with its number, from 1, and its text, so that it can be named 
 import re
 from dataclasses import dataclass
 from functools import lru_cache
-from typing import Callable, Dict, List, NamedTuple, Optional, Sequence, Tuple, Type, TypeVar
+from typing import Callable, Dict, List, NamedTuple, Optional, Sequence, Tuple, Type, TypeVar, Union
 
 from inputtools.command import Wrong, at_line
 from inputtools.progress import progress
@@ -49,45 +49,52 @@ def event_of(kind: str, code: str, value: str) -> Event:
 
 
 class Step(NamedTuple):
-    """A step of a history, or that of a call: its words."""
+    """A step of a history, or that of a call: its name, and the words behind it as one text."""
 
-    words: Tuple[str, ...]
+    name: str
+    rest: str
 
     @property
-    def name(self) -> str:
-        return self.words[0]
+    def words(self) -> Tuple[str, ...]:
+        return (self.name, *self.rest.split(" ")) if self.rest else (self.name,)
 
     @property
     def client(self) -> int:
         """The number of the client that it is of."""
-        return int(self.words[1])
+        return int(self.rest.split(" ", 1)[0])
 
     @property
     def code(self) -> str:
         """The axis of getaxis, getslots and setaxis; the type of a mask; the clock of clock."""
-        return self.words[2]
+        return self.rest.split(" ", 2)[1]
 
     @property
     def event(self) -> Optional[Event]:
         """What is injected or written, or None."""
-        return event_of(*self.words[-3:]) if self.words[0] in ("inject", "write") else None
+        return event_of(*self.rest.rsplit(" ", 3)[-3:]) if self.name in ("inject", "write") else None
 
     @property
     def moment(self) -> Optional[int]:
-        at = MOMENT_AT.get(self.words[0])
-        return None if at is None else int(self.words[at])
+        at = MOMENT_AT.get(self.name)
+        return None if at is None else int(self.rest.split(" ", at)[at - 1])
 
     @property
     def is_question(self) -> bool:
         """Does it ask for a part of the state?"""
-        return self.words[0].startswith(("get", "sync"))
+        return self.name.startswith(("get", "sync"))
 
     def without_moment(self) -> Tuple[str, ...]:
-        at = MOMENT_AT.get(self.words[0])
-        return self.words if at is None else self.words[:at] + self.words[at + 1 :]
+        words, at = self.words, MOMENT_AT.get(self.name)
+        return words if at is None else words[:at] + words[at + 1 :]
 
     def text(self) -> str:
-        return " ".join(self.words)
+        return f"{self.name} {self.rest}" if self.rest else self.name
+
+
+def step_of(text: str) -> Step:
+    """The step of a text."""
+    name, _, rest = text.partition(" ")
+    return Step(name, rest)
 
 
 class Reply(NamedTuple):
@@ -127,7 +134,7 @@ class Reply(NamedTuple):
 
 
 @dataclass(frozen=True)
-class Entry:
+class Line:
     """A line: its number and its text."""
 
     number: int
@@ -143,25 +150,25 @@ class Entry:
 
 
 @dataclass(frozen=True)
-class DeviceLine(Entry):
+class DeviceLine(Line):
     name: str
     steps: int
 
 
 @dataclass(frozen=True)
-class StepLine(Entry):
+class StepLine(Line):
     place: int
     step: Step
 
 
 @dataclass(frozen=True)
-class ActorLine(Entry):
+class ActorLine(Line):
     role: str
     name: str
 
 
 @dataclass(frozen=True)
-class ViewLine(Entry):
+class ViewLine(Line):
     """A line of what an actor knows at its end."""
 
     words: Tuple[str, ...]
@@ -172,7 +179,7 @@ class ViewLine(Entry):
 
 
 @dataclass(frozen=True)
-class Stop(Entry):
+class Stop(Line):
     """How an actor ended: the reason, with the place where it has one."""
 
     reason: str
@@ -195,7 +202,7 @@ class SourceLine(Stop):
 
 
 @dataclass(frozen=True)
-class Call(Entry):
+class Call(Line):
     step: Step
     reply: Reply
 
@@ -206,8 +213,11 @@ class Call(Entry):
         return self.step.moment
 
 
-@dataclass(frozen=True)
-class Took(Entry):
+class Took(NamedTuple):
+    """An event that was taken. (No entry is as frequent, and none is made faster.)"""
+
+    number: int
+    text: str
     place: int
     time: int
     event: Event
@@ -220,14 +230,14 @@ class Took(Entry):
 
 
 @dataclass(frozen=True)
-class Made(Entry):
+class Made(Line):
     """An event that a reader made itself when it synchronised."""
 
     event: Event
 
 
 @dataclass(frozen=True)
-class Again(Entry):
+class Again(Line):
     place: int
 
     def place_told(self) -> Optional[int]:
@@ -235,7 +245,7 @@ class Again(Entry):
 
 
 @dataclass(frozen=True)
-class JoyRecord(Entry):
+class JoyRecord(Line):
     """A record that a joystick handed out: its kind is that of a button or an axis, and of a startup."""
 
     time: int
@@ -248,7 +258,7 @@ class JoyRecord(Entry):
 
 
 @dataclass(frozen=True)
-class Feedback(Entry):
+class Feedback(Line):
     """A call of an owner, and how many events it took."""
 
     place: int
@@ -259,10 +269,13 @@ class Feedback(Entry):
 
 
 @dataclass(frozen=True)
-class Fed(Entry):
+class Fed(Line):
     """An event that an owner was told."""
 
     event: Event
+
+
+Entry = Union[Line, Took]
 
 
 Words = List[str]
@@ -271,7 +284,7 @@ Words = List[str]
 def _call(number: int, text: str, words: Words) -> Entry:
     middle = words.index("reply")
     reply = Reply(tuple(words[middle + 1 :]))
-    return Call(number, text, Step(tuple(words[1:middle])), reply) if reply.place >= 0 else Entry(number, text)
+    return Call(number, text, Step(words[1], " ".join(words[2:middle])), reply) if reply.place >= 0 else Line(number, text)
 
 
 def _source(number: int, text: str, words: Words) -> Entry:
@@ -286,7 +299,7 @@ def _device(number: int, text: str, words: Words) -> Entry:
 
 FORMS: Dict[str, Callable[[int, str, Words], Entry]] = {
     "device": _device,
-    "step": lambda number, text, words: StepLine(number, text, int(words[1]), Step(tuple(words[2:]))),
+    "step": lambda number, text, words: StepLine(number, text, int(words[1]), step_of(" ".join(words[2:]))),
     "source": _source,
     "call": _call,
     "took": lambda number, text, words: Took(number, text, int(words[1]), int(words[2]), event_of(*words[3:])),
@@ -317,7 +330,7 @@ def entry_of(number: int, text: str) -> Entry:
 # What an actor saw.
 SIGHT = (Took, Call, Again, Made, JoyRecord, Feedback, Fed)
 
-Kind = TypeVar("Kind", bound=Entry)
+Kind = TypeVar("Kind")
 
 
 class Part:
@@ -353,7 +366,7 @@ class Device:
         """The line of a step of its history, or None behind the last one."""
         if place >= len(self.history):
             return None
-        return Entry(self.line.number + 1 + place, f"step {place} {self.history[place].text()}")
+        return Line(self.line.number + 1 + place, f"step {place} {self.history[place].text()}")
 
     def readers(self) -> List[Part]:
         """Its clients and taps."""
@@ -374,9 +387,12 @@ class Report:
             if number % TOLD_EVERY == 1:
                 progress.tell("the report is read, line", number - 1, len(lines) - 1)
             try:
+                # (most lines of a long report are of the first two kinds)
                 if line.startswith("step "):
-                    # (most lines of a long report are these)
-                    self.devices[-1].history.append(Step(tuple(line.split(" ")[2:])))
+                    self.devices[-1].history.append(step_of(line.split(" ", 2)[2]))
+                elif line.startswith("took ") and self.part:
+                    _, place, time, kind, code, value = line.split(" ")
+                    self.part.sight.append(Took(number, line, int(place), int(time), event_of(kind, code, value)))
                 else:
                     self.take(entry_of(number, line))
             except (ValueError, IndexError):
