@@ -6,7 +6,7 @@ import subprocess
 from pathlib import Path
 from typing import Any, List, Optional, Sequence, Tuple
 
-from checks.trial import TOP, run_once
+from checks.trial import TOP, Run, run_once
 
 
 def add_words(parser: argparse.ArgumentParser) -> None:
@@ -15,7 +15,8 @@ def add_words(parser: argparse.ArgumentParser) -> None:
 
 def records_of(parser: argparse.ArgumentParser, names: Sequence[str], usual: Sequence[str]) -> List[Path]:
     """The paths of the records that are named, or of the usual ones, or the parser ends the script."""
-    records = [Path(name).resolve() for name in names or [TOP / name for name in usual]]
+    paths = [Path(name) for name in names] or [TOP / name for name in usual]
+    records = [path.resolve() for path in paths]
     for record in records:
         if not record.is_file():
             parser.error(f"the record {record} is not there")
@@ -30,7 +31,7 @@ class Failing:
         self.program, self.library, self.tell = program, Path(folder) / "failing.so", Path(folder) / "told"
         self.piece = {"FAILING_PIECE": str(piece)} if piece else {}
         source = TOP / "checks" / "failing.c"
-        command = [os.environ.get("CC", "cc"), "-shared", "-fPIC", "-O2", "-o", self.library, source]
+        command = [os.environ.get("CC", "cc"), "-shared", "-fPIC", "-O2", "-o", str(self.library), str(source)]
         try:
             subprocess.run(command, check=True, capture_output=True, text=True)
         except OSError as error:

@@ -9,7 +9,7 @@ import os
 import random
 import struct
 import sys
-from typing import Generator, List, Optional, Set, Tuple
+from typing import Callable, Dict, List, Optional, Set, Tuple
 
 if not __package__:
     import repository_path  # noqa: F401  (run as a script: the packages of this repository)
@@ -30,6 +30,11 @@ OUTPUTS = (REP, MSC, LED, SND)
 BUTTONS = [0x100, 0x101, 0x110, 0x120, 0x121, 0x130]
 
 
+# The types and codes that a device has, and its actors by their roles and names.
+Codes = List[Tuple[int, int]]
+Actors = List[Tuple[str, str]]
+
+
 class Generator:
     """Makes one record. Where a folder is given its sources have streams, and their files are written there."""
 
@@ -38,7 +43,7 @@ class Generator:
         self.seed, self.folder, self.streams = seed, folder, 0
         self.now = 1000
         self.version = self.r.choice([1, 2])
-        self.devices = []
+        self.devices: List[Tuple[Actors, Codes, int]] = []
 
     def moment(self) -> int:
         self.now += self.r.choice([0, 0, 1, 1000, 10000, 100000])
@@ -61,7 +66,8 @@ class Generator:
     def description(self, d: int) -> Tuple[List[str], Codes, int]:
         """The lines of a device, and beside them the codes that its events take, and its slots."""
         r, is_requested = self.r, self.version == 2 and self.r.random() < 0.5
-        lines, codes = [f"udevice dev{d}" if is_requested else f"device dev{d}"], []
+        lines = [f"udevice dev{d}" if is_requested else f"device dev{d}"]
+        codes: Codes = []
         kinds = [kind for kind in (KEY, REL, ABS, MSC, SW, LED, SND) if r.random() < 0.55] or [KEY]
         hint = r.choice([2, 3, 5, 8, 8, 8, 16, 20, None])
         if hint:
@@ -111,7 +117,8 @@ class Generator:
         return f"{form} {code_text(KEY, first)} {code_text(KEY, second)}"
 
     def axes(self, lines: List[str]) -> Set[int]:
-        r, axes = self.r, set()
+        r = self.r
+        axes: Set[int] = set()
         for _ in range(r.randint(1, 5)):
             code = r.choice([0, 1, 2, 0x18, 0x30, 0x31, 0x35, 0x36, 0x39, 0x3A, 0x2F, 0x3D, 0x3F])
             if code in axes:
@@ -124,7 +131,8 @@ class Generator:
         return axes
 
     def actors(self, d: int, lines: List[str]) -> Actors:
-        r, actors = self.r, []
+        r = self.r
+        actors: Actors = []
         owners = int(r.random() < 0.8) if lines[0].startswith("udevice") else 0
         for role, count in (
             ("source", r.choice([1, 1, 2])),
@@ -152,7 +160,7 @@ class Generator:
             actors, codes, slots = r.choice(self.devices)
             weights = [(12 if busy else 3) if role == "source" else 1 for role, _ in actors]
             role, name = r.choices(actors, weights)[0]
-            acts = {"source": self.source_action, "joy": self.joy_action, "owner": self.owner_action}
+            acts: Dict[str, Callable[..., List[str]]] = {"source": self.source_action, "joy": self.joy_action, "owner": self.owner_action}
             act = acts.get(role, self.client_action)
             actions += [f"do {name} {action}" for action in act(role, codes, slots, busy)]
         for actors, _, _ in self.devices:
@@ -165,7 +173,7 @@ class Generator:
         r = self.r
         command = r.choice(list(RECORD_FORMS)) if self.version == 2 else "stream"
         name, self.streams = f"events-{self.seed}-{self.streams}", self.streams + 1
-        with open(os.path.join(self.folder, name), "wb") as file:
+        with open(os.path.join(self.folder or "", name), "wb") as file:
             for _ in range(r.randint(0, 20)):
                 kind, code = r.choice(codes) if r.random() < 0.6 else (0, 0)
                 time = divmod(self.moment(), 1000000)
@@ -177,7 +185,8 @@ class Generator:
         if x < 0.05 and self.folder and self.streams < MOST_STREAMS:
             return self.stream(codes, slots)
         if x < 0.86:
-            moment, actions = self.moment(), []
+            moment = self.moment()
+            actions: List[str] = []
             for _ in range(r.randint(0, 4) if busy else r.randint(0, 2)):
                 kind, code = (r.randint(0, 21), r.randint(0, 64)) if r.random() < 0.05 else r.choice(codes)
                 event = f"{kind_text(kind)} {code_text(kind, code)} {self.value(kind, code, slots)}"
@@ -185,8 +194,8 @@ class Generator:
             if r.random() < 0.85:
                 actions.append(f"event {moment} EV_SYN SYN_REPORT 0")
             elif r.random() < 0.3:
-                code = r.choice(["SYN_CONFIG", "SYN_MT_REPORT", "SYN_DROPPED", "7"])
-                actions.append(f"event {moment} EV_SYN {code} 0")
+                word = r.choice(["SYN_CONFIG", "SYN_MT_REPORT", "SYN_DROPPED", "7"])
+                actions.append(f"event {moment} EV_SYN {word} 0")
             return actions
         if x < 0.95:
             return [f"tick {self.moment() + r.choice([0, 40000, 300000])}"]

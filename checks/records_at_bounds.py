@@ -6,7 +6,7 @@ usage: records_at_bounds.py FOLDER
 
 import os
 import sys
-from typing import List
+from typing import Callable, List, Tuple
 
 if not __package__:
     import repository_path  # noqa: F401  (run as a script: the packages of this repository)
@@ -128,7 +128,7 @@ def nothing() -> str:
 
 
 # Each record by its name.
-MAKERS = (clients, moments, fuzz, slots, counts, devices, owners, full, full_start, blanks, nothing)
+MAKERS: Tuple[Callable[[], str], ...] = (clients, moments, fuzz, slots, counts, devices, owners, full, full_start, blanks, nothing)
 RECORDS = {make.__name__: make for make in MAKERS}
 
 

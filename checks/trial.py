@@ -5,7 +5,7 @@ import os
 import signal
 import subprocess
 from pathlib import Path
-from typing import Any, NamedTuple, Sequence, Union
+from typing import Any, NamedTuple, Optional, Sequence, Union
 
 TOP = Path(__file__).resolve().parent.parent
 BUILT = TOP / "crates" / "inp_main" / "out" / "inp_main"
@@ -14,7 +14,7 @@ BUILT = TOP / "crates" / "inp_main" / "out" / "inp_main"
 class Run(NamedTuple):
     """What a run of the program came to. The status of one that a signal ended is the signal's number, negative."""
 
-    status: int
+    status: Optional[int]
     text: bytes
     errors: bytes
 

@@ -1,8 +1,11 @@
 """A device and its clients, by the rules of docs/RULES.md. An event is a tuple (type, code, value)."""
 
-from typing import Callable, List, Optional, Tuple
+
+
+from typing import Any, Callable, Dict, List, Optional, Sequence, Set, Tuple
 
 from second.names import ABS, KEY, LED, MSC, REL, REP, SND, SW, SYN
+from second.values import Answer, Event, Fed, Item, Step, Words
 
 SLOT, FIRST, ID, LAST = 0x2F, 0x30, 0x39, 0x3D
 REPORT, CONFIG, DROPPED = 0, 1, 3
@@ -33,9 +36,11 @@ class Caps:
     """The description of a device."""
 
     def __init__(self) -> None:
-        self.kinds, self.codes, self.axes = {SYN}, {}, {}
+        self.kinds = {SYN}
+        self.codes: Dict[int, Set[int]] = {}
+        self.axes: Dict[int, Tuple[int, ...]] = {}
         self.slots, self.hint, self.log = 0, 16, 1048576
-        self.filters = []
+        self.filters: List[Tuple[Any, ...]] = []
         self.offsets = {"realtime": 0, "monotonic": 0, "boottime": 0}
 
     def build(self) -> None:
@@ -51,7 +56,7 @@ class Caps:
             return False
         if kind == REP:
             return code <= 1
-        return code in (self.axes if kind == ABS else self.codes.get(kind, ()))
+        return code in (self.axes if kind == ABS else self.codes.get(kind, set()))
 
     def ring(self) -> int:
         places = 64
@@ -80,7 +85,12 @@ class Filter:
     """A filter, and the events that it was given: each with its moment and whether it was eaten, the newest last."""
 
     def __init__(self, form: str, *words: int) -> None:
-        self.form, self.words, self.given = form, words, []
+        self.form, self.words = form, words
+        self.given: List[Tuple[Event, int, bool]] = []
+        self.forms: Dict[str, Callable[..., bool]] = {
+            "eat": self.eats_by_eat, "norepeat": self.eats_by_norepeat, "chord": self.eats_by_chord,
+            "bounce": self.eats_by_bounce,
+        }
 
     def of_key(self, key: int, end: int) -> List[int]:
         """The places of the events on a key before this place, the newest first."""
@@ -106,7 +116,7 @@ class Filter:
     def eats(self, event: Event, now: int) -> bool:
         """Takes an event, and answers whether it is eaten."""
         self.given.append((event, now, False))
-        is_eaten = getattr(self, "eats_by_" + self.form)(event, *self.words)
+        is_eaten = self.forms[self.form](event, *self.words)
         self.given[-1] = (event, now, is_eaten)
         return is_eaten
 
@@ -139,7 +149,9 @@ class Client:
     """An open client: its queue of (event, time, place), masks, clock, and whether it was revoked."""
 
     def __init__(self, places: int) -> None:
-        self.queue, self.clear_bits, self.clock, self.revoked, self.places = [], set(), "realtime", False, places
+        self.queue: List[Item] = []
+        self.clear_bits: Set[Tuple[int, int]] = set()
+        self.clock, self.revoked, self.places = "realtime", False, places
 
     def admits(self, event: Event) -> bool:
         kind, code, _ = event
@@ -176,7 +188,8 @@ class Outputs:
     """What was sent to a device and waits for its owner, whose calls are counted up to a limit."""
 
     def __init__(self, most_calls: int) -> None:
-        self.waiting, self.calls, self.most_calls = [], 0, most_calls
+        self.waiting: List[Event] = []
+        self.calls, self.most_calls = 0, most_calls
 
     def send(self, events: List[Event]) -> None:
         """Takes passed events. Of those that wait the last 15 stay."""
@@ -193,17 +206,29 @@ class Outputs:
 
 class Device:
     def __init__(self, name: str, caps: Caps) -> None:
-        self.name, self.caps, self.history = name, caps, []
-        self.on = {KEY: set(), SW: set(), LED: set(), SND: set()}
+        self.name, self.caps = name, caps
+        self.history: List[Step] = []
+        self.on: Dict[int, Set[int]] = {KEY: set(), SW: set(), LED: set(), SND: set()}
         self.repeat = [250, 33]
-        self.infos = dict(caps.axes)
+        self.infos: Dict[int, Sequence[int]] = dict(caps.axes)
         self.axes = {code: info[0] for code, info in caps.axes.items()}
         self.cells = [new_slot() for _ in range(caps.slots)]
         self.staged = self.announced = self.at_frame = 0
-        self.batch, self.due, self.repeat_key, self.inhibited = [], None, 0, False
-        self.clients, self.opens, self.holder, self.ends = {}, 0, None, 0
+        self.batch: List[Event] = []
+        self.due: Optional[int] = None
+        self.repeat_key, self.inhibited = 0, False
+        self.clients: Dict[int, Client] = {}
+        self.holder: Optional[int] = None
+        self.opens = self.ends = 0
         self.filters = [Filter(*words) for words in caps.filters]
         self.outputs = Outputs(caps.log)
+        # (what a step does that has more to reply than that it is done)
+        self.ways: Dict[str, Callable[[str, Words, int], Answer]] = {
+            "open": self.do_open, "read": self.do_read, "discard": self.do_discard, "getkeys": self.do_getkeys,
+            "getswitches": self.do_getswitches, "getleds": self.do_getleds, "getsounds": self.do_getsounds,
+            "getaxis": self.do_getaxis, "setaxis": self.do_setaxis, "getslots": self.do_getslots,
+            "syncslots": self.do_syncslots, "mask": self.do_mask, "clock": self.do_clock,
+        }
 
     # The core
 
@@ -244,7 +269,8 @@ class Device:
             return []
         if is_slot_value(code) and not self.caps.slots:
             return [(ABS, code, value)]
-        values, index = (self.cells[self.staged], code - FIRST) if is_slot_value(code) else (self.axes, code)
+        values: Any = self.cells[self.staged] if is_slot_value(code) else self.axes
+        index = code - FIRST if is_slot_value(code) else code
         value = defuzz(value, values[index], self.infos[code][3])
         if value == values[index]:
             return []
@@ -308,7 +334,7 @@ class Device:
 
     # Steps, and what an owner does, which makes none
 
-    def feedback(self, room: int) -> Tuple[int, Optional[List[Event]]]:
+    def feedback(self, room: int) -> Fed:
         """The history's length at a feedback call, and what the call takes, or None where it is refused."""
         return len(self.history), self.outputs.feedback(room)
 
@@ -353,7 +379,7 @@ class Device:
             return ("refused", place, why), None
         self.history.append(step)
         op, *words = step
-        return getattr(self, "do_" + op, self.do_plain)(op, words, place)
+        return self.ways.get(op, self.do_plain)(op, words, place)
 
     def do_plain(self, op: str, words: Words, place: int) -> Answer:
         if op == "inject" and not self.inhibited:

@@ -6,12 +6,13 @@ the record for one that has a meaning, and plays on one thread.
 
 import os
 import struct
-from typing import Any, List, NamedTuple, Optional, Sequence, Tuple
+from typing import Any, Callable, Dict, List, NamedTuple, Optional, Sequence, Tuple
 
 from second.device import Caps, Device, FIRST, LAST, SLOT
 from second.joystick import Joystick
 from second.names import ABS, CODES, KEY, LED, SW, TYPES, code_text, event_text, kind_text
 from second.reader import NO_CLIENT, Reader, View
+from second.values import Event, Item, Reply, Step, Streams
 
 
 def number(word: str) -> int:
@@ -71,7 +72,12 @@ def source_steps(words: List[str], streams: Streams) -> List[Step]:
 class Actor:
     def __init__(self, name: str, role: str, device: Any) -> None:
         self.name, self.role, self.device = name, role, device
-        self.sight, self.accepted, self.stop = [], 0, "finished"
+        self.sight: List[str] = []
+        self.accepted, self.stop = 0, "finished"
+        self.ways: Dict[str, Callable[[List[str], Streams], None]] = {
+            "source": self.do_source, "tap": self.do_tap, "client": self.do_client, "joy": self.do_joy,
+            "owner": self.do_owner,
+        }
         self.reader, self.view, self.client = Reader(device.caps), View(device.caps), NO_CLIENT
         self.joystick = Joystick(device.caps)
 
@@ -91,7 +97,7 @@ class Actor:
 
     def do(self, words: List[str], streams: Streams) -> None:
         if self.stop == "finished":
-            getattr(self, "do_" + self.role)(words, streams)
+            self.ways[self.role](words, streams)
 
     def do_source(self, words: List[str], streams: Streams) -> None:
         for step in source_steps(words, streams):
@@ -117,6 +123,7 @@ class Actor:
 
     def do_tap(self, words: List[str], _: Streams) -> None:
         command = words[0]
+        step: Step
         if command == "open":
             step = ("open",)
         elif command == "read":
@@ -128,7 +135,7 @@ class Actor:
         elif command in ("axis", "slots"):
             step = ("get" + command, self.client, code_of(ABS, words[1]))
         else:
-            step = self.single_step(self.client, words)
+            step = self.single_step(self.client, words) or ()
         reply, written = self.device.step(step)
         self.see(step, reply)
         if reply[0] == "opened":
@@ -192,7 +199,7 @@ class Actor:
             self.see_calls(self.joystick.calls)
             if answer == "end":
                 return
-            if answer not in ("frame", "more"):
+            if isinstance(answer, tuple):
                 self.sight.append("js " + " ".join(map(str, answer)))
                 handed += 1
 
@@ -210,8 +217,11 @@ class Actor:
     def part(self) -> List[str]:
         if self.role == "source":
             return [f"source {self.name} calls {self.accepted} stop {self.stop}"]
-        end = {"joy": self.picture_lines, "owner": list}.get(self.role, self.view_lines)()
+        end = {"joy": self.picture_lines, "owner": self.no_lines}.get(self.role, self.view_lines)()
         return [f"{self.role} {self.name}"] + self.sight + end + [f"stop {self.stop}"]
+
+    def no_lines(self) -> List[str]:
+        return []
 
     def picture_lines(self) -> List[str]:
         down = [str(number) for number, value in enumerate(self.joystick.down) if value]
@@ -274,13 +284,15 @@ def read_stream(path: str, form: str) -> List[Tuple[int, Event]]:
 class Record(NamedTuple):
     """What a record has: its devices' names and descriptions; its actors' names, roles and devices; its actions' words."""
 
-    descriptions: list
-    actors: list
-    actions: list
+    descriptions: List[Tuple[str, Caps]]
+    actors: List[Tuple[str, str, int]]
+    actions: List[List[str]]
 
 
 def read_record(text: str) -> Record:
-    descriptions, actors, actions = [], [], []
+    descriptions: List[Tuple[str, Caps]] = []
+    actors: List[Tuple[str, str, int]] = []
+    actions: List[List[str]] = []
     for line in text.split("\n"):
         words = line.split()
         if not words or words[0].startswith("#") or words[0] == "inputrecord":

@@ -1,10 +1,11 @@
 """What a client knows of its device, and a reader that keeps it right, by the rules of docs/READER.md."""
 
 import copy
-from typing import Any, List, Optional
+from typing import Any, Dict, List, Optional, Set, Tuple
 
-from second.device import DROPPED, FIRST, ID, LAST, REPORT, SLOT, is_slot_value, new_slot
+from second.device import Caps, DROPPED, FIRST, ID, LAST, REPORT, SLOT, is_slot_value, new_slot
 from second.names import ABS, KEY, LED, SW, SYN
+from second.values import Answer, Event, HandedOut, Item, Reply, Step
 
 NO_CLIENT = 4294967295
 AT_ONCE = 64
@@ -12,7 +13,7 @@ AT_ONCE = 64
 
 class View:
     def __init__(self, caps: Caps) -> None:
-        self.on = {KEY: set(), LED: set(), SW: set()}
+        self.on: Dict[int, Set[int]] = {KEY: set(), LED: set(), SW: set()}
         self.axes = [0] * 64
         self.slot = 0
         self.cells = [new_slot() for _ in range(caps.slots)]
@@ -42,7 +43,7 @@ class View:
 def synthesised(old: View, new: View) -> List[Event]:
     """The events that lead from the old view to the new one."""
     old = copy.deepcopy(old)
-    events = []
+    events: List[Event] = []
 
     def make(group: List[Event], event: Event) -> None:
         group.append(event)
@@ -52,7 +53,7 @@ def synthesised(old: View, new: View) -> List[Event]:
         if old.slot != slot:
             make(group, (ABS, SLOT, slot))
 
-    lifts = []
+    lifts: List[Event] = []
     for slot, values in enumerate(old.cells):
         before, after = values[ID - FIRST], new.cells[slot][ID - FIRST]
         if before >= 0 and after >= 0 and before != after:
@@ -61,7 +62,7 @@ def synthesised(old: View, new: View) -> List[Event]:
     if lifts:
         events += lifts + [(SYN, REPORT, 0)]
 
-    changes = []
+    changes: List[Event] = []
     for kind in (KEY, LED, SW):
         for code in sorted(old.on[kind] ^ new.on[kind]):
             make(changes, (kind, code, int(code in new.on[kind])))
@@ -80,20 +81,22 @@ def synthesised(old: View, new: View) -> List[Event]:
 class Reader:
     def __init__(self, caps: Caps) -> None:
         self.caps, self.view, self.client, self.phase = caps, View(caps), NO_CLIENT, "plain"
-        self.queue, self.synthesised, self.calls = [], [], []
+        self.queue: List[Item] = []
+        self.synthesised: List[Event] = []
+        self.calls: List[Tuple[Step, Reply]] = []
 
-    def call(self, device: Calls, step: Step) -> Answer:
+    def call(self, device: Any, step: Step) -> Answer:
         reply, written = device.step(step)
         self.calls.append((step, reply))
         return reply, written
 
     def queries(self) -> List[Step]:
         flags = [("getkeys", KEY), ("getleds", LED), ("getswitches", SW)]
-        steps = [(op, self.client) for op, kind in flags if kind in self.caps.kinds]
+        steps: List[Step] = [(op, self.client) for op, kind in flags if kind in self.caps.kinds]
         steps += [("getaxis", self.client, code) for code in sorted(self.caps.axes) if not SLOT <= code <= LAST]
         return steps + ([("syncslots", self.client)] if self.caps.slots else [])
 
-    def ask(self, device: Calls) -> Optional[View]:
+    def ask(self, device: Any) -> Optional[View]:
         """The view that the answers make, or none where a query was refused."""
         view = copy.deepcopy(self.view)
         for step in self.queries():
@@ -103,7 +106,7 @@ class Reader:
             view.answer(step, reply, written)
         return view
 
-    def start(self, device: Calls) -> None:
+    def start(self, device: Any) -> None:
         self.calls = []
         reply, _ = self.call(device, ("open",))
         if reply[0] == "refused":
@@ -113,7 +116,7 @@ class Reader:
         self.phase = "plain" if view else "needed"
         self.view = view or self.view
 
-    def synchronise(self, device: Calls) -> bool:
+    def synchronise(self, device: Any) -> bool:
         self.queue, self.synthesised, self.phase = [], [], "needed"
         reply, _ = self.call(device, ("discard", self.client))
         view = self.ask(device) if reply[0] != "refused" else None
@@ -122,7 +125,7 @@ class Reader:
         self.synthesised, self.view, self.phase = synthesised(self.view, view), view, "handing"
         return True
 
-    def next(self, device: Calls, in_sync_mode: bool) -> HandedOut:
+    def next(self, device: Any, in_sync_mode: bool) -> HandedOut:
         """What is handed out: ("took", item), ("made", event), ("synced",), or ("end",) where a call says so."""
         self.calls = []
         if self.phase == "needed" and not self.synchronise(device):

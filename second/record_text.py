@@ -5,7 +5,7 @@ shares nothing with the program's parser, and with the rest of this second progr
 """
 
 import re
-from typing import Any, Collection, List, NoReturn, Optional, Sequence, Tuple
+from typing import Any, Callable, Collection, Dict, List, NoReturn, Optional, Sequence, Set, Tuple
 
 from second.names import ABS, CODES, GREATEST, KEY, SYN, TYPES
 
@@ -94,7 +94,7 @@ def code(word: str, of_kind: int) -> int:
 
 
 # What each form of a word means. A CODE belongs to the TYPE before it, and is one of an axis where there is none.
-FORMS = {
+FORMS: Dict[str, Callable[[str], Any]] = {
     "NAME": name,
     "FILE": str,
     "SIGNED": signed,
@@ -138,7 +138,7 @@ DESCRIPTION = {
 }
 
 # The words behind `filter`, by the first of them.
-FILTERS = {
+FILTERS: Dict[str, str] = {
     "eat": "FILTER TYPE CODE",
     "norepeat": "FILTER",
     "chord": "FILTER KEY KEY",
@@ -252,12 +252,15 @@ class Text:
     """The lines of a text so far, each of them accepted."""
 
     def __init__(self) -> None:
-        self.version, self.has_action = None, False
-        self.devices, self.actors = set(), {}
+        self.version, self.has_action = "", False
+        self.devices: Set[str] = set()
+        self.actors: Dict[str, str] = {}
         # Of the latest device: what was given that may be given once, its actors' roles, and whether it is made by
         # requests.
-        self.given, self.roles, self.filters, self.is_requested = set(), [], 0, False
-        self.streams = []
+        self.given: Set[Any] = set()
+        self.roles: List[str] = []
+        self.filters, self.is_requested = 0, False
+        self.streams: List[Tuple[int, str, int]] = []
 
     def take(self, line: int, words: List[str]) -> None:
         """Takes a line's words, or raises the cause."""
@@ -334,11 +337,11 @@ class Text:
         is_later = command == "stream16" and self.version == "1"
         if forms is None or not has_length(forms, words) or is_later:
             raise Cause("bad-command")
-        values = values_of(forms, words)
+        values_of(forms, words)
         if command in RECORD_SIZES:
             if len(self.streams) == MOST_STREAMS:
                 raise Cause("too-many")
-            self.streams.append((line, *values, RECORD_SIZES[command]))
+            self.streams.append((line, words[0], RECORD_SIZES[command]))
         self.has_action = True
 
 

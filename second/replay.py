@@ -14,7 +14,7 @@ import os
 import sys
 from typing import Any, Dict, List, Optional, Set, Tuple
 
-from second.device import Device, Outputs, is_report
+from second.device import Caps, Device, Outputs, is_report
 from second.model import (
     LATER_ROLES,
     Actor,
@@ -30,8 +30,12 @@ from second.model import (
     streams_of,
 )
 from second.names import ABS
+from second.values import Answer, Event, Fed, Step, Streams
 
 IDLE = 1000000
+
+# The texts of a device's steps, and the lines of its actors by their names.
+Printed = Tuple[List[str], Dict[str, List[str]]]
 
 
 class Differs(Exception):
@@ -58,7 +62,8 @@ class Client:
     """What a refusal asks of a client."""
 
     def __init__(self, client: Any) -> None:
-        self.revoked, self.count = client.revoked, client.visible()
+        self.revoked: bool = client.revoked
+        self.count: int = client.visible()
 
     def visible(self) -> int:
         return self.count
@@ -71,7 +76,9 @@ class Moment:
         self.caps, self.holder, self.history = device.caps, device.holder, range(len(device.history))
         self.clients = {number: Client(client) for number, client in device.clients.items()}
 
-    refusal = Device.refusal
+    def refusal(self, step: Step) -> Optional[str]:
+        moment: Any = self
+        return Device.refusal(moment, step)
 
 
 class Played:
@@ -80,7 +87,8 @@ class Played:
     def __init__(self, name: str, caps: Caps, texts: List[str], asked: Set[int]) -> None:
         self.device, self.answers, self.moments = Device(name, caps), [], {}
         # What each step sends to the device; and by the place of each read of a line `follow` those of the reports it took.
-        self.sent, self.followed = [], {}
+        self.sent: List[List[Event]] = []
+        self.followed: Dict[int, List[int]] = {}
         for place, text in enumerate(texts):
             if place in asked:
                 self.moments[place] = Moment(self.device)
@@ -92,7 +100,7 @@ class Played:
             self.answers.append((reply, written))
             self.sent.append(self.device.outputs.waiting)
         self.moments[len(texts)] = Moment(self.device)
-        self.callers = [None] * len(texts)
+        self.callers: List[Optional[str]] = [None] * len(texts)
 
     def ends(self, place: int) -> int:
         return self.device.history[:place].count(("end",))
@@ -111,10 +119,11 @@ class Played:
 
     def waits(self) -> int:
         """How many reads of lines `follow` took frames that all ended behind the step that their job made before."""
-        last, count = {}, 0
+        last: Dict[Optional[str], int] = {}
+        count = 0
         for place, caller in enumerate(self.callers):
             reports = self.followed.get(place)
-            count += bool(reports) and min(reports) > last[caller]
+            count += bool(reports and min(reports) > last[caller])
             last[caller] = place
         return count
 
@@ -148,7 +157,7 @@ class Share:
             self.played.followed[place] = [at for event, _, at in answer[1] if is_report(event)]
         return answer
 
-    def feedback(self, room: int) -> Tuple[int, Optional[List[Event]]]:
+    def feedback(self, room: int) -> Fed:
         """A feedback call, which takes of what the steps before the place sent that the owner printed."""
         place = next(self.told_feedback, None)
         if place is None:
@@ -228,7 +237,9 @@ def share_out(played: Played, sources: List[Any]) -> None:
 
 def parts_of(lines: List[str]) -> Tuple[List[Printed], Dict[str, List[str]]]:
     """For each device its steps' texts, and its parts by their actors' names; beside them the parts of joysticks and owners."""
-    devices, later, part = [], {}, []
+    devices: List[Printed] = []
+    later: Dict[str, List[str]] = {}
+    part: List[str] = []
     for line in lines:
         word, *words = line.split(" ", 2)
         if word == "device":
@@ -256,7 +267,7 @@ def replay_device(i: int, record: Record, printed: Printed, streams: Streams,
     asked = {place_and_word(line)[0] for actor, _ in actors for line in parts.get(actor, ()) if is_call(line)}
     played = Played(name, caps, texts, asked)
     sources = sum(role == "source" for _, role in actors)
-    jobs = []
+    jobs: List[Any] = []
     for actor, role in actors:
         if actor not in parts:
             raise Differs(f"{actor} is not in the report")
@@ -266,10 +277,9 @@ def replay_device(i: int, record: Record, printed: Printed, streams: Streams,
             steps = [step for words in lines for step in source_steps(words, streams)]
             jobs.append(Source(actor, share, steps, parts[actor][0].split(" ", 1)[1]))
         else:
-            job = Job(actor, role, share, sources, idle)
+            jobs.append(Job(actor, role, share, sources, idle))
             for words in lines:
-                job.do(words, streams)
-            jobs.append(job)
+                jobs[-1].do(words, streams)
     share_out(played, [job for job in jobs if job.role == "source"])
     for job in jobs:
         job.device = played.device

@@ -10,10 +10,11 @@ import argparse
 import os
 import random
 import threading
-from typing import List, Optional, Tuple
+from typing import Dict, List, Optional
 
 from second.device import Device
 from second.model import Actor, read_record, report, streams_of
+from second.values import Answer, Fed, Item, Reply, Step, Streams
 
 IDLE = 1000000
 
@@ -23,7 +24,7 @@ class Order:
 
     def __init__(self, seed: int, jobs: int) -> None:
         self.random = random.Random(seed)
-        self.waiting = {}
+        self.waiting: Dict[str, threading.Event] = {}
         self.running = jobs
         self.lock = threading.Lock()
 
@@ -55,7 +56,7 @@ class Share:
         self.order.turn(self.name)
         return self.device.step(step)
 
-    def feedback(self, room: int) -> Tuple[int, Optional[List[Event]]]:
+    def feedback(self, room: int) -> Fed:
         self.order.turn(self.name)
         return self.device.feedback(room)
 

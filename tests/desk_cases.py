@@ -1,29 +1,22 @@
 """What the tests of tools/ share: they run a tool, read a capture, play a record, and make small files."""
 
 import contextlib
-import importlib.util
 import io
 import os
 import signal
 import struct
 import subprocess
 import sys
-from importlib.machinery import SourceFileLoader
-from types import ModuleType
+from pathlib import Path
 from typing import Iterable, List, Optional, Sequence, Tuple, Union
 
-from tests.playing import PROGRAM, TOP, FolderCase, needs_program
+from inputtools import command, names
+from tests.playing import PROGRAM, TOP, FolderCase, loaded, needs_program
 
 TOOLS, DATA = TOP / "tools", TOP / "tests" / "data"
 
-from inputtools import command, names
-
-
-def load(tool):
-    loader = SourceFileLoader(f"tool_{tool}", str(TOOLS / tool))
-    module = importlib.util.module_from_spec(importlib.util.spec_from_loader(loader.name, loader))
-    loader.exec_module(module)
-    return module
+# An event of a capture: its time, type, code and value.
+Captured = Tuple[int, int, int, int]
 
 
 def heed_stops() -> None:
@@ -34,8 +27,8 @@ def heed_stops() -> None:
 def raw_events(data: bytes, size: int = 24) -> List[Captured]:
     """The events of a raw capture: (time from the first one on, type, code, value)."""
     form = struct.Struct("<QQHHi" if size == 24 else "<IIHHi")
-    events = [(s * 1000000 + micros, *event) for s, micros, *event in form.iter_unpack(data)]
-    return [(time - events[0][0], *event) for time, *event in events]
+    found = [(s * 1000000 + micros, kind, code, value) for s, micros, kind, code, value in form.iter_unpack(data)]
+    return [(time - found[0][0], kind, code, value) for time, kind, code, value in found]
 
 
 def raw_capture(events: Iterable[Captured], size: int = 24, base: int = 1764252210496169) -> bytes:
@@ -57,9 +50,9 @@ class DeskCase(FolderCase):
         sys.argv = [name, *map(str, words)]
         try:
             with contextlib.redirect_stdout(out), contextlib.redirect_stderr(err):
-                command.run(name, load(name).command)
+                command.run(name, loaded(TOOLS / name).command)
         except SystemExit as ended:
-            status = ended.code or 0
+            status = int(ended.code or 0)
         finally:
             sys.argv = before
         lines = err.getvalue().splitlines()
@@ -100,12 +93,12 @@ def part_of(report: List[str], name: str) -> List[str]:
 
 def taken(report: List[str], name: str = "reader") -> List[Captured]:
     """The events that a client took, as raw_events has them."""
-    events = []
+    events: List[Captured] = []
     for line in part_of(report, name):
         words = line.split()
         if words[0] == "took":
-            kind = names.number_of_kind(words[3])
-            events.append((int(words[2]), kind, names.number_of_code(kind, words[4]), int(words[5])))
+            kind = names.number_of_kind(words[3]) or 0
+            events.append((int(words[2]), kind, names.number_of_code(kind, words[4]) or 0, int(words[5])))
     return events
 
 

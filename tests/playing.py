@@ -12,7 +12,7 @@ from pathlib import Path
 from types import ModuleType
 from typing import Any, Iterable, List, NamedTuple, Optional
 
-from tests import TOP
+from tests import TOP as TOP
 
 RECORDS = TOP / "tests" / "records"
 EXAMPLES = TOP / "examples"

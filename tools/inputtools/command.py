@@ -7,7 +7,7 @@ import signal
 import sys
 from enum import Enum
 from types import FrameType
-from typing import IO, Any, Callable, List, NamedTuple, NoReturn, Optional, Union
+from typing import Any, Callable, IO, List, NamedTuple, NoReturn, Optional, Union
 
 from inputtools.progress import progress
 
@@ -124,6 +124,7 @@ def ends(program: str, body: Callable[[], int]) -> None:
         say(program, "stopped")
         status = STOPPED
     progress.end()
+    gc.enable()
     if status:
         sys.exit(status)
 
