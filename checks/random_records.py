@@ -187,7 +187,7 @@ class Generator:
         if x < 0.86:
             moment = self.moment()
             actions: List[str] = []
-            for _ in range(r.randint(0, 4) if busy else r.randint(0, 2)):
+            for _i in range(r.randint(0, 4) if busy else r.randint(0, 2)):
                 kind, code = (r.randint(0, 21), r.randint(0, 64)) if r.random() < 0.05 else r.choice(codes)
                 event = f"{kind_text(kind)} {code_text(kind, code)} {self.value(kind, code, slots)}"
                 actions.append(f"event {moment} {event}")

@@ -7,7 +7,7 @@ import subprocess
 import unittest.mock
 
 from tests.desk_cases import PROGRAM, TOOLS, TOP, DeskCase, needs_program
-from inputtools.building import needed_crates
+from inputtools.building import RECKONED, in_order, needed_crates, time_text
 from inputtools.program import SecondProgram
 from inputtools.unproved import file_of
 
@@ -88,12 +88,42 @@ class Inputplay(TreeCase):
         self.addCleanup(os.close, terminal)
         env = {**os.environ, "PATH": self.path, "ASKED": str(self.asked), "FAILS": ""}
         words = [self.tree / "bin" / "inputplay", "x.rec"]
-        done = subprocess.run(words, env=env, cwd=self.folder, stdout=subprocess.PIPE, stderr=other, check=False)
+        done = subprocess.run(words, env=env, cwd=self.folder, stdin=subprocess.DEVNULL, stdout=subprocess.PIPE, stderr=other,
+                              check=False)
         os.close(other)
         said = os.read(terminal, 65536).decode().replace("\x1b[K", "")
         self.assertEqual((6, b"played: x.rec\n"), (done.returncode, done.stdout), said)
         self.assertIn("\rinputplay: 0 of 4 crates are built, 0:00: low\r", said)
         self.assertTrue(said.endswith("\r"), said)
+
+    def test_a_terminal_is_asked(self):
+        """What it is about to do is one line, with how long it takes and what plays at once. No other answer builds."""
+        for answer, status in (("n\n", 2), ("\n", 6)):
+            with self.subTest(answer):
+                terminal, other = pty.openpty()
+                os.write(terminal, answer.encode())
+                env = {**os.environ, "PATH": self.path, "ASKED": str(self.asked), "FAILS": ""}
+                words = [self.tree / "bin" / "inputplay", "x.rec"]
+                done = subprocess.run(words, env=env, cwd=self.folder, stdin=other, stdout=subprocess.PIPE, stderr=other,
+                                      check=False)
+                said = os.read(terminal, 65536).decode()
+                os.close(terminal)
+                os.close(other)
+                self.assertEqual(status, done.returncode, said)
+                self.assertIn(f"without tests, in {RECKONED}; bin/inputplay --unproved FILE plays at once\r\n", said)
+                self.assertIn("inputplay: build it now? [Y/n] ", said)
+                self.assertEqual(4 if status == 6 else 0, len(self.asked_for()))
+
+    def test_how_long_it_takes(self):
+        """By the seconds of the page, as much longer as the toolchain's first library took here."""
+        page = "| Crate | Proofs | Tests | Edits | All |\n|---|---|---|---|---|\n| low | 60 | 1 | 2 | 63 |\n"
+        page += "| inp_main | 30 | 0 | 0 | 30 |\n\nThe toolchain's first library took 2.0 seconds in the same run.\n"
+        measured = "by bench/gate_cost's measure of this machine"
+        self.assertEqual(f"some 2 minutes {measured}", time_text(page, ["low", "inp_main"], 2.0))
+        self.assertEqual(f"some 6 minutes {measured}", time_text(page, ["low", "inp_main"], 8.0))
+        self.assertEqual(f"some 1 minutes {measured}", time_text(page, ["inp_main"], 0.1))
+        for text, crates, here in ((page, ["low", "other"], 2.0), (page, ["low"], None), ("", ["low"], 2.0)):
+            self.assertEqual(RECKONED, time_text(text, crates, here))
 
     def test_a_build_that_fails(self):
         status, written, lines = self.run_tree("bin/inputplay", "x.rec", FAILS="middle")
@@ -161,6 +191,8 @@ class Inputplay(TreeCase):
         self.assertIn("usage: bin/inputplay [--unproved]", written)
 
     def test_needed_crates(self):
+        order = in_order(needed_crates(CRATES))
+        self.assertEqual(("low", {"middle", "aside"}, "inp_main"), (order[0], set(order[1:3]), order[3]))
         self.assertEqual({"low": [], "middle": ["low"], "aside": ["low"], "inp_main": ["middle", "aside"]}, needed_crates(CRATES))
         crates = needed_crates((TOP / "crates.txt").read_text())
         self.assertEqual("inp_main", list(crates)[-1])

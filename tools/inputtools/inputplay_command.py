@@ -12,9 +12,9 @@ from inputtools.unproved import play
 HELP = """usage: bin/inputplay [--unproved] WORDS ..
 
 Runs the program with these words: crates/inp_main/out/inp_main of this repository. Where it is not there, it is
-proved and built first, once, without the tests and the edits of the gate: that is reckoned to be a fifth of
-the gate's work, ten minutes on four processors. What is proved is kept, so a build that was stopped goes on.
-On a terminal it says how far it is.
+proved and built first, once, without the tests and the edits of the gate. It says before how long that takes, by
+what bench/gate_cost measures of this machine; without that it is reckoned to be ten minutes on four processors.
+On a terminal it asks before, and says how far it is. What is proved is kept, so a build that was stopped goes on.
 
 With --unproved as the first word a record is played at once, without proof: by the second program, which is
 in Python (second) and plays on one thread. The tests compare its reports with the program's. With any
