@@ -2,6 +2,7 @@
 
 import contextlib
 import io
+import sys
 import unittest
 from unittest import mock
 

@@ -5,7 +5,7 @@ and shares no code with the first. Both must write the same report, byte for byt
 """
 
 
-from tests.playing import TOP, FolderCase, assert_run, run
+from tests.playing import FolderCase, assert_run, run
 
 from second.model import play
 from checks.random_records import Generator

@@ -6,7 +6,7 @@ on one thread by a second program (second/replay.py), which has to give the same
 
 import unittest
 
-from tests.playing import EXAMPLES, RECORDS, TOP, FolderCase, assert_run, needs_program, run
+from tests.playing import EXAMPLES, RECORDS, FolderCase, assert_run, needs_program, run
 
 from checks.random_records import Generator
 from second.replay import Differs, check

@@ -1,8 +1,6 @@
 """The wrong versions that the gate and checks/try_wrong try stand where they say, each once; and what the script says of an end."""
 
 import os
-import re
-import shutil
 import subprocess
 import unittest
 

@@ -9,7 +9,6 @@ when the device was described, the slot that was announced, and settings of the 
 """
 
 import os
-import re
 from typing import Dict, Iterator, List, NamedTuple, Optional, Sequence, Set, Tuple
 
 from inputtools import raw
