@@ -2,6 +2,8 @@
 
 
 
+
+
 from typing import Any, Callable, Dict, List, Optional, Sequence, Set, Tuple
 
 from second.names import ABS, KEY, LED, MSC, REL, REP, SND, SW, SYN
@@ -87,10 +89,6 @@ class Filter:
     def __init__(self, form: str, *words: int) -> None:
         self.form, self.words = form, words
         self.given: List[Tuple[Event, int, bool]] = []
-        self.forms: Dict[str, Callable[..., bool]] = {
-            "eat": self.eats_by_eat, "norepeat": self.eats_by_norepeat, "chord": self.eats_by_chord,
-            "bounce": self.eats_by_bounce,
-        }
 
     def of_key(self, key: int, end: int) -> List[int]:
         """The places of the events on a key before this place, the newest first."""
@@ -116,7 +114,7 @@ class Filter:
     def eats(self, event: Event, now: int) -> bool:
         """Takes an event, and answers whether it is eaten."""
         self.given.append((event, now, False))
-        is_eaten = self.forms[self.form](event, *self.words)
+        is_eaten = FORMS[self.form](self, event, *self.words)
         self.given[-1] = (event, now, is_eaten)
         return is_eaten
 
@@ -143,6 +141,12 @@ class Filter:
             if value == 0 and not is_eaten:
                 return moment <= self.given[press][1] < moment + micros
         return False
+
+
+FORMS: Dict[str, Callable[..., bool]] = {
+    "eat": Filter.eats_by_eat, "norepeat": Filter.eats_by_norepeat, "chord": Filter.eats_by_chord,
+    "bounce": Filter.eats_by_bounce,
+}
 
 
 class Client:
@@ -222,13 +226,6 @@ class Device:
         self.opens = self.ends = 0
         self.filters = [Filter(*words) for words in caps.filters]
         self.outputs = Outputs(caps.log)
-        # (what a step does that has more to reply than that it is done)
-        self.ways: Dict[str, Callable[[str, Words, int], Answer]] = {
-            "open": self.do_open, "read": self.do_read, "discard": self.do_discard, "getkeys": self.do_getkeys,
-            "getswitches": self.do_getswitches, "getleds": self.do_getleds, "getsounds": self.do_getsounds,
-            "getaxis": self.do_getaxis, "setaxis": self.do_setaxis, "getslots": self.do_getslots,
-            "syncslots": self.do_syncslots, "mask": self.do_mask, "clock": self.do_clock,
-        }
 
     # The core
 
@@ -379,7 +376,10 @@ class Device:
             return ("refused", place, why), None
         self.history.append(step)
         op, *words = step
-        return self.ways.get(op, self.do_plain)(op, words, place)
+        # (a device of another kind may open its clients otherwise)
+        if op == "open":
+            return self.do_open(op, words, place)
+        return WAYS.get(op, Device.do_plain)(self, op, words, place)
 
     def do_plain(self, op: str, words: Words, place: int) -> Answer:
         if op == "inject" and not self.inhibited:
@@ -473,3 +473,12 @@ class Device:
             if client.queue:
                 client.queue = [((SYN, DROPPED, 0), now + self.caps.offsets[clock], place)]
         return ("done", place), None
+
+
+# What a step does that has more to reply than that it is done.
+WAYS: Dict[str, Callable[[Device, str, Words, int], Answer]] = {
+    "read": Device.do_read, "discard": Device.do_discard, "getkeys": Device.do_getkeys,
+    "getswitches": Device.do_getswitches, "getleds": Device.do_getleds, "getsounds": Device.do_getsounds,
+    "getaxis": Device.do_getaxis, "setaxis": Device.do_setaxis, "getslots": Device.do_getslots,
+    "syncslots": Device.do_syncslots, "mask": Device.do_mask, "clock": Device.do_clock,
+}

@@ -74,12 +74,10 @@ class Actor:
         self.name, self.role, self.device = name, role, device
         self.sight: List[str] = []
         self.accepted, self.stop = 0, "finished"
-        self.ways: Dict[str, Callable[[List[str], Streams], None]] = {
-            "source": self.do_source, "tap": self.do_tap, "client": self.do_client, "joy": self.do_joy,
-            "owner": self.do_owner,
-        }
         self.reader, self.view, self.client = Reader(device.caps), View(device.caps), NO_CLIENT
         self.joystick = Joystick(device.caps)
+        # (how many events or records the present line has handed out)
+        self.handed = 0
 
     def see(self, step: Step, reply: Reply) -> None:
         if reply[0] == "again":
@@ -95,9 +93,28 @@ class Actor:
         event, time, place = item
         self.sight.append(f"took {place} {time} {event_text(event)}")
 
+    def see_handed(self, what: str, values: Sequence[Any]) -> None:
+        """Sees what the reader handed out."""
+        if what == "took":
+            self.see_taken(values[0])
+        elif what == "made":
+            self.sight.append(f"made {event_text(values[0])}")
+
+    def see_record(self, answer: Any) -> None:
+        """Sees what a joystick's read answers."""
+        if isinstance(answer, tuple):
+            self.sight.append("js " + " ".join(map(str, answer)))
+
+    def see_feedback(self, at: int, events: List[Event]) -> None:
+        self.sight += [f"feedback {at} {len(events)}"] + [f"fed {event_text(event)}" for event in events]
+
     def do(self, words: List[str], streams: Streams) -> None:
         if self.stop == "finished":
-            self.ways[self.role](words, streams)
+            ways: Dict[str, Callable[[List[str], Streams], None]] = {
+                "source": self.do_source, "tap": self.do_tap, "client": self.do_client, "joy": self.do_joy,
+                "owner": self.do_owner,
+            }
+            ways[self.role](words, streams)
 
     def do_source(self, words: List[str], streams: Streams) -> None:
         for step in source_steps(words, streams):
@@ -166,20 +183,17 @@ class Actor:
             self.see(step, reply)
 
     def hand_out(self, command: str, bound: Optional[int]) -> None:
-        handed = 0
-        while bound is None or handed < bound:
+        while bound is None or self.handed < bound:
             in_sync_mode = command != "skip" and self.reader.phase != "plain"
             what, *values = self.reader.next(self.device, in_sync_mode)
             if command == "follow" and what == "end" and self.waits_on(self.reader.calls[-1][1]):
                 continue
             self.see_calls(self.reader.calls)
             if what == "end":
-                return
-            if what == "took":
-                self.see_taken(values[0])
-            elif what == "made":
-                self.sight.append(f"made {event_text(values[0])}")
-            handed += what != "synced"
+                break
+            self.handed += what != "synced"
+            self.see_handed(what, values)
+        self.handed = 0
 
     def do_joy(self, words: List[str], _: Streams) -> None:
         step = self.single_step(self.joystick.reader.client, words)
@@ -193,22 +207,21 @@ class Actor:
             self.read_records(number(words[1]))
 
     def read_records(self, bound: int) -> None:
-        handed = 0
-        while handed < bound:
+        while self.handed < bound:
             answer = self.joystick.read(self.device)
             self.see_calls(self.joystick.calls)
             if answer == "end":
-                return
-            if isinstance(answer, tuple):
-                self.sight.append("js " + " ".join(map(str, answer)))
-                handed += 1
+                break
+            self.handed += isinstance(answer, tuple)
+            self.see_record(answer)
+        self.handed = 0
 
     def do_owner(self, words: List[str], _: Streams) -> None:
         at, events = self.device.feedback(number(words[1]))
         if events is None:
             self.stop = f"full {at}"
         else:
-            self.sight += [f"feedback {at} {len(events)}"] + [f"fed {event_text(event)}" for event in events]
+            self.see_feedback(at, events)
 
     def waits_on(self, reply: Reply) -> bool:
         """Whether a follow goes on behind its last call's reply. On one thread it never does."""

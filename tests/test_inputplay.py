@@ -242,7 +242,8 @@ class Install(TreeCase):
         (self.folder / "here").rename(moved)
         record = self.file("x.rec", "inputrecord 1\n#= status 0\ndevice d\n")
         for words, wanted in ((["inputplay", record], "device d steps 0\n"), (["inputplay-play", record], "device d steps 0\n"),
-                              (["inputplay-check", record], "1 of 1 expectation held, in 1 record\n")):
+                              (["inputplay-check", record], "1 of 1 expectation held, in 1 record\n"),
+                              (["inputplay-explore", "--fail", record], "")):
             with self.subTest(words[0]):
                 self.assertEqual((0, wanted), self.run_installed(moved / "bin" / words[0], *words[1:])[:2])
 

@@ -1,5 +1,6 @@
 """Writes the lines of a record that describe a device, from what a usual tool tells of it."""
 
+
 from typing import List
 
 from inputtools import files, jsonlines
@@ -14,12 +15,13 @@ FILE is one of these, and which one is seen by its content:
   - what evtest prints (timeout 1 evtest /dev/input/event5 > FILE)
   - what evemu-describe or evemu-record write
   - a recording of libinput record
-  - /proc/bus/input/devices, which tells no ranges of axes and no slots
+  - /proc/bus/input/devices, or udevadm info -a /dev/input/event5, which tell no ranges of axes and no slots
   - the lines of a record
 
 The hint is the kernel's own estimate of the events of a frame. Fuzz is written as 0, since a kernel has
-applied it to each capture already. Comments tell what was left out: properties, force feedback, codes that
-no record has. Comments `# state TYPE CODE VALUE` tell what was on, which `tools/record` reads.
+applied it to each capture already. Comments behind the line `device` tell who it is: its name, phys, uniq, ids and
+properties, as far as FILE does. Others tell what was left out: force feedback, codes that no record has. Comments
+`# state TYPE CODE VALUE` tell what was on, which `tools/record` reads.
 """
 
 STATUSES = """Status 0: it was written. 2: wrong words, or a file that describes no device. 4: standard output failed. 130:

@@ -4,9 +4,10 @@ import re
 from typing import Dict, List, Optional, Tuple
 
 from inputtools.command import Wrong
+from inputtools.identity import Identity, is_property_named
 from inputtools.names import (
     ABS, GREATEST, KEY, LED, NOT_IN_A_RECORD, REL, REP, SLOT, SW, TRACKING_ID, code_text, is_in_a_record,
-    is_slot_value, kernel_kind_text, kind_text, property_text,
+    is_slot_value, kernel_kind_text, kind_text,
 )
 from inputtools.recording import Axis
 from inputtools.recording import Device
@@ -92,9 +93,16 @@ def is_brought_by_slots(device: Device, code: int, axis: Axis) -> bool:
     return code == SLOT or (code == TRACKING_ID and axis in (Axis(axis.value, 0, 65535), Axis(None)))
 
 
+def identity_of(device: Device) -> Identity:
+    """Who the device is, as its description tells. (The name in a record is one that the record made.)"""
+    told = device.identity
+    name = told.name if device.form == "a record" else device.name
+    return Identity(name, told.phys, told.uniq, told.ids, device.properties)
+
+
 def description_lines(device: Device, name: str, is_raw: bool = False) -> List[str]:
-    """`device`, `hint`, `slots`, and what the device has."""
-    lines = [f"device {name}", f"hint {hint_of(device)}"] + device.other_lines
+    """`device`, who it is, `hint`, `slots`, and what the device has."""
+    lines = [f"device {name}", *identity_of(device).lines(), f"hint {hint_of(device)}"] + device.other_lines
     if slots_of(device):
         lines.append(f"slots {slots_of(device)}")
     for kind in sorted(device.codes):
@@ -126,7 +134,7 @@ def state_lines(device: Device) -> List[str]:
 
 def comments(device: Device, is_raw: bool = False) -> List[str]:
     """What the description does not tell."""
-    said = [f'"{device.name}", described by {device.form}'] if device.name else []
+    said = [f"described by {device.form}"] if device.name else []
     if not device.has_ranges:
         said += what_procfs_lacks(device)
     said += left_out(device) + limits(device)
@@ -144,9 +152,9 @@ def what_procfs_lacks(device: Device) -> List[str]:
 
 def left_out(device: Device) -> List[str]:
     said = []
-    if device.properties:
-        names = [property_text(number) for number in sorted(set(device.properties))]
-        said.append(" ".join(["left out:"] + names))
+    unnamed = sorted(number for number in set(device.properties) if not is_property_named(number))
+    if unnamed:
+        said.append(" ".join(["left out: properties"] + [str(number) for number in unnamed]))
     for kind in sorted(device.codes):
         codes = sorted(code for code in device.codes[kind] if not is_in_a_record(kind, code))
         if codes or kind in NOT_IN_A_RECORD:

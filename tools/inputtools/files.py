@@ -3,7 +3,7 @@
 import re
 from typing import Callable, List, Optional, TypeVar
 
-from inputtools import evemu, evtest, kinds, libinput, procfs, raw, record, source
+from inputtools import evemu, evtest, kinds, libinput, procfs, raw, record, source, udevadm
 from inputtools.command import Wrong
 from inputtools.progress import progress
 from inputtools.recording import Recording
@@ -13,10 +13,12 @@ FORMS = [
     (evemu.is_evemu, evemu.parse),
     (libinput.is_libinput, libinput.parse),
     (procfs.is_procfs, procfs.parse),
+    (udevadm.is_udevadm, udevadm.parse),
     (record.is_record, record.parse),
     (evtest.is_evtest, evtest.parse),
 ]
-KNOWN = "evtest's output, an evemu file, a recording of libinput, /proc/bus/input/devices, a record's lines"
+KNOWN = ("evtest's output, an evemu file, a recording of libinput, /proc/bus/input/devices, udevadm info, "
+         "a record's lines")
 GREATEST_SIZE = 1 << 28
 
 Read = TypeVar("Read")

@@ -7,13 +7,16 @@ from typing import List
 from inputtools.building import build, is_built
 from inputtools.command import Result, Words, Wrong
 from inputtools.program import BUILT, REPOSITORY
+from inputtools.runbuild import SERVER, SHIM
 
 HELP = """Installs inputplay below PREFIX, /usr/local for example:
 
   PREFIX/bin/inputplay                   the program
   PREFIX/bin/inputplay-record, ..        the tools, each by its name in tools/ behind inputplay-
   PREFIX/lib/inputplay/tools/            the tools' files, in Python
-  PREFIX/lib/inputplay/second/           the second program, which plays where the first one is not there
+  PREFIX/lib/inputplay/out/run/          what inputplay-run starts and loads, where tools/build --run made it
+  PREFIX/lib/inputplay/second/           the second program, whose device tools/explore has, and which plays
+                                         where the first one is not there
   PREFIX/share/man/man1/inputplay.1      the manual page
 
 With --library it puts there instead what tools/build --library made, for programs in C and what calls C:
@@ -43,6 +46,7 @@ exec "$here/../lib/inputplay/tools/{tool}" "$@"
 
 NOT_INSTALLED = ("build", "install")
 LIBRARY = os.path.join(REPOSITORY, "out", "library")
+RUN = os.path.join(REPOSITORY, "out", "run")
 
 
 # The packages in Python, with the files that they read.
@@ -117,6 +121,10 @@ def install_library(prefix: str) -> List[str]:
     return installer.written
 
 
+def is_built_for_run(name: str) -> bool:
+    return os.path.isfile(os.path.join(RUN, name))
+
+
 def install(prefix: str, program: str) -> List[str]:
     """Installs all but the library; the files that were written."""
     installer = Installer(prefix)
@@ -128,6 +136,8 @@ def install(prefix: str, program: str) -> List[str]:
             installer.put(LAUNCHER.format(tool=tool).encode(), "bin", f"inputplay-{tool}", is_program=True)
         for package in PACKAGES:
             installer.copy_all(os.path.join(REPOSITORY, *package), "lib", "inputplay", *package)
+        for name in filter(is_built_for_run, (SERVER, SHIM)):
+            installer.copy(os.path.join(RUN, name), "lib", "inputplay", "out", "run", name, is_program=True)
         installer.copy(os.path.join(REPOSITORY, "docs", "inputplay.1"), "share", "man", "man1", "inputplay.1")
     except OSError as fault:
         raise Wrong(f"{fault.filename}: {fault.strerror}") from None

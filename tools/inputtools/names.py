@@ -67,10 +67,6 @@ def is_in_a_record(kind: int, code: int) -> bool:
     return kind in GREATEST and code <= GREATEST[kind] and (kind, code) != (KEY, 0)
 
 
-def property_text(number: int) -> str:
-    return f"INPUT_PROP_{PROPERTIES[number]}" if number < len(PROPERTIES) else str(number)
-
-
 def kernel_kind_text(kind: int) -> str:
     """The name of a type, also of one that a record does not have."""
     return NOT_IN_A_RECORD.get(kind, kind_text(kind))

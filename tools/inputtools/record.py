@@ -14,6 +14,7 @@ from typing import Dict, Iterator, List, NamedTuple, Optional, Sequence, Set, Tu
 from inputtools import raw
 from inputtools.command import Wrong, at_line
 from inputtools.filters import Filter, filters_of
+from inputtools.identity import Identity, identities_of
 from inputtools.names import (
     ABS, KEY, LED, REP, SLOT, SW, TYPES, code_text, is_in_a_record, is_slot_value, number_of_code, number_of_kind,
 )
@@ -255,7 +256,14 @@ def descriptions_of(text: str) -> List[Description]:
                 parsers[-1].take(line.words)
         except Wrong as wrong:
             raise at_line(line.number - 1, f"{wrong}: {line.text.strip()[:60]}") from None
+    give_identities([parser.device for parser in parsers], identities_of(text))
     return [parser.finished() for parser in parsers]
+
+
+def give_identities(devices: List[Description], identities: List[Identity]) -> None:
+    """Tells each device who it is. (Lines before the first line `device` are of a device without one.)"""
+    for device, identity in zip(devices[len(devices) - len(identities) :], identities):
+        device.identity, device.properties = identity, identity.properties
 
 
 def parse(text: str) -> List[Recording]:

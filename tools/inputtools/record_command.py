@@ -8,6 +8,7 @@ from inputtools import files
 from inputtools.command import Result, Words, Wrong
 from inputtools.description import name_of
 from inputtools.evtest import WHY_GRABBED
+from inputtools.identifying import identify
 from inputtools.merge_devices import MergedRecord
 from inputtools.readers import FORM, micros_of, readers_of
 from inputtools.readers import Reader
@@ -88,6 +89,8 @@ def words_of() -> Words:
     words.add_argument("--to", dest="end", metavar="S", help="end at S seconds of the capture")
     words.add_argument("--name", metavar="NAME", help="the device's name in the record; else made of its own")
     words.add_argument("--device", metavar="N", help="of several the N-th, from 1, or the one of this name")
+    words.add_argument("--identity", metavar="FILE",
+                       help="take name, phys, uniq, ids and properties from this description too")
     words.add_argument("--all-devices", action="store_true", help="all devices of the files, in one record")
     words.add_argument("--stream", metavar="FILE", help="write the events to FILE, which the record names")
     words.add_argument("--16", dest="is_16", action="store_true", help="CAPTURE is raw, of 16 bytes a record")
@@ -112,6 +115,8 @@ def one_device(asked: argparse.Namespace, options: Options) -> Make:
     """What makes the record of one device, which was read."""
     recording = read_both(asked)
     assert recording.device is not None
+    if asked.identity:
+        identify(recording.device, asked.identity)
     name = name_of(recording.device, asked.name)
     return lambda: record_of(recording, name, readers_of(asked.reader), options)
 
@@ -119,7 +124,7 @@ def one_device(asked: argparse.Namespace, options: Options) -> Make:
 def all_devices(asked: argparse.Namespace, paths: List[str], options: Options) -> Make:
     """What makes the record of all devices of the files, which were read."""
     for word, is_there in (("--name", asked.name), ("--device", asked.device), ("--stream", asked.stream),
-                           ("--16", asked.is_16)):
+                           ("--16", asked.is_16), ("--identity", asked.identity)):
         if is_there:
             raise Wrong(f"{word} is of one device, and --all-devices of several")
     recordings = recordings_of(paths)

@@ -3,6 +3,7 @@
 from dataclasses import dataclass, field
 from typing import Dict, Iterable, List, NamedTuple, Optional, Set, Tuple
 
+from inputtools.identity import Identity
 from inputtools.names import KEY, LED, REP, SLOT, SW, SYN, event_text
 
 LEAST, GREATEST = -(2**31), 2**31 - 1
@@ -47,6 +48,7 @@ class Device:
     on: Dict[int, Set[int]] = field(default_factory=lambda: {KEY: set(), SW: set(), LED: set()})
     repeat: Dict[int, int] = field(default_factory=dict)  # the settings of EV_REP, in milliseconds
     properties: List[int] = field(default_factory=list)
+    identity: Identity = field(default_factory=Identity)
     has_ranges: bool = True
     # Told by the lines of a record alone.
     hint: Optional[int] = None

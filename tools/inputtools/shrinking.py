@@ -11,7 +11,7 @@ import shlex
 import shutil
 import subprocess
 import tempfile
-from typing import Callable, Dict, Iterable, List, NamedTuple, Optional
+from typing import Callable, Dict, Iterable, List, NamedTuple, Optional, TypeVar
 
 from inputtools.command import Wrong, counted
 from inputtools.expectations import words_of as words_of_expectation
@@ -20,6 +20,8 @@ from inputtools.record import line_of, stream_names
 from inputtools.source import Given, fault_text
 
 PLACE = "{}"
+
+Piece = TypeVar("Piece")
 TEXT_LIMIT = 16777216
 
 
@@ -114,15 +116,16 @@ def text_of(parts: Iterable[Iterable[str]]) -> str:
     return "".join(line + "\n" for part in parts for line in part)
 
 
-def shorter(parts: List[List[str]], keeps: Callable[[str], bool], tell: Callable[[int], None]) -> List[List[str]]:
-    """The parts without which the status would be another one."""
+def shorter(parts: List[Piece], keeps: Callable[[List[Piece]], bool],
+            tell: Callable[[int], None]) -> List[Piece]:
+    """The parts that are left once no one can be left out alone, as long as what is kept stays."""
     count = 2
     while parts:
         size = -(-len(parts) // count)
         begin, is_shorter = 0, False
         while begin < len(parts):
             rest = parts[:begin] + parts[begin + size :]
-            if keeps(text_of(rest)):
+            if keeps(rest):
                 parts, is_shorter = rest, True
                 tell(len(parts))
             else:
@@ -158,7 +161,7 @@ def shrink(given: Given, text: str, words: List[str], seconds: float, says: Opti
             return Shrunk(text, status, command.runs)
         lines = lines_of_streams(given, lines, keeps)
         for what, parts_of in (("frames", frames_of), ("lines", lambda lines: [[line] for line in lines])):
-            parts = shorter(parts_of(lines), keeps, lambda count: tell(what, count, command.runs))
+            parts = shorter(parts_of(lines), lambda parts: keeps(text_of(parts)), lambda count: tell(what, count, command.runs))
             lines = [line for part in parts for line in part]
         return Shrunk(text_of([lines]), status, command.runs)
 

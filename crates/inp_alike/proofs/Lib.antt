@@ -1,0 +1,9 @@
+mod Items
+mod Cuts
+mod Pointwise
+mod Raws
+mod Filters
+mod OnEvents
+mod Queues
+mod Answered
+mod Later

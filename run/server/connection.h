@@ -1,0 +1,28 @@
+/* A connection of a program's shim: takes its requests and answers them. */
+#ifndef INPUTPLAY_RUN_CONNECTION_H
+#define INPUTPLAY_RUN_CONNECTION_H
+
+#include <poll.h>
+#include <stdbool.h>
+#include <sys/types.h>
+
+enum connection_limit { CONNECTIONS = 128 };
+
+struct connection {
+    int descriptor;
+    pid_t process; /**< Who connected. */
+};
+
+extern struct connection connections[CONNECTIONS];
+extern int connection_count;
+
+/** A socket that programs connect to, in the folder of the run. */
+int listen_for_programs(void);
+
+/** Takes a new connection, and what it asks first. Where there are too many the oldest is closed. */
+void connection_accept(int listening);
+
+/** Takes a request and answers it; closes the connection at its end, or after rubbish. */
+void connection_serve(int index);
+
+#endif

@@ -1,0 +1,21 @@
+/* The clock that a run goes by. */
+#ifndef INPUTPLAY_RUN_MOMENTS_H
+#define INPUTPLAY_RUN_MOMENTS_H
+
+#include <stdint.h>
+#include <time.h>
+
+/** The time of a clock, in microseconds. */
+uint64_t clock_us(clockid_t clock);
+
+/** The monotonic clock, in microseconds. */
+uint64_t now_us(void);
+
+/** The moment of a step that is made now: the clock's, or the one of the line that was played last (--clock
+ * record). */
+uint64_t step_moment(void);
+
+/** Says the moment of the line that is played now. */
+void set_line_moment(uint64_t moment);
+
+#endif

@@ -1,0 +1,44 @@
+/* Plays the record's lines: by their times, or so many frames wherever all programs wait. */
+#ifndef INPUTPLAY_RUN_PLAYER_H
+#define INPUTPLAY_RUN_PLAYER_H
+
+#include "client.h"
+
+#include <stdbool.h>
+#include <stdint.h>
+#include <sys/types.h>
+
+/** Plays the lines that stand before the program's first open: its devices are as the record has them then. */
+void player_begin(void);
+
+/** Plays what is due. Gives the time at which it is to be called again (of now_us()), UINT64_MAX where only
+ * requests matter. */
+uint64_t player_turn(void);
+
+/** A process is going to wait. Where all do, frames come. True where it is to end instead, by
+ * ending_signal(). */
+bool player_wait(pid_t process);
+
+/** A client's read found nothing: 0 where frames came and it is to look again, or a negative errno. */
+int player_wait_in_read(struct client *client);
+
+/** A file was opened. */
+void player_note_open(void);
+
+/** A program did something, so it is not at rest. */
+void player_note_active(void);
+
+/** Where programs have read all there is: the time at which they will have been at rest for long enough.
+ * (player.c) */
+uint64_t rest_at(void);
+
+/** Plays the ticks of autorepeats that are due; gives when the next one is. (repeats.c) */
+uint64_t repeats_play(void);
+
+/** Plays frames until a program's client has lost events, or no line is left. (losses.c) */
+bool has_client_lost(void);
+
+/** Whether the first loss that is wanted is to come now. (losses.c) */
+bool is_loss_due(void);
+
+#endif

@@ -1,0 +1,31 @@
+/* The processes that have asked something, and which of them wait. */
+#ifndef INPUTPLAY_RUN_PROCESS_H
+#define INPUTPLAY_RUN_PROCESS_H
+
+#include <stdbool.h>
+#include <stdint.h>
+#include <sys/types.h>
+
+enum process_limit { PROCESSES = 64 };
+
+struct process {
+    pid_t id;              /**< 0: the place is free. */
+    bool is_waiting;       /**< It has said so, and asked nothing since. */
+    uint64_t asked_us;     /**< When it asked last. */
+    uint64_t signalled_us; /**< When it was sent a signal last, or 0. */
+};
+
+/** The place of a process, which may be a new one; NULL where none is left. */
+struct process *process_of(pid_t id);
+
+/** Whether each process that used an open file last waits, and has read all. There is such a file. */
+bool all_processes_wait(void);
+
+/** Whether there are open files, and nothing is left to read in any of them. */
+bool is_all_read(void);
+
+/** Whether this process used an open file last, and if so whether one of them has something to read. */
+enum possession { HAS_NO_FILE, HAS_READ_ALL, HAS_SOMETHING_TO_READ };
+enum possession files_of(pid_t id);
+
+#endif
