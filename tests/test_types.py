@@ -2,9 +2,8 @@
 
 import shutil
 import subprocess
-import unittest
 
-from tests.playing import TOP
+from tests.playing import TOP, FolderCase
 
 PACKAGES = ("inputtools", "second")
 HELPERS = ("tests.playing", "tests.desk_cases")
@@ -18,22 +17,30 @@ def modules():
     return [*(f"checks.{name}" for name in names), *HELPERS]
 
 
-def scripts():
-    """The files that Python runs as scripts."""
-    for folder in SCRIPTS:
-        for path in sorted((TOP / folder).iterdir()):
-            if path.is_file() and not path.suffix and path.read_bytes().startswith(b"#!/usr/bin/env python3"):
-                yield str(path.relative_to(TOP))
+def scripts(folder):
+    """The files of a folder that Python runs as scripts."""
+    for path in sorted((TOP / folder).iterdir()):
+        if path.is_file() and not path.suffix and path.read_bytes().startswith(b"#!/usr/bin/env python3"):
+            yield str(path.relative_to(TOP))
 
 
-class Types(unittest.TestCase):
-    def test_mypy(self):
+class Types(FolderCase):
+    def mypy(self, *words):
+        """It has nothing to say."""
+        done = subprocess.run(["mypy", "--config-file", "tests/mypy.ini", "--cache-dir", self.folder, *words], cwd=TOP,
+                              capture_output=True, text=True, check=False)
+        self.assertEqual((0, ""), (done.returncode, done.stderr), done.stdout)
+
+    def setUp(self):
+        super().setUp()
         if shutil.which("mypy") is None:
-            print("not made: the check of types: mypy is not there", flush=True)
-            return
-        named = [word for name in PACKAGES for word in ("-p", name)] + [word for name in modules() for word in ("-m", name)]
-        for words in (named, ["--scripts-are-modules", *scripts()]):
-            with self.subTest(words[0]):
-                done = subprocess.run(["mypy", "--config-file", "tests/mypy.ini", *words], cwd=TOP,
-                                      capture_output=True, text=True, check=False)
-                self.assertEqual((0, ""), (done.returncode, done.stderr), done.stdout)
+            self.skipTest("mypy is not there")
+
+    def test_modules(self):
+        packages = [word for name in PACKAGES for word in ("-p", name)]
+        self.mypy(*packages, *(word for name in modules() for word in ("-m", name)))
+
+    def test_scripts(self):
+        for folder in SCRIPTS:
+            with self.subTest(folder):
+                self.mypy("--scripts-are-modules", *scripts(folder))
