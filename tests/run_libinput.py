@@ -3,8 +3,8 @@
 import subprocess
 from typing import List
 
-from run_cases import EXAMPLES, RunCase, needs, sent, variables
-from run_readers import AT_ONCE, NODE, STEPS
+from tests.run_cases import EXAMPLES, RunCase, needs, sent, variables
+from tests.run_readers import AT_ONCE, NODE, STEPS
 
 from tests.playing import TOP
 

@@ -3,7 +3,7 @@
 import subprocess
 from typing import Dict, List, Tuple
 
-from run_cases import RunCase, needs, variables
+from tests.run_cases import RunCase, needs, variables
 
 from tests.playing import TOP
 

@@ -6,7 +6,7 @@ import subprocess
 from tests.playing import TOP, FolderCase
 
 PACKAGES = ("inputtools", "second")
-HELPERS = ("tests.playing", "tests.desk_cases")
+HELPERS = ("tests.playing", "tests.desk_cases", "tests.page_commands")
 # The scripts have no ending by which mypy would find them; it takes each as a module of its own name.
 SCRIPTS = ("tools", "bin", "checks", "tests")
 
