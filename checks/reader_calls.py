@@ -21,7 +21,7 @@ CONFIG, REPORT = (SYN, 1), (SYN, 0, 0)
 ENDS = {"again": 3, "no-device": 5, "bad-client": 6, "log-full": 7}
 JOY_ENDS = {"again": 2, "no-device": 3, "bad-client": 4, "log-full": 5}
 
-Event = Tuple[int, int, int, int, int]
+Event = Tuple[Any, ...]
 NO_EVENT: Event = (0, 0, 0, 0, 0)
 
 

@@ -9,18 +9,17 @@ from math import comb
 from pathlib import Path
 
 TOP = Path(__file__).resolve().parents[1]
-sys.path[:0] = [str(TOP), str(TOP / "tools")]
 
 from inputtools.explored_ends import (
     READS,
     differences,
     things_at,
-)  # noqa: E402  (the folders have to be on the path)
-from inputtools.explored_record import ExploredRecord  # noqa: E402
-from inputtools.exploring import Asked, Problem  # noqa: E402
-from inputtools.exploring_graph import Counts, Graph  # noqa: E402
-from second.model import run  # noqa: E402
-from second.reader import NO_CLIENT  # noqa: E402
+)
+from inputtools.explored_record import ExploredRecord
+from inputtools.exploring import Asked, Problem
+from inputtools.exploring_graph import Counts, Graph
+from second.model import run
+from second.reader import NO_CLIENT
 
 MOST_STATES, SECONDS = 10**6, 600
 

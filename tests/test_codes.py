@@ -6,7 +6,7 @@ header, and not from the program.
 
 from typing import List, NamedTuple
 
-from playing import TOP, FolderCase, run
+from tests.playing import TOP, FolderCase, run
 
 HEAD = "inputrecord 2\ndevice d\nsource s\n"
 

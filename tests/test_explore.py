@@ -7,8 +7,8 @@ import signal
 import subprocess
 import unittest
 
-from desk_cases import DeskCase, heed_stops
-from explore_cases import TOP, counted_things, explored_record, things_of, whole_graph
+from tests.desk_cases import DeskCase, heed_stops
+from tests.explore_cases import TOP, counted_things, explored_record, things_of, whole_graph
 from inputtools.explored_record import units_of
 from inputtools.exploring_graph import Graph
 

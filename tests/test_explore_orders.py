@@ -7,7 +7,7 @@ By hand `compare_by_seed` of `tests/explore_cases.py` compared more than 1,000 s
 
 import unittest
 
-from explore_cases import compare_by_seed
+from tests.explore_cases import compare_by_seed
 
 RECORDS, MOST_ORDERS = 40, 130
 

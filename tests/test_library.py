@@ -13,12 +13,8 @@ import sys
 import unittest
 from importlib.util import find_spec
 
-from playing import EXAMPLES, RECORDS, TOP, FolderCase
-
-sys.path.insert(0, str(TOP / "tests" / "library"))
-
-import declared  # noqa: E402  (tests/library has to be on the path first)
-import stamp  # noqa: E402
+from tests.library import declared, stamp
+from tests.playing import EXAMPLES, RECORDS, TOP, FolderCase
 
 BUILT = TOP / "out" / "library"
 ARCHIVE = TOP / "crates" / "inp_c" / "out" / "libinp_c.a"

@@ -6,7 +6,7 @@ replies"). A step that is refused is in no history, and the actor stops there.
 
 from typing import NamedTuple, Tuple
 
-from playing import FolderCase, run
+from tests.playing import FolderCase, run
 
 DEVICE = """inputrecord 1
 device pad

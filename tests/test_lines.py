@@ -6,7 +6,7 @@ a device has"). `tests/test_statuses.py` has each cause once; here are the bound
 
 from typing import List, NamedTuple, Optional, Tuple
 
-from playing import FolderCase, Run, run
+from tests.playing import FolderCase, Run, run
 
 VERSION_1 = "inputrecord 1\n"
 VERSION_2 = "inputrecord 2\n"

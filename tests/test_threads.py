@@ -4,12 +4,9 @@ The result of a record depends on the order in which the threads made their step
 on one thread by a second program (second/replay.py), which has to give the same report, byte for byte.
 """
 
-import sys
 import unittest
 
-from playing import EXAMPLES, RECORDS, TOP, FolderCase, assert_run, needs_program, run
-
-sys.path.insert(0, str(TOP))
+from tests.playing import EXAMPLES, RECORDS, FolderCase, assert_run, needs_program, run
 
 from checks.random_records import Generator
 from second.replay import Differs, check

@@ -2,14 +2,15 @@
 
 import os
 import re
+from typing import NamedTuple, Optional
 
 from inputtools.kinds import said_of
 from inputtools.raw import stream_fault
-from inputtools.recordfile import RECORD_SIZES
+from inputtools.record import line_of
 
 REFUSAL = re.compile(r"inputplay: line (\d+): ([a-z-]+)$")
 
-SLIPS = {
+REFUSAL_HINTS = {
     "not-text": "a byte that is no plain text: a letter with an accent, a curly quote, a no-break space",
     "bad-header": "the first line that is no comment must be `inputrecord 1` or `inputrecord 2`",
     "bad-line": (
@@ -64,47 +65,53 @@ SLIPS = {
 }
 
 
-def refused_line(written):
-    """The number of the line that was refused and the cause, or None."""
+class Refusal(NamedTuple):
+    """The number of the line that was refused, and the cause."""
+
+    line: int
+    cause: str
+
+
+def refused_line(written: str) -> Optional[Refusal]:
+    """What a message says of a line that is refused, or None."""
     match = REFUSAL.match(written.strip())
-    return (int(match[1]), match[2]) if match else None
+    return Refusal(int(match[1]), match[2]) if match else None
 
 
-def line_text(text, number):
+def line_text(text: str, number: int) -> str:
     """A line as it can be shown: what is no plain text is written as `?`, and a long line is cut."""
     line = text.split("\n")[number - 1].rstrip("\r")
     plain = "".join(char if " " <= char <= "~" else " " if char == "\t" else "?" for char in line)
     return plain if len(plain) <= 100 else plain[:97] + "..."
 
 
-def other_kind(text, cause):
+def other_kind(text: str, cause: str) -> Optional[str]:
     """What a file is that was played by mistake, or None."""
     is_other = cause in ("not-text", "bad-header", "bad-line")
     return said_of(text.encode("latin-1")) if is_other else None
 
 
-def hint_of(text, refused, folder):
+def hint_of(text: str, refused: Refusal, folder: str) -> str:
     """What is usually wrong with a line that was refused; of a stream what is wrong with its file."""
-    number, cause = refused
-    words = text.split("\n")[number - 1].split()
-    if cause == "bad-stream" and len(words) == 4 and words[2] in RECORD_SIZES:
+    cause = refused.cause
+    stream = line_of(refused.line, text.split("\n")[refused.line - 1]).stream
+    if cause == "bad-stream" and stream:
         try:
-            with open(os.path.join(folder, words[3]), "rb") as file:
-                fault = stream_fault(file.read(), RECORD_SIZES[words[2]])
+            with open(os.path.join(folder, stream.file), "rb") as file:
+                fault = stream_fault(file.read(), stream.size)
         except OSError:
             fault = None
-        return f"of {words[3]}: {fault}" if fault else SLIPS[cause]
-    return SLIPS.get(cause, "no hint")
+        return f"of {stream.file}: {fault}" if fault else REFUSAL_HINTS[cause]
+    return REFUSAL_HINTS.get(cause, "no hint")
 
 
-def refusal_text(text, written, status, folder):
+def refusal_text(text: str, written: str, status: int, folder: str) -> str:
     """One line on why a record was not played."""
     refused = refused_line(written)
     if refused is None:
         return f"{written.strip() or 'the program wrote nothing'} (status {status})"
-    number, cause = refused
-    other = other_kind(text, cause)
+    other = other_kind(text, refused.cause)
     if other:
         return other
-    shown = line_text(text, number).strip()
-    return f"line {number}: {cause}: {shown!r}: {hint_of(text, refused, folder)}"
+    shown = line_text(text, refused.line).strip()
+    return f"line {refused.line}: {refused.cause}: {shown!r}: {hint_of(text, refused, folder)}"

@@ -3,10 +3,14 @@ where events are lost. The page draws the ranges of places in which any of this 
 """
 
 from itertools import groupby
-from typing import NamedTuple
+from typing import List, NamedTuple, Sequence, Tuple
 
 from inputtools.command import counted
-from inputtools.told import name_of
+from inputtools.joysticks import JoyWalk
+from inputtools.owners import Owner
+from inputtools.places import Places
+from inputtools.played import Client, PlayedDevice, Reader
+from inputtools.stuck_text import name_of
 
 LEAST_RANGE = 200
 MOST_RANGES = 40
@@ -21,57 +25,57 @@ KINDS = {
     "meets": "{who} meets the device again in {what}",
 }
 
-# How many things are named, and how many happenings a text tells at most.
+# How many things are named, and how many entries a text tells at most.
 NAMED, TOLD = 3, 12
 
 
-class Happening(NamedTuple):
+class Entry(NamedTuple):
     place: int
     kind: str
     who: str
     what: str = ""
 
 
-def happenings_of_client(played, client):
+def entries_of_client(played: PlayedDevice, client: Client) -> List[Entry]:
     # (a joystick synchronises anew where it lost events)
-    lost = client.walk.synchronised if client.role == "joy" else client.walk.losses
-    found = [Happening(place, "loses", client.name) for place in lost]
+    lost = client.walk.synchronised if isinstance(client.walk, JoyWalk) else client.walk.losses
+    found = [Entry(place, "loses", client.name) for place in lost]
     for _, number in client.walk.clients:
         if number in played.handles.revokes:
-            found.append(Happening(played.handles.revokes[number], "revoked", client.name))
+            found.append(Entry(played.handles.revokes[number], "revoked", client.name))
         for grab in played.handles.grabs:
             if grab.client == number:
-                found.append(Happening(grab.begin, "grabs", client.name))
-                found += [Happening(grab.end, "ungrabs", client.name)] if grab.end is not None else []
+                found.append(Entry(grab.begin, "grabs", client.name))
+                found += [Entry(grab.end, "ungrabs", client.name)] if grab.end is not None else []
     return found
 
 
-def happenings_of_reader(played, reader):
+def entries_of_reader(played: PlayedDevice, reader: Reader) -> List[Entry]:
     """Where a client, a joystick or an owner parts from the device, and all else that happens to it."""
-    if reader.role == "owner":
-        found = [Happening(place, "loses", reader.name) for place, _ in reader.lost]
+    if isinstance(reader, Owner):
+        found = [Entry(sent.place, "loses", reader.name) for sent in reader.lost]
     else:
-        found = happenings_of_client(played, reader)
-    for parting in reader.partings:
-        name = name_of(reader, parting.thing)
-        found.append(Happening(parting.since or 0, "parts", reader.name, name))
-        if parting.met[1] is not None:
-            found.append(Happening(parting.met[1], "meets", reader.name, name))
+        found = entries_of_client(played, reader)
+    for divergence in reader.divergences:
+        name = name_of(reader, divergence.thing)
+        found.append(Entry(divergence.since or 0, "parts", reader.name, name))
+        if divergence.met_at is not None:
+            found.append(Entry(divergence.met_at, "meets", reader.name, name))
     return found
 
 
-def happenings(played):
+def timeline(played: PlayedDevice) -> List[Entry]:
     """All that happens on a device, by place. (What is told of the history's end is of its last place.)"""
     last = max(len(played.report.history) - 1, 0)
-    found = [one for reader in played.readers() for one in happenings_of_reader(played, reader)]
+    found = [one for reader in played.readers() for one in entries_of_reader(played, reader)]
     return sorted(one._replace(place=min(one.place, last)) for one in found)
 
 
-def between(found, begin, end):
+def between(found: Sequence[Entry], begin: int, end: int) -> List[Entry]:
     return [one for one in found if begin <= one.place < end]
 
 
-def ranges_of(found, begin, end):
+def ranges_of(found: Sequence[Entry], begin: int, end: int) -> List[Tuple[int, int]]:
     """The ranges of places, of one length, in which anything happens: at most 40, and none where one picture
     has all."""
     if end - begin <= LEAST_RANGE:
@@ -83,20 +87,20 @@ def ranges_of(found, begin, end):
     return [(first, min(first + length, end)) for first in firsts]
 
 
-def gravest(found):
+def gravest(found: Sequence[Entry]) -> str:
     """The kind that a range is marked with."""
     return min((one.kind for one in found), key=list(KINDS).index)
 
 
-def order(one):
+def order(one: Entry) -> Tuple[int, str]:
     return list(KINDS).index(one.kind), one.who
 
 
-def lines_of(found, at):
+def lines_of(found: Sequence[Entry], at: Places) -> List[str]:
     """What happens, in words: one line for each kind and client."""
     lines = []
-    for _, group in groupby(sorted(found, key=order), order):
-        group = list(group)
+    for _, entries in groupby(sorted(found, key=order), order):
+        group = list(entries)
         names = sorted({one.what for one in group})
         what = ", ".join(names[:NAMED])
         if len(names) > NAMED:
@@ -109,7 +113,7 @@ def lines_of(found, at):
     return lines
 
 
-def text_of(found, at):
+def text_of(found: Sequence[Entry], at: Places) -> str:
     """What happens, in one text that is no longer than can be read."""
     lines = lines_of(found, at)
     more = f"; and {len(lines) - TOLD} more" if len(lines) > TOLD else ""

@@ -1,11 +1,15 @@
 """Several devices that were captured by one clock, as one record."""
 
 import heapq
+from typing import Iterator, List, Optional, Tuple
 
 from inputtools import files
 from inputtools.command import Wrong
 from inputtools.description import name_of
 from inputtools.readers import DRIVER, Acts, readers_of
+from inputtools.readers import Reader
+from inputtools.recording import Recording
+from inputtools.writing import Options, Record, Written
 from inputtools.writing import record_of, text_of
 
 MOST_DEVICES = 8
@@ -14,14 +18,14 @@ MOST_DEVICES = 8
 ONE_CLOCK, ONE_CLOCK_IN_A_FILE = "evtest", "libinput record"
 
 
-class Together:
+class MergedRecord:
     """The records of several devices, each with its own driver and readers, as one record."""
 
-    def __init__(self, records):
+    def __init__(self, records: List[Record]) -> None:
         self.records = records
         self.notes = [f"{record.name}: {note}" for record in records for note in record.notes]
 
-    def lines(self):
+    def lines(self) -> Iterator[str]:
         """Frames stand in the order of their times, and at one time in that of the devices."""
         acts = Acts([reader for record in self.records for reader in record.readers])
         yield f"inputrecord {max(record.version() for record in self.records)}"
@@ -39,16 +43,16 @@ class Together:
             for reader in record.readers:
                 yield from reader.lines_at_the_end()
 
-    def frames(self):
+    def frames(self) -> Iterator[Tuple[Written, Record]]:
         """All frames by time, each with its record. (Those of one device keep their order.)"""
         ways = [in_order(number, record) for number, record in enumerate(self.records)]
         return ((frame, self.records[number]) for _, number, _, frame in heapq.merge(*ways))
 
-    def text(self):
+    def text(self) -> str:
         return text_of(self.lines())
 
 
-def in_order(number, record):
+def in_order(number: int, record: Record) -> Iterator[Tuple[int, int, int, Written]]:
     """The frames of a device by times that do not go back: (time, device, number of the frame, frame)."""
     time = 0
     for index, frame in enumerate(record.frames):
@@ -56,7 +60,7 @@ def in_order(number, record):
         yield time, number, index, frame
 
 
-def recordings_of(paths):
+def recordings_of(paths: List[str]) -> List[Recording]:
     """The recordings of all files that have a device and its events; all by one clock."""
     found = [(path, each) for path in paths for each in files.read_all(path)]
     for path, recording in found:
@@ -71,7 +75,7 @@ def recordings_of(paths):
     return [recording for _, recording in found]
 
 
-def unlike(names):
+def unlike(names: List[str]) -> List[str]:
     """Names of devices, those that were there already with a number after."""
     made = []
     for name in names:
@@ -82,18 +86,18 @@ def unlike(names):
     return made
 
 
-def readers_of_device(texts, number):
+def readers_of_device(texts: Optional[List[str]], number: int) -> List[Reader]:
     """A device's own readers: the name of each has the device's number after it."""
     parts = [text.partition(":") for text in texts or ["reader"]]
     return readers_of([f"{name}-{number}{colon}{options}" for name, colon, options in parts])
 
 
-def together_of(recordings, texts, options):
+def merge_devices(recordings: List[Recording], texts: Optional[List[str]], options: Options) -> MergedRecord:
     """The record of several devices."""
     base = min(event.time for recording in recordings for event in recording.events)
-    names = unlike([name_of(recording.device) for recording in recordings])
+    names = unlike([name_of(recording.device) for recording in recordings if recording.device])
     records = []
     for number, (recording, name) in enumerate(zip(recordings, names), 1):
         readers, driver = readers_of_device(texts, number), f"{DRIVER}-{number}"
         records.append(record_of(recording, name, readers, options, base, driver))
-    return Together(records)
+    return MergedRecord(records)

@@ -1,7 +1,5 @@
-"""The page's script: places or time, ranges that links lead to, and the text of a mark or bar, which the
-pointer, a touch and the arrow keys bring up. Printed pages show closed parts too."""
-
-SCRIPT = """
+// The page's script: places or time, ranges that links lead to, and the text of a mark or bar, which the
+// pointer, a touch and the arrow keys bring up. Printed pages show closed parts too.
 const said = document.getElementById('said');
 for (const choice of document.querySelectorAll('input[name=by]'))
   choice.onchange = () => { document.body.className = choice.value; tell(null) };
@@ -76,4 +74,3 @@ for (const chart of document.querySelectorAll('.chart')) {
     tell(best && onPaper(best, event) <= 24 ? best : told(event.target));
   };
 }
-"""
