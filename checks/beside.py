@@ -6,7 +6,6 @@ from __future__ import annotations
 import os
 import socket
 import subprocess
-import sys
 from collections import Counter
 from dataclasses import dataclass, field
 from pathlib import Path
@@ -14,12 +13,11 @@ from typing import Counter as Counts
 from typing import Iterator, List
 
 TOP = Path(__file__).resolve().parent.parent
-sys.path.insert(0, str(TOP / "tools"))
 
-from inputtools.runbuild import FLAGS, SOURCES, NotBuilt, archive, compile_by, sources  # noqa: E402
-from inputtools.running import Run, Settings, environment, new_folder, remove_folder  # noqa: E402
+from inputtools.runbuild import FLAGS, SOURCES, NotBuilt, archive, compile_by, sources
+from inputtools.running import Run, Settings, environment, new_folder, remove_folder
 
-from checks.random_devices import RandomDevice  # noqa: E402
+from checks.random_devices import RandomDevice
 
 HERE = SOURCES / "tests"
 SERVER, PROGRAM = "beside_server", "beside_libevdev"

@@ -12,6 +12,7 @@ import re
 from collections import namedtuple
 from functools import cached_property, lru_cache, partial
 from pathlib import Path
+from typing import Callable, Dict, Iterable, List, Optional, Set, Tuple, TypeVar
 
 # Where an item is: a crate, the path of its file in the crate, and the item's name.
 Key = namedtuple("Key", "crate path name")
@@ -31,27 +32,34 @@ SPEC_USE = re.compile(r"^\s*(?:ghost )?use ([\w.]+?)(?:\.\{(.*)\}| as (\w+));?$"
 CODE_USE = re.compile(r"^(?:pub )?use ([\w:]+?)(?:::\{(.*?)\}| as (\w+))?;", re.S)
 
 
+# What a module gives for a name.
+Given = Callable[[str], Optional[Key]]
+Node = TypeVar("Node")
+
+
 class Item:
     """One definition, or one declaration."""
 
-    def __init__(self, key, kind):
+    def __init__(self, key: Key, kind: str) -> None:
         self.key, self.kind = key, kind
         # the numbers of its lines, and of the comments in it and right above it
-        self.lines, self.comments = [], []
+        self.lines: List[int] = []
+        self.comments: List[int] = []
         # its constructors or variants, and its fields or ghost members
-        self.variants, self.fields = [], []
+        self.variants: List[str] = []
+        self.fields: List[str] = []
         # what gives the keys of the items that it uses
-        self.find_uses = set
+        self.find_uses: Callable[[], Set[Key]] = set
 
     @cached_property
-    def uses(self):
+    def uses(self) -> Set[Key]:
         return self.find_uses()
 
 
 class Repository:
     """The crates below one folder, and what their names mean."""
 
-    def __init__(self, top):
+    def __init__(self, top: Path) -> None:
         self.top = Path(top)
         rows = (self.top / "crates.txt").read_text().splitlines()
         pairs = [row.split(":", 1) for row in rows if row.strip() and not row.startswith("#")]
@@ -61,11 +69,12 @@ class Repository:
         self.crates = self.in_order(self.deps, self.deps.__getitem__)
 
     @staticmethod
-    def in_order(roots, below):
+    def in_order(roots: Iterable[Node], below: Callable[[Node], Iterable[Node]]) -> List[Node]:
         """All that is reached from the roots, each after what is below it."""
-        order, seen = [], set()
+        order: List[Node] = []
+        seen: Set[Node] = set()
 
-        def visit(one):
+        def visit(one: Node) -> None:
             if one not in seen:
                 seen.add(one)
                 for other in below(one):
@@ -77,17 +86,17 @@ class Repository:
         return order
 
     @lru_cache(maxsize=None)
-    def file(self, crate, path):
+    def file(self, crate: str, path: str) -> "SourceFile":
         reader = Definitions if path.endswith(".antt") else Code
         return reader(self, crate, path)
 
     @lru_cache(maxsize=None)
-    def paths(self, crate, folder, ending):
+    def paths(self, crate: str, folder: str, ending: str) -> List[str]:
         root = self.top / "crates" / crate
         return sorted(str(path.relative_to(root)) for path in (root / folder).rglob(f"*.{ending}"))
 
     @lru_cache(maxsize=None)
-    def declared(self, crate, name):
+    def declared(self, crate: str, name: str) -> Optional[Key]:
         """The declaration of this name in a crate, wherever it stands there."""
         for path in self.paths(crate, "src", "rt"):
             item = self.file(crate, path).items.get(name)
@@ -95,7 +104,7 @@ class Repository:
                 return item.key
         return None
 
-    def module(self, path):
+    def module(self, path: str) -> Optional[Given]:
         """What a module of definitions gives for a name, as a function; None for one of the toolchain."""
         parts = path.split(".")
         if len(parts) < 4 or parts[0] != "Rattle" or parts[1] not in self.deps or parts[2] != "specs":
@@ -113,16 +122,17 @@ class Repository:
             return lambda name: owner._replace(name=owner.name + "(inside)")
         return lambda name: owner
 
-    def item(self, key):
+    def item(self, key: Key) -> Item:
         file = self.file(key.crate, key.path)
         found = file.items.get(key.name)
         if found is None:
             raise KeyError(f"{key.crate}/{key.path} has no {key.name}")
         return found
 
-    def reached(self, roots):
+    def reached(self, roots: Iterable[Key]) -> Dict[Key, Item]:
         """The items that the roots rest on, roots included."""
-        seen, waiting = {}, list(roots)
+        seen: Dict[Key, Item] = {}
+        waiting = list(roots)
         while waiting:
             key = waiting.pop()
             if key not in seen:
@@ -134,23 +144,25 @@ class Repository:
 class SourceFile:
     """A file of a crate, as its items."""
 
-    def __init__(self, repository, crate, path):
+    def __init__(self, repository: Repository, crate: str, path: str) -> None:
         self.repository, self.crate, self.path = repository, crate, path
         self.rows = (repository.top / "crates" / crate / path).read_text().splitlines()
-        self.items, self.owners = {}, {}
+        self.items: Dict[str, Item] = {}
+        self.owners: Dict[str, str] = {}
         # what it imports: a name -> its key or None; an alias of a module -> what gives its names
-        self.names, self.modules = {}, {}
+        self.names: Dict[str, Optional[Key]] = {}
+        self.modules: Dict[str, Optional[Given]] = {}
 
-    def add(self, kind, name):
+    def add(self, kind: str, name: str) -> Item:
         item = Item(Key(self.crate, self.path, name), kind)
         self.items[name] = item
         return item
 
-    def given(self, name):
+    def given(self, name: str) -> Key:
         """The key of the item that gives this name here."""
         return Key(self.crate, self.path, self.owners.get(name, name))
 
-    def imports(self, row):
+    def imports(self, row: str) -> bool:
         """Takes an import of definitions; whether the line is one."""
         found = SPEC_USE.match(row)
         if found is None:
@@ -165,7 +177,7 @@ class SourceFile:
                 self.names[other or name] = module(name) if module else None
         return True
 
-    def meanings(self, dotted):
+    def meanings(self, dotted: str) -> List[Optional[Key]]:
         """The keys of what a name with dots may mean; None for a variable, and for what is not the repository's."""
         first, *rest = dotted.split(".")
         if first in self.modules:
@@ -175,20 +187,22 @@ class SourceFile:
             return [self.given(first)]
         return [self.names.get(first)]
 
-    def keys(self, item, words):
+    def keys(self, item: Item, words: Iterable[str]) -> Set[Key]:
         """What an item uses by these names."""
         keys = {key for word in words for key in self.meanings(word)}
-        return keys - {None, item.key}
+        return {key for key in keys if key is not None} - {item.key}
 
 
 class Definitions(SourceFile):
     """A file of specs/."""
 
-    def __init__(self, repository, crate, path):
+    def __init__(self, repository: Repository, crate: str, path: str) -> None:
         super().__init__(repository, crate, path)
-        item, above, bodies = None, [], {}
+        item: Optional[Item] = None
+        above: List[int] = []
+        bodies: Dict[str, List[str]] = {}
         # the rows of the modules that a line stands in; what is in one is indented by two more
-        modules = []
+        modules: List[str] = []
         for number, row in enumerate(self.rows):
             if not row.strip() or self.imports(row) or row.startswith("pub mod "):
                 above = []
@@ -221,7 +235,7 @@ class Definitions(SourceFile):
         for name, rows in bodies.items():
             self.items[name].find_uses = partial(self.uses_of, self.items[name], rows)
 
-    def uses_of(self, item, rows):
+    def uses_of(self, item: Item, rows: List[str]) -> Set[Key]:
         """The items whose names stand in the lines of one, but for what is read of something after a dot."""
         words = {dotted for row in rows for dotted in DOTTED.findall(SILENT.sub("", row))}
         return self.keys(item, words)
@@ -230,12 +244,15 @@ class Definitions(SourceFile):
 class Code(SourceFile):
     """A file of src/: its types, constants and traits, and the contracts of its functions."""
 
-    def __init__(self, repository, crate, path):
+    def __init__(self, repository: Repository, crate: str, path: str) -> None:
         super().__init__(repository, crate, path)
         # what it imports from code: a name -> a crate and a name there
-        self.imported = {}
+        self.imported: Dict[str, Tuple[str, str]] = {}
         self.crate_uses("\n".join(self.rows))
-        item, above, models, model = None, [], {}, None
+        item: Optional[Item] = None
+        above: List[int] = []
+        models: Dict[str, List[str]] = {}
+        model: Optional[List[str]] = None
         for number, row in enumerate(self.rows):
             if SPEC_USE.match(row):
                 # What an impl imports is for it alone.
@@ -276,10 +293,10 @@ class Code(SourceFile):
             if name in self.items:
                 seen, inside = self.items[name], self.add("struct", name + "(inside)")
                 inside.lines, inside.comments, inside.fields = seen.lines, seen.comments, seen.fields
-        for name, item in self.items.items():
-            item.find_uses = partial(self.uses_of, item, models.get(name))
+        for name, found in self.items.items():
+            found.find_uses = partial(self.uses_of, found, models.get(name))
 
-    def member(self, item, row):
+    def member(self, item: Item, row: str) -> None:
         if item.kind == "struct":
             found = re.match(r"^    (?:pub(?:\([a-z]+\))? )?(\w+):", row)
             item.fields += [found[1]] if found else []
@@ -291,7 +308,7 @@ class Code(SourceFile):
             found = re.match(r"^    (?:ghost |fn )(\w+)", row)
             item.fields += [found[1]] if found else []
 
-    def crate_uses(self, text):
+    def crate_uses(self, text: str) -> None:
         """Takes the imports of types and constants from this crate and others."""
         for start in re.finditer(r"^(?:pub )?use ", text, re.M):
             found = CODE_USE.match(text[start.start() :])
@@ -309,7 +326,7 @@ class Code(SourceFile):
                 if name:
                     self.imported[other or alias or name] = (crate, name)
 
-    def meanings(self, dotted):
+    def meanings(self, dotted: str) -> List[Optional[Key]]:
         # A definition, a declaration elsewhere and one here may have one name. A function is no declaration.
         first = dotted.split(".")[0]
         found = [self.names.get(first)]
@@ -319,7 +336,7 @@ class Code(SourceFile):
             found.append(self.given(first))
         return found
 
-    def uses_of(self, item, model):
+    def uses_of(self, item: Item, model: Optional[List[str]]) -> Set[Key]:
         """The items whose names stand in a declaration, or in the clauses of a contract."""
         if model is not None:
             return self.uses_of_model(item, model)
@@ -331,7 +348,7 @@ class Code(SourceFile):
             text = re.sub(r"^    [A-Z]\w*", "", text, flags=re.M)
         return self.keys(item, DOTTED.findall(text))
 
-    def uses_of_model(self, item, model):
+    def uses_of_model(self, item: Item, model: List[str]) -> Set[Key]:
         """What the values are as which contracts see a type."""
         names, self.names = self.names, dict(self.names)
         for row in model:
@@ -341,7 +358,7 @@ class Code(SourceFile):
         return keys
 
     @staticmethod
-    def words_of_contract(text):
+    def words_of_contract(text: str) -> Set[str]:
         """The names in the clauses of a contract, and in the types of what these speak of."""
         start = re.search(r"^\s*(?:ensures|requires) ", text, re.M)
         if not start:

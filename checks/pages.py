@@ -1,7 +1,10 @@
 """Writes the part of a page that a script makes: what stands between its two marks."""
 
+from pathlib import Path
+from typing import Iterable, Tuple
 
-def marks(script):
+
+def marks(script: str) -> Tuple[str, str]:
     """The lines before and after what a script writes."""
     return (
         f"<!-- what follows is written by {script} --write -->",
@@ -9,7 +12,7 @@ def marks(script):
     )
 
 
-def write(top, page, script, rows):
+def write(top: Path, page: str, script: str, rows: Iterable[str]) -> None:
     """Puts rows between the marks of a page, in place of what stood there."""
     begin, end = marks(script)
     before, has_begin, rest = (top / page).read_text().partition(begin)

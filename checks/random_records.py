@@ -9,9 +9,10 @@ import os
 import random
 import struct
 import sys
-from pathlib import Path
+from typing import Callable, Dict, List, Optional, Set, Tuple
 
-sys.path.insert(0, str(Path(__file__).resolve().parent.parent))
+if not __package__:
+    import repository_path  # noqa: F401  (run as a script: the packages of this repository)
 
 from second.device import SLOT, ID
 from second.model import RECORD_FORMS, play
@@ -29,21 +30,26 @@ OUTPUTS = (REP, MSC, LED, SND)
 BUTTONS = [0x100, 0x101, 0x110, 0x120, 0x121, 0x130]
 
 
+# The types and codes that a device has, and its actors by their roles and names.
+Codes = List[Tuple[int, int]]
+Actors = List[Tuple[str, str]]
+
+
 class Generator:
     """Makes one record. Where a folder is given its sources have streams, and their files are written there."""
 
-    def __init__(self, seed, folder=None):
+    def __init__(self, seed: int, folder: Optional[str] = None) -> None:
         self.r = random.Random(seed)
         self.seed, self.folder, self.streams = seed, folder, 0
         self.now = 1000
         self.version = self.r.choice([1, 2])
-        self.devices = []
+        self.devices: List[Tuple[Actors, Codes, int]] = []
 
-    def moment(self):
+    def moment(self) -> int:
         self.now += self.r.choice([0, 0, 1, 1000, 10000, 100000])
         return self.now + self.r.choice([0, 0, 0, -500])
 
-    def value(self, kind, code, slots):
+    def value(self, kind: int, code: int, slots: int) -> int:
         r = self.r
         if kind == KEY:
             return r.choice([0, 1, 1, 0, 2, -1])
@@ -57,10 +63,11 @@ class Generator:
             return r.choice([-1, 0, 10, 33, 250])
         return r.choice([0, 1, 1, -2, 5])
 
-    def description(self, d):
+    def description(self, d: int) -> Tuple[List[str], Codes, int]:
         """The lines of a device, and beside them the codes that its events take, and its slots."""
         r, is_requested = self.r, self.version == 2 and self.r.random() < 0.5
-        lines, codes = [f"udevice dev{d}" if is_requested else f"device dev{d}"], []
+        lines = [f"udevice dev{d}" if is_requested else f"device dev{d}"]
+        codes: Codes = []
         kinds = [kind for kind in (KEY, REL, ABS, MSC, SW, LED, SND) if r.random() < 0.55] or [KEY]
         hint = r.choice([2, 3, 5, 8, 8, 8, 16, 20, None])
         if hint:
@@ -95,7 +102,7 @@ class Generator:
             codes += [(SYN, 1)] + 2 * [(kind, code) for kind, code in codes if kind in OUTPUTS]
         return lines, codes, slots
 
-    def filter_words(self, codes):
+    def filter_words(self, codes: Codes) -> str:
         """What a line says behind `filter`, mostly about codes that the device has."""
         r, form = self.r, self.r.choice(["eat", "norepeat", "chord", "chord", "chord", "bounce", "bounce"])
         if form == "norepeat":
@@ -109,8 +116,9 @@ class Generator:
             return f"{form} {code_text(KEY, second)} {r.choice([1, 1000, 5000, 50000, 1000000])}"
         return f"{form} {code_text(KEY, first)} {code_text(KEY, second)}"
 
-    def axes(self, lines):
-        r, axes = self.r, set()
+    def axes(self, lines: List[str]) -> Set[int]:
+        r = self.r
+        axes: Set[int] = set()
         for _ in range(r.randint(1, 5)):
             code = r.choice([0, 1, 2, 0x18, 0x30, 0x31, 0x35, 0x36, 0x39, 0x3A, 0x2F, 0x3D, 0x3F])
             if code in axes:
@@ -122,8 +130,9 @@ class Generator:
             lines.append(f"axis {code_text(ABS, code)} {value} {low} {high} {fuzz} 0 {resolution}")
         return axes
 
-    def actors(self, d, lines):
-        r, actors = self.r, []
+    def actors(self, d: int, lines: List[str]) -> Actors:
+        r = self.r
+        actors: Actors = []
         owners = int(r.random() < 0.8) if lines[0].startswith("udevice") else 0
         for role, count in (
             ("source", r.choice([1, 1, 2])),
@@ -137,7 +146,7 @@ class Generator:
                 actors.append((role, f"{role[0]}{d}{i}"))
         return actors
 
-    def record(self):
+    def record(self) -> str:
         r, lines, actions = self.r, [f"inputrecord {self.version}"], []
         for d in range(r.choice([1, 1, 1, 2])):
             description, codes, slots = self.description(d)
@@ -151,7 +160,7 @@ class Generator:
             actors, codes, slots = r.choice(self.devices)
             weights = [(12 if busy else 3) if role == "source" else 1 for role, _ in actors]
             role, name = r.choices(actors, weights)[0]
-            acts = {"source": self.source_action, "joy": self.joy_action, "owner": self.owner_action}
+            acts: Dict[str, Callable[..., List[str]]] = {"source": self.source_action, "joy": self.joy_action, "owner": self.owner_action}
             act = acts.get(role, self.client_action)
             actions += [f"do {name} {action}" for action in act(role, codes, slots, busy)]
         for actors, _, _ in self.devices:
@@ -159,50 +168,51 @@ class Generator:
             actions += [f"do {name} {last[role]}" for role, name in actors if role in last and r.random() < 0.7]
         return "\n".join(lines + actions) + "\n"
 
-    def stream(self, codes, slots):
+    def stream(self, codes: Codes, slots: int) -> List[str]:
         """A command that names a file of a few events. Records of 16 bytes come with version 2."""
         r = self.r
         command = r.choice(list(RECORD_FORMS)) if self.version == 2 else "stream"
         name, self.streams = f"events-{self.seed}-{self.streams}", self.streams + 1
-        with open(os.path.join(self.folder, name), "wb") as file:
+        with open(os.path.join(self.folder or "", name), "wb") as file:
             for _ in range(r.randint(0, 20)):
                 kind, code = r.choice(codes) if r.random() < 0.6 else (0, 0)
                 time = divmod(self.moment(), 1000000)
                 file.write(struct.pack(RECORD_FORMS[command], *time, kind, code, self.value(kind, code, slots)))
         return [f"{command} {name}"]
 
-    def source_action(self, _, codes, slots, busy):
+    def source_action(self, _: str, codes: Codes, slots: int, busy: bool) -> List[str]:
         r, x = self.r, self.r.random()
         if x < 0.05 and self.folder and self.streams < MOST_STREAMS:
             return self.stream(codes, slots)
         if x < 0.86:
-            moment, actions = self.moment(), []
-            for _ in range(r.randint(0, 4) if busy else r.randint(0, 2)):
+            moment = self.moment()
+            actions: List[str] = []
+            for _i in range(r.randint(0, 4) if busy else r.randint(0, 2)):
                 kind, code = (r.randint(0, 21), r.randint(0, 64)) if r.random() < 0.05 else r.choice(codes)
                 event = f"{kind_text(kind)} {code_text(kind, code)} {self.value(kind, code, slots)}"
                 actions.append(f"event {moment} {event}")
             if r.random() < 0.85:
                 actions.append(f"event {moment} EV_SYN SYN_REPORT 0")
             elif r.random() < 0.3:
-                code = r.choice(["SYN_CONFIG", "SYN_MT_REPORT", "SYN_DROPPED", "7"])
-                actions.append(f"event {moment} EV_SYN {code} 0")
+                word = r.choice(["SYN_CONFIG", "SYN_MT_REPORT", "SYN_DROPPED", "7"])
+                actions.append(f"event {moment} EV_SYN {word} 0")
             return actions
         if x < 0.95:
             return [f"tick {self.moment() + r.choice([0, 40000, 300000])}"]
         return [f"inhibit {self.moment()}"] if x < 0.97 else ["uninhibit"]
 
-    def joy_action(self, *_):
+    def joy_action(self, *_: object) -> List[str]:
         r, x = self.r, self.r.random()
         if x < 0.1:
             return ["open"]
         return ["close"] if x < 0.13 else [f"read {r.choice([0, 1, 1, 2, 5, 20, 5000])}"]
 
-    def owner_action(self, *_):
+    def owner_action(self, *_: object) -> List[str]:
         """One feedback call, or so many that a small limit is met."""
         r = self.r
         return [f"feedback {r.choice([1, 1, 2, 5, 15, 16, 4096])}"] * (1 if r.random() < 0.9 else r.randint(2, 30))
 
-    def new_description(self, codes):
+    def new_description(self, codes: Codes) -> str:
         """A command that describes an axis anew, mostly one that the device has."""
         r = self.r
         axes = [code for kind, code in codes if kind == ABS]
@@ -211,7 +221,7 @@ class Generator:
         numbers = [r.randint(-600, 600), r.randint(-500, 0), r.randint(0, 4096), fuzz, r.randint(-1, 9), r.choice([0, 12])]
         return f"setaxis {code_text(ABS, code)} " + " ".join(map(str, numbers))
 
-    def client_action(self, role, codes, slots, _):
+    def client_action(self, role: str, codes: Codes, slots: int, _: bool) -> List[str]:
         r, x = self.r, self.r.random()
         if x < 0.5 and role == "client":
             return [r.choice(["follow", "follow", f"next {r.randint(0, 30)}", f"skip {r.randint(0, 30)}", "force"])]
@@ -242,7 +252,7 @@ class Generator:
         return ["close"] if x < 0.98 else ["revoke"]
 
 
-def main():
+def main() -> None:
     folder, count, seed = sys.argv[1], int(sys.argv[2]), int(sys.argv[3])
     os.makedirs(folder, exist_ok=True)
     for i in range(count):

@@ -6,9 +6,10 @@ usage: records_at_bounds.py FOLDER
 
 import os
 import sys
-from pathlib import Path
+from typing import Callable, List, Tuple
 
-sys.path.insert(0, str(Path(__file__).resolve().parent.parent))
+if not __package__:
+    import repository_path  # noqa: F401  (run as a script: the packages of this repository)
 
 from second.model import play
 
@@ -16,26 +17,26 @@ MOMENT_MAX = 9000000000000000
 LEAST, GREATEST = -(2**31), 2**31 - 1
 
 
-def events(moment, *texts):
+def events(moment: int, *texts: str) -> List[str]:
     return [f"do s event {moment} {text}" for text in texts]
 
 
-def report(moment, value=0):
+def report(moment: int, value: int = 0) -> List[str]:
     return events(moment, f"EV_SYN SYN_REPORT {value}")
 
 
-def record(description, actions, version=1):
+def record(description: List[str], actions: List[str], version: int = 1) -> str:
     return "\n".join([f"inputrecord {version}"] + description + actions) + "\n"
 
 
-def clients():
+def clients() -> str:
     """64 clients are open, a revoked one among them; another one is refused until that one is closed."""
     device = ["device d", "cap EV_KEY KEY_A", "source s", "tap t", "tap u"]
     opens = ["do t open", "do t revoke"] + ["do u open"] * 64 + ["do t close", "do u open"]
     return record(device, opens + events(1, "EV_KEY KEY_A 1") + report(1) + ["do u read 4096"])
 
 
-def moments():
+def moments() -> str:
     """The last moment on clocks with the greatest offsets, the greatest codes, and values at their bounds."""
     device = ["device d", f"clock realtime {MOMENT_MAX}", f"clock boottime {MOMENT_MAX:#x}", "type EV_REP"]
     device += ["cap EV_KEY 767", "cap EV_SW 16", "cap EV_LED 15", "cap EV_SND 7", "cap EV_MSC 7", "cap EV_REL 15"]
@@ -48,7 +49,7 @@ def moments():
     return record(device + ["source s", "client c", "tap t"], actions)
 
 
-def fuzz(version=1, slots=64):
+def fuzz(version: int = 1, slots: int = 64) -> str:
     """64 slots, and the greatest fuzz with values that are as far apart as they can be."""
     device = ["device d", f"slots {slots}", "hint 512", f"axis ABS_X {LEAST} {LEAST} {GREATEST} {2**30} 0 0"]
     device += [f"axis ABS_Y {GREATEST} 0 0 1 0 0", "axis ABS_Z -7 0 0 3 0 0", "axis 63 1 2 3 5 6 -7"]
@@ -62,12 +63,12 @@ def fuzz(version=1, slots=64):
     return record(device, actions + ["do c follow", "do s inhibit 3", "do c follow"], version)
 
 
-def slots():
+def slots() -> str:
     """The same with 256 slots, under version 2; a reader whose ring was full makes up for all of them."""
     return fuzz(2, 256)
 
 
-def counts():
+def counts() -> str:
     """Commands before any open, for no event, for the greatest number of them, and behind a close."""
     device = ["device d", "hint 2", "cap EV_KEY 30", "source s", "client c", "tap t"]
     early = ["do t read 0", "do t keys", "do c next 1", "do c follow", "do c force", "do c next 1"]
@@ -78,7 +79,7 @@ def counts():
     return record(device, actions + events(1, "EV_KEY 30 0") + report(1) + ["do t read 0", "do t read 4096"])
 
 
-def devices():
+def devices() -> str:
     """Eight devices that describe nothing."""
     device, actions = [], []
     for i in range(8):
@@ -89,7 +90,7 @@ def devices():
     return record(device, actions)
 
 
-def owners():
+def owners() -> str:
     """Eight owners of devices with small limits, who have room for one event and for 4096, where more are sent than can wait."""
     device, actions = [], []
     values = [LEAST + n for n in range(9)] + [GREATEST - n for n in range(9)]
@@ -101,37 +102,37 @@ def owners():
     return record(device, actions, version=2)
 
 
-def full():
+def full() -> str:
     """A history of one step."""
     device = ["device d", "log 1", "cap EV_KEY 30", "source s", "source z", "client c", "tap t"]
     actions = ["do t read 1", "do t open", "do t read 1", "do c open", "do c follow"]
     return record(device, actions + ["do s uninhibit"] * 2 + ["do t grab"] * 2)
 
 
-def full_start():
+def full_start() -> str:
     """A start whose last query finds the history full."""
     device = ["device d", "log 2", "cap EV_KEY 30", "axis ABS_X 0 0 1 0 0 0", "source s", "client c"]
     return record(device, ["do c open", "do c follow", "do s uninhibit"])
 
 
-def blanks():
+def blanks() -> str:
     """Comments, blank lines, carriage returns, tabs, numbers in both bases, and no line feed at the end."""
     lines = ["\r", "# c\xe9 \r", " \t inputrecord\t1\r", "", "device  d \r", "cap 0x1 0x1E\r", "source s\r", "tap t\r"]
     lines += ["do\tt open\r", "  # c", " do s event 0x10 1 30 -0\r", "do s event 00012 EV_KEY KEY_A 0x1\r"]
     return "\n".join(lines + ["do s event 1 0 0 0\r", "do t read 0x10"])
 
 
-def nothing():
+def nothing() -> str:
     """No device."""
     return "inputrecord 1\n"
 
 
 # Each record by its name.
-MAKERS = (clients, moments, fuzz, slots, counts, devices, owners, full, full_start, blanks, nothing)
+MAKERS: Tuple[Callable[[], str], ...] = (clients, moments, fuzz, slots, counts, devices, owners, full, full_start, blanks, nothing)
 RECORDS = {make.__name__: make for make in MAKERS}
 
 
-def main():
+def main() -> None:
     folder = sys.argv[1]
     os.makedirs(folder, exist_ok=True)
     for name, make in RECORDS.items():

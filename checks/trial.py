@@ -5,7 +5,7 @@ import os
 import signal
 import subprocess
 from pathlib import Path
-from typing import NamedTuple
+from typing import Any, NamedTuple, Optional, Sequence, Union
 
 TOP = Path(__file__).resolve().parent.parent
 BUILT = TOP / "crates" / "inp_main" / "out" / "inp_main"
@@ -14,22 +14,22 @@ BUILT = TOP / "crates" / "inp_main" / "out" / "inp_main"
 class Run(NamedTuple):
     """What a run of the program came to. The status of one that a signal ended is the signal's number, negative."""
 
-    status: int
+    status: Optional[int]
     text: bytes
     errors: bytes
 
-    def told(self):
+    def told(self) -> str:
         """The status, or what else ended the run."""
         if self.status is None:
             return "no end"
         return f"status {self.status}" if self.status >= 0 else signal.Signals(-self.status).name
 
 
-def add_program(parser):
+def add_program(parser: argparse.ArgumentParser) -> None:
     parser.add_argument("--program", default=BUILT, help="another program than crates/inp_main/out/inp_main")
 
 
-def program_of(parser, words):
+def program_of(parser: argparse.ArgumentParser, words: argparse.Namespace) -> str:
     """The path of the program, or the parser ends the script."""
     program = Path(words.program).resolve()
     if not (program.is_file() and os.access(program, os.X_OK)):
@@ -37,7 +37,8 @@ def program_of(parser, words):
     return str(program)
 
 
-def run_once(program, words, folder, seconds, **more):
+def run_once(program: str, words: Sequence[str], folder: Union[str, Path], seconds: float,
+             **more: Any) -> Run:
     """A run of the program in a folder. It is killed after so many seconds, and then has no status."""
     more = {"stdout": subprocess.PIPE, "stderr": subprocess.PIPE, **more}
     try:
@@ -47,7 +48,7 @@ def run_once(program, words, folder, seconds, **more):
     return Run(done.returncode, done.stdout or b"", done.stderr or b"")
 
 
-def positive(text):
+def positive(text: str) -> int:
     number = int(text)
     if number < 1:
         raise argparse.ArgumentTypeError(f"{text} is not 1 or more")

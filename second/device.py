@@ -1,6 +1,13 @@
 """A device and its clients, by the rules of docs/RULES.md. An event is a tuple (type, code, value)."""
 
+
+
+
+
+from typing import Any, Callable, Dict, List, Optional, Sequence, Set, Tuple
+
 from second.names import ABS, KEY, LED, MSC, REL, REP, SND, SW, SYN
+from second.values import Answer, Event, Fed, Item, Step, Words
 
 SLOT, FIRST, ID, LAST = 0x2F, 0x30, 0x39, 0x3D
 REPORT, CONFIG, DROPPED = 0, 1, 3
@@ -10,59 +17,61 @@ FUZZ_MAX = 2**30
 MASK_WORDS = {SYN: 1, KEY: 12, REL: 1, ABS: 1, MSC: 1, SW: 1, LED: 1, SND: 1}
 
 
-def is_slot_value(code):
+def is_slot_value(code: int) -> bool:
     return FIRST <= code <= LAST
 
 
-def is_report(event):
+def is_report(event: Event) -> bool:
     return event[:2] == (SYN, REPORT)
 
 
-def is_output(event):
+def is_output(event: Event) -> bool:
     """Whether an event goes to the device where it is passed."""
     return event[0] in (LED, SND, MSC, REP) or event[:2] == (SYN, CONFIG)
 
 
-def new_slot():
+def new_slot() -> List[int]:
     return [-1 if code == ID else 0 for code in range(FIRST, LAST + 1)]
 
 
 class Caps:
     """The description of a device."""
 
-    def __init__(self):
-        self.kinds, self.codes, self.axes = {SYN}, {}, {}
+    def __init__(self) -> None:
+        self.kinds = {SYN}
+        self.codes: Dict[int, Set[int]] = {}
+        self.axes: Dict[int, Tuple[int, ...]] = {}
         self.slots, self.hint, self.log = 0, 16, 1048576
-        self.filters = []
+        self.filters: List[Tuple[Any, ...]] = []
         self.offsets = {"realtime": 0, "monotonic": 0, "boottime": 0}
 
-    def build(self):
+    def build(self) -> None:
         if self.slots:
             self.kinds.add(ABS)
             self.axes.setdefault(SLOT, (0, 0, self.slots - 1, 0, 0, 0))
             self.axes.setdefault(ID, (0, 0, 65535, 0, 0, 0))
 
-    def supports(self, kind, code):
+    def supports(self, kind: int, code: int) -> bool:
         if kind == SYN:
             return code <= DROPPED
         if kind not in self.kinds or (kind, code) == (KEY, 0):
             return False
         if kind == REP:
             return code <= 1
-        return code in (self.axes if kind == ABS else self.codes.get(kind, ()))
+        return code in (self.axes if kind == ABS else self.codes.get(kind, set()))
 
-    def ring(self):
+    def ring(self) -> int:
         places = 64
         while places < 8 * self.hint:
             places *= 2
         return places
 
 
-def toward_zero(a, b):
+def toward_zero(a: int, b: int) -> int:
     return a // b if a >= 0 else -(-a // b)
 
 
-def defuzz(value, old, fuzz):
+def defuzz(value: int, old: int, fuzz: int) -> int:
     if fuzz == 0:
         return value
     if old - fuzz // 2 < value < old + fuzz // 2:
@@ -77,14 +86,15 @@ def defuzz(value, old, fuzz):
 class Filter:
     """A filter, and the events that it was given: each with its moment and whether it was eaten, the newest last."""
 
-    def __init__(self, form, *words):
-        self.form, self.words, self.given = form, words, []
+    def __init__(self, form: str, *words: int) -> None:
+        self.form, self.words = form, words
+        self.given: List[Tuple[Event, int, bool]] = []
 
-    def of_key(self, key, end):
+    def of_key(self, key: int, end: int) -> List[int]:
         """The places of the events on a key before this place, the newest first."""
         return [at for at in range(end - 1, -1, -1) if self.given[at][0][:2] == (KEY, key)]
 
-    def press_before(self, key, end):
+    def press_before(self, key: int, end: int) -> Optional[int]:
         """The place of the last press on a key before this place, unless a release stands between."""
         for at in self.of_key(key, end):
             value = self.given[at][0][2]
@@ -92,35 +102,35 @@ class Filter:
                 return at if value else None
         return None
 
-    def press_of_newest(self):
+    def press_of_newest(self) -> Optional[int]:
         (_, key, value), _, _ = self.given[-1]
         newest = len(self.given) - 1
         return newest if value not in (0, 2) else self.press_before(key, newest)
 
-    def is_down_before(self, key, end):
+    def is_down_before(self, key: int, end: int) -> bool:
         """Whether the last event on a key before this place, but for autorepeats, is there and is no release."""
         return self.press_before(key, end) is not None
 
-    def eats(self, event, now):
+    def eats(self, event: Event, now: int) -> bool:
         """Takes an event, and answers whether it is eaten."""
         self.given.append((event, now, False))
-        is_eaten = getattr(self, "eats_by_" + self.form)(event, *self.words)
+        is_eaten = FORMS[self.form](self, event, *self.words)
         self.given[-1] = (event, now, is_eaten)
         return is_eaten
 
-    def eats_by_eat(self, event, kind, code):
+    def eats_by_eat(self, event: Event, kind: int, code: int) -> bool:
         return event[:2] == (kind, code)
 
-    def eats_by_norepeat(self, event):
+    def eats_by_norepeat(self, event: Event) -> bool:
         return event[0] == KEY and event[2] == 2
 
-    def eats_by_chord(self, event, first, second):
+    def eats_by_chord(self, event: Event, first: int, second: int) -> bool:
         if event[:2] != (KEY, second):
             return False
         press = self.press_of_newest()
         return press is not None and self.is_down_before(first, press)
 
-    def eats_by_bounce(self, event, key, micros):
+    def eats_by_bounce(self, event: Event, key: int, micros: int) -> bool:
         if event[:2] != (KEY, key):
             return False
         press = self.press_of_newest()
@@ -133,33 +143,41 @@ class Filter:
         return False
 
 
+FORMS: Dict[str, Callable[..., bool]] = {
+    "eat": Filter.eats_by_eat, "norepeat": Filter.eats_by_norepeat, "chord": Filter.eats_by_chord,
+    "bounce": Filter.eats_by_bounce,
+}
+
+
 class Client:
     """An open client: its queue of (event, time, place), masks, clock, and whether it was revoked."""
 
-    def __init__(self, places):
-        self.queue, self.clear_bits, self.clock, self.revoked, self.places = [], set(), "realtime", False, places
+    def __init__(self, places: int) -> None:
+        self.queue: List[Item] = []
+        self.clear_bits: Set[Tuple[int, int]] = set()
+        self.clock, self.revoked, self.places = "realtime", False, places
 
-    def admits(self, event):
+    def admits(self, event: Event) -> bool:
         kind, code, _ = event
         if kind == SYN:
             return True
         return (SYN, kind) not in self.clear_bits and (kind == REP or (kind, code) not in self.clear_bits)
 
-    def put(self, event, time, place):
+    def put(self, event: Event, time: int, place: int) -> None:
         if is_report(event) and (not self.queue or is_report(self.queue[-1][0])):
             return
         if len(self.queue) == self.places - 1:
             self.queue = [((SYN, DROPPED, 0), time, place)]
         self.queue.append((event, time, place))
 
-    def visible(self):
+    def visible(self) -> int:
         return max((i + 1 for i, item in enumerate(self.queue) if is_report(item[0])), default=0)
 
-    def take(self, count):
+    def take(self, count: int) -> List[Item]:
         taken, self.queue = self.queue[:count], self.queue[count:]
         return taken
 
-    def flush(self, is_told):
+    def flush(self, is_told: Callable[[Event], bool]) -> None:
         """Removes what an answer tells, and each report that is left alone, but not the first group's."""
         kept, alone = [], False
         for item in self.queue:
@@ -173,14 +191,15 @@ class Client:
 class Outputs:
     """What was sent to a device and waits for its owner, whose calls are counted up to a limit."""
 
-    def __init__(self, most_calls):
-        self.waiting, self.calls, self.most_calls = [], 0, most_calls
+    def __init__(self, most_calls: int) -> None:
+        self.waiting: List[Event] = []
+        self.calls, self.most_calls = 0, most_calls
 
-    def send(self, events):
+    def send(self, events: List[Event]) -> None:
         """Takes passed events. Of those that wait the last 15 stay."""
         self.waiting = (self.waiting + [event for event in events if is_output(event)])[-MOST_WAITING:]
 
-    def feedback(self, room):
+    def feedback(self, room: int) -> Optional[List[Event]]:
         """The events that a feedback call takes, or None where it is refused."""
         if self.calls == self.most_calls:
             return None
@@ -190,28 +209,33 @@ class Outputs:
 
 
 class Device:
-    def __init__(self, name, caps):
-        self.name, self.caps, self.history = name, caps, []
-        self.on = {KEY: set(), SW: set(), LED: set(), SND: set()}
+    def __init__(self, name: str, caps: Caps) -> None:
+        self.name, self.caps = name, caps
+        self.history: List[Step] = []
+        self.on: Dict[int, Set[int]] = {KEY: set(), SW: set(), LED: set(), SND: set()}
         self.repeat = [250, 33]
-        self.infos = dict(caps.axes)
+        self.infos: Dict[int, Sequence[int]] = dict(caps.axes)
         self.axes = {code: info[0] for code, info in caps.axes.items()}
         self.cells = [new_slot() for _ in range(caps.slots)]
         self.staged = self.announced = self.at_frame = 0
-        self.batch, self.due, self.repeat_key, self.inhibited = [], None, 0, False
-        self.clients, self.opens, self.holder, self.ends = {}, 0, None, 0
+        self.batch: List[Event] = []
+        self.due: Optional[int] = None
+        self.repeat_key, self.inhibited = 0, False
+        self.clients: Dict[int, Client] = {}
+        self.holder: Optional[int] = None
+        self.opens = self.ends = 0
         self.filters = [Filter(*words) for words in caps.filters]
         self.outputs = Outputs(caps.log)
 
     # The core
 
-    def turn(self, kind, code, on):
+    def turn(self, kind: int, code: int, on: bool) -> bool:
         """Sets a bit, and answers whether that changed it."""
         changed = on != (code in self.on[kind])
         (self.on[kind].add if on else self.on[kind].discard)(code)
         return changed
 
-    def passed(self, event):
+    def passed(self, event: Event) -> List[Event]:
         """The events that are passed for a raw event."""
         kind, code, value = event
         if not self.caps.supports(kind, code):
@@ -235,14 +259,15 @@ class Device:
             passes = kind == MSC or value != 0
         return [event] if passes else []
 
-    def passed_axis(self, code, value):
+    def passed_axis(self, code: int, value: int) -> List[Event]:
         if code == SLOT:
             if 0 <= value < self.caps.slots:
                 self.staged = value
             return []
         if is_slot_value(code) and not self.caps.slots:
             return [(ABS, code, value)]
-        values, index = (self.cells[self.staged], code - FIRST) if is_slot_value(code) else (self.axes, code)
+        values: Any = self.cells[self.staged] if is_slot_value(code) else self.axes
+        index = code - FIRST if is_slot_value(code) else code
         value = defuzz(value, values[index], self.infos[code][3])
         if value == values[index]:
             return []
@@ -252,7 +277,7 @@ class Device:
             return [(ABS, SLOT, self.staged), (ABS, code, value)]
         return [(ABS, code, value)]
 
-    def raw(self, event, now, place):
+    def raw(self, event: Event, now: int, place: int) -> None:
         events = self.passed(event)
         self.outputs.send(events)
         self.batch += events
@@ -264,7 +289,7 @@ class Device:
             frame, self.batch = self.batch + [(SYN, REPORT, 1)], []
             self.frame(frame, now, place)
 
-    def frame(self, events, now, place):
+    def frame(self, events: List[Event], now: int, place: int) -> None:
         self.at_frame = self.announced
         if {KEY, REP} <= self.caps.kinds:
             for kind, code, value in events:
@@ -282,7 +307,7 @@ class Device:
                 if client.admits(event):
                     client.put(event, now + self.caps.offsets[client.clock], place)
 
-    def tick(self, now, place):
+    def tick(self, now: int, place: int) -> None:
         if self.due is None or self.due > now:
             return
         self.due = None
@@ -292,7 +317,7 @@ class Device:
             if self.repeat[1]:
                 self.due = now + 1000 * self.repeat[1]
 
-    def inhibit(self, now, place):
+    def inhibit(self, now: int, place: int) -> None:
         if self.inhibited:
             return
         events = []
@@ -306,11 +331,11 @@ class Device:
 
     # Steps, and what an owner does, which makes none
 
-    def feedback(self, room):
+    def feedback(self, room: int) -> Fed:
         """The history's length at a feedback call, and what the call takes, or None where it is refused."""
         return len(self.history), self.outputs.feedback(room)
 
-    def refusal(self, step):
+    def refusal(self, step: Step) -> Optional[str]:
         op, *words = step
         if op not in ("inject", "tick", "open", "inhibit", "uninhibit", "end"):
             client = self.clients.get(words[0])
@@ -342,7 +367,7 @@ class Device:
             return "too-many"
         return "log-full" if len(self.history) >= self.caps.log else None
 
-    def step(self, step):
+    def step(self, step: Step) -> Answer:
         """One step: its reply, and the events or values that it writes."""
         place, why = len(self.history), self.refusal(step)
         if why == "again":
@@ -351,9 +376,12 @@ class Device:
             return ("refused", place, why), None
         self.history.append(step)
         op, *words = step
-        return getattr(self, "do_" + op, self.do_plain)(op, words, place)
+        # (a device of another kind may open its clients otherwise)
+        if op == "open":
+            return self.do_open(op, words, place)
+        return WAYS.get(op, Device.do_plain)(self, op, words, place)
 
-    def do_plain(self, op, words, place):
+    def do_plain(self, op: str, words: Words, place: int) -> Answer:
         if op == "inject" and not self.inhibited:
             self.raw(words[1], words[0], place)
         elif op == "write" and not self.inhibited:
@@ -377,37 +405,37 @@ class Device:
                 self.clients[words[0]].revoked = True
         return ("done", place), None
 
-    def do_open(self, _, words, place):
+    def do_open(self, _: str, words: Words, place: int) -> Answer:
         number, self.opens = self.opens, self.opens + 1
         self.clients[number] = Client(self.caps.ring())
         return ("opened", place, number, self.caps.ring()), None
 
-    def do_read(self, _, words, place):
+    def do_read(self, _: str, words: Words, place: int) -> Answer:
         client = self.clients[words[0]]
         taken = client.take(min(words[1], client.visible()))
         return ("took", place, len(taken)), taken
 
-    def do_discard(self, _, words, place):
+    def do_discard(self, _: str, words: Words, place: int) -> Answer:
         client = self.clients[words[0]]
         return ("discarded", place, len(client.take(client.visible()))), None
 
-    def bits(self, kind, words, place):
+    def bits(self, kind: int, words: Words, place: int) -> Answer:
         self.clients[words[0]].flush(lambda event: event[0] == kind)
         return ("bits", place, kind, sorted(self.on[kind])), None
 
-    def do_getkeys(self, _, words, place):
+    def do_getkeys(self, _: str, words: Words, place: int) -> Answer:
         return self.bits(KEY, words, place)
 
-    def do_getswitches(self, _, words, place):
+    def do_getswitches(self, _: str, words: Words, place: int) -> Answer:
         return self.bits(SW, words, place)
 
-    def do_getleds(self, _, words, place):
+    def do_getleds(self, _: str, words: Words, place: int) -> Answer:
         return self.bits(LED, words, place)
 
-    def do_getsounds(self, _, words, place):
+    def do_getsounds(self, _: str, words: Words, place: int) -> Answer:
         return self.bits(SND, words, place)
 
-    def do_getaxis(self, _, words, place):
+    def do_getaxis(self, _: str, words: Words, place: int) -> Answer:
         code = words[1]
         if code not in self.caps.axes:
             return ("axis", place) + (0,) * 6, None
@@ -418,26 +446,26 @@ class Device:
             value = 0
         return ("axis", place, value) + tuple(self.infos[code][1:]), None
 
-    def do_setaxis(self, _, words, place):
+    def do_setaxis(self, _: str, words: Words, place: int) -> Answer:
         code, *info = words[1:]
         self.infos[code], self.axes[code] = info, info[0]
         return ("done", place), None
 
-    def do_getslots(self, _, words, place):
+    def do_getslots(self, _: str, words: Words, place: int) -> Answer:
         return ("cells", place, self.caps.slots, self.at_frame), [values[words[1] - FIRST] for values in self.cells]
 
-    def do_syncslots(self, _, words, place):
+    def do_syncslots(self, _: str, words: Words, place: int) -> Answer:
         self.clients[words[0]].flush(lambda event: event[0] == ABS and SLOT <= event[1] <= LAST)
         return ("cells", place, 14 * self.caps.slots, self.at_frame), [v for values in self.cells for v in values]
 
-    def do_mask(self, _, words, place):
+    def do_mask(self, _: str, words: Words, place: int) -> Answer:
         number, kind, word, bits = words
         for i in range(64):
             cleared = self.clients[number].clear_bits
             (cleared.discard if bits >> i & 1 else cleared.add)((kind, 64 * word + i))
         return ("done", place), None
 
-    def do_clock(self, _, words, place):
+    def do_clock(self, _: str, words: Words, place: int) -> Answer:
         number, clock, now = words
         client = self.clients[number]
         if client.clock != clock:
@@ -445,3 +473,12 @@ class Device:
             if client.queue:
                 client.queue = [((SYN, DROPPED, 0), now + self.caps.offsets[clock], place)]
         return ("done", place), None
+
+
+# What a step does that has more to reply than that it is done.
+WAYS: Dict[str, Callable[[Device, str, Words, int], Answer]] = {
+    "read": Device.do_read, "discard": Device.do_discard, "getkeys": Device.do_getkeys,
+    "getswitches": Device.do_getswitches, "getleds": Device.do_getleds, "getsounds": Device.do_getsounds,
+    "getaxis": Device.do_getaxis, "setaxis": Device.do_setaxis, "getslots": Device.do_getslots,
+    "syncslots": Device.do_syncslots, "mask": Device.do_mask, "clock": Device.do_clock,
+}

@@ -3,9 +3,13 @@
 A record that it hands out is a tuple (time in milliseconds, value, type, number).
 """
 
-from second.device import DROPPED, LAST, REPORT, SLOT
+
+from typing import Any, List, Tuple, Union
+
+from second.device import Caps, DROPPED, LAST, REPORT, SLOT
 from second.names import ABS, KEY, SYN
 from second.reader import Reader
+from second.values import Event, HandedOut, JoyRecord, Reply, Step
 
 BUTTON, AXIS, STARTUP = 1, 2, 0x80
 FIRST_OF_ALL, FIRST_OF_JOYSTICKS = 0x100, 0x120
@@ -13,31 +17,36 @@ MOST_BUTTONS = 64
 LONG = 64
 
 
-def cut(value):
+# What a read comes to: a record, or a word.
+Read = Union[JoyRecord, str, None]
+
+
+def cut(value: int) -> int:
     return max(-32767, min(32767, value))
 
 
 class Joystick:
-    def __init__(self, caps):
+    def __init__(self, caps: Caps) -> None:
         self.reader = Reader(caps)
         keys = sorted(caps.codes.get(KEY, ())) if KEY in caps.kinds else []
         behind = [code for code in keys if FIRST_OF_ALL <= code < FIRST_OF_JOYSTICKS]
         self.buttons = ([code for code in keys if FIRST_OF_JOYSTICKS <= code] + behind)[:MOST_BUTTONS]
         self.axes = [code for code in sorted(caps.axes) if not SLOT <= code <= LAST]
-        self.startup, self.calls = [], []
+        self.startup: List[JoyRecord] = []
+        self.calls: List[Tuple[Step, Reply]] = []
         self.clear()
 
-    def clear(self):
+    def clear(self) -> None:
         """The picture before the records of a startup."""
         self.down, self.values = [0] * len(self.buttons), [0] * len(self.axes)
 
-    def begin_startup(self):
+    def begin_startup(self) -> None:
         view = self.reader.view
         buttons = [(0, int(code in view.on[KEY]), BUTTON + STARTUP, i) for i, code in enumerate(self.buttons)]
         self.startup = buttons + [(0, cut(view.axes[code]), AXIS + STARTUP, i) for i, code in enumerate(self.axes)]
         self.clear()
 
-    def start(self, device):
+    def start(self, device: Any) -> None:
         self.reader.start(device)
         self.calls = self.reader.calls
         if self.reader.phase == "needed":
@@ -45,12 +54,12 @@ class Joystick:
         elif self.calls[0][1][0] == "opened":
             self.begin_startup()
 
-    def ask(self, device, in_sync_mode):
+    def ask(self, device: Any, in_sync_mode: bool) -> HandedOut:
         answer = self.reader.next(device, in_sync_mode)
         self.calls += self.reader.calls
         return answer
 
-    def read(self, device):
+    def read(self, device: Any) -> Read:
         """What a read answers: a record, or "frame", "more" or "end"."""
         self.calls = []
         while True:
@@ -61,7 +70,7 @@ class Joystick:
             if not self.startup and len(accepted) >= LONG:
                 return "more"
 
-    def turn(self, device):
+    def turn(self, device: Any) -> Read:
         if self.startup:
             return self.hand_out(self.startup.pop(0))
         if self.reader.phase == "needed":
@@ -74,13 +83,13 @@ class Joystick:
             return self.synchronise(device)
         return "frame" if event[:2] == (SYN, REPORT) else self.tell(event, time)
 
-    def synchronise(self, device):
+    def synchronise(self, device: Any) -> Read:
         if self.ask(device, in_sync_mode=True)[0] == "end":
             return "end"
         self.begin_startup()
         return None
 
-    def tell(self, event, time):
+    def tell(self, event: Event, time: int) -> Read:
         """The record of an event, if it gives one."""
         kind, code, value = event
         milliseconds = time // 1000 % 2**32
@@ -90,7 +99,7 @@ class Joystick:
             return self.hand_out((milliseconds, cut(value), AXIS, self.axes.index(code)))
         return None
 
-    def hand_out(self, record):
+    def hand_out(self, record: JoyRecord) -> JoyRecord:
         _, value, kind, number = record
         if kind % STARTUP == BUTTON:
             self.down[number] = value

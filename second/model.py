@@ -1,40 +1,34 @@
-#!/usr/bin/env python3
-"""Plays a record as `inputplay FILE` does, and prints its report: a second program, to compare the first one with.
+"""Plays a record as `inputplay FILE` does: a second program, to compare the first one with.
 
-It was written from docs/RULES.md, docs/READER.md and docs/FORMATS.md and shares no code with the program. It takes the record
-for one that has a meaning, and plays on one thread.
-
-usage: model.py [--history] FILE
+It was written from docs/RULES.md, docs/READER.md and docs/FORMATS.md and shares no code with the program. It takes
+the record for one that has a meaning, and plays on one thread.
 """
 
 import os
 import struct
-import sys
-from pathlib import Path
-from typing import NamedTuple
-
-sys.path.insert(0, str(Path(__file__).resolve().parent.parent))
+from typing import Any, Callable, Dict, List, NamedTuple, Optional, Sequence, Tuple
 
 from second.device import Caps, Device, FIRST, LAST, SLOT
 from second.joystick import Joystick
 from second.names import ABS, CODES, KEY, LED, SW, TYPES, code_text, event_text, kind_text
 from second.reader import NO_CLIENT, Reader, View
+from second.values import Event, Item, Reply, Step, Streams
 
 
-def number(word):
+def number(word: str) -> int:
     return -number(word[1:]) if word.startswith("-") else int(word, 16 if word.startswith("0x") else 10)
 
 
-def kind_of(word):
+def kind_of(word: str) -> int:
     return TYPES[word] if word in TYPES else number(word)
 
 
-def code_of(kind, word):
+def code_of(kind: int, word: str) -> int:
     names = CODES.get(kind, {})
     return names[word] if word in names else number(word)
 
 
-def event_of(words):
+def event_of(words: List[str]) -> Event:
     kind = kind_of(words[0])
     return (kind, code_of(kind, words[1]), number(words[2]))
 
@@ -42,7 +36,7 @@ def event_of(words):
 # The text of steps and replies
 
 
-def step_text(step):
+def step_text(step: Step) -> str:
     op, *words = step
     if op in ("inject", "write"):
         return " ".join([op] + [str(word) for word in words[:-1]] + [event_text(words[-1])])
@@ -55,7 +49,7 @@ def step_text(step):
     return " ".join(str(word) for word in step)
 
 
-def reply_text(reply):
+def reply_text(reply: Reply) -> str:
     if reply[0] == "bits":
         return " ".join(["bits", str(reply[1])] + [code_text(reply[2], code) for code in reply[3]])
     return " ".join(str(word) for word in reply)
@@ -65,7 +59,7 @@ def reply_text(reply):
 RECORD_FORMS = {"stream": "<QQHHi", "stream16": "<IIHHi"}
 
 
-def source_steps(words, streams):
+def source_steps(words: List[str], streams: Streams) -> List[Step]:
     """The steps of a source's command."""
     command, *words = words
     if command == "event":
@@ -76,15 +70,16 @@ def source_steps(words, streams):
 
 
 class Actor:
-    def __init__(self, name, role, device):
+    def __init__(self, name: str, role: str, device: Any) -> None:
         self.name, self.role, self.device = name, role, device
-        self.sight, self.accepted, self.stop = [], 0, "finished"
+        self.sight: List[str] = []
+        self.accepted, self.stop = 0, "finished"
         self.reader, self.view, self.client = Reader(device.caps), View(device.caps), NO_CLIENT
         self.joystick = Joystick(device.caps)
         # (how many events or records the present line has handed out)
         self.handed = 0
 
-    def see(self, step, reply):
+    def see(self, step: Step, reply: Reply) -> None:
         if reply[0] == "again":
             self.sight.append(f"again {reply[1]}")
         else:
@@ -94,37 +89,41 @@ class Actor:
         if reply[0] == "refused" and reply[2] == "log-full":
             self.stop = f"full {reply[1]}"
 
-    def see_taken(self, item):
+    def see_taken(self, item: Item) -> None:
         event, time, place = item
         self.sight.append(f"took {place} {time} {event_text(event)}")
 
-    def see_handed(self, what, values):
+    def see_handed(self, what: str, values: Sequence[Any]) -> None:
         """Sees what the reader handed out."""
         if what == "took":
             self.see_taken(values[0])
         elif what == "made":
             self.sight.append(f"made {event_text(values[0])}")
 
-    def see_record(self, answer):
+    def see_record(self, answer: Any) -> None:
         """Sees what a joystick's read answers."""
-        if answer not in ("frame", "more"):
+        if isinstance(answer, tuple):
             self.sight.append("js " + " ".join(map(str, answer)))
 
-    def see_feedback(self, at, events):
+    def see_feedback(self, at: int, events: List[Event]) -> None:
         self.sight += [f"feedback {at} {len(events)}"] + [f"fed {event_text(event)}" for event in events]
 
-    def do(self, words, streams):
+    def do(self, words: List[str], streams: Streams) -> None:
         if self.stop == "finished":
-            getattr(self, "do_" + self.role)(words, streams)
+            ways: Dict[str, Callable[[List[str], Streams], None]] = {
+                "source": self.do_source, "tap": self.do_tap, "client": self.do_client, "joy": self.do_joy,
+                "owner": self.do_owner,
+            }
+            ways[self.role](words, streams)
 
-    def do_source(self, words, streams):
+    def do_source(self, words: List[str], streams: Streams) -> None:
         for step in source_steps(words, streams):
             reply, _ = self.device.step(step)
             self.see(step, reply)
             if reply[0] == "refused":
                 return
 
-    def single_step(self, client, words):
+    def single_step(self, client: int, words: List[str]) -> Optional[Step]:
         """The step of a command that taps and clients share, or none."""
         command, *words = words
         if command in ("close", "grab", "ungrab", "revoke"):
@@ -139,8 +138,9 @@ class Actor:
             return ("setaxis", client, code_of(ABS, words[0]), *map(number, words[1:]))
         return None
 
-    def do_tap(self, words, _):
+    def do_tap(self, words: List[str], _: Streams) -> None:
         command = words[0]
+        step: Step
         if command == "open":
             step = ("open",)
         elif command == "read":
@@ -152,7 +152,7 @@ class Actor:
         elif command in ("axis", "slots"):
             step = ("get" + command, self.client, code_of(ABS, words[1]))
         else:
-            step = self.single_step(self.client, words)
+            step = self.single_step(self.client, words) or ()
         reply, written = self.device.step(step)
         self.see(step, reply)
         if reply[0] == "opened":
@@ -164,7 +164,7 @@ class Actor:
         else:
             self.view.answer(step, reply, written)
 
-    def do_client(self, words, _):
+    def do_client(self, words: List[str], _: Streams) -> None:
         step = self.single_step(self.reader.client, words)
         if step:
             reply, _ = self.device.step(step)
@@ -178,11 +178,11 @@ class Actor:
             self.hand_out(words[0], number(words[1]) if words[1:] else None)
         self.view = self.reader.view
 
-    def see_calls(self, calls):
+    def see_calls(self, calls: List[Tuple[Step, Reply]]) -> None:
         for step, reply in calls:
             self.see(step, reply)
 
-    def hand_out(self, command, bound):
+    def hand_out(self, command: str, bound: Optional[int]) -> None:
         while bound is None or self.handed < bound:
             in_sync_mode = command != "skip" and self.reader.phase != "plain"
             what, *values = self.reader.next(self.device, in_sync_mode)
@@ -195,7 +195,7 @@ class Actor:
             self.see_handed(what, values)
         self.handed = 0
 
-    def do_joy(self, words, _):
+    def do_joy(self, words: List[str], _: Streams) -> None:
         step = self.single_step(self.joystick.reader.client, words)
         if step:
             reply, _ = self.device.step(step)
@@ -206,39 +206,42 @@ class Actor:
         else:
             self.read_records(number(words[1]))
 
-    def read_records(self, bound):
+    def read_records(self, bound: int) -> None:
         while self.handed < bound:
             answer = self.joystick.read(self.device)
             self.see_calls(self.joystick.calls)
             if answer == "end":
                 break
-            self.handed += answer not in ("frame", "more")
+            self.handed += isinstance(answer, tuple)
             self.see_record(answer)
         self.handed = 0
 
-    def do_owner(self, words, _):
+    def do_owner(self, words: List[str], _: Streams) -> None:
         at, events = self.device.feedback(number(words[1]))
         if events is None:
             self.stop = f"full {at}"
         else:
             self.see_feedback(at, events)
 
-    def waits_on(self, reply):
+    def waits_on(self, reply: Reply) -> bool:
         """Whether a follow goes on behind its last call's reply. On one thread it never does."""
         return False
 
-    def part(self):
+    def part(self) -> List[str]:
         if self.role == "source":
             return [f"source {self.name} calls {self.accepted} stop {self.stop}"]
-        end = {"joy": self.picture_lines, "owner": list}.get(self.role, self.view_lines)()
+        end = {"joy": self.picture_lines, "owner": self.no_lines}.get(self.role, self.view_lines)()
         return [f"{self.role} {self.name}"] + self.sight + end + [f"stop {self.stop}"]
 
-    def picture_lines(self):
+    def no_lines(self) -> List[str]:
+        return []
+
+    def picture_lines(self) -> List[str]:
         down = [str(number) for number, value in enumerate(self.joystick.down) if value]
         values = [str(value) for value in self.joystick.values]
         return [" ".join(["buttons"] + down), " ".join(["axes"] + values)]
 
-    def view_lines(self):
+    def view_lines(self) -> List[str]:
         caps, lines = self.device.caps, []
         for kind, word in ((KEY, "keys"), (SW, "switches"), (LED, "leds")):
             if kind in caps.kinds:
@@ -255,7 +258,7 @@ class Actor:
         return lines
 
 
-def describe(caps, words):
+def describe(caps: Caps, words: List[str]) -> None:
     """A line of a device's description."""
     first, *words = words
     if first in ("hint", "log", "slots"):
@@ -275,7 +278,7 @@ def describe(caps, words):
         caps.filters.append(filter_of(words))
 
 
-def filter_of(words):
+def filter_of(words: List[str]) -> Tuple[Any, ...]:
     """What a line says behind `filter`."""
     form, *words = words
     if form == "eat":
@@ -286,7 +289,7 @@ def filter_of(words):
     return (form, *(code_of(KEY, word) for word in words))
 
 
-def read_stream(path, form):
+def read_stream(path: str, form: str) -> List[Tuple[int, Event]]:
     records = struct.iter_unpack(form, open(path, "rb").read())
     return [(seconds * 1000000 + micros, (kind, code, value)) for seconds, micros, kind, code, value in records]
 
@@ -294,13 +297,15 @@ def read_stream(path, form):
 class Record(NamedTuple):
     """What a record has: its devices' names and descriptions; its actors' names, roles and devices; its actions' words."""
 
-    descriptions: list
-    actors: list
-    actions: list
+    descriptions: List[Tuple[str, Caps]]
+    actors: List[Tuple[str, str, int]]
+    actions: List[List[str]]
 
 
-def read_record(text):
-    descriptions, actors, actions = [], [], []
+def read_record(text: str) -> Record:
+    descriptions: List[Tuple[str, Caps]] = []
+    actors: List[Tuple[str, str, int]] = []
+    actions: List[List[str]] = []
     for line in text.split("\n"):
         words = line.split()
         if not words or words[0].startswith("#") or words[0] == "inputrecord":
@@ -318,7 +323,7 @@ def read_record(text):
     return Record(descriptions, actors, actions)
 
 
-def streams_of(folder):
+def streams_of(folder: str) -> Streams:
     return lambda file, form: read_stream(os.path.join(folder, file), form)
 
 
@@ -326,7 +331,7 @@ def streams_of(folder):
 LATER_ROLES = ("joy", "owner")
 
 
-def report(devices, actors, history):
+def report(devices: Sequence[Device], actors: Sequence[Actor], history: bool) -> List[str]:
     """The lines of the report on devices and, in record order, their actors; behind them all those on joysticks, and
     behind these those on owners."""
     lines = []
@@ -344,7 +349,7 @@ def report(devices, actors, history):
     return lines
 
 
-def run(text, folder="."):
+def run(text: str, folder: str = ".") -> Tuple[List[Device], List[Actor]]:
     """The devices and, in record order, the actors, once all lines are done."""
     record = read_record(text)
     devices = [Device(name, caps) for name, caps in record.descriptions]
@@ -354,15 +359,7 @@ def run(text, folder="."):
     return devices, list(actors.values())
 
 
-def play(text, folder=".", history=False):
+def play(text: str, folder: str = ".", history: bool = False) -> List[str]:
     """The lines of the report."""
     return report(*run(text, folder), history)
 
-
-if __name__ == "__main__":
-    path = sys.argv[-1]
-    # (a comment may hold any bytes)
-    with open(path, encoding="latin1", newline="") as file:
-        lines = play(file.read(), os.path.dirname(os.path.abspath(path)), "--history" in sys.argv[1:-1])
-    for line in lines:
-        print(line)

@@ -1,17 +1,11 @@
-#!/usr/bin/env python3
 """Ends as `inputplay FILE` does: it writes the report, or why there is none, and ends with the same status.
 
-It takes any bytes for a record, where model.py takes the record for one that has a meaning. The names of streams
-are those of files beside the record.
-
-usage: outcome.py [--history] FILE
+It takes any bytes for a record, where `second.model` takes the record for one that has a meaning. The names of
+streams are those of files beside the record.
 """
 
 import os
-import sys
-from pathlib import Path
-
-sys.path.insert(0, str(Path(__file__).resolve().parent.parent))
+from typing import Optional, Tuple
 
 from second.model import report, run
 from second.record_text import Refused, is_stream, streams_of_text
@@ -22,12 +16,12 @@ INPUT_LIMIT = 16777216
 class Ends(Exception):
     """The program ends without a report: with a status, and a line."""
 
-    def __init__(self, status, line):
+    def __init__(self, status: int, line: str) -> None:
         super().__init__(line)
         self.status, self.line = status, line
 
 
-def contents(path):
+def contents(path: str) -> bytes:
     try:
         with open(path, "rb") as file:
             data = file.read(INPUT_LIMIT + 1)
@@ -38,9 +32,9 @@ def contents(path):
     return data
 
 
-def played(path, history):
+def played(path: str, history: bool, folder: str) -> Tuple[int, bytes]:
     """The status and the text of a record that is played, or `Ends` is raised."""
-    data, folder = contents(path), os.path.dirname(os.path.abspath(path))
+    data = contents(path)
     try:
         for line, file, size in streams_of_text(data):
             if not is_stream(contents(os.path.join(folder, file)), size):
@@ -52,19 +46,11 @@ def played(path, history):
     return 6 if any(actor.stop != "finished" for actor in actors) else 0, text.encode()
 
 
-def outcome(path, history=False):
-    """The status that the program ends with, and all that it writes."""
+def outcome(path: str, history: bool = False, folder: Optional[str] = None) -> Tuple[int, bytes]:
+    """The status that the program ends with, and all that it writes. The files of streams are those of a folder, or else
+    of the record's own."""
     try:
-        return played(path, history)
+        return played(path, history, folder or os.path.dirname(os.path.abspath(path)))
     except Ends as end:
         return end.status, f"inputplay: {end}\n".encode()
 
-
-def main():
-    status, text = outcome(sys.argv[-1], "--history" in sys.argv[1:-1])
-    sys.stdout.buffer.write(text)
-    return status
-
-
-if __name__ == "__main__":
-    sys.exit(main())

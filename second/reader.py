@@ -1,22 +1,24 @@
 """What a client knows of its device, and a reader that keeps it right, by the rules of docs/READER.md."""
 
 import copy
+from typing import Any, Dict, List, Optional, Set, Tuple
 
-from second.device import DROPPED, FIRST, ID, LAST, REPORT, SLOT, is_slot_value, new_slot
+from second.device import Caps, DROPPED, FIRST, ID, LAST, REPORT, SLOT, is_slot_value, new_slot
 from second.names import ABS, KEY, LED, SW, SYN
+from second.values import Answer, Event, HandedOut, Item, Reply, Step
 
 NO_CLIENT = 4294967295
 AT_ONCE = 64
 
 
 class View:
-    def __init__(self, caps):
-        self.on = {KEY: set(), LED: set(), SW: set()}
+    def __init__(self, caps: Caps) -> None:
+        self.on: Dict[int, Set[int]] = {KEY: set(), LED: set(), SW: set()}
         self.axes = [0] * 64
         self.slot = 0
         self.cells = [new_slot() for _ in range(caps.slots)]
 
-    def take(self, event):
+    def take(self, event: Event) -> None:
         kind, code, value = event
         if kind in self.on and not (kind == KEY and value == 2):
             (self.on[kind].add if value else self.on[kind].discard)(code)
@@ -28,7 +30,7 @@ class View:
         elif kind == ABS:
             self.axes[code] = value
 
-    def answer(self, step, reply, cells):
+    def answer(self, step: Step, reply: Reply, cells: Any) -> None:
         if reply[0] == "bits" and reply[2] in self.on:
             self.on[reply[2]] = set(reply[3])
         elif reply[0] == "axis" and not SLOT <= step[2] <= LAST:
@@ -38,20 +40,20 @@ class View:
             self.cells = [list(cells[14 * i : 14 * i + 14]) for i in range(len(self.cells))]
 
 
-def synthesised(old, new):
+def synthesised(old: View, new: View) -> List[Event]:
     """The events that lead from the old view to the new one."""
     old = copy.deepcopy(old)
-    events = []
+    events: List[Event] = []
 
-    def make(group, event):
+    def make(group: List[Event], event: Event) -> None:
         group.append(event)
         old.take(event)
 
-    def to_slot(group, slot):
+    def to_slot(group: List[Event], slot: int) -> None:
         if old.slot != slot:
             make(group, (ABS, SLOT, slot))
 
-    lifts = []
+    lifts: List[Event] = []
     for slot, values in enumerate(old.cells):
         before, after = values[ID - FIRST], new.cells[slot][ID - FIRST]
         if before >= 0 and after >= 0 and before != after:
@@ -60,7 +62,7 @@ def synthesised(old, new):
     if lifts:
         events += lifts + [(SYN, REPORT, 0)]
 
-    changes = []
+    changes: List[Event] = []
     for kind in (KEY, LED, SW):
         for code in sorted(old.on[kind] ^ new.on[kind]):
             make(changes, (kind, code, int(code in new.on[kind])))
@@ -77,22 +79,24 @@ def synthesised(old, new):
 
 
 class Reader:
-    def __init__(self, caps):
+    def __init__(self, caps: Caps) -> None:
         self.caps, self.view, self.client, self.phase = caps, View(caps), NO_CLIENT, "plain"
-        self.queue, self.synthesised, self.calls = [], [], []
+        self.queue: List[Item] = []
+        self.synthesised: List[Event] = []
+        self.calls: List[Tuple[Step, Reply]] = []
 
-    def call(self, device, step):
+    def call(self, device: Any, step: Step) -> Answer:
         reply, written = device.step(step)
         self.calls.append((step, reply))
         return reply, written
 
-    def queries(self):
+    def queries(self) -> List[Step]:
         flags = [("getkeys", KEY), ("getleds", LED), ("getswitches", SW)]
-        steps = [(op, self.client) for op, kind in flags if kind in self.caps.kinds]
+        steps: List[Step] = [(op, self.client) for op, kind in flags if kind in self.caps.kinds]
         steps += [("getaxis", self.client, code) for code in sorted(self.caps.axes) if not SLOT <= code <= LAST]
         return steps + ([("syncslots", self.client)] if self.caps.slots else [])
 
-    def ask(self, device):
+    def ask(self, device: Any) -> Optional[View]:
         """The view that the answers make, or none where a query was refused."""
         view = copy.deepcopy(self.view)
         for step in self.queries():
@@ -102,7 +106,7 @@ class Reader:
             view.answer(step, reply, written)
         return view
 
-    def start(self, device):
+    def start(self, device: Any) -> None:
         self.calls = []
         reply, _ = self.call(device, ("open",))
         if reply[0] == "refused":
@@ -112,7 +116,7 @@ class Reader:
         self.phase = "plain" if view else "needed"
         self.view = view or self.view
 
-    def synchronise(self, device):
+    def synchronise(self, device: Any) -> bool:
         self.queue, self.synthesised, self.phase = [], [], "needed"
         reply, _ = self.call(device, ("discard", self.client))
         view = self.ask(device) if reply[0] != "refused" else None
@@ -121,7 +125,7 @@ class Reader:
         self.synthesised, self.view, self.phase = synthesised(self.view, view), view, "handing"
         return True
 
-    def next(self, device, in_sync_mode):
+    def next(self, device: Any, in_sync_mode: bool) -> HandedOut:
         """What is handed out: ("took", item), ("made", event), ("synced",), or ("end",) where a call says so."""
         self.calls = []
         if self.phase == "needed" and not self.synchronise(device):

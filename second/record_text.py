@@ -5,6 +5,7 @@ shares nothing with the program's parser, and with the rest of this second progr
 """
 
 import re
+from typing import Any, Callable, Collection, Dict, List, NoReturn, Optional, Sequence, Set, Tuple
 
 from second.names import ABS, CODES, GREATEST, KEY, SYN, TYPES
 
@@ -29,7 +30,7 @@ class Cause(Exception):
 class Refused(Exception):
     """The first line that is refused, and why."""
 
-    def __init__(self, line, cause):
+    def __init__(self, line: int, cause: str) -> None:
         super().__init__(f"line {line}: {cause}")
         self.line, self.cause = line, cause
 
@@ -37,11 +38,11 @@ class Refused(Exception):
 # Lines and words
 
 
-def lines_of(data):
+def lines_of(data: bytes) -> List[bytes]:
     return [line[:-1] if line.endswith(b"\r") else line for line in data.split(b"\n")]
 
 
-def words_of(line):
+def words_of(line: bytes) -> List[str]:
     """The words of a line. A comment and a line of blanks have none."""
     line = line.strip(b" \t")
     if line.startswith(b"#"):
@@ -51,7 +52,7 @@ def words_of(line):
     return line.decode("ascii").split()
 
 
-def number(word, greatest):
+def number(word: str, greatest: int) -> int:
     found = re.fullmatch("0x([0-9a-fA-F]+)|([0-9]+)", word)
     if not found:
         raise Cause("bad-word")
@@ -63,37 +64,37 @@ def number(word, greatest):
     return int(digits, base)
 
 
-def signed(word):
+def signed(word: str) -> int:
     return -number(word[1:], 2**31) if word.startswith("-") else number(word, 2**31 - 1)
 
 
-def one_of(word, words):
+def one_of(word: str, words: Collection[str]) -> str:
     if word not in words:
         raise Cause("bad-word")
     return word
 
 
-def no_word():
+def no_word() -> NoReturn:
     raise Cause("bad-word")
 
 
-def name(word):
+def name(word: str) -> str:
     if not re.fullmatch("[a-z0-9_-]{1,32}", word):
         raise Cause("bad-word")
     return word
 
 
-def kind(word):
+def kind(word: str) -> int:
     return TYPES[word] if word in TYPES else number(word, U16)
 
 
-def code(word, of_kind):
+def code(word: str, of_kind: int) -> int:
     names = CODES.get(of_kind, {})
     return names[word] if word in names else number(word, U16)
 
 
 # What each form of a word means. A CODE belongs to the TYPE before it, and is one of an axis where there is none.
-FORMS = {
+FORMS: Dict[str, Callable[[str], Any]] = {
     "NAME": name,
     "FILE": str,
     "SIGNED": signed,
@@ -112,7 +113,7 @@ FORMS = {
 }
 
 
-def values_of(forms, words):
+def values_of(forms: str, words: Sequence[str]) -> List[Any]:
     """What words mean that have these forms."""
     values, of_kind = [], ABS
     for form, word in zip(forms.split(), words):
@@ -137,7 +138,7 @@ DESCRIPTION = {
 }
 
 # The words behind `filter`, by the first of them.
-FILTERS = {
+FILTERS: Dict[str, str] = {
     "eat": "FILTER TYPE CODE",
     "norepeat": "FILTER",
     "chord": "FILTER KEY KEY",
@@ -180,11 +181,11 @@ COMMANDS = {
 }
 
 
-def has_length(forms, words):
+def has_length(forms: str, words: Sequence[str]) -> bool:
     return len(words) == len(forms.split())
 
 
-def is_line(version, first, rest):
+def is_line(version: str, first: str, rest: List[str]) -> bool:
     """Whether a line begins with this word and has so many words behind it. A line that names no filter may have any
     number of words from two on."""
     if version == "1" and first in LATER:
@@ -203,7 +204,7 @@ def is_line(version, first, rest):
 MOST_SLOTS = {"1": 64, "2": 256}
 
 
-def cause_of_filter(count, form, *values):
+def cause_of_filter(count: int, form: str, *values: Any) -> Optional[str]:
     """Why the call for one more filter behind so many is refused, or None."""
     keys = {"eat": [], "norepeat": [], "chord": values, "bounce": values[:1]}[form]
     codes = [values] if form == "eat" else [(KEY, key) for key in keys]
@@ -215,7 +216,7 @@ def cause_of_filter(count, form, *values):
     return "bad-filter" if count == MOST_FILTERS else None
 
 
-def cause_of_call(version, first, values):
+def cause_of_call(version: str, first: str, values: List[Any]) -> Optional[str]:
     """Why the call for a line of a description is refused, or None."""
     if first == "hint":
         return None if 2 <= values[0] <= 512 else "bad-hint"
@@ -234,7 +235,8 @@ def cause_of_call(version, first, values):
     return cause_of_axis(*values)
 
 
-def cause_of_axis(axis, value, _minimum, _maximum, fuzz, _flat, _resolution):
+def cause_of_axis(axis: int, value: int, _minimum: int, _maximum: int, fuzz: int, _flat: int,
+                  _resolution: int) -> Optional[str]:
     if axis > GREATEST[ABS]:
         return "bad-code"
     is_bad = not 0 <= fuzz <= 2**30
@@ -249,15 +251,18 @@ def cause_of_axis(axis, value, _minimum, _maximum, fuzz, _flat, _resolution):
 class Text:
     """The lines of a text so far, each of them accepted."""
 
-    def __init__(self):
-        self.version, self.has_action = None, False
-        self.devices, self.actors = set(), {}
+    def __init__(self) -> None:
+        self.version, self.has_action = "", False
+        self.devices: Set[str] = set()
+        self.actors: Dict[str, str] = {}
         # Of the latest device: what was given that may be given once, its actors' roles, and whether it is made by
         # requests.
-        self.given, self.roles, self.filters, self.is_requested = set(), [], 0, False
-        self.streams = []
+        self.given: Set[Any] = set()
+        self.roles: List[str] = []
+        self.filters, self.is_requested = 0, False
+        self.streams: List[Tuple[int, str, int]] = []
 
-    def take(self, line, words):
+    def take(self, line: int, words: List[str]) -> None:
         """Takes a line's words, or raises the cause."""
         first, *rest = words
         if not self.version:
@@ -280,7 +285,7 @@ class Text:
         else:
             self.take_description(first, values_of(DESCRIPTION[first], rest))
 
-    def is_out_of_place(self, first):
+    def is_out_of_place(self, first: str) -> bool:
         if first == "do":
             return False
         if first == "inputrecord" or self.has_action:
@@ -291,7 +296,7 @@ class Text:
             return True
         return not self.devices or (first not in ACTORS and bool(self.roles))
 
-    def take_device(self, first, device):
+    def take_device(self, first: str, device: str) -> None:
         if device in self.devices:
             raise Cause("twice")
         if len(self.devices) == MOST_DEVICES:
@@ -299,7 +304,7 @@ class Text:
         self.devices.add(device)
         self.given, self.roles, self.filters, self.is_requested = set(), [], 0, first == "udevice"
 
-    def take_description(self, first, values):
+    def take_description(self, first: str, values: List[Any]) -> None:
         what = (first, values[0]) if first in ("clock", "axis") else first
         if what in self.given:
             raise Cause("twice")
@@ -309,13 +314,13 @@ class Text:
         if first not in ("type", "cap"):
             self.given.add(what)
 
-    def take_filter(self, values):
+    def take_filter(self, values: List[Any]) -> None:
         cause = cause_of_filter(self.filters, *values)
         if cause:
             raise Cause(cause)
         self.filters += 1
 
-    def take_actor(self, role, actor):
+    def take_actor(self, role: str, actor: str) -> None:
         if actor in self.actors:
             raise Cause("twice")
         kind = role if role in MOST else "reader"
@@ -325,22 +330,22 @@ class Text:
         self.actors[actor] = role
         self.roles.append(role)
 
-    def take_action(self, line, actor, command, *words):
+    def take_action(self, line: int, actor: str, command: str, *words: str) -> None:
         if actor not in self.actors:
             raise Cause("no-actor")
         forms = COMMANDS[self.actors[actor]].get(command)
         is_later = command == "stream16" and self.version == "1"
         if forms is None or not has_length(forms, words) or is_later:
             raise Cause("bad-command")
-        values = values_of(forms, words)
+        values_of(forms, words)
         if command in RECORD_SIZES:
             if len(self.streams) == MOST_STREAMS:
                 raise Cause("too-many")
-            self.streams.append((line, *values, RECORD_SIZES[command]))
+            self.streams.append((line, words[0], RECORD_SIZES[command]))
         self.has_action = True
 
 
-def streams_of_text(data):
+def streams_of_text(data: bytes) -> List[Tuple[int, str, int]]:
     """The `stream` and `stream16` lines of a text, each as its number, its file and the number of bytes of a record in it,
     or `Refused` is raised."""
     text, lines = Text(), lines_of(data)
@@ -356,7 +361,7 @@ def streams_of_text(data):
     return text.streams
 
 
-def is_stream(data, size):
+def is_stream(data: bytes, size: int) -> bool:
     """Whether bytes are whole records of so many bytes, each at a time that is one."""
     if len(data) % size:
         return False

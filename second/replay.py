@@ -1,5 +1,4 @@
-#!/usr/bin/env python3
-"""Checks what `inputplay --threads --history RECORD` printed.
+"""Checks what `inputplay --threads --history RECORD` printed: `python3 -m second.replay RECORD REPORT`.
 
 The printed history of each device is played on one thread, by a second program that shares no code with the
 first. Then every job does its lines of the record again. The place of each of its calls is the one that it
@@ -13,11 +12,9 @@ that are wrong or a file that cannot be read.
 import argparse
 import os
 import sys
-from pathlib import Path
+from typing import Any, Dict, List, Optional, Set, Tuple
 
-sys.path.insert(0, str(Path(__file__).resolve().parent.parent))
-
-from second.device import Device, Outputs, is_report
+from second.device import Caps, Device, Outputs, is_report
 from second.model import (
     LATER_ROLES,
     Actor,
@@ -33,15 +30,19 @@ from second.model import (
     streams_of,
 )
 from second.names import ABS
+from second.values import Answer, Event, Fed, Step, Streams
 
 IDLE = 1000000
+
+# The texts of a device's steps, and the lines of its actors by their names.
+Printed = Tuple[List[str], Dict[str, List[str]]]
 
 
 class Differs(Exception):
     """What was printed is not what comes of the printed history."""
 
 
-def step_of(text):
+def step_of(text: str) -> Step:
     """The step that a text of a history says."""
     op, *words = text.split()
     if op in ("inject", "write"):
@@ -60,30 +61,34 @@ def step_of(text):
 class Client:
     """What a refusal asks of a client."""
 
-    def __init__(self, client):
-        self.revoked, self.count = client.revoked, client.visible()
+    def __init__(self, client: Any) -> None:
+        self.revoked: bool = client.revoked
+        self.count: int = client.visible()
 
-    def visible(self):
+    def visible(self) -> int:
         return self.count
 
 
 class Moment:
     """What a device refuses at one place of its history."""
 
-    def __init__(self, device):
+    def __init__(self, device: Device) -> None:
         self.caps, self.holder, self.history = device.caps, device.holder, range(len(device.history))
         self.clients = {number: Client(client) for number, client in device.clients.items()}
 
-    refusal = Device.refusal
+    def refusal(self, step: Step) -> Optional[str]:
+        moment: Any = self
+        return Device.refusal(moment, step)
 
 
 class Played:
     """A printed history, played on one thread: the answer at each place, and who made the step there."""
 
-    def __init__(self, name, caps, texts, asked):
+    def __init__(self, name: str, caps: Caps, texts: List[str], asked: Set[int]) -> None:
         self.device, self.answers, self.moments = Device(name, caps), [], {}
         # What each step sends to the device; and by the place of each read of a line `follow` those of the reports it took.
-        self.sent, self.followed = [], {}
+        self.sent: List[List[Event]] = []
+        self.followed: Dict[int, List[int]] = {}
         for place, text in enumerate(texts):
             if place in asked:
                 self.moments[place] = Moment(self.device)
@@ -95,12 +100,12 @@ class Played:
             self.answers.append((reply, written))
             self.sent.append(self.device.outputs.waiting)
         self.moments[len(texts)] = Moment(self.device)
-        self.callers = [None] * len(texts)
+        self.callers: List[Optional[str]] = [None] * len(texts)
 
-    def ends(self, place):
+    def ends(self, place: int) -> int:
         return self.device.history[:place].count(("end",))
 
-    def claim(self, place, step, caller):
+    def claim(self, place: int, step: Step, caller: str) -> Answer:
         if not place < len(self.callers) or self.device.history[place] != step:
             raise Differs(f"{caller}: its call {step_text(step)} is not step {place} of the history")
         if self.callers[place] is not None:
@@ -108,20 +113,21 @@ class Played:
         self.callers[place] = caller
         return self.answers[place]
 
-    def changes(self):
+    def changes(self) -> int:
         """In how many places the job changes: the step is another job's than the one before. All sources count as one job."""
         return sum(caller != before for before, caller in zip(self.callers, self.callers[1:]))
 
-    def waits(self):
+    def waits(self) -> int:
         """How many reads of lines `follow` took frames that all ended behind the step that their job made before."""
-        last, count = {}, 0
+        last: Dict[Optional[str], int] = {}
+        count = 0
         for place, caller in enumerate(self.callers):
             reports = self.followed.get(place)
-            count += bool(reports) and min(reports) > last[caller]
+            count += bool(reports and min(reports) > last[caller])
             last[caller] = place
         return count
 
-    def refuse(self, place, step, caller):
+    def refuse(self, place: int, step: Step, caller: str) -> Answer:
         why = self.moments[place].refusal(step) if place in self.moments else None
         if why is None:
             raise Differs(f"{caller}: its call {step_text(step)} is not refused at {place}")
@@ -131,14 +137,14 @@ class Played:
 class Share:
     """The device as one job saw it: its calls have the places that the job printed, which rise."""
 
-    def __init__(self, played, name, told):
+    def __init__(self, played: Played, name: str, told: List[str]) -> None:
         self.played, self.name, self.caps, self.history = played, name, played.device.caps, played.device.history
         self.told = iter([place_and_word(line) for line in told if is_call(line)])
         self.told_feedback = iter([place for line in told for place in places_of_feedback(line)])
         self.outputs = Outputs(self.caps.log)
         self.seen, self.follows = 0, False
 
-    def step(self, step):
+    def step(self, step: Step) -> Answer:
         place, word = next(self.told, (None, None))
         if place is None:
             raise Differs(f"{self.name}: it printed no call {step_text(step)}")
@@ -151,7 +157,7 @@ class Share:
             self.played.followed[place] = [at for event, _, at in answer[1] if is_report(event)]
         return answer
 
-    def feedback(self, room):
+    def feedback(self, room: int) -> Fed:
         """A feedback call, which takes of what the steps before the place sent that the owner printed."""
         place = next(self.told_feedback, None)
         if place is None:
@@ -164,17 +170,17 @@ class Share:
         return place, self.outputs.feedback(room)
 
 
-def is_call(line):
+def is_call(line: str) -> bool:
     return line.startswith(("call ", "again "))
 
 
-def place_and_word(line):
+def place_and_word(line: str) -> Tuple[int, str]:
     """The place that a call's line has, and the first word of its reply."""
     words = line.split(" reply ")[-1].split()
     return int(words[1]), words[0]
 
 
-def places_of_feedback(line):
+def places_of_feedback(line: str) -> List[int]:
     """The history's length that an owner's line has, if it has one: that of a feedback call, or of its stop."""
     words = line.split()
     if words[0] == "feedback":
@@ -185,11 +191,11 @@ def places_of_feedback(line):
 class Job(Actor):
     """An actor that is no source and does its lines again."""
 
-    def __init__(self, name, role, share, sources, idle):
+    def __init__(self, name: str, role: str, share: Share, sources: int, idle: int) -> None:
         super().__init__(name, role, share)
         self.sources, self.idle = sources, idle
 
-    def do_client(self, words, streams):
+    def do_client(self, words: List[str], streams: Streams) -> None:
         self.device.follows = words[0] == "follow"
         super().do_client(words, streams)
         last = self.sight[-1].split() if words[0] == "follow" else [""]
@@ -200,7 +206,7 @@ class Job(Actor):
 class Source(Actor):
     """A source: its calls are not printed, so it says how many there were and how they ended."""
 
-    def __init__(self, name, share, steps, told):
+    def __init__(self, name: str, share: Share, steps: List[Step], told: str) -> None:
         super().__init__(name, "source", share)
         count, _, stop = told.split(maxsplit=2)
         self.accepted, self.steps = int(count), steps[: int(count)]
@@ -212,7 +218,7 @@ class Source(Actor):
             self.stop = f"full {len(share.history)}"
 
 
-def share_out(played, sources):
+def share_out(played: Played, sources: List[Any]) -> None:
     """The steps that no other job made are those of the sources, each in its own order."""
     states = {(0,) * len(sources)}
     for place, step in enumerate(played.device.history):
@@ -229,9 +235,11 @@ def share_out(played, sources):
         raise Differs(f"device {played.device.name}: a source's call is not in the history")
 
 
-def parts_of(lines):
+def parts_of(lines: List[str]) -> Tuple[List[Printed], Dict[str, List[str]]]:
     """For each device its steps' texts, and its parts by their actors' names; beside them the parts of joysticks and owners."""
-    devices, later, part = [], {}, []
+    devices: List[Printed] = []
+    later: Dict[str, List[str]] = {}
+    part: List[str] = []
     for line in lines:
         word, *words = line.split(" ", 2)
         if word == "device":
@@ -250,7 +258,8 @@ def parts_of(lines):
     return devices, later
 
 
-def replay_device(i, record, printed, streams, idle):
+def replay_device(i: int, record: Record, printed: Printed, streams: Streams,
+                  idle: int) -> Tuple[Played, List[Any]]:
     """A device as its printed history has it, and its jobs with what they saw."""
     name, caps = record.descriptions[i]
     texts, parts = printed
@@ -258,7 +267,7 @@ def replay_device(i, record, printed, streams, idle):
     asked = {place_and_word(line)[0] for actor, _ in actors for line in parts.get(actor, ()) if is_call(line)}
     played = Played(name, caps, texts, asked)
     sources = sum(role == "source" for _, role in actors)
-    jobs = []
+    jobs: List[Any] = []
     for actor, role in actors:
         if actor not in parts:
             raise Differs(f"{actor} is not in the report")
@@ -268,17 +277,17 @@ def replay_device(i, record, printed, streams, idle):
             steps = [step for words in lines for step in source_steps(words, streams)]
             jobs.append(Source(actor, share, steps, parts[actor][0].split(" ", 1)[1]))
         else:
-            job = Job(actor, role, share, sources, idle)
+            jobs.append(Job(actor, role, share, sources, idle))
             for words in lines:
-                job.do(words, streams)
-            jobs.append(job)
+                jobs[-1].do(words, streams)
     share_out(played, [job for job in jobs if job.role == "source"])
     for job in jobs:
         job.device = played.device
     return played, jobs
 
 
-def replay(text, printed, folder=".", idle=IDLE):
+def replay(text: str, printed: List[str], folder: str = ".",
+           idle: int = IDLE) -> Tuple[List[str], List[Played]]:
     """The report that comes of a printed one's histories, and the devices; `Differs` where none does."""
     record = read_record(text)
     devices, later = parts_of(printed)
@@ -290,7 +299,7 @@ def replay(text, printed, folder=".", idle=IDLE):
     return lines, [played for played, _ in ended]
 
 
-def check(text, printed, folder=".", idle=IDLE):
+def check(text: str, printed: List[str], folder: str = ".", idle: int = IDLE) -> List[Played]:
     """The devices of a printed report, each a `Played`. Raises `Differs` where it is not what comes of its histories."""
     try:
         wanted, devices = replay(text, printed, folder, idle)
@@ -304,14 +313,14 @@ def check(text, printed, folder=".", idle=IDLE):
     return devices
 
 
-def text_of(path):
+def text_of(path: str) -> str:
     """The text of a record or a report. A comment may have any bytes."""
     with open(path, encoding="latin1", newline="") as file:
         return file.read()
 
 
-def main():
-    parser = argparse.ArgumentParser(description=__doc__, formatter_class=argparse.RawDescriptionHelpFormatter)
+def main() -> int:
+    parser = argparse.ArgumentParser(prog="second.replay", description=__doc__, formatter_class=argparse.RawDescriptionHelpFormatter)
     parser.add_argument("--idle", type=int, default=IDLE, help=f"what the program was given ({IDLE})")
     parser.add_argument("record", help="the record's file")
     parser.add_argument("report", help="what the program printed of it with --threads and --history")
@@ -322,7 +331,7 @@ def main():
     except OSError as error:
         parser.error(str(error))
     except Differs as error:
-        print(f"replay.py: {error}", file=sys.stderr)
+        print(f"second.replay: {error}", file=sys.stderr)
         return 1
     return 0
 

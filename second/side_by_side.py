@@ -1,5 +1,5 @@
-#!/usr/bin/env python3
-"""Plays a record as `inputplay --threads --history FILE` may do, with the jobs' calls in a random order.
+"""Plays a record as `inputplay --threads --history FILE` may do, with the jobs' calls in a random order:
+`python3 -m second.side_by_side RECORD SEED`.
 
 Each source, client, tap, joystick and owner is a job. One job at a time makes a call on its device, and which one is drawn by
 the seed; so the same seed gives the same run. A `follow` waits as long as a source of its device has not
@@ -9,14 +9,12 @@ ended, and stops its job after so many answers Again in a row. It shares no code
 import argparse
 import os
 import random
-import sys
 import threading
-from pathlib import Path
-
-sys.path.insert(0, str(Path(__file__).resolve().parent.parent))
+from typing import Dict, List, Optional
 
 from second.device import Device
 from second.model import Actor, read_record, report, streams_of
+from second.values import Answer, Fed, Item, Reply, Step, Streams
 
 IDLE = 1000000
 
@@ -24,25 +22,25 @@ IDLE = 1000000
 class Order:
     """Draws whose call is next. A job that waits for its turn stands in a list of its own place."""
 
-    def __init__(self, seed, jobs):
+    def __init__(self, seed: int, jobs: int) -> None:
         self.random = random.Random(seed)
-        self.waiting = {}
+        self.waiting: Dict[str, threading.Event] = {}
         self.running = jobs
         self.lock = threading.Lock()
 
-    def next(self):
+    def next(self) -> None:
         """All jobs that have not ended wait, so one of them is drawn."""
         if self.waiting and len(self.waiting) == self.running:
             self.waiting.pop(self.random.choice(sorted(self.waiting))).set()
 
-    def turn(self, name):
+    def turn(self, name: str) -> None:
         turn = threading.Event()
         with self.lock:
             self.waiting[name] = turn
             self.next()
         turn.wait()
 
-    def end(self):
+    def end(self) -> None:
         with self.lock:
             self.running -= 1
             self.next()
@@ -51,14 +49,14 @@ class Order:
 class Share:
     """A device for one job, which waits for its turn before each call."""
 
-    def __init__(self, device, name, order):
+    def __init__(self, device: Device, name: str, order: Order) -> None:
         self.device, self.name, self.order, self.caps = device, name, order, device.caps
 
-    def step(self, step):
+    def step(self, step: Step) -> Answer:
         self.order.turn(self.name)
         return self.device.step(step)
 
-    def feedback(self, room):
+    def feedback(self, room: int) -> Fed:
         self.order.turn(self.name)
         return self.device.feedback(room)
 
@@ -66,20 +64,20 @@ class Share:
 class Job(Actor):
     """An actor whose follow waits."""
 
-    def __init__(self, name, role, device, order, sources, idle):
+    def __init__(self, name: str, role: str, device: Device, order: Order, sources: int, idle: int) -> None:
         super().__init__(name, role, Share(device, name, order))
         self.shared, self.order = device, order
         self.sources, self.idle, self.agains = sources, idle, 0
 
-    def hand_out(self, command, bound):
+    def hand_out(self, command: str, bound: Optional[int]) -> None:
         self.agains = 0
         super().hand_out(command, bound)
 
-    def see_taken(self, item):
+    def see_taken(self, item: Item) -> None:
         self.agains = 0
         super().see_taken(item)
 
-    def waits_on(self, reply):
+    def waits_on(self, reply: Reply) -> bool:
         if reply[0] != "again" or self.shared.ends >= self.sources:
             return False
         self.agains += 1
@@ -88,7 +86,7 @@ class Job(Actor):
         self.stop = f"idle {self.idle} {reply[1]}"
         return False
 
-    def work(self, lines, streams):
+    def work(self, lines: List[List[str]], streams: Streams) -> None:
         try:
             for words in lines:
                 self.do(words, streams)
@@ -100,7 +98,7 @@ class Job(Actor):
             self.order.end()
 
 
-def play_side_by_side(text, seed, folder=".", idle=IDLE):
+def play_side_by_side(text: str, seed: int, folder: str = ".", idle: int = IDLE) -> List[str]:
     """The lines of the report with the history."""
     record = read_record(text)
     devices = [Device(name, caps) for name, caps in record.descriptions]
@@ -120,8 +118,8 @@ def play_side_by_side(text, seed, folder=".", idle=IDLE):
     return report(devices, jobs, history=True)
 
 
-def main():
-    parser = argparse.ArgumentParser(description=__doc__, formatter_class=argparse.RawDescriptionHelpFormatter)
+def main() -> None:
+    parser = argparse.ArgumentParser(prog="second.side_by_side", description=__doc__, formatter_class=argparse.RawDescriptionHelpFormatter)
     parser.add_argument("--idle", type=int, default=IDLE, help=f"answers Again in a row that end a follow ({IDLE})")
     parser.add_argument("record", help="the record's file")
     parser.add_argument("seed", type=int, help="a number that the order is drawn by")

@@ -1,44 +1,36 @@
 """What the tests of tools/ share: they run a tool, read a capture, play a record, and make small files."""
 
 import contextlib
-import importlib.util
 import io
-import os
 import signal
 import struct
 import subprocess
 import sys
-from importlib.machinery import SourceFileLoader
+from pathlib import Path
+from typing import Iterable, List, Optional, Sequence, Tuple, Union
 
-from playing import PROGRAM, TOP, FolderCase, needs_program
+from inputtools import command, names
+from tests.playing import PROGRAM, TOP, FolderCase, loaded, needs_program
 
 TOOLS, DATA = TOP / "tools", TOP / "tests" / "data"
 
-sys.path.insert(0, str(TOOLS))
-
-from inputtools import command, names  # noqa: E402  (the tools' folder has to be on the path first)
-
-
-def load(tool):
-    loader = SourceFileLoader(f"tool_{tool}", str(TOOLS / tool))
-    module = importlib.util.module_from_spec(importlib.util.spec_from_loader(loader.name, loader))
-    loader.exec_module(module)
-    return module
+# An event of a capture: its time, type, code and value.
+Captured = Tuple[int, int, int, int]
 
 
-def heed_stops():
+def heed_stops() -> None:
     """For a new process: a stop from the keyboard is not ignored, as it is behind `&` in a script."""
     signal.signal(signal.SIGINT, signal.SIG_DFL)
 
 
-def raw_events(data, size=24):
+def raw_events(data: bytes, size: int = 24) -> List[Captured]:
     """The events of a raw capture: (time from the first one on, type, code, value)."""
     form = struct.Struct("<QQHHi" if size == 24 else "<IIHHi")
-    events = [(s * 1000000 + micros, *event) for s, micros, *event in form.iter_unpack(data)]
-    return [(time - events[0][0], *event) for time, *event in events]
+    found = [(s * 1000000 + micros, kind, code, value) for s, micros, kind, code, value in form.iter_unpack(data)]
+    return [(time - found[0][0], kind, code, value) for time, kind, code, value in found]
 
 
-def raw_capture(events, size=24, base=1764252210496169):
+def raw_capture(events: Iterable[Captured], size: int = 24, base: int = 1764252210496169) -> bytes:
     form = struct.Struct("<QQHHi" if size == 24 else "<IIHHi")
     return b"".join(form.pack(*divmod(base + time, 1000000), *event) for time, *event in events)
 
@@ -46,20 +38,20 @@ def raw_capture(events, size=24, base=1764252210496169):
 class DeskCase(FolderCase):
     """A test that runs tools and plays what they write."""
 
-    def file(self, name, content):
+    def file(self, name: str, content: Union[str, bytes]) -> Path:
         path = self.folder / name
         path.write_bytes(content if isinstance(content, bytes) else content.encode())
         return path
 
-    def tool(self, name, *words):
+    def tool(self, name: str, *words: object) -> Tuple[int, str, List[str]]:
         """Runs a tool: its status, what it wrote, and the lines on standard error."""
         out, err, status, before = io.StringIO(), io.StringIO(), 0, sys.argv
         sys.argv = [name, *map(str, words)]
         try:
             with contextlib.redirect_stdout(out), contextlib.redirect_stderr(err):
-                command.run(name, load(name).command)
+                command.run(name, loaded(TOOLS / name).command)
         except SystemExit as ended:
-            status = ended.code or 0
+            status = int(ended.code or 0)
         finally:
             sys.argv = before
         lines = err.getvalue().splitlines()
@@ -67,7 +59,7 @@ class DeskCase(FolderCase):
             needs_program()
         return status, out.getvalue(), lines
 
-    def written(self, name, *words, notes=()):
+    def written(self, name: str, *words: object, notes: Sequence[str] = ()) -> str:
         """What a tool wrote. It said what is in `notes` on standard error, a line each, and no more."""
         status, text, lines = self.tool(name, *words)
         self.assertEqual((0, len(notes)), (status, len(lines)), lines)
@@ -75,7 +67,7 @@ class DeskCase(FolderCase):
             self.assertIn(note, line)
         return text
 
-    def refused(self, name, *words, because):
+    def refused(self, name: str, *words: object, because: str) -> None:
         """A tool refused its input by one line, and wrote nothing else."""
         status, text, lines = self.tool(name, *words)
         self.assertEqual((2, ""), (status, text), lines)
@@ -83,7 +75,7 @@ class DeskCase(FolderCase):
         self.assertTrue(lines[0].startswith(f"{name}: "), lines[0])
         self.assertIn(because, lines[0])
 
-    def play(self, text, folder=None):
+    def play(self, text: str, folder: Optional[Path] = None) -> List[str]:
         """The lines of the report that the program prints of a record."""
         needs_program(self)
         path = self.file("played.rec", text)
@@ -92,29 +84,29 @@ class DeskCase(FolderCase):
         return done.stdout.splitlines()
 
 
-def part_of(report, name):
+def part_of(report: List[str], name: str) -> List[str]:
     """The lines of a client's part."""
     start = report.index(f"client {name}")
     return report[start : report.index("stop finished", start)]
 
 
-def taken(report, name="reader"):
+def taken(report: List[str], name: str = "reader") -> List[Captured]:
     """The events that a client took, as raw_events has them."""
-    events = []
+    events: List[Captured] = []
     for line in part_of(report, name):
         words = line.split()
         if words[0] == "took":
-            kind = names.number_of_kind(words[3])
-            events.append((int(words[2]), kind, names.number_of_code(kind, words[4]), int(words[5])))
+            kind = names.number_of_kind(words[3]) or 0
+            events.append((int(words[2]), kind, names.number_of_code(kind, words[4]) or 0, int(words[5])))
     return events
 
 
-def belief(report, name="reader"):
+def belief(report: List[str], name: str = "reader") -> List[str]:
     """What a client believes at the end: the lines after its last calls."""
     lines = part_of(report, name)
     first = next(i for i, line in enumerate(lines) if line.split()[0] in ("keys", "switches", "leds", "axes"))
     return lines[first:]
 
 
-def without_comments(text):
+def without_comments(text: str) -> List[str]:
     return [line for line in text.splitlines() if not line.startswith("#")]

@@ -9,18 +9,17 @@ from math import comb
 from pathlib import Path
 
 TOP = Path(__file__).resolve().parents[1]
-sys.path[:0] = [str(TOP), str(TOP / "tools")]
 
 from inputtools.explored_ends import (
     READS,
     differences,
     things_at,
-)  # noqa: E402  (the folders have to be on the path)
-from inputtools.explored_record import ExploredRecord  # noqa: E402
-from inputtools.exploring import Asked, Problem  # noqa: E402
-from inputtools.exploring_graph import Counts, Graph  # noqa: E402
-from second.model import run  # noqa: E402
-from second.reader import NO_CLIENT  # noqa: E402
+)
+from inputtools.explored_record import ExploredRecord
+from inputtools.exploring import Asked, Problem
+from inputtools.exploring_graph import Counts, Graph
+from second.model import run
+from second.reader import NO_CLIENT
 
 MOST_STATES, SECONDS = 10**6, 600
 
@@ -189,6 +188,8 @@ class RandomRecord:
         self.has_repeat, self.has_slots = self.random.random() < 0.4, self.random.random() < 0.4
         self.has_axis, self.has_two_sources = self.random.random() < 0.5, self.random.random() < 0.4
         self.now = 1000
+        # (about how many orders it has, once its text was made)
+        self.orders = 0
 
     def text(self):
         lines = ["inputrecord 2", *self.description()]
@@ -201,6 +202,7 @@ class RandomRecord:
         decks = self.source_decks() + [
             [[f"do {name} {line}"] for line in self.own_lines(role)] for name, role in names
         ]
+        self.orders = count_of_orders([len(deck) for deck in decks])
         return "".join(line + "\n" for line in lines + self.shuffled(decks))
 
     def description(self):
@@ -252,8 +254,8 @@ class RandomRecord:
 
     def source_decks(self):
         if not self.has_two_sources:
-            return [[self.source_unit("s") for _ in range(3)]]
-        return [[self.source_unit("s") for _ in range(2)], [self.source_unit("z") for _ in range(2)]]
+            return [[self.source_unit("s") for _ in range(self.random.choice((1, 2, 3)))]]
+        return [[self.source_unit(name) for _ in range(self.random.choice((1, 2)))] for name in "sz"]
 
     def own_lines(self, role):
         """An actor's lines: it opens, and does a few of three commands, or of grabs."""
@@ -273,18 +275,19 @@ class RandomRecord:
         )
         picked = [*self.random.sample(commands, 2), commands[0]]
         picked += ["grab", "grab", "ungrab"] if self.random.random() < 0.4 else []
-        return own + [self.random.choice(picked) for _ in range(1 if self.has_two_sources else 2)]
+        return own + [self.random.choice(picked) for _ in range(self.random.choice((1, 1, 2)))]
 
 
 def compare_by_seed(seed, most):
     """What differs of a random record between the graph, in both forms, and every order as it is
     played; None where it has more orders than `most`. And how many things were compared."""
-    text = RandomRecord(seed).text()
+    given = RandomRecord(seed)
+    text = given.text()
+    if given.orders > most:
+        return None, 0
     record = explored_record(text)
     joint = Problem(record, 0, None, Asked(folds=False))
     total = count_of_orders(joint.counts)
-    if total > most:
-        return None, 0
     played = played_things(joint)
     together = graph_things(record, None, total, False)
     differing, count = [], 0

@@ -1,16 +1,19 @@
 """How the checks of this folder run the built program, and tell where something else came than was wanted."""
 
 import difflib
+import importlib.util
 import os
 import subprocess
 import sys
 import tempfile
 import unittest
+from importlib.machinery import SourceFileLoader
 from pathlib import Path
-from typing import NamedTuple
+from types import ModuleType
+from typing import Any, Iterable, List, NamedTuple, Optional
 
-TOP = Path(__file__).resolve().parent.parent
-sys.path[:0] = [str(TOP / part) for part in (".", "tools", "tests")]
+from tests import TOP as TOP
+
 RECORDS = TOP / "tests" / "records"
 EXAMPLES = TOP / "examples"
 PROGRAM = os.environ.get("INPUTPLAY") or str(TOP / "crates" / "inp_main" / "out" / "inp_main")
@@ -24,16 +27,27 @@ USAGE = (
 SECONDS = 30
 
 
+def loaded(script: Path) -> ModuleType:
+    """A script as a module."""
+    loader = SourceFileLoader(f"script_{script.name}", str(script))
+    spec = importlib.util.spec_from_loader(loader.name, loader)
+    assert spec is not None
+    module = importlib.util.module_from_spec(spec)
+    sys.modules[loader.name] = module
+    loader.exec_module(module)
+    return module
+
+
 class FolderCase(unittest.TestCase):
     """A test that has a folder of its own, `self.folder`, which goes with it."""
 
-    def setUp(self):
+    def setUp(self) -> None:
         folder = tempfile.TemporaryDirectory()
         self.addCleanup(folder.cleanup)
         self.folder = Path(folder.name)
 
 
-def needs_program(test=None):
+def needs_program(test: Optional[unittest.TestCase] = None) -> None:
     """Leaves out a test that needs the program where it is not there."""
     if not os.access(PROGRAM, os.X_OK):
         raise unittest.SkipTest("the program is not there")
@@ -47,7 +61,7 @@ class Run(NamedTuple):
     errors: bytes
 
 
-def run(words, folder, **more):
+def run(words: Iterable[object], folder: Path, **more: Any) -> Run:
     """Runs the program with these words in a folder. Its text is read, unless `stdout` says where it goes."""
     needs_program()
     more = {"stdout": subprocess.PIPE, **more}
@@ -62,18 +76,18 @@ def run(words, folder, **more):
     return Run(done.returncode, done.stdout or b"", done.stderr)
 
 
-def lines_of(text):
+def lines_of(text: bytes) -> List[str]:
     return text.decode("utf-8", "backslashreplace").splitlines(keepends=True)
 
 
-def differences(wanted, came):
+def differences(wanted: bytes, came: bytes) -> str:
     """The lines in which what came differs from what was wanted, the first 60 of them."""
     lines = list(difflib.unified_diff(lines_of(wanted), lines_of(came), "wanted", "came", n=2))
     shown = [line if line.endswith("\n") else line + "\n\\ no line feed\n" for line in lines[:60]]
     return "".join(shown) + ("..\n" if len(lines) > 60 else "")
 
 
-def assert_run(test, came, status, text):
+def assert_run(test: unittest.TestCase, came: Run, status: int, text: bytes) -> None:
     """The program ended with this status, wrote this text, and wrote nothing to its standard error."""
     if came.status != status or came.text != text:
         test.fail(f"status {status} was wanted, and {came.status} came\n{differences(text, came.text)}")

@@ -16,7 +16,7 @@ from dataclasses import dataclass
 from pathlib import Path
 from typing import Dict, List, Mapping, Sequence
 
-from playing import PROGRAM, TOP, FolderCase
+from tests.playing import PROGRAM, TOP, FolderCase
 
 from inputtools.runbuild import NotBuilt, archive, build_run
 from inputtools.running import BUILT_VARIABLE

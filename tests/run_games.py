@@ -1,6 +1,6 @@
 """SDL's joysticks, keyboards and mice on played devices, and jstest on a joystick's node."""
 
-from run_cases import EXAMPLES, RunCase, compiled, needs, sent
+from tests.run_cases import EXAMPLES, RunCase, compiled, needs, sent
 
 from checks.random_pads import RandomPad
 

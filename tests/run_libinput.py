@@ -3,10 +3,10 @@
 import subprocess
 from typing import List
 
-from run_cases import EXAMPLES, RunCase, needs, sent, variables
-from run_readers import AT_ONCE, NODE, STEPS
+from tests.run_cases import EXAMPLES, RunCase, needs, sent, variables
+from tests.run_readers import AT_ONCE, NODE, STEPS
 
-from playing import TOP
+from tests.playing import TOP
 
 PACKAGE = "libinput-tools"
 # libinput tells times from its own start on.

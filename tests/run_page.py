@@ -3,9 +3,9 @@
 import subprocess
 from typing import Dict, List, Tuple
 
-from run_cases import RunCase, needs, variables
+from tests.run_cases import RunCase, needs, variables
 
-from playing import TOP
+from tests.playing import TOP
 
 PROMPT, MORE = "    $ ", "    > "
 PAGE = TOP / "docs" / "RUN.md"

@@ -1,8 +1,8 @@
 """A remapper between a played keyboard and a reader: keys go from the record through it to a device that it makes."""
 
-from run_cases import HERE, RunCase, needs, needs_module, sent
+from tests.run_cases import HERE, RunCase, needs, needs_module, sent
 
-from playing import TOP
+from tests.playing import TOP
 
 # The reader begins when the remapper's device is there.
 READER = "until [ -e /dev/input/event1 ]; do sleep 0.05; done; evtest /dev/input/event1"

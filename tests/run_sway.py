@@ -4,7 +4,7 @@ import os
 import shutil
 from typing import List
 
-from run_cases import HERE, RunCase, needs
+from tests.run_cases import HERE, RunCase, needs
 
 SOCKET = "/run/seatd.sock"
 PROGRAMS = (("sway", "sway"), ("seatd", "seatd"), ("umockdev-run", "umockdev"), ("setpriv", "util-linux"))

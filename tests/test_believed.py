@@ -4,12 +4,10 @@ import re
 import subprocess
 import sys
 
-from playing import TOP, FolderCase
+from tests.playing import TOP, FolderCase
 
 SCRIPT = TOP / "checks" / "believed"
-sys.path.insert(0, str(TOP))
-
-from checks.definitions import Key, Repository  # noqa: E402  (bench/ has to be on the path first)
+from checks.definitions import Key, Repository
 
 # A crate `low`, and a crate `high` that depends on it. What counts for `call` has `yes` in a comment beside it.
 FILES = {

@@ -7,7 +7,7 @@ import shutil
 import unittest
 from typing import List
 
-from playing import FolderCase
+from tests.playing import FolderCase
 
 from checks.beside import HERE, ROWS, Tally, build, tallies
 from inputtools.command import Wrong

@@ -5,7 +5,7 @@ import os
 import subprocess
 import xml.etree.ElementTree as ElementTree
 
-from desk_cases import PROGRAM, TOOLS, TOP, DeskCase, needs_program
+from tests.desk_cases import PROGRAM, TOOLS, TOP, DeskCase, needs_program
 
 EXAMPLES = TOP / "examples"
 

@@ -2,7 +2,7 @@
 
 import subprocess
 
-from playing import TOP, FolderCase, run
+from tests.playing import TOP, FolderCase, run
 
 CLIENTS = TOP / "bench" / "clients"
 

@@ -3,7 +3,7 @@
 import json
 import random
 
-from desk_cases import DATA, TOP, DeskCase, needs_program
+from tests.desk_cases import DATA, TOP, DeskCase, needs_program
 from inputtools.comparing import longest_ascending, pairs_of
 
 EXAMPLES = TOP / "examples"

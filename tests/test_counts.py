@@ -4,7 +4,7 @@ import re
 import subprocess
 import sys
 
-from playing import TOP, FolderCase
+from tests.playing import TOP, FolderCase
 
 SCRIPT = TOP / "checks" / "counts"
 

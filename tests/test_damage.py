@@ -7,17 +7,12 @@ What is wanted of the texts was worked out by docs/FORMATS.md ("The record").
 import os
 import subprocess
 import sys
-from importlib.machinery import SourceFileLoader
-from importlib.util import module_from_spec, spec_from_loader
-
-from playing import EXAMPLES, RECORDS, TOP, FolderCase, assert_run, run
-from test_statuses import ONE_KEY, ONE_KEY_REPORT, REFUSED
-
-SCRIPT = TOP / "checks" / "damage"
-MODEL = TOP / "second"
-sys.path.insert(0, str(TOP))
 
 from second.outcome import outcome
+from tests.playing import EXAMPLES, RECORDS, TOP, FolderCase, assert_run, loaded, run
+from tests.test_statuses import ONE_KEY, ONE_KEY_REPORT, REFUSED
+
+SCRIPT = TOP / "checks" / "damage"
 
 HEAD = "inputrecord 1\n"
 SOURCE = HEAD + "device d\nsource s\n"
@@ -178,14 +173,6 @@ WRONG = {
 }
 
 
-def loaded():
-    """The script as a module."""
-    loader = SourceFileLoader("damage", str(SCRIPT))
-    module = module_from_spec(spec_from_loader("damage", loader))
-    loader.exec_module(module)
-    return module
-
-
 class Texts(FolderCase):
     def ends(self, text, status, wanted):
         """Both programs end so."""
@@ -227,7 +214,7 @@ class Damage(FolderCase):
         return subprocess.run(command, capture_output=True, text=True, timeout=60, env=where)
 
     def test_the_damage_that_is_done(self):
-        forms = dict(loaded().damaged(b"a#"))
+        forms = dict(loaded(SCRIPT).damaged(b"a#"))
         self.assertEqual(24, len(forms))
         self.assertEqual(b"a", forms["the first 1 bytes"])
         # The letter of place 0 stands there already, and with a bit turned it is a grave accent.
@@ -235,8 +222,8 @@ class Damage(FolderCase):
         self.assertEqual({b"\0", b"\t", b"\n", b"\r", b" ", b"#", b"0", b"`", b"\x7f", b"\x80", b"\xff"}, firsts)
 
     def test_lines_and_words_that_are_moved(self):
-        forms = dict(loaded().rearranged(b"a  b\n# c d\n"))
-        self.assertEqual(3 * 3 + 2 * (3 + len(loaded().WORDS)), len(forms))
+        forms = dict(loaded(SCRIPT).rearranged(b"a  b\n# c d\n"))
+        self.assertEqual(3 * 3 + 2 * (3 + len(loaded(SCRIPT).WORDS)), len(forms))
         for what, text in (
             ("line 1 left out", b"# c d\n"),
             ("line 1 twice", b"a  b\na  b\n# c d\n"),

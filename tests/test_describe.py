@@ -3,7 +3,7 @@
 import json
 import subprocess
 
-from desk_cases import DATA, TOOLS, DeskCase, without_comments
+from tests.desk_cases import DATA, TOOLS, DeskCase, without_comments
 
 GAMEPAD = """Input driver version is 1.0.1
 Input device ID: bus 0x3 vendor 0x45e product 0x28e version 0x114

@@ -1,23 +1,13 @@
 """checks/desk: it runs the tools on many files, and tells which runs are not as they are to be."""
 
-import importlib.util
 import random
 import re
 import subprocess
 import sys
-from importlib.machinery import SourceFileLoader
 
-from playing import PROGRAM, TOP, FolderCase, needs_program
+from tests.playing import PROGRAM, TOP, FolderCase, loaded, needs_program
 
 SCRIPT = TOP / "checks" / "desk"
-
-
-def load():
-    sys.path.insert(0, str(TOP))
-    loader = SourceFileLoader("bench_desk", str(SCRIPT))
-    module = importlib.util.module_from_spec(importlib.util.spec_from_loader(loader.name, loader))
-    loader.exec_module(module)
-    return module
 
 
 class Desk(FolderCase):
@@ -38,7 +28,7 @@ class Desk(FolderCase):
             self.assertRegex(came.stdout, rf"\b{tool} +status \d +\d+\.\d s\n")
 
     def test_what_fails(self):
-        fails = load().what_fails
+        fails = loaded(SCRIPT).what_fails
         self.assertIsNone(fails("stuck", 0, b"text", b""))
         self.assertIsNone(fails("stuck", 2, b"", b"stuck: one line\n"))
         self.assertIsNone(fails("play", 2, b"", b"two\nlines\n"))
@@ -53,7 +43,7 @@ class Desk(FolderCase):
 
     def test_a_run(self):
         """A tool that does not end as it should, in a process of its own."""
-        desk = load()
+        desk = loaded(SCRIPT)
         desk.TOOLS = self.folder
         for name, text in {
             "odd": "raise IndexError('no')", "exits": "import sys\nprint('out')\nsys.exit(3)",
@@ -66,7 +56,7 @@ class Desk(FolderCase):
         self.assertEqual((0, b" ['a']\n", b""), desk.run("reads", ["a"], self.folder))
 
     def test_the_same_files(self):
-        desk = load()
+        desk = loaded(SCRIPT)
         data = (TOP / "examples" / "keyboard.rec").read_bytes()
         forms = [desk.mutated(data, random.Random(number)) for number in range(200)]
         self.assertEqual(forms, [desk.mutated(data, random.Random(number)) for number in range(200)])

@@ -6,9 +6,9 @@ import subprocess
 import xml.etree.ElementTree as ElementTree
 from html.parser import HTMLParser
 
-from desk_cases import PROGRAM, TOP, DeskCase, needs_program
+from tests.desk_cases import PROGRAM, TOP, DeskCase, needs_program
 
-from inputtools.paper import COLOURS, RULES
+from inputtools.colours import COLOURS, RULES
 
 EXAMPLES = TOP / "examples"
 RECORDS = TOP / "tests" / "records"

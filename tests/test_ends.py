@@ -7,7 +7,7 @@ import subprocess
 import sys
 import time
 
-from desk_cases import DATA, PROGRAM, TOOLS, TOP, DeskCase, heed_stops, needs_program
+from tests.desk_cases import DATA, PROGRAM, TOOLS, TOP, DeskCase, heed_stops, needs_program
 
 RECORD, OTHER = TOP / "examples" / "stuck_key.rec", TOP / "examples" / "one_key.rec"
 CAPTURE = DATA / "lid.evtest"

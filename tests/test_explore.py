@@ -7,8 +7,8 @@ import signal
 import subprocess
 import unittest
 
-from desk_cases import DeskCase, heed_stops
-from explore_cases import TOP, counted_things, explored_record, things_of, whole_graph
+from tests.desk_cases import DeskCase, heed_stops
+from tests.explore_cases import TOP, counted_things, explored_record, things_of, whole_graph
 from inputtools.explored_record import units_of
 from inputtools.exploring_graph import Graph
 
@@ -180,7 +180,7 @@ class Actors(unittest.TestCase):
         text = HEAD + "do c open\n#~ if no key\ndo c grab\n"
         self.assertEqual((1, {}), things_of(text, "c"))
         _, rows = things_of(HEAD + PRESS + "#~\ndo c open\n#~ if no key\ndo c grab\n", "c")
-        self.assertEqual({("waits", "remapper", ""): 1}, rows)
+        self.assertEqual({("waits", "c", ""): 1}, rows)
 
     def test_an_open_frame_is_told_apart(self):
         _, rows = things_of(HEAD + "do c open\n#~\ndo s event 1 EV_KEY KEY_A 1\n", "c")
@@ -356,7 +356,7 @@ class Command(DeskCase):
                 del lines[number]
             with self.subTest(thing["lines"][number]):
                 text = self.written("stuck", "--json", self.record("\n".join(lines) + "\n"))
-                ends = [json.loads(line) for line in text.splitlines() if '"end"' in line]
+                ends = [json.loads(line) for line in text.splitlines() if '"kind": "end"' in line]
                 wrong = [end["name"] for end in ends if not end["agrees"]]
                 self.assertEqual("EV_SYN" in thing["lines"][number], "desktop" in wrong)
 
@@ -484,23 +484,18 @@ class Command(DeskCase):
     # Parts
 
     def test_parts_are_the_whole(self):
-        for words in (
-            ("--draw", "60"),
-            ("--draw", "60", "--grain", "call", "--waits"),
-            ("--states", "90"),
-            (),
-        ):
-            for form in ((), ("--json",)):
-                with self.subTest(words + form):
-                    self.is_the_sum_of_parts(words, form)
+        calls = ("--draw", "20", "--grain", "call", "--waits", "--json")
+        for words in (("--draw", "40"), ("--draw", "40", "--json"), calls, (), ("--json",)):
+            with self.subTest(words):
+                self.is_the_sum_of_parts(words)
 
-    def is_the_sum_of_parts(self, words, form):
-        records = (STUCK, LID)
+    def is_the_sum_of_parts(self, words):
+        records, form = (STUCK, LID), [word for word in words if word == "--json"]
         paths = []
         for number in range(1, 4):
             text = self.written("explore", *records, *words, "--shard", f"{number}/3")
             paths.append(self.file(f"part{number}.json", text))
-        whole = self.written("explore", *records, *words, *form)
+        whole = self.written("explore", *records, *words)
         self.assertEqual(whole, self.written("explore", "--join", *reversed(paths), *form))
 
     def test_processes_say_the_same(self):

@@ -10,7 +10,7 @@ import unittest
 from collections import Counter
 from typing import NamedTuple
 
-from explore_cases import MOST_STATES, SECONDS, Asked, Counts, Graph, Problem, explored_record
+from tests.explore_cases import MOST_STATES, SECONDS, Asked, Counts, Graph, Problem, explored_record
 from inputtools import explored_keys as keys
 from inputtools import exploring
 from inputtools.explored_ends import things_at

@@ -4,7 +4,7 @@ import os
 import struct
 import subprocess
 
-from desk_cases import DATA, PROGRAM, TOOLS, TOP, DeskCase, raw_events, without_comments, needs_program
+from tests.desk_cases import DATA, PROGRAM, TOOLS, TOP, DeskCase, needs_program, raw_events, without_comments
 
 EXAMPLES = TOP / "examples"
 DEVICES = ("keyboard", "mouse", "touchpad", "lid")
@@ -71,7 +71,7 @@ class Evemu(DeskCase):
             "do s event 1 EV_KEY KEY_A": "line 4: no action of a source: event 1 EV_KEY KEY_A",
             "do s event x EV_KEY KEY_A 1": "line 4: x is no number",
             "do s event 1 EV_KEY KEY_NONE 1": "line 4: EV_KEY KEY_NONE is no type and code",
-            "do s event 1 EV_KEY KEY_A 99999999999": "line 4: 99999999999 is not in",
+            "do s event 1 EV_KEY KEY_A 99999999999": "99999999999 is not in",
             "do s stream missing.bin": "missing.bin: No such file",
         }.items():
             with self.subTest(line):

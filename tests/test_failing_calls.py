@@ -8,16 +8,10 @@ import os
 import shutil
 import subprocess
 import sys
-from importlib.machinery import SourceFileLoader
-from importlib.util import module_from_spec, spec_from_loader
 
-from playing import TOP, USAGE, FolderCase
-
-MODEL = TOP / "second"
-sys.path.insert(0, str(TOP))
-
-from second.side_by_side import play_side_by_side
 from checks.trial import Run
+from second.side_by_side import play_side_by_side
+from tests.playing import TOP, USAGE, FolderCase, loaded
 
 HAS_COMPILER = shutil.which(os.environ.get("CC", "cc")) is not None
 
@@ -96,14 +90,6 @@ WRONG = {
         "write 1 of the output fails: WRONG: status 0, and status 4 was wanted\n",
     ),
 }
-
-
-def loaded(name):
-    """A script of bench/ as a module."""
-    loader = SourceFileLoader(name, str(TOP / "checks" / name))
-    module = module_from_spec(spec_from_loader(name, loader))
-    loader.exec_module(module)
-    return module
 
 
 class FailingCalls(FolderCase):
@@ -207,7 +193,7 @@ class Judging(FolderCase):
             (Run(None, b"", b""), False),
         ):
             with self.subTest(run=run):
-                judge = loaded("alloc").Judge(self.folder / "f", [], whole)
+                judge = loaded(TOP / "checks" / "alloc").Judge(self.folder / "f", [], whole)
                 self.assertIsNone(judge.complaint(Run(2, USAGE, b"")))
                 judge.complaint(whole)
                 self.assertEqual(is_right, judge.complaint(run) is None)
@@ -216,7 +202,7 @@ class Judging(FolderCase):
         record = "inputrecord 1\ndevice d\ncap EV_KEY KEY_A\nsource s\nclient c\n"
         record += "do c open\ndo s uninhibit\ndo c follow\n"
         (self.folder / "f").write_text(record)
-        judge = loaded("alloc").Judge(self.folder / "f", ["--threads", "--history", "--idle", "3"], Run(0, b"", b""))
+        judge = loaded(TOP / "checks" / "alloc").Judge(self.folder / "f", ["--threads", "--history", "--idle", "3"], Run(0, b"", b""))
         for seed in range(3):
             text = "".join(line + "\n" for line in play_side_by_side(record, seed, idle=3)).encode()
             self.assertIsNone(judge.complaint(Run(0, text, b"")))

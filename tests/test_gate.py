@@ -10,7 +10,7 @@ import tempfile
 import unittest
 from pathlib import Path
 
-from playing import TOP
+from tests.playing import TOP
 
 ALL_PASS = ("some line\n12 passed, 0 failed\n", 0)
 CHECKS_PASS = ("5 passed, 0 failed\n", 0)
@@ -53,7 +53,9 @@ class Gate(unittest.TestCase):
         self.top = Path(folder.name)
         for name in (".ci", "tests", "bin"):
             (self.top / name).mkdir()
-        shutil.copy(TOP / ".ci" / "run", self.top / ".ci" / "run")
+        for name in (".ci/run", "tests/run"):
+            shutil.copy(TOP / name, self.top / name)
+        (self.top / "tests" / "__init__.py").write_text("")
 
     def script(self, name, text, status):
         """A command that writes a text, whatever its words are, and ends with a status."""
@@ -77,7 +79,6 @@ class Gate(unittest.TestCase):
                 self.assertEqual(status, done.returncode)
 
     def test_a_run_of_the_checks_counts_each_case_and_fails_where_one_does(self):
-        shutil.copy(TOP / "tests" / "run", self.top / "tests" / "run")
         for why, text, status, last in RUNS:
             with self.subTest(why=why):
                 (self.top / "tests" / "test_it.py").write_text(text)
@@ -85,16 +86,22 @@ class Gate(unittest.TestCase):
                 self.assertEqual(last, done.stdout.splitlines()[-1])
                 self.assertEqual(status, done.returncode)
 
+    def test_classes_are_run_side_by_side(self):
+        """Each has a process of its own, and all are counted."""
+        classes = TEST + "pass\nclass Other(Test):\n    def test_more(self):\n        print('said')\n        self.fail()\n"
+        (self.top / "tests" / "test_it.py").write_text(classes)
+        done = self.run_of("tests/run", "-j", "2", INPUTPLAY="/bin/sh")
+        self.assertEqual((1, "2 passed, 1 failed"), (done.returncode, done.stdout.splitlines()[-1]))
+        self.assertIn("said\nFAILED tests.test_it.Other.test_more\n", done.stdout)
+
     def test_a_failure_is_shown_with_what_was_wanted_and_what_came(self):
-        shutil.copy(TOP / "tests" / "run", self.top / "tests" / "run")
         (self.top / "tests" / "test_it.py").write_text(TEST + "self.assertEqual('this', 'that')\n")
         shown = self.run_of("tests/run", INPUTPLAY="/bin/sh").stdout.splitlines()
-        self.assertEqual("FAILED test_it.Test.test", shown[0])
+        self.assertEqual("FAILED tests.test_it.Test.test", shown[0])
         self.assertEqual("test_it.py:4: self.assertEqual('this', 'that')", shown[1])
         self.assertIn("'this' != 'that'", shown[2])
 
     def test_a_run_without_the_program_is_told_apart(self):
-        shutil.copy(TOP / "tests" / "run", self.top / "tests" / "run")
         done = self.run_of("tests/run", "--program", INPUTPLAY=str(self.top / "missing"))
         self.assertEqual((2, ""), (done.returncode, done.stdout))
         self.assertEqual(1, len(done.stderr.splitlines()))
@@ -102,9 +109,9 @@ class Gate(unittest.TestCase):
 
     def test_a_run_without_the_program_makes_the_checks_that_need_none(self):
         """A test that says that it needs the program is left out. One that fails is not, whatever its message names."""
-        shutil.copy(TOP / "tests" / "run", self.top / "tests" / "run")
+        (self.top / "tests" / "__init__.py").write_text((TOP / "tests" / "__init__.py").read_text())
         shutil.copy(TOP / "tests" / "playing.py", self.top / "tests" / "playing.py")
-        needs = "import playing\n        playing.needs_program(self)\n"
+        needs = "from tests import playing\n        playing.needs_program(self)\n"
         names = "import os\n        self.fail(os.environ['INPUTPLAY'])\n"
         for text, status, last in (
             (TEST + "pass\n", 0, "1 passed, 0 failed"),

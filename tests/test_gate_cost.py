@@ -5,19 +5,11 @@ import subprocess
 import sys
 import tempfile
 import unittest
-from importlib.machinery import SourceFileLoader
-from importlib.util import module_from_spec, spec_from_loader
 from pathlib import Path
 
-SCRIPT = Path(__file__).resolve().parent.parent / "bench" / "gate_cost"
+from tests.playing import TOP, loaded
 
-
-def loaded():
-    """The script as a module."""
-    loader = SourceFileLoader("gate_cost", str(SCRIPT))
-    module = module_from_spec(spec_from_loader("gate_cost", loader))
-    loader.exec_module(module)
-    return module
+SCRIPT = TOP / "bench" / "gate_cost"
 
 
 def run(*words):
@@ -38,10 +30,10 @@ class GateCost(unittest.TestCase):
             "low                  10        5        0       15",
             "all                  10        5       22       37",
         ]
-        self.assertEqual(loaded().table(seen), want)
+        self.assertEqual(loaded(SCRIPT).table(seen), want)
 
     def test_a_page_has_the_table_and_the_machine_s_measure(self):
-        tool = loaded()
+        tool = loaded(SCRIPT)
         told = tool.told_of(37.4, 2.0, 15.04)
         want = [
             "| Crate | Proofs | Tests | Edits | All |",
@@ -55,7 +47,7 @@ class GateCost(unittest.TestCase):
         self.assertEqual(want, tool.page_rows({"1": ("low", "proofs", 10.2), "2": ("low", "edits", 3.0)}, told))
 
     def test_tells_what_a_process_works_at(self):
-        tool = loaded()
+        tool = loaded(SCRIPT)
         words = ["/bin/rattle", "build", "--crate-name", "low", "src/lib.rt"]
         self.assertEqual(tool.crate_of(words), "low")
         self.assertIsNone(tool.crate_of(["/bin/rattle", "fmt"]))
@@ -65,8 +57,8 @@ class GateCost(unittest.TestCase):
 
     def test_reads_a_name_with_blanks(self):
         stat = "7 (a (b) c) S 3 0 0 0 0 0 0 0 0 0 150 50 0 0"
-        self.assertEqual(loaded().parent_of(stat), 3)
-        self.assertEqual(loaded().seconds_of(stat, 100), 2.0)
+        self.assertEqual(loaded(SCRIPT).parent_of(stat), 3)
+        self.assertEqual(loaded(SCRIPT).seconds_of(stat, 100), 2.0)
 
     def test_sees_a_process_of_the_prover_below_the_command(self):
         with tempfile.TemporaryDirectory() as folder:

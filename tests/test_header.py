@@ -11,12 +11,8 @@ import subprocess
 import sys
 import unittest
 
-from playing import TOP, FolderCase
-
-sys.path.insert(0, str(TOP / "tests" / "library"))
-
-import declared  # noqa: E402  (tests/library has to be on the path first)
-import stamp  # noqa: E402
+from tests.library import declared, stamp
+from tests.playing import TOP, FolderCase
 
 HEADER = (TOP / "include" / "inputplay.h").read_text()
 CRATE = TOP / "crates" / "inp_c"

@@ -3,7 +3,7 @@
 import subprocess
 import unittest
 
-from playing import TOP, FolderCase
+from tests.playing import TOP, FolderCase
 
 SCRIPT = TOP / "checks" / "headline"
 PAGE = TOP / "docs" / "PROMISES.md"

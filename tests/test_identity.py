@@ -4,7 +4,7 @@ import shutil
 import subprocess
 import unittest
 
-from desk_cases import DATA, DeskCase
+from tests.desk_cases import DATA, DeskCase
 
 from inputtools.identity import Identity, Ids, identities_of
 from inputtools.inputid import properties_of

@@ -6,9 +6,10 @@ import shutil
 import subprocess
 import unittest.mock
 
-from desk_cases import PROGRAM, TOOLS, TOP, DeskCase, needs_program
-from inputtools.building import needed_crates
-from inputtools.unproved import Second, file_of
+from tests.desk_cases import PROGRAM, TOOLS, TOP, DeskCase, needs_program
+from inputtools.building import RECKONED, in_order, needed_crates, time_text
+from inputtools.program import SecondProgram
+from inputtools.unproved import file_of
 
 # A toolchain that says what it was asked for, and builds programs that say their words.
 TOOLCHAIN = """#!/bin/sh
@@ -87,12 +88,42 @@ class Inputplay(TreeCase):
         self.addCleanup(os.close, terminal)
         env = {**os.environ, "PATH": self.path, "ASKED": str(self.asked), "FAILS": ""}
         words = [self.tree / "bin" / "inputplay", "x.rec"]
-        done = subprocess.run(words, env=env, cwd=self.folder, stdout=subprocess.PIPE, stderr=other, check=False)
+        done = subprocess.run(words, env=env, cwd=self.folder, stdin=subprocess.DEVNULL, stdout=subprocess.PIPE, stderr=other,
+                              check=False)
         os.close(other)
         said = os.read(terminal, 65536).decode().replace("\x1b[K", "")
         self.assertEqual((6, b"played: x.rec\n"), (done.returncode, done.stdout), said)
         self.assertIn("\rinputplay: 0 of 4 crates are built, 0:00: low\r", said)
         self.assertTrue(said.endswith("\r"), said)
+
+    def test_a_terminal_is_asked(self):
+        """What it is about to do is one line, with how long it takes and what plays at once. No other answer builds."""
+        for answer, status in (("n\n", 2), ("\n", 6)):
+            with self.subTest(answer):
+                terminal, other = pty.openpty()
+                os.write(terminal, answer.encode())
+                env = {**os.environ, "PATH": self.path, "ASKED": str(self.asked), "FAILS": ""}
+                words = [self.tree / "bin" / "inputplay", "x.rec"]
+                done = subprocess.run(words, env=env, cwd=self.folder, stdin=other, stdout=subprocess.PIPE, stderr=other,
+                                      check=False)
+                said = os.read(terminal, 65536).decode()
+                os.close(terminal)
+                os.close(other)
+                self.assertEqual(status, done.returncode, said)
+                self.assertIn(f"without tests, in {RECKONED}; bin/inputplay --unproved FILE plays at once\r\n", said)
+                self.assertIn("inputplay: build it now? [Y/n] ", said)
+                self.assertEqual(4 if status == 6 else 0, len(self.asked_for()))
+
+    def test_how_long_it_takes(self):
+        """By the seconds of the page, as much longer as the toolchain's first library took here."""
+        page = "| Crate | Proofs | Tests | Edits | All |\n|---|---|---|---|---|\n| low | 60 | 1 | 2 | 63 |\n"
+        page += "| inp_main | 30 | 0 | 0 | 30 |\n\nThe toolchain's first library took 2.0 seconds in the same run.\n"
+        measured = "by bench/gate_cost's measure of this machine"
+        self.assertEqual(f"some 2 minutes {measured}", time_text(page, ["low", "inp_main"], 2.0))
+        self.assertEqual(f"some 6 minutes {measured}", time_text(page, ["low", "inp_main"], 8.0))
+        self.assertEqual(f"some 1 minutes {measured}", time_text(page, ["inp_main"], 0.1))
+        for text, crates, here in ((page, ["low", "other"], 2.0), (page, ["low"], None), ("", ["low"], 2.0)):
+            self.assertEqual(RECKONED, time_text(text, crates, here))
 
     def test_a_build_that_fails(self):
         status, written, lines = self.run_tree("bin/inputplay", "x.rec", FAILS="middle")
@@ -147,12 +178,12 @@ class Inputplay(TreeCase):
         """It is told by its own name, whatever INPUTPLAY names."""
         model = self.tree / "second"
         model.mkdir(parents=True)
-        (model / "outcome.py").write_text("import sys\nsys.exit(1)\n")
+        (model / "__main__.py").write_text("import sys\nsys.exit(1)\n")
         (self.folder / "x.rec").write_text("inputrecord 1\ndevice d\nend\n")
         told = "inputplay: the second program (second) is not inputplay, or is broken: it wrote nothing"
         self.assertEqual((2, "", [told]), self.run_tree("bin/inputplay", "--unproved", "x.rec"))
         with unittest.mock.patch.dict(os.environ, {"INPUTPLAY": "another"}):
-            self.assertEqual("the second program (second)", Second().who())
+            self.assertEqual("the second program (second)", SecondProgram().who())
 
     def test_help(self):
         status, written, _ = self.run_tree("bin/inputplay", "--help")
@@ -160,6 +191,8 @@ class Inputplay(TreeCase):
         self.assertIn("usage: bin/inputplay [--unproved]", written)
 
     def test_needed_crates(self):
+        order = in_order(needed_crates(CRATES))
+        self.assertEqual(("low", {"middle", "aside"}, "inp_main"), (order[0], set(order[1:3]), order[3]))
         self.assertEqual({"low": [], "middle": ["low"], "aside": ["low"], "inp_main": ["middle", "aside"]}, needed_crates(CRATES))
         crates = needed_crates((TOP / "crates.txt").read_text())
         self.assertEqual("inp_main", list(crates)[-1])
@@ -177,6 +210,12 @@ class Install(TreeCase):
     def setUp(self):
         super().setUp()
         shutil.copytree(TOP / "second", self.tree / "second", ignore=shutil.ignore_patterns("__pycache__"))
+
+    def run_installed(self, program, *words):
+        """Runs what is installed, from elsewhere: its status, and what it writes and says."""
+        env = {key: value for key, value in os.environ.items() if key != "INPUTPLAY"}
+        done = subprocess.run([program, *words], env=env, cwd="/", capture_output=True, text=True)
+        return done.returncode, done.stdout, done.stderr
 
     def install(self, *words, **more):
         return self.run_tree("tools/install", *words, **more)
@@ -202,13 +241,20 @@ class Install(TreeCase):
         moved = self.folder / "moved"
         (self.folder / "here").rename(moved)
         record = self.file("x.rec", "inputrecord 1\n#= status 0\ndevice d\n")
-        env = {key: value for key, value in os.environ.items() if key != "INPUTPLAY"}
         for words, wanted in ((["inputplay", record], "device d steps 0\n"), (["inputplay-play", record], "device d steps 0\n"),
                               (["inputplay-check", record], "1 of 1 expectation held, in 1 record\n"),
                               (["inputplay-explore", "--fail", record], "")):
             with self.subTest(words[0]):
-                done = subprocess.run([moved / "bin" / words[0], *words[1:]], env=env, cwd="/", capture_output=True, text=True)
-                self.assertEqual((0, wanted), (done.returncode, done.stdout), done.stderr)
+                self.assertEqual((0, wanted), self.run_installed(moved / "bin" / words[0], *words[1:])[:2])
+
+    def test_what_is_installed_plays_without_the_program(self):
+        self.built()
+        self.install("here")
+        (self.folder / "here" / "bin" / "inputplay").unlink()
+        record = TOP / "examples" / "stuck_key.rec"
+        status, written, said = self.run_installed(self.folder / "here" / "bin" / "inputplay-play", record)
+        self.assertEqual((0, record.with_suffix(".report").read_text()), (status, written), said)
+        self.assertIn("played by the second program (second), in Python, without proof", said)
 
     def test_it_is_built_first(self):
         status, written, lines = self.install("prefix")

@@ -4,8 +4,8 @@ fields, and each that is told there is written."""
 import json
 import re
 
-from desk_cases import DATA, TOP, DeskCase, needs_program
-from test_play import PlayCase
+from tests.desk_cases import DATA, TOP, DeskCase, needs_program
+from tests.test_play import PlayCase
 
 EXAMPLES, RECORDS = TOP / "examples", TOP / "tests" / "records"
 PAGE = TOP / "docs" / "JSON.md"

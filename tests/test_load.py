@@ -4,7 +4,7 @@ import shutil
 import subprocess
 import unittest
 
-from playing import TOP, FolderCase, run
+from tests.playing import TOP, FolderCase, run
 
 BENCH = TOP / "bench"
 # Without a compiler bench/run can't be run, and nothing rests on plain C.

@@ -5,7 +5,7 @@ The text that is written was worked out by docs/FORMATS.md ("The text of a recor
 
 import shutil
 
-from playing import EXAMPLES, RECORDS, FolderCase, assert_run, run
+from tests.playing import EXAMPLES, RECORDS, FolderCase, assert_run, run
 
 # A record of version 1 as people write it, and its text in version 2.
 WRITTEN = b"""# a pad

@@ -1,14 +1,11 @@
 """What documents and crates name is there: definitions, files, and sections of pages; and a name means one thing."""
 
 import re
-import sys
 import unittest
 
-from playing import TOP
+from tests.playing import TOP
 
-sys.path.insert(0, str(TOP))
-
-from checks.definitions import Repository  # noqa: E402  (bench/ has to be on the path first)
+from checks.definitions import Repository
 
 OTHER_PAGES = ("README.md", "CONTRIBUTING.md", "CHANGELOG.md", "bench/README.md", "checks/README.md", "bench/COST.md", "crates/README.md", "examples/README.md")
 PAGES = sorted(TOP.glob("docs/*.md")) + [TOP / name for name in OTHER_PAGES]

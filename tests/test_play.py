@@ -10,8 +10,8 @@ import struct
 import subprocess
 import time
 
-from desk_cases import PROGRAM, TOOLS, TOP, DeskCase, heed_stops, needs_program
-from inputtools.slips import SLIPS
+from tests.desk_cases import PROGRAM, TOOLS, TOP, DeskCase, heed_stops, needs_program
+from inputtools.refusal_hints import REFUSAL_HINTS
 
 EXAMPLES = TOP / "examples"
 
@@ -88,15 +88,15 @@ class Played(PlayCase):
 class Refused(PlayCase):
     def test_each_cause_is_explained(self):
         record = self.file("case.rec", "inputrecord 1\ndevice d\naxis ABS_X 0\tx\n")
-        for cause, slips in SLIPS.items():
+        for cause, hint in REFUSAL_HINTS.items():
             with self.subTest(cause):
                 program = self.stand_in(1, f"inputplay: line 3: {cause}")
                 wanted = [f"inputplay: line 3: {cause}", f"  {record}:3: axis ABS_X 0 x"]
-                wanted.append(f"  usual slips: {slips}")
+                wanted.append(f"  usual mistakes: {hint}")
                 status, text, lines = self.play_tool(record, INPUTPLAY=program)
                 self.assertEqual((1, "", wanted), (status, text, lines[1:]))
 
-    def test_each_cause_has_its_slips(self):
+    def test_each_cause_has_its_hint(self):
         formats = (TOP / "docs" / "FORMATS.md").read_text()
         table = formats.split("### Causes")[1].split("### ")[0]
         causes = {
@@ -105,7 +105,7 @@ class Refused(PlayCase):
             if row.startswith("| `")
             for word in row.split("|")[1].split(",")
         }
-        self.assertEqual(causes | {"bad-stream"}, set(SLIPS))
+        self.assertEqual(causes | {"bad-stream"}, set(REFUSAL_HINTS))
 
     def test_a_text_that_is_no_record(self):
         status, text, lines = self.play_tool(self.file("letter.rec", "dear all\n"))
@@ -182,7 +182,7 @@ class Refused(PlayCase):
         self.assertEqual((4, "play: standard output is closed"), (done.returncode, done.stderr.splitlines()[-1]))
 
     def test_files_that_are_no_records(self):
-        """What a file is that was played by mistake is told in place of the usual slips."""
+        """What a file is that was played by mistake is told in place of the usual mistakes."""
         made = "make a record of it with tools/record"
         data = TOP / "tests" / "data"
         other = {
@@ -201,7 +201,7 @@ class Refused(PlayCase):
                 status, text, lines = self.play_tool(path)
                 self.assertEqual((1, ""), (status, text))
                 self.assertTrue(lines[-1].startswith(f"  {said}"), lines)
-                self.assertFalse([line for line in lines if "usual slips" in line], lines)
+                self.assertFalse([line for line in lines if "usual mistakes" in line], lines)
 
     def test_json(self):
         record = self.file("case.rec", "inputrecord 1\nfollow\n")

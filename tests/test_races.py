@@ -4,15 +4,11 @@ import contextlib
 import io
 import sys
 import unittest
-from importlib.machinery import SourceFileLoader
-from importlib.util import module_from_spec, spec_from_loader
 from unittest import mock
 
-from playing import TOP
+from tests.playing import TOP, loaded
 
-LOADER = SourceFileLoader("races", str(TOP / "checks" / "races"))
-races = module_from_spec(spec_from_loader("races", LOADER))
-LOADER.exec_module(races)
+races = loaded(TOP / "checks" / "races")
 
 RECORD = """inputrecord 1
 # a comment

@@ -4,11 +4,8 @@ The second program (second) is in Python, was written from docs/RULES.md, docs/R
 and shares no code with the first. Both must write the same report, byte for byte. Each run has the same records.
 """
 
-import sys
 
-from playing import TOP, FolderCase, assert_run, run
-
-sys.path.insert(0, str(TOP))
+from tests.playing import FolderCase, assert_run, run
 
 from second.model import play
 from checks.random_records import Generator

@@ -5,7 +5,7 @@ import re
 import struct
 import subprocess
 
-from desk_cases import (
+from tests.desk_cases import (
     DATA, TOOLS, DeskCase, belief, needs_program, part_of, raw_capture, raw_events, taken, without_comments,
 )
 

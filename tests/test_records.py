@@ -7,7 +7,7 @@ exit status, which is 0 else. A record is played in its own folder, so the files
 
 import unittest
 
-from playing import EXAMPLES, RECORDS, assert_run, run
+from tests.playing import EXAMPLES, RECORDS, assert_run, run
 
 
 class StoredReports(unittest.TestCase):

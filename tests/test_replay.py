@@ -6,14 +6,11 @@ The runs are of `second/side_by_side.py`, which draws the order of the calls by 
 import subprocess
 import sys
 
-from playing import TOP, FolderCase
-
-MODEL = TOP / "second"
-sys.path.insert(0, str(TOP))
-
 from checks.random_records import Generator
 from second.replay import Differs, check
 from second.side_by_side import play_side_by_side
+from tests.playing import TOP, FolderCase
+
 
 # Two clients of a keyboard with two sources. The record has an order in which each line has its say.
 RECORD = """inputrecord 1
@@ -98,12 +95,12 @@ class Replay(FolderCase):
         report.write_text(self.report())
         for words, status, said in (
             (["--idle", IDLE, record, report], 0, ""),
-            ([record, record], 1, "replay.py: "),
+            ([record, record], 1, "second.replay: "),
             ([record], 2, "required: report"),
             ([record, self.folder / "none"], 2, "No such file"),
         ):
             with self.subTest(words=words[-1]):
-                script = [sys.executable, MODEL / "replay.py", *map(str, words)]
-                done = subprocess.run(script, capture_output=True, text=True, timeout=30)
+                script = [sys.executable, "-m", "second.replay", *map(str, words)]
+                done = subprocess.run(script, cwd=TOP, capture_output=True, text=True, timeout=30)
                 self.assertEqual(status, done.returncode)
                 self.assertIn(said, done.stderr)

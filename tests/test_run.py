@@ -8,13 +8,8 @@ out by its name; docs/RUN.md has the packages. All are skipped, by one line, whe
 import unittest
 from typing import Optional
 
-import run_games
-import run_libinput
-import run_page
-import run_readers
-import run_remapper
-import run_sway
-from run_cases import build, why_not
+from tests import run_games, run_libinput, run_page, run_readers, run_remapper, run_sway
+from tests.run_cases import build, why_not
 
 MODULES = (run_readers, run_libinput, run_games, run_sway, run_remapper, run_page)
 

@@ -19,7 +19,7 @@ from itertools import cycle
 from pathlib import Path
 from typing import Dict, List, Optional, Sequence, Tuple
 
-from playing import EXAMPLES, TOP, FolderCase
+from tests.playing import EXAMPLES, TOP, FolderCase
 
 from inputtools import runbuild
 from inputtools.names import CODES, TYPES

@@ -1,6 +1,6 @@
 """tools/shrink: the shortest record for which a command still ends with the same status."""
 
-from desk_cases import PROGRAM, TOOLS, DeskCase, needs_program
+from tests.desk_cases import PROGRAM, TOOLS, DeskCase, needs_program
 from inputtools.shrinking import frames_of, shorter
 
 HEAD = "inputrecord 1\ndevice d\ncap EV_KEY KEY_A\ncap EV_KEY KEY_B\nsource s\nclient c\n# A comment.\ndo c open\n"

@@ -7,7 +7,7 @@ import os
 import subprocess
 import sys
 
-from playing import TOP, FolderCase
+from tests.playing import TOP, FolderCase
 
 RUN = f"""#!{sys.executable}
 import os, sys

@@ -4,7 +4,7 @@ import os
 import shutil
 import subprocess
 
-from desk_cases import DATA, PROGRAM, TOOLS, TOP, DeskCase, needs_program
+from tests.desk_cases import DATA, PROGRAM, TOOLS, TOP, DeskCase, needs_program
 
 FLOOD = TOP / "examples" / "views_flood.bin"
 

@@ -7,7 +7,7 @@ import os
 import resource
 import struct
 
-from playing import EXAMPLES, TOP, USAGE, FolderCase, assert_run, run
+from tests.playing import EXAMPLES, TOP, USAGE, FolderCase, assert_run, run
 
 INPUT_LIMIT = 16777216
 READ_FAILED = b"inputplay: read failed\n"

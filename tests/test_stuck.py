@@ -9,10 +9,11 @@ import stat
 import subprocess
 from unittest import mock
 
-from desk_cases import PROGRAM, TOOLS, TOP, DeskCase, needs_program
+from tests.desk_cases import PROGRAM, TOOLS, TOP, DeskCase, needs_program
 from inputtools.played import play
-from inputtools.program import Player
+from inputtools.program import find_player
 from inputtools.progress import Progress
+from inputtools.report import Took
 from inputtools.source import Given
 
 EXAMPLES, RECORDS = TOP / "examples", TOP / "tests" / "records"
@@ -488,10 +489,10 @@ class Filters(StuckCase):
         for seed in range(12):
             with self.subTest(seed):
                 text = random_filtered(random.Random(seed))
-                played = play(Given(self.file("case.rec", text)), Player())[0]
+                played = play(Given(self.file("case.rec", text)), find_player())[0]
                 frames = played.state.frames
                 left = [e for f in frames for e, by in zip(f.events, f.eaten) if by is None and e[0] != "EV_SYN"]
-                taken = [entry[3] for entry in played.clients[0].part.sight if entry[0] == "took"]
+                taken = [entry.event for entry in played.clients[0].part.all_of(Took)]
                 self.assertEqual(left, [event for event in taken if event[0] != "EV_SYN"])
                 self.assertLess(len(left), sum(len(f.events) - 1 for f in frames))
 
@@ -742,7 +743,7 @@ device kbd steps """
         """Of a long record each part of the work says what it is, and how much of it is done."""
         told = []
         tell = mock.patch.object(Progress, "tell", lambda _, *words: told.append(words))
-        with tell, mock.patch("inputtools.report.TOLD_EVERY", 20), mock.patch("inputtools.partings.TOLD_EVERY", 5):
+        with tell, mock.patch("inputtools.report.TOLD_EVERY", 20), mock.patch("inputtools.divergences.TOLD_EVERY", 5):
             self.written("stuck", EXAMPLES / "stuck_key.rec")
         whole = subprocess.run([PROGRAM, "--history", EXAMPLES / "stuck_key.rec"], capture_output=True, check=True)
         lines = len(whole.stdout.splitlines())

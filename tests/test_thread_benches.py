@@ -4,7 +4,7 @@ import shutil
 import subprocess
 import unittest
 
-from playing import PROGRAM, TOP, FolderCase, needs_program
+from tests.playing import PROGRAM, TOP, FolderCase, needs_program
 
 BENCH = TOP / "bench"
 COMPILER = shutil.which("cc")

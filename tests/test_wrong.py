@@ -1,15 +1,10 @@
 """The wrong versions that the gate and checks/try_wrong try stand where they say, each once; and what the script says of an end."""
 
 import os
-import re
-import shutil
 import subprocess
-import sys
 import unittest
-from importlib.machinery import SourceFileLoader
-from importlib.util import module_from_spec, spec_from_loader
 
-from playing import TOP, FolderCase
+from tests.playing import TOP, FolderCase, loaded
 
 SCRIPT = TOP / "checks" / "try_wrong"
 # So many the gate tries, at most; and so many there are of both kinds, at least.
@@ -21,20 +16,11 @@ cat "$SAID"
 """
 
 
-def loaded():
-    """The script as a module."""
-    loader = SourceFileLoader("try_wrong", str(SCRIPT))
-    module = module_from_spec(spec_from_loader(loader.name, loader))
-    sys.modules[loader.name] = module
-    loader.exec_module(module)
-    return module
-
-
 class Texts(unittest.TestCase):
     """What the files of this repository say."""
 
     def test_each_text_stands_once(self):
-        script = loaded()
+        script = loaded(SCRIPT)
         gate = [script.version_of(path.parents[1].name, path) for path in sorted(TOP.glob("crates/*/must-fail/*.edit"))]
         for version in [*gate, *script.versions_of(TOP)]:
             with self.subTest(version.name):
@@ -49,7 +35,7 @@ class Texts(unittest.TestCase):
         self.assertEqual(set(), both, "a version is tried by the gate or by hand")
 
     def test_each_test_is_there(self):
-        rows = [version for version in loaded().versions_of(TOP) if version.test]
+        rows = [version for version in loaded(SCRIPT).versions_of(TOP) if version.test]
         self.assertGreater(len(rows), 7)
         for version in rows:
             with self.subTest(version.name):

@@ -2,38 +2,50 @@
 that must fail.
 
 The gate (`rt ci`) proves each crate twice, with its tests and edits. For a program that runs it is enough to build
-each library below inp_main once, the lowest first and as many at a time as there are processors and memory for,
-and then the program. What is proved is kept in the crates' `out`, so a build that was stopped goes on.
+each library below inp_main once, the lowest first, and then the program. They are built one after the other: where two
+runs of the toolchain are in one clone, one of them waits for the other. What is proved is kept in the crates' `out`, so
+a build that was stopped goes on.
 """
 
 import os
+import re
 import shutil
 import signal
 import subprocess
+import sys
 import tempfile
 import time
+from typing import Dict, List, Optional, TextIO
 
 from inputtools.command import Wrong, say
 from inputtools.program import BUILT, REPOSITORY
 
 PROGRAM = "inp_main"
 CRATES = os.path.join(REPOSITORY, "crates")
-BYTES_OF_A_CHECK = 2 << 30
+GATE_COST = os.path.join(REPOSITORY, "bench", "gate_cost")
+COST_PAGE = os.path.join(REPOSITORY, "bench", "COST.md")
 LAST_LINES = 20
+EVERY = 0.1
+
+# In what the gate cost: the seconds of a crate's proofs, and what the toolchain's first library took then.
+PROOFS = re.compile(r"^\| (\w+) \| (\d+) \| \d+ \| \d+ \| \d+ \|$", re.MULTILINE)
+MEASURE = re.compile(r"^The toolchain's first library took ([\d.]+) seconds in the same run\.$", re.MULTILINE)
+RECKONED = "some ten minutes on four processors, as is reckoned"
 
 
-def is_built():
+def is_built() -> bool:
     return os.access(BUILT, os.X_OK) and os.path.isfile(BUILT)
 
 
-def needed_crates(text, program=PROGRAM):
+def needed_crates(text: str, program: str = PROGRAM) -> Dict[str, List[str]]:
     """For each crate that the program needs, itself last, those of the repository below it."""
-    below = {}
+    below: Dict[str, List[str]] = {}
     for line in text.split("\n"):
         name, colon, rest = line.partition("#")[0].partition(":")
         if colon and name.split():
             below[name.split()[0]] = rest.split()
-    needed, waiting = {}, [program]
+    needed: Dict[str, List[str]] = {}
+    waiting = [program]
     while waiting:
         name = waiting.pop()
         if name not in needed and name in below:
@@ -42,111 +54,144 @@ def needed_crates(text, program=PROGRAM):
     return dict(sorted(needed.items(), key=lambda each: each[0] == program))
 
 
-def jobs():
-    """How many crates are built at a time."""
+def in_order(crates: Dict[str, List[str]]) -> List[str]:
+    """The crates, each behind those below it."""
+    order: List[str] = []
+    while len(order) < len(crates):
+        order.append(next(name for name, below in crates.items() if name not in order and set(below) <= set(order)))
+    return order
+
+
+# How long it takes
+
+
+def read(path: str) -> str:
+    """The text of a page, empty where it is not there."""
     try:
-        memory = os.sysconf("SC_PHYS_PAGES") * os.sysconf("SC_PAGE_SIZE")
-    except (OSError, ValueError):
-        memory = BYTES_OF_A_CHECK
-    return max(1, min(len(os.sched_getaffinity(0)), memory // BYTES_OF_A_CHECK))
+        with open(path, encoding="utf-8") as file:
+            return file.read()
+    except OSError:
+        return ""
+
+
+def measured() -> Optional[float]:
+    """What the toolchain's first library takes on this machine in seconds, by bench/gate_cost; None where it cannot be
+    told."""
+    if not os.access(GATE_COST, os.X_OK):
+        return None
+    done = subprocess.run([GATE_COST, "true"], stdin=subprocess.DEVNULL, stdout=subprocess.PIPE,
+                          stderr=subprocess.DEVNULL, check=False)
+    found = MEASURE.search(done.stdout.decode("utf-8", "replace"))
+    return float(found[1]) if found else None
+
+
+def time_text(page: str, crates: List[str], here: Optional[float]) -> str:
+    """How long it takes to prove these crates here: as long as the page tells of another run, by how long the
+    toolchain's first library took in both."""
+    there, seconds = MEASURE.search(page), {name: int(proofs) for name, proofs in PROOFS.findall(page)}
+    if here is None or not there or not float(there[1]) or not all(name in seconds for name in crates):
+        return RECKONED
+    minutes = sum(seconds[name] for name in crates) * here / float(there[1]) / 60
+    return f"some {max(round(minutes), 1)} minutes by bench/gate_cost's measure of this machine"
+
+
+# Building
 
 
 class Build:
-    """A build: the crates that are done, and those that run, each with its log."""
+    """A build: how many crates are done, and the one that is built, each with its log."""
 
-    def __init__(self, crates, tell):
-        self.crates, self.tell, self.done, self.running = crates, tell, set(), {}
+    def __init__(self, crates: List[str], teller: "Teller") -> None:
+        self.crates, self.teller = crates, teller
         self.folder = tempfile.mkdtemp(prefix="inputplay-build")
 
-    def run(self):
+    def run(self) -> None:
         """Builds all, or is refused with the end of the log of the first crate that fails."""
-        try:
-            while len(self.done) < len(self.crates):
-                self.start_more()
-                self.tell(len(self.done), len(self.crates), sorted(self.running))
-                self.wait()
-        except BaseException:
-            self.stop()
-            raise
-        shutil.rmtree(self.folder, ignore_errors=True)
-
-    def start_more(self):
-        for name, below in self.crates.items():
-            is_ready = name not in self.done and name not in self.running and self.done.issuperset(below)
-            if is_ready and len(self.running) < jobs():
-                self.start(name)
-
-    def start(self, name):
-        # (the program is run once by that, and makes a record of one frame)
-        words = ["rt", "run", "--", "--make", "1", "--count", "1"] if name == PROGRAM else ["rt", "lib"]
-        with open(self.log(name), "wb") as log:
-            self.running[name] = subprocess.Popen(
-                words, cwd=os.path.join(CRATES, name), stdin=subprocess.DEVNULL, stdout=log,
-                stderr=subprocess.STDOUT, start_new_session=True,
-            )
-
-    def log(self, name):
-        return os.path.join(self.folder, f"{name}.log")
-
-    def wait(self):
-        time.sleep(0.1)
-        for name, process in list(self.running.items()):
-            status = process.poll()
-            if status is None:
-                continue
-            del self.running[name]
+        for number, name in enumerate(self.crates):
+            status = self.build(name, number)
             if status:
                 raise Wrong(f"{name} was not built (rt ended with {status}): {self.last_line(name)}; "
                             f"all that was said is in {self.log(name)}")
-            self.done.add(name)
+        shutil.rmtree(self.folder, ignore_errors=True)
 
-    def last_line(self, name):
+    def build(self, name: str, number: int) -> int:
+        """Builds a crate; the toolchain's status."""
+        # (the program is run once by that, and makes a record of one frame)
+        self.teller.tell(number, len(self.crates), name)
+        words = ["rt", "run", "--", "--make", "1", "--count", "1"] if name == PROGRAM else ["rt", "lib"]
+        with open(self.log(name), "wb") as log:
+            process = subprocess.Popen(
+                words, cwd=os.path.join(CRATES, name), stdin=subprocess.DEVNULL, stdout=log,
+                stderr=subprocess.STDOUT, start_new_session=True,
+            )
+        try:
+            while process.poll() is None:
+                self.teller.tell(number, len(self.crates), name)
+                time.sleep(EVERY)
+        except BaseException:
+            stop(process)
+            raise
+        return process.returncode
+
+    def log(self, name: str) -> str:
+        return os.path.join(self.folder, f"{name}.log")
+
+    def last_line(self, name: str) -> str:
         with open(self.log(name), encoding="utf-8", errors="replace") as log:
             lines = [line.strip() for line in log.read().split("\n")[-LAST_LINES:]]
         return next((line for line in reversed(lines) if line), "it said nothing")[:200]
 
-    def stop(self):
-        for process in self.running.values():
-            try:
-                os.killpg(process.pid, signal.SIGTERM)
-            except ProcessLookupError:
-                pass
-        for process in self.running.values():
-            process.wait()
+
+def stop(process: "subprocess.Popen[bytes]") -> None:
+    """Ends a process and all that it started."""
+    try:
+        os.killpg(process.pid, signal.SIGTERM)
+    except ProcessLookupError:
+        pass
+    process.wait()
 
 
 class Teller:
-    """Says how far a build is: on a terminal in one line that is written over, else one line at the start."""
+    """Says how far a build is: on a terminal in one line that is written over, else not at all."""
 
-    def __init__(self, program, stream):
-        self.program, self.stream, self.begun, self.told = program, stream, time.monotonic(), 0
+    def __init__(self, program: str, stream: TextIO) -> None:
+        self.program, self.stream, self.begun, self.told = program, stream, time.monotonic(), 0.0
 
-    def __call__(self, done, count, running):
+    def tell(self, done: int, count: int, name: str) -> None:
         now = time.monotonic()
         if not self.stream.isatty() or now - self.told < 0.5:
             return
         self.told = now
         minutes, seconds = divmod(int(now - self.begun), 60)
-        text = f"{self.program}: {done} of {count} crates are built, {minutes}:{seconds:02d}: {' '.join(running)}"
+        text = f"{self.program}: {done} of {count} crates are built, {minutes}:{seconds:02d}: {name}"
         width = shutil.get_terminal_size().columns - 1
         print(f"\r{text[:width]}\x1b[K", end="", file=self.stream, flush=True)
 
-    def end(self):
+    def end(self) -> None:
         if self.told:
             print("\r\x1b[K", end="", file=self.stream, flush=True)
 
 
-def build(program, stream):
+def is_wanted(program: str, stream: TextIO) -> bool:
+    """Asks whether to build, where there is somebody to ask."""
+    if sys.stdin is None or not (sys.stdin.isatty() and stream.isatty()):
+        return True
+    print(f"{program}: build it now? [Y/n] ", end="", file=stream, flush=True)
+    return sys.stdin.readline().strip().lower() in ("", "y", "yes")
+
+
+def build(program: str, stream: TextIO) -> None:
     """Builds the program, proved; `program` is who says so, to the stream."""
     if shutil.which("rt") is None:
         raise Wrong("the program is not built (crates/inp_main/out/inp_main), and there is no toolchain (rt) to build it")
-    try:
-        with open(os.path.join(REPOSITORY, "crates.txt"), encoding="utf-8") as file:
-            crates = needed_crates(file.read())
-    except OSError as fault:
-        raise Wrong(f"the program is not built, and crates.txt cannot be read: {fault.strerror}") from None
-    say(program, f"the program is not built: {len(crates)} crates are proved and built now, without tests, in some "
-                 "ten minutes on four processors; bin/inputplay --unproved FILE plays without that")
+    text = read(os.path.join(REPOSITORY, "crates.txt"))
+    if not text:
+        raise Wrong("the program is not built, and crates.txt cannot be read")
+    crates = in_order(needed_crates(text))
+    say(program, f"the program is not built: {len(crates)} crates are proved and built now, without tests, in "
+                 f"{time_text(read(COST_PAGE), crates, measured())}; bin/inputplay --unproved FILE plays at once")
+    if not is_wanted(program, stream):
+        raise Wrong("the program is not built; bin/inputplay --unproved FILE plays without it")
     teller = Teller(program, stream)
     try:
         Build(crates, teller).run()

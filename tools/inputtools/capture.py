@@ -1,23 +1,28 @@
 """A capture made ready for a record: its frames, timed from the first event on, and what to say of it."""
 
+
+from typing import List, Optional
+
 from inputtools.command import Wrong, counted
 from inputtools.description import GREATEST_HINT, GREATEST_SLOTS, estimate, hint_of
-from inputtools.names import ABS, KEY, MSC, REP, SLOT, SYN, code_text, event_text, is_in_a_record, kernel_kind_text
+from inputtools.names import ABS, KEY, MSC, REP, SLOT, SYN, code_text, is_in_a_record, kernel_kind_text
+from inputtools.recording import Device, Recording
 from inputtools.recording import Event, frames_of
 
 MSC_SCAN, REPEAT = 4, 2
 LATEST = 9000000000000000
 
 
-def seconds(micros):
+def seconds(micros: int) -> str:
     return f"{micros // 1000000}.{micros % 1000000:06d} s"
 
 
 class Capture:
     """The frames of a recording, for a device, and notes on what the record cannot have of it."""
 
-    def __init__(self, recording, device, takes_hidden_keys=False, base=None):
-        self.notes = []
+    def __init__(self, recording: Recording, device: Device, takes_hidden_keys: bool = False,
+                 base: Optional[int] = None) -> None:
+        self.notes: List[str] = []
         self.refuse_hidden_keys(recording, takes_hidden_keys)
         events = self.without_what_a_record_lacks(self.from_the_first_on(recording.events, base))
         self.find_slots(device, events)
@@ -33,7 +38,7 @@ class Capture:
             last = "its last event is" if unfinished == 1 else f"its last {unfinished} events are"
             self.notes.append(f"the capture ends within a frame; {last} left out")
 
-    def refuse_hidden_keys(self, recording, takes_hidden_keys):
+    def refuse_hidden_keys(self, recording: Recording, takes_hidden_keys: bool) -> None:
         if recording.hides_keys and not takes_hidden_keys:
             raise Wrong("libinput record hid most keys as KEY_A: record with --show-keycodes, or take them "
                         "with --hidden-keys")
@@ -42,7 +47,7 @@ class Capture:
         elif recording.hides_scan_codes:
             self.notes.append("libinput record hid the scan codes: each MSC_SCAN is 30")
 
-    def from_the_first_on(self, events, base=None):
+    def from_the_first_on(self, events: List[Event], base: Optional[int] = None) -> List[Event]:
         """The events with times from `base` on, or from their own least one."""
         least = min(event.time for event in events)
         base = least if base is None else base
@@ -53,7 +58,7 @@ class Capture:
             raise Wrong(f"it lasts longer than a record can: {LATEST} us")
         return [Event(time - base, kind, code, value) for time, kind, code, value in events]
 
-    def without_what_a_record_lacks(self, events):
+    def without_what_a_record_lacks(self, events: List[Event]) -> List[Event]:
         kept = [event for event in events if is_in_a_record(event.kind, event.code)]
         if len(kept) < len(events):
             lacking = sorted({event[1:3] for event in events} - {event[1:3] for event in kept})
@@ -64,7 +69,7 @@ class Capture:
             self.notes.append(f"{are} left out, since a record has no {', '.join(names)}")
         return kept
 
-    def find_slots(self, device, events):
+    def find_slots(self, device: Device, events: List[Event]) -> None:
         """A capture that names slots is of a device with two or more: where none are told, the named ones."""
         named = [event.value for event in events if (event.kind, event.code) == (ABS, SLOT)]
         if not named or SLOT not in device.axes:
@@ -79,7 +84,7 @@ class Capture:
             raise Wrong(f"its slots are {min(named)} to {max(named)}, and the description has "
                         f"{counted(device.slot_count(), 'slot')}: is it another device's?")
 
-    def find_reports(self, device):
+    def find_reports(self, device: Device) -> None:
         """Gives each SYN_REPORT whose value the form does not tell the one that it must have had.
 
         The kernel writes 1 where it repeats a key itself, and where it cuts a frame since as many events as
@@ -94,14 +99,14 @@ class Capture:
                 is_repeat = REP in device.codes and is_repeat_of_the_kernel(frame.events)
                 frame.report = int(is_repeat or len(frame.events) in cut)
 
-    def needed_hint(self):
+    def needed_hint(self) -> int:
         """More events than the longest frame has that was not cut: a frame as long as the hint is cut."""
         longest = max((len(frame.events) for frame in self.frames if frame.report == 0), default=0)
         if longest >= GREATEST_HINT:
             raise Wrong(f"a frame has {longest} events, and a record's frames at most {GREATEST_HINT - 1}")
         return longest + 1
 
-    def note_losses(self, lost_at_end):
+    def note_losses(self, lost_at_end: Optional[int]) -> None:
         times = [frame.lost for frame in self.frames if frame.lost is not None]
         times += [lost_at_end] if lost_at_end is not None else []
         if times:
@@ -110,15 +115,16 @@ class Capture:
                               f"they changed, as far as the events behind them tell, is set there")
 
 
-def is_repeat_of_the_kernel(events):
-    for before, event in zip([None] + events, events):
-        if event.kind == KEY and event.value == REPEAT:
-            return before is None or (before.kind, before.code) != (MSC, MSC_SCAN)
-    return False
+def is_repeat_of_the_kernel(events: List[Event]) -> bool:
+    index = next((i for i, event in enumerate(events) if event.kind == KEY and event.value == REPEAT), None)
+    if index is None:
+        return False
+    before = events[index - 1] if index else None
+    return before is None or (before.kind, before.code) != (MSC, MSC_SCAN)
 
 
-def refuse_other_device(device, events):
+def refuse_other_device(device: Device, events: List[Event]) -> None:
     for event in events:
         if event.kind != SYN and not device.has(event.kind, event.code):
-            raise Wrong(f"an event of it, {event_text(event[1:])} at {seconds(event.time)}, is of a code "
+            raise Wrong(f"an event of it, {event.text()} at {seconds(event.time)}, is of a code "
                         f"that the description lacks: is it another device's?")

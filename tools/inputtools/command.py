@@ -1,9 +1,13 @@
 """How a command reads its words, and how it ends: one line for wrong input and status 2, or its text."""
 
 import argparse
+import gc
 import os
 import signal
 import sys
+from enum import Enum
+from types import FrameType
+from typing import Any, Callable, IO, List, NamedTuple, NoReturn, Optional, Union
 
 from inputtools.progress import progress
 
@@ -14,22 +18,30 @@ class Wrong(Exception):
     """Input that is refused. Its text is the one line that is written."""
 
 
+class Result(NamedTuple):
+    """What a command comes to: what is written, what is noted on standard error, and its status."""
+
+    text: Union[str, bytes] = ""
+    notes: List[str] = []
+    status: int = 0
+
+
 class Words(argparse.ArgumentParser):
     """The words of a command. Wrong ones are refused as any other wrong input is, by one line."""
 
-    def __init__(self, **more):
+    def __init__(self, **more: Any) -> None:
         super().__init__(formatter_class=argparse.RawDescriptionHelpFormatter, allow_abbrev=False, **more)
 
-    def error(self, message):
+    def error(self, message: str) -> NoReturn:
         raise Wrong(message)
 
-    def print_help(self, file=None):
+    def print_help(self, file: Optional[IO[str]] = None) -> None:
         status = write(self.prog, self.format_help())
         if status:
             sys.exit(status)
 
 
-def say(program, text):
+def say(program: str, text: str) -> None:
     """One line on standard error, whatever characters a file's own names have."""
     progress.clear()
     line = " ".join(text.split())
@@ -41,40 +53,54 @@ def say(program, text):
             pass
 
 
-def write(program, text):
-    """Writes a text to standard output; the status of the command's end."""
+class Wrote(Enum):
+    """What became of something that was written to standard output."""
+
+    ALL = "all of it is written"
+    ENOUGH = "who reads it has read enough"
+    FAILED = "it failed, which was said"
+
+
+def put(program: str, data: Union[str, bytes]) -> Wrote:
+    """Writes a text, or bytes, to standard output. Where that fails it is said."""
     progress.clear()
-    if not text:
-        return 0
     if sys.stdout is None:
         say(program, "standard output is closed")
-        return CUT_OFF
+        return Wrote.FAILED
     try:
-        sys.stdout.write(text)
+        if isinstance(data, str):
+            sys.stdout.write(data)
+        else:
+            sys.stdout.buffer.write(data)
         sys.stdout.flush()
     except BrokenPipeError:
-        # (who reads it has read enough)
         forget_output()
+        return Wrote.ENOUGH
     except OSError as fault:
         forget_output()
         say(program, f"standard output: {fault.strerror}")
-        return CUT_OFF
-    return 0
+        return Wrote.FAILED
+    return Wrote.ALL
 
 
-def forget_output():
+def write(program: str, data: Union[str, bytes]) -> int:
+    """Writes all that a command has to write; the status of its end."""
+    return CUT_OFF if data and put(program, data) is Wrote.FAILED else 0
+
+
+def forget_output() -> None:
     """What was not written to standard output yet goes nowhere. (Python would try to write it once more at
     its end.)"""
     os.dup2(os.open(os.devnull, os.O_WRONLY), sys.stdout.fileno())
 
 
-def stop_by(handler):
+def stop_by(handler: Union[Callable[[int, Optional[FrameType]], Any], signal.Handlers]) -> None:
     """What a stop from the keyboard does from now on. Where it is ignored it stays so."""
     if signal.getsignal(signal.SIGINT) is not signal.SIG_IGN:
         signal.signal(signal.SIGINT, handler)
 
 
-def status_of(program, body):
+def status_of(program: str, body: Callable[[], int]) -> int:
     """The status of what a command does: that which it gives, or 2 for wrong input."""
     try:
         return body()
@@ -83,9 +109,11 @@ def status_of(program, body):
         return WRONG
 
 
-def ends(program, body):
+def ends(program: str, body: Callable[[], int]) -> None:
     """Does what a command does, and ends in its status: 130 where it is stopped from the keyboard. Before and
     after that a stop ends the process at once."""
+    # (a tool ends soon, and what it reads has no cycles: to look for some would take a third of its time)
+    gc.disable()
     progress.begin(program)
     try:
         stop_by(signal.default_int_handler)
@@ -96,15 +124,15 @@ def ends(program, body):
         say(program, "stopped")
         status = STOPPED
     progress.end()
+    gc.enable()
     if status:
         sys.exit(status)
 
 
-def run(program, command):
-    """Ends in what the command gives: its text on standard output, its notes on standard error, and a status
-    where it gives one."""
+def run(program: str, command: Callable[[List[str]], Result]) -> None:
+    """Ends in what the command comes to: its text on standard output, its notes on standard error, and its status."""
 
-    def body():
+    def body() -> int:
         text, notes, *status = command(sys.argv[1:])
         for note in notes:
             say(program, f"note: {note}")
@@ -113,7 +141,7 @@ def run(program, command):
     ends(program, body)
 
 
-def number(text, low, high, what, base=10):
+def number(text: str, low: int, high: int, what: str, base: int = 10) -> int:
     """The number that digits stand for, within its bounds."""
     value = int(text, base) if len(text) <= 32 else high + 1
     if not low <= value <= high:
@@ -121,11 +149,11 @@ def number(text, low, high, what, base=10):
     return value
 
 
-def counted(count, one):
+def counted(count: int, one: str) -> str:
     """A count of things: 1 event, 2 events."""
     return f"1 {one}" if count == 1 else f"{count} {one}s"
 
 
-def at_line(index, what):
+def at_line(index: int, what: object) -> Wrong:
     """What is wrong with a line of a file, for people; lines are numbered from 1."""
     return Wrong(f"line {index + 1}: {what}")

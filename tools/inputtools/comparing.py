@@ -8,9 +8,13 @@ distance: where it changes from one pair to the next, the times differ.
 """
 
 import bisect
-from itertools import groupby
+from itertools import groupby, zip_longest
+from typing import Dict, Hashable, Iterator, List, NamedTuple, Optional, Sequence, Tuple
 
 from inputtools.progress import progress
+from inputtools.report import (
+    Again, Call, Device, Entry, Feedback, JoyRecord, Part, Reply, Report, SourceLine, Step, Stop, Took,
+)
 
 # So many entries of an actor may be left over; what follows is told as one difference.
 GREATEST_DISTANCE = 500
@@ -25,88 +29,81 @@ class Difference:
     """Where two reports differ: the actor (or None for a device's line), the number of the entry in its part
     from 1, the line of each report or None where it has none, and what differs."""
 
-    def __init__(self, what, device, actor, entry, first, second):
+    def __init__(self, what: str, device: Optional[str], actor: Optional[str], entry: Optional[int],
+                 first: Optional[Entry], second: Optional[Entry]) -> None:
         self.what, self.device, self.actor, self.entry = what, device, actor, entry
         self.first, self.second = first, second
 
-    def place(self):
+    def place(self) -> Optional[int]:
         """The place at which it comes, for the order of differences."""
-        places = [line.place() for line in (self.first, self.second) if line is not None]
+        places = (line.place_told() for line in (self.first, self.second) if line is not None)
         return min((place for place in places if place is not None), default=None)
+
+
+Key = Tuple[str, ...]
 
 
 class Item:
     """An entry of a part: its number from 1, its line, the words by which it is paired, and what kind of entry
     it is."""
 
-    def __init__(self, number, line, is_sight):
+    def __init__(self, number: int, line: Entry, is_sight: bool) -> None:
         self.number, self.line = number, line
-        self.key = key_of(line) if is_sight else view_key(line)
-        self.kind = self.key[:2] if self.key[0] == "call" or not is_sight else self.key[:1]
+        self.key: Key = key_of(line) if is_sight else view_key(line)
+        self.kind: Key = self.key[:2] if isinstance(line, Call) or not is_sight else self.key[:1]
 
 
-def items_of(part):
+def items_of(part: Part) -> List[Item]:
     """The entries of a part: what the actor saw, its view, and how it ended."""
-    lines = part.lines()
+    lines: List[Entry] = [*part.sight, *part.view, part.end]
     return [Item(number, line, number <= len(part.sight)) for number, line in enumerate(lines, 1)]
 
 
-def view_key(line):
+def view_key(line: Entry) -> Key:
     """The words of a line of a view, or of an end but for its place and for what a source counts."""
-    words = line.words
-    if words[0] == "source":
-        words = ["stop", *words[5:]]
-    if words[0] == "stop" and len(words) > 2:
-        words = words[:-1]
-    return ("view", *words[:1], *words[1:])
+    if isinstance(line, Stop):
+        reason = line.reason.split(" ")
+        return ("view", "stop", *(reason[:-1] if len(reason) > 1 else reason))
+    return ("view", *line.text.split(" "))
 
 
-def key_of(line):
+def key_of(line: Entry) -> Key:
     """The words of an entry of a sight, but places, times and the numbers of clients."""
-    words = line.words
-    if words[0] == "call":
-        middle = words.index("reply")
-        step, reply = words[1:middle], words[middle + 1 :]
-        step = [step[0]] + step[2:] if step[0] in CLIENT_STEPS else step
-        # (how many were read is told by the events after it)
-        reply = [reply[0]] + (reply[3:] if reply[0] == "opened" else [] if reply[0] == "took" else reply[2:])
-        return ("call", *moment_left_out(step), "reply", *reply)
-    if words[0] == "took":
-        return ("took", *words[3:])
-    if words[0] == "again":
+    if isinstance(line, Took):
+        return ("took", *line.text.split(" ")[3:])
+    if isinstance(line, Call):
+        return ("call", *step_key(line.step), "reply", *reply_key(line.reply))
+    if isinstance(line, Again):
         return ("again",)
-    if words[0] == "js":
-        return ("js", *words[2:])
-    return ("feedback", *words[2:]) if words[0] == "feedback" else tuple(words)
+    words = line.text.split(" ")
+    return (words[0], *words[2:]) if isinstance(line, (JoyRecord, Feedback)) else tuple(words)
 
 
-def moment_left_out(step):
-    """The words of a step without its moment, which is a time."""
-    if step[0] == "write":
-        return step[:1] + step[2:]
-    return step[:2] if step[0] == "clock" else step
+def step_key(step: Step) -> Key:
+    """The words of a step, but a client's number and a moment."""
+    words = step.without_moment()
+    return (words[0], *words[2:]) if step.name in CLIENT_STEPS else words
 
 
-def moment_of(line):
-    """The time that an entry tells, or None: of an event, of a joystick's record, of a step."""
-    words = line.words
-    if words[0] == "took":
-        return int(words[2])
-    if words[0] == "js":
-        return int(words[1])
-    if words[0] == "call" and words[1] == "write":
-        return int(words[3])
-    return int(words[4]) if words[0] == "call" and words[1] == "clock" else None
+def reply_key(reply: Reply) -> Key:
+    """The words of a reply, but its place and a client's number. (How many were read is told by the events behind.)"""
+    if reply.name == "took":
+        return (reply.name,)
+    return (reply.name, *(reply.rest[1:] if reply.name == "opened" else reply.rest))
 
 
 # Pairing
 
 
-def pairs_of(first, second):
+Pair = Tuple[int, int]
+Pairs = List[Pair]
+
+
+def pairs_of(ours: Sequence[Hashable], theirs: Sequence[Hashable]) -> Tuple[Pairs, bool]:
     """The pairs of equal keys that leave as few as possible over: (index in the first, in the second), in
     order; and whether all was paired that can be."""
-    numbers = {}
-    first, second = ([numbers.setdefault(key, len(numbers)) for key in keys] for keys in (first, second))
+    numbers: Dict[Hashable, int] = {}
+    first, second = ([numbers.setdefault(key, len(numbers)) for key in keys] for keys in (ours, theirs))
     begin, end, least = 0, 0, min(len(first), len(second))
     while begin < least and first[begin] == second[begin]:
         begin += 1
@@ -118,12 +115,13 @@ def pairs_of(first, second):
     return front + [(one + begin, other + begin) for one, other in middle] + behind, is_whole
 
 
-def shortest(first, second):
+def shortest(first: List[int], second: List[int]) -> Tuple[Pairs, bool]:
     """The same for what differs at both ends: the shortest way through both lists, by steps that leave one over.
     Beyond a distance the rest is not paired."""
     most = min(len(first) + len(second), GREATEST_DISTANCE)
     # (how far the way goes on each diagonal, the middle one being that of equal indices)
-    middle, furthest, trace = most + 1, [-1] * (2 * most + 3), []
+    middle, furthest = most + 1, [-1] * (2 * most + 3)
+    trace: List[List[int]] = []
     furthest[middle + 1] = 0
     for distance in range(most + 1):
         trace.append(furthest[middle - distance - 1 : middle + distance + 2])
@@ -137,10 +135,10 @@ def shortest(first, second):
                 return way_back(trace, len(first), len(second)), True
     ends = [(furthest[line], furthest[line] - line + middle) for line in range(middle - most, middle + most + 1, 2)]
     within = [(at, other) for at, other in ends if at <= len(first) and 0 <= other <= len(second)]
-    return way_back(trace, *max(within, key=sum)), False
+    return way_back(trace, *max(within, key=lambda end: end[0] + end[1])), False
 
 
-def way_back(trace, at, other):
+def way_back(trace: List[List[int]], at: int, other: int) -> Pairs:
     """The pairs on the way that ends at two indices."""
     pairs = []
     for distance in range(len(trace) - 1, -1, -1):
@@ -155,7 +153,7 @@ def way_back(trace, at, other):
     return pairs[::-1]
 
 
-def slid(pairs, one, other):
+def slid(pairs: Pairs, one: List[Item], other: List[Item]) -> Pairs:
     """The pairs, moved where equal keys leave a choice: so that the places of a pair are as far apart as those of the
     pair after it, where they are not as far apart as those of the pair before it."""
     pairs = list(pairs)
@@ -175,7 +173,7 @@ def slid(pairs, one, other):
     return pairs
 
 
-def moved_pair(pair, behind):
+def moved_pair(pair: Pair, behind: Pair) -> Optional[Pair]:
     """The pair that a pair becomes where what is left over after it is left over before it; or None where nothing
     is, or something in both lists."""
     if behind[0] == pair[0] + 1 and behind[1] > pair[1] + 1:
@@ -185,12 +183,12 @@ def moved_pair(pair, behind):
     return None
 
 
-def distance(pair, one, other):
+def distance(pair: Pair, one: List[Item], other: List[Item]) -> Optional[int]:
     """How far the places of a pair are apart, or None."""
     if pair[0] >= len(one) or pair[1] >= len(other):
         return None
-    places = one[pair[0]].line.place(), other[pair[1]].line.place()
-    return None if None in places else places[1] - places[0]
+    first, second = one[pair[0]].line.place_told(), other[pair[1]].line.place_told()
+    return None if first is None or second is None else second - first
 
 
 # Comparing
@@ -199,11 +197,13 @@ def distance(pair, one, other):
 class Parts:
     """An actor's entries in both reports, in pairs: (first, second), one of both None where it has no other."""
 
-    def __init__(self, first, second):
+    def __init__(self, first: Part, second: Part) -> None:
         progress.tell(f"what {first.name} saw is compared")
         one, other = items_of(first), items_of(second)
         self.device = first.device.name if first.device else None
-        self.name, self.same, self.others = first.name, [], []
+        self.name = first.name
+        self.same: List[Tuple[Item, Item]] = []
+        self.others: List[Tuple[Optional[Item], Optional[Item]]] = []
         pairs, self.is_whole = pairs_of([item.key for item in one], [item.key for item in other])
         pairs, last = slid(pairs, one, other), (-1, -1)
         for pair in [*pairs, (len(one), len(other))]:
@@ -212,7 +212,7 @@ class Parts:
                 self.same.append((one[pair[0]], other[pair[1]]))
             last = pair
 
-    def add_between(self, one, other):
+    def add_between(self, one: List[Item], other: List[Item]) -> None:
         """Entries that are left over between two pairs: those of a kind are told together."""
         pairs, _ = pairs_of([item.kind for item in one], [item.kind for item in other])
         last = (-1, -1)
@@ -223,7 +223,7 @@ class Parts:
                 self.others.append((one[pair[0]], other[pair[1]]))
             last = pair
 
-    def differences(self, ignores_times):
+    def differences(self, ignores_times: bool) -> List[Difference]:
         found = []
         for one, other in self.others:
             what = "another" if one and other else "only in the first" if one else "only in the second"
@@ -233,118 +233,150 @@ class Parts:
                                     "paired", self.device, self.name, None, None, None))
         return found + self.other_counts() + ([] if ignores_times else self.other_times())
 
-    def difference(self, what, one, other):
-        lines = (item.line if item else None for item in (one, other))
-        return Difference(what, self.device, self.name, (one or other).number, *lines)
+    def difference(self, what: str, one: Optional[Item], other: Optional[Item]) -> Difference:
+        number = next(item.number for item in (one, other) if item)
+        first, second = (item.line if item else None for item in (one, other))
+        return Difference(what, self.device, self.name, number, first, second)
 
-    def other_counts(self):
+    def other_counts(self) -> List[Difference]:
         """Reads that took another number of events, where as many events are after them."""
         counts = [(read_count(one), read_count(other), one, other) for one, other in self.same]
         if self.others:
             return []
         return [self.difference("another count", one, other) for a, b, one, other in counts if a != b]
 
-    def other_times(self):
+    def other_times(self) -> List[Difference]:
         """The first of each run of entries whose times are as far apart, and not equal."""
-        pairs = [(moment_of(one.line), moment_of(other.line), one, other) for one, other in self.same]
         found = []
-        told = (each for each in pairs if each[0] is not None)
-        for shift, run in groupby(told, lambda each: each[1] - each[0]):
-            run = list(run)
+        for shift, group in groupby(self.shifts(), lambda each: each[0]):
+            run = [items for _, items in group]
             if shift:
                 more = f" and at {len(run) - 1} entries behind it" if len(run) > 1 else ""
-                found.append(self.difference(f"another time by {shift:+d}{more}", *run[0][2:]))
+                found.append(self.difference(f"another time by {shift:+d}{more}", *run[0]))
         return found
 
+    def shifts(self) -> Iterator[Tuple[int, Tuple[Item, Item]]]:
+        """The pairs that tell a time, each with how far the times are apart."""
+        for one, other in self.same:
+            first, second = one.line.time_told(), other.line.time_told()
+            if first is not None and second is not None:
+                yield second - first, (one, other)
 
-def read_count(item):
-    words = item.line.words
-    return words[-1] if words[0] == "call" and words[-3] == "took" else None
+
+def read_count(item: Item) -> Optional[int]:
+    line = item.line
+    return line.reply.number if isinstance(line, Call) and line.reply.name == "took" else None
 
 
-def spot(line):
+def spot(line: Entry) -> Optional[int]:
     """Where an entry stands in the order of a device's steps: at a step an even number, between two an odd
     one; or None."""
-    place = line.place()
+    place = line.place_told()
     if place is None:
         return None
-    is_between = line.words[0] in ("again", "stop", "feedback") or "refused" in line.words
-    return 2 * place - is_between
+    is_refused = isinstance(line, Call) and line.reply.is_refused
+    return 2 * place - (is_refused or isinstance(line, (Again, Stop, Feedback)))
 
 
-def out_of_order(parts):
+class Spots(NamedTuple):
+    """Where a pair of entries of an actor stands in both orders."""
+
+    one: int
+    other: int
+    part: Parts
+    items: Tuple[Item, Item]
+
+
+def spots_of(parts: List[Parts]) -> List[Spots]:
+    """Those of all pairs that have places, in the first order."""
+    found = []
+    for part in parts:
+        for items in part.same:
+            first, second = spot(items[0].line), spot(items[1].line)
+            if first is not None and second is not None:
+                found.append(Spots(first, second, part, items))
+    return sorted(found, key=lambda each: (each.one, each.other))
+
+
+def out_of_order(parts: List[Parts]) -> List[Difference]:
     """The pairs of entries of a device whose places stand in another order: all but the most that do not."""
-    spots = [(spot(one.line), spot(other.line), part, one, other) for part in parts for one, other in part.same]
-    spots = sorted((each for each in spots if each[0] is not None and each[1] is not None), key=lambda each: each[:2])
-    kept = longest_ascending([each[1] for each in spots])
+    spots = spots_of(parts)
+    kept = longest_ascending([each.other for each in spots])
     chain, are_kept = [spots[index] for index in kept], set(kept)
     wrong = [each for index, each in enumerate(spots) if index not in are_kept]
     for before_it, each in zip(chain, chain[1:]):
-        are_steps = before_it[0] % 2 == each[0] % 2 == 0
-        if are_steps and (before_it[0] == each[0]) != (before_it[1] == each[1]):
+        are_steps = before_it.one % 2 == each.one % 2 == 0
+        if are_steps and (before_it.one == each.one) != (before_it.other == each.other):
             wrong.append(each)
-    return [part.difference("another order of places", one, other) for _, _, part, one, other in wrong]
+    return [each.part.difference("another order of places", *each.items) for each in wrong]
 
 
-def longest_ascending(values):
+def longest_ascending(values: List[int]) -> List[int]:
     """The indices of a longest list of values that do not descend."""
-    ends, last, back = [], [], []
+    ends: List[int] = []
+    last: List[int] = []
+    back: List[Optional[int]] = []
     for index, value in enumerate(values):
         at = bisect.bisect_right(ends, value)
         ends[at : at + 1], last[at : at + 1] = [value], [index]
         back.append(last[at - 1] if at else None)
-    chain, at = [], last[-1] if last else None
-    while at is not None:
-        chain.append(at)
-        at = back[at]
+    chain: List[int] = []
+    end = last[-1] if last else None
+    while end is not None:
+        chain.append(end)
+        end = back[end]
     return chain[::-1]
 
 
-def compare_device(one, other, names, reports, ignores_times):
+def compare_actors(parts: List[Parts], ignores_times: bool) -> List[Difference]:
+    """The differences of actors of one device."""
+    return [each for part in parts for each in part.differences(ignores_times)] + out_of_order(parts)
+
+
+def compare_device(one: Device, other: Device, parts: List[Parts], ignores_times: bool) -> List[Difference]:
     """The differences on a device: of its actors, and else of its counts and its history."""
-    parts = [Parts(*(report.parts[name] for report in reports)) for name in names]
-    found = [each for part in parts for each in part.differences(ignores_times)] + out_of_order(parts)
-    if found or one is None:
+    found = compare_actors(parts, ignores_times)
+    if found:
         return found
-    lines = [(one.line, other.line, None, None)]
-    lines += [(part.same[0][0].line, part.same[0][1].line, part.name, 1) for part in parts
-              if part.same[0][0].line.words[0] == "source"]
-    found = [Difference("another count", one.name, actor, entry, a, b) for a, b, actor, entry in lines if a.text != b.text]
+    if one.line.text != other.line.text:
+        found.append(Difference("another count", one.name, None, None, one.line, other.line))
+    for part in parts:
+        ours, theirs = (item.line for item in part.same[0])
+        if isinstance(ours, SourceLine) and ours.text != theirs.text:
+            found.append(Difference("another count", one.name, part.name, 1, ours, theirs))
     if not found and one.history and other.history:
         found = compare_histories(one, other)
     return found
 
 
-def compare_histories(one, other):
-    """The steps, where nothing else differs."""
-    steps = [[" ".join(line.words[2:]) for line in device.history] for device in (one, other)]
-    for index in range(max(map(len, steps))):
-        lines = [device.history[index] if index < len(device.history) else None for device in (one, other)]
-        if None in lines or steps[0][index] != steps[1][index]:
-            return [Difference("another step", one.name, None, None, *lines)]
-    return []
+def compare_histories(one: Device, other: Device) -> List[Difference]:
+    """The first step that is another one, where nothing else differs."""
+    pairs = enumerate(zip_longest(one.history, other.history))
+    place = next((place for place, (ours, theirs) in pairs if ours != theirs), None)
+    if place is None:
+        return []
+    return [Difference("another step", one.name, None, None, one.step_line(place), other.step_line(place))]
 
 
-def compare(first, second, ignores_times=False):
+def compare(first: Report, second: Report, ignores_times: bool = False) -> List[Difference]:
     """The differences of two reports, device by device."""
-    reports = [first, second]
-    found = missing(reports)
-    devices = {device.name: device for device in reports[1].devices}
-    both = [name for name in reports[0].parts if name in reports[1].parts
-            and reports[0].parts[name].role == reports[1].parts[name].role]
-    for device in reports[0].devices:
-        names = [part.name for part in device.parts if part.name in both]
+    found = missing(first, second, "first") + missing(second, first, "second")
+    devices = {device.name: device for device in second.devices}
+    both = [name for name, part in first.parts.items()
+            if name in second.parts and part.role == second.parts[name].role]
+    for device in first.devices:
         if device.name in devices:
-            found += in_order(compare_device(device, devices[device.name], names, reports, ignores_times))
+            parts = [Parts(part, second.parts[part.name]) for part in device.parts if part.name in both]
+            found += in_order(compare_device(device, devices[device.name], parts, ignores_times))
     for name in both:
-        if reports[0].parts[name].device is None:
-            found += compare_device(None, None, [name], reports, ignores_times)
+        if first.parts[name].device is None:
+            found += compare_actors([Parts(first.parts[name], second.parts[name])], ignores_times)
     return found
 
 
-def in_order(differences):
+def in_order(differences: List[Difference]) -> List[Difference]:
     """Actor by actor, that which differs at the first place in front; those of an actor as they stand in its part."""
-    first = {}
+    first: Dict[Optional[str], int] = {}
     for each in differences:
         place = each.place()
         if place is not None:
@@ -354,16 +386,14 @@ def in_order(differences):
     return sorted(differences, key=lambda each: (actors.index(each.actor), each.entry or 0))
 
 
-def missing(reports):
+def missing(one: Report, other: Report, which: str) -> List[Difference]:
     """Devices and actors that one of both reports has alone."""
-    found = []
-    for number, (one, other) in enumerate([reports, reports[::-1]]):
-        what = f"only in the {('first', 'second')[number]}"
-        place = (lambda line: (line, None)) if number == 0 else (lambda line: (None, line))
-        names = {device.name for device in other.devices}
-        found += [Difference(what, each.name, None, None, *place(each.line)) for each in one.devices
-                  if each.name not in names]
-        found += [Difference(what, part.device.name if part.device else None, name, None, *place(part.first))
-                  for name, part in one.parts.items()
-                  if name not in other.parts or other.parts[name].role != part.role]
-    return found
+    def alone(device: Optional[str], actor: Optional[str], line: Entry) -> Difference:
+        lines = (line, None) if which == "first" else (None, line)
+        return Difference(f"only in the {which}", device, actor, None, *lines)
+
+    names = {device.name for device in other.devices}
+    found = [alone(each.name, None, each.line) for each in one.devices if each.name not in names]
+    return found + [alone(part.device.name if part.device else None, name, part.first)
+                    for name, part in one.parts.items()
+                    if name not in other.parts or other.parts[name].role != part.role]

@@ -1,6 +1,7 @@
 """Writes the lines of a record that describe a device, and comments on what was left out of them."""
 
 import re
+from typing import Dict, List, Optional, Tuple
 
 from inputtools.command import Wrong
 from inputtools.identity import Identity, is_property_named
@@ -8,7 +9,8 @@ from inputtools.names import (
     ABS, GREATEST, KEY, LED, NOT_IN_A_RECORD, REL, REP, SLOT, SW, TRACKING_ID, code_text, is_in_a_record,
     is_slot_value, kernel_kind_text, kind_text,
 )
-from inputtools.recording import Axis, Device
+from inputtools.recording import Axis
+from inputtools.recording import Device
 
 LEAST_HINT, GREATEST_HINT, GREATEST_SLOTS, GREATEST_FUZZ = 2, 512, 256, 1 << 30
 # How many slots a record of version 1 may have.
@@ -18,11 +20,11 @@ REPEAT_AT_FIRST = {0: 250, 1: 33}
 NAME = re.compile("[a-z0-9_-]{1,32}")
 
 
-def is_name(text):
+def is_name(text: str) -> bool:
     return bool(NAME.fullmatch(text))
 
 
-def name_of(device, given=None):
+def name_of(device: Device, given: Optional[str] = None) -> str:
     """The device's name in the record: the given one, or its own, in the letters that a name may have."""
     if given is not None:
         if not is_name(given):
@@ -33,7 +35,7 @@ def name_of(device, given=None):
     return re.sub("[^a-z0-9]+", "-", device.name.lower()).strip("-")[:32].strip("-") or "device"
 
 
-def contacts_of(device):
+def contacts_of(device: Device) -> int:
     """How many contacts the kernel reckons with: the slots, or without any as the range of ids tells."""
     slots = device.slot_count()
     if slots:
@@ -44,7 +46,7 @@ def contacts_of(device):
     return 2 if POSITION_X in device.axes else 0
 
 
-def estimate(device):
+def estimate(device: Device) -> int:
     """How many events the kernel reckons with in a frame.
 
     8, one more for each relative axis and each absolute one that has one value, and for each contact one
@@ -55,36 +57,36 @@ def estimate(device):
     return events + sum(contacts if code == SLOT or is_slot_value(code) else 1 for code in device.axes)
 
 
-def hint_of(device):
+def hint_of(device: Device) -> int:
     """The hint that the record has: the kernel's estimate, or that of a description that has one already."""
     if device.hint is not None:
         return device.hint
     return max(LEAST_HINT, min(estimate(device), GREATEST_HINT))
 
 
-def slots_of(device):
+def slots_of(device: Device) -> int:
     return min(device.slot_count(), GREATEST_SLOTS)
 
 
-def version_of(device):
+def version_of(device: Device) -> int:
     """The first version of a record that has all that the device has."""
     has_filters = any(line.startswith("filter ") for line in device.other_lines)
     return 2 if has_filters or slots_of(device) > SLOTS_OF_VERSION_1 else 1
 
 
-def fuzz_of(code, axis, is_raw):
+def fuzz_of(code: int, axis: Axis, is_raw: bool) -> int:
     """The fuzz that is written: none where a kernel has applied it to the events already."""
     is_kept = is_raw and code not in (SLOT, TRACKING_ID) and 0 <= axis.fuzz <= GREATEST_FUZZ
     return axis.fuzz if is_kept else 0
 
 
-def axis_line(code, axis, is_raw):
+def axis_line(code: int, axis: Axis, is_raw: bool) -> str:
     value = 0 if code == SLOT or is_slot_value(code) else axis.value or 0
     numbers = (value, axis.minimum, axis.maximum, fuzz_of(code, axis, is_raw), axis.flat, axis.resolution)
     return " ".join(["axis", code_text(ABS, code)] + [str(number) for number in numbers])
 
 
-def is_brought_by_slots(device, code, axis):
+def is_brought_by_slots(device: Device, code: int, axis: Axis) -> bool:
     """The two axes that `slots` adds need no line where they are as it adds them."""
     if not slots_of(device):
         return False
@@ -98,7 +100,7 @@ def identity_of(device: Device) -> Identity:
     return Identity(name, told.phys, told.uniq, told.ids, device.properties)
 
 
-def description_lines(device, name, is_raw=False):
+def description_lines(device: Device, name: str, is_raw: bool = False) -> List[str]:
     """`device`, who it is, `hint`, `slots`, and what the device has."""
     lines = [f"device {name}", *identity_of(device).lines(), f"hint {hint_of(device)}"] + device.other_lines
     if slots_of(device):
@@ -116,20 +118,21 @@ def description_lines(device, name, is_raw=False):
     ]
 
 
-def state_lines(device):
+def state_lines(device: Device) -> List[str]:
     """What is on, the announced slot and the autorepeat, which a description has no place for."""
-    states = [(kind, code, 1) for kind in (KEY, LED, SW) for code in sorted(device.on[kind])]
+    states: List[Tuple[int, int, int]] = [(kind, code, 1) for kind in (KEY, LED, SW) for code in sorted(device.on[kind])]
     settings = sorted(device.repeat.items())
     states += [(REP, code, value) for code, value in settings if value != REPEAT_AT_FIRST.get(code)]
-    if slots_of(device) and device.axes[SLOT].value:
-        states.append((ABS, SLOT, device.axes[SLOT].value))
+    slot = device.axes[SLOT].value if slots_of(device) else None
+    if slot:
+        states.append((ABS, SLOT, slot))
     return [f"# state {kind_text(kind)} {code_text(kind, code)} {value}" for kind, code, value in states]
 
 
 # Comments on what was left out
 
 
-def comments(device, is_raw=False):
+def comments(device: Device, is_raw: bool = False) -> List[str]:
     """What the description does not tell."""
     said = [f"described by {device.form}"] if device.name else []
     if not device.has_ranges:
@@ -138,7 +141,7 @@ def comments(device, is_raw=False):
     return [f"# {line}" for line in said] + fuzz_comments(device, is_raw)
 
 
-def what_procfs_lacks(device):
+def what_procfs_lacks(device: Device) -> List[str]:
     if not device.axes:
         return []
     lacks = ["ranges of axes are not told here, and are written as 0"]
@@ -147,7 +150,7 @@ def what_procfs_lacks(device):
     return lacks
 
 
-def left_out(device):
+def left_out(device: Device) -> List[str]:
     said = []
     unnamed = sorted(number for number in set(device.properties) if not is_property_named(number))
     if unnamed:
@@ -160,7 +163,7 @@ def left_out(device):
     return said
 
 
-def limits(device):
+def limits(device: Device) -> List[str]:
     said = []
     if device.hint is None and estimate(device) > GREATEST_HINT:
         said.append(f"the kernel reckons with {estimate(device)} events in a frame; a record's hint is at "
@@ -174,12 +177,11 @@ def limits(device):
     return said
 
 
-def fuzz_comments(device, is_raw):
+def fuzz_comments(device: Device, is_raw: bool) -> List[str]:
     """The fuzz that was not written, for each size of it."""
-    sizes = {}
+    sizes: Dict[int, List[str]] = {}
     for code, axis in sorted(device.axes.items()):
         if axis.fuzz != fuzz_of(code, axis, is_raw):
             sizes.setdefault(axis.fuzz, []).append(code_text(ABS, code))
     why = "no fuzz that a record has" if is_raw else "a kernel has applied it to a capture already"
-    sizes = sorted(sizes.items())
-    return [f"# fuzz {fuzz} is written as 0 ({why}): {' '.join(codes)}" for fuzz, codes in sizes]
+    return [f"# fuzz {fuzz} is written as 0 ({why}): {' '.join(codes)}" for fuzz, codes in sorted(sizes.items())]

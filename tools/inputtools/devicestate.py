@@ -9,7 +9,7 @@ greatest one. Two clients watch:
 - `frames` reads whatever each step ended. So its events are the frames that were passed, and its belief at
 each report is the device's state at that frame's end.
 - `state` synchronises where the state is wanted as it is at a place, in the midst of a frame too: at each
-  synchronisation of slots, whose answer no report writes, and at the end.
+synchronisation of slots, whose answer no report writes, and at the end.
 
 Where axes were described anew, a tap `axes` describes them, which no event tells, and asks for these axes
 after each step. Where the device is made by requests, an owner `owner` asks after each step that may send
@@ -23,61 +23,69 @@ import bisect
 import itertools
 import os
 import tempfile
+from typing import Callable, Dict, List, NamedTuple, Optional, Set, Tuple
 
-from inputtools.belief import CURRENT, QUERIED_KIND, Belief, first_difference, first_value, settings_of
-from inputtools.belief import thing_text, view_of_lines
+from inputtools.belief import CURRENT, QUERIED_KIND, Belief, Thing, first_difference, setting_of, view_of_lines
 from inputtools.command import Wrong
-from inputtools.filters import filter_frames
+from inputtools.filters import eater
 from inputtools.handles import Handles
 from inputtools.places import Places
-from inputtools.report import parts_behind, read_report
+from inputtools.program import Player
+from inputtools.record import GREATEST_LOG, Device
+from inputtools.report import Again, Call, Event, Feedback, Fed, Made, Part, Report, Step, Took, ViewLine
+from inputtools.report import Device as ReportedDevice
 
-GREATEST_LOG = 8388608
 TEXT_LIMIT = 16777216
 SOURCE_STEPS = ("inject", "tick", "inhibit", "uninhibit", "write")
 DESCRIPTION = "setaxis"
-STATE_STEPS = SOURCE_STEPS + (DESCRIPTION,)
-
+STATE_STEPS = frozenset((*SOURCE_STEPS, DESCRIPTION))
 
 # The types of the events that go to the device, for its owner to read; and the one code of EV_SYN.
 OUTPUT_KINDS = ("EV_LED", "EV_SND", "EV_MSC", "EV_REP")
-OUTPUT_SYN = ["EV_SYN", "SYN_CONFIG"]
+OUTPUT_SYN = "SYN_CONFIG"
 
 
 class Frame:
     """A frame: the place of the step that ended it, its moment, its events, and of each of them the number of
     the filter that ate it, from 1, or None."""
 
-    def __init__(self, place, time, events):
+    def __init__(self, place: int, time: int, events: List[Event]) -> None:
         self.place, self.time, self.events = place, time, events
-        self.eaten = [None] * len(events)
+        self.eaten: List[Optional[int]] = [None] * len(events)
 
 
 class Changes:
     """How a thing changed: the numbers of the frames, and the values after them. Number -1 stands for the
     start."""
 
-    def __init__(self, value):
+    def __init__(self, value: int) -> None:
         self.frames, self.values = [-1], [value]
 
-    def add(self, frame, value):
+    def add(self, frame: int, value: int) -> None:
         if self.frames[-1] == frame:
             self.values[-1] = value
         else:
             self.frames.append(frame)
             self.values.append(value)
 
-    def value_at(self, frame):
+    def value_at(self, frame: int) -> int:
         return self.values[bisect.bisect_right(self.frames, frame) - 1]
 
-    def change_before(self, frame):
+    def change_before(self, frame: int) -> int:
         return self.frames[bisect.bisect_right(self.frames, frame) - 1]
 
-    def other_since(self, frame, value, seen):
+    def other_since(self, frame: int, value: int, seen: Callable[[int], int]) -> int:
         index = bisect.bisect_right(self.frames, frame) - 1
         while index > 0 and seen(self.values[index - 1]) != value:
             index -= 1
         return self.frames[index]
+
+
+class Sent(NamedTuple):
+    """An event that was sent to a device, and the place of the step that did so."""
+
+    place: int
+    event: Event
 
 
 class DeviceState:
@@ -85,103 +93,117 @@ class DeviceState:
 
     `frames` are its frames, `changes` how each thing changed, and `changed` which things each frame set;
     `sync_states` is its state at each synchronisation of slots, `end` that at the end, and `view` the lines
-    in which a report has it. `sent` has what was sent to it, as (place, event); `handles` says what its
-    history does of clients, and `at` tells places with their times.
+    in which a report has it. `sent` has what was sent to it; `handles` says what its history does of clients,
+    and `at` tells places with their times.
     """
 
-    def __init__(self, description, history):
+    def __init__(self, description: Device, history: List[Step]) -> None:
         self.description, self.history, self.name = description, history, description.name
-        self.handles, self.at, self.sent = Handles(history), Places(history), []
-        self.frames, self.changes, self.changed = [], {}, []
-        self.sync_states, self.end, self.view = {}, {}, []
-        self.places = [place for place, step in enumerate(history) if step[0] in STATE_STEPS]
-        self.frame_places = []
-        self.described = sorted({step[2] for step in history if step[0] == DESCRIPTION})
+        self.handles, self.at = Handles(history), Places(history)
+        self.sent: List[Sent] = []
+        self.frames: List[Frame] = []
+        self.changes: Dict[Thing, Changes] = {}
+        self.changed: List[Set[Thing]] = []
+        self.sync_states: Dict[int, Dict[Thing, int]] = {}
+        self.end: Dict[Thing, int] = {}
+        self.view: List[ViewLine] = []
+        self.places = [place for place, step in enumerate(history) if step.name in STATE_STEPS]
+        self.frame_places: List[int] = []
+        self.described = sorted({step.code for step in history if step.name == DESCRIPTION})
 
-    def value(self, thing, frame):
+    def value(self, thing: Thing, frame: int) -> int:
         """The value of a thing at the end of a frame; number -1 stands for the start."""
         changes = self.changes.get(thing)
-        return changes.value_at(frame) if changes else first_value(thing)
+        return changes.value_at(frame) if changes else thing.first_value
 
-    def end_value(self, thing):
+    def end_value(self, thing: Thing) -> int:
         """The value of a thing at the end of the record, in the midst of a frame too."""
-        return self.end.get(thing, first_value(thing))
+        return self.end.get(thing, thing.first_value)
 
-    def last_change(self, thing, frame):
+    def last_change(self, thing: Thing, frame: int) -> int:
         """The number of the last frame up to `frame` that changed a thing, or -1."""
         return self.changes[thing].change_before(frame) if thing in self.changes else -1
 
-    def other_since(self, thing, frame, value, seen=lambda present: present):
+    def other_since(self, thing: Thing, frame: int, value: int, seen: Callable[[int], int]) -> int:
         """The number of the frame since which a thing was always another than `value`, up to `frame`. `seen`
         says as what a reader is told a value."""
         return self.changes[thing].other_since(frame, value, seen) if thing in self.changes else -1
 
-    def eater_of(self, thing, frame):
+    def eater_of(self, thing: Thing, frame: int) -> Optional[int]:
         """The number of the filter that ate the event by which a frame set a thing last, from 1, or None."""
-        current, eater = self.value(CURRENT, frame - 1), None
+        current, eaten_by = self.value(CURRENT, frame - 1), None
         for event, by in zip(self.frames[frame].events, self.frames[frame].eaten):
-            setting = settings_of(event, current, self.description.slots)
-            if setting and setting[0] == CURRENT:
-                current = setting[1]
-            if setting and setting[0] == thing:
-                eater = by
-        return eater
+            setting = setting_of(event, current, self.description.slots)
+            if setting and setting.thing == CURRENT:
+                current = setting.value
+            if setting and setting.thing == thing:
+                eaten_by = by
+        return eaten_by
 
-    def place_of(self, frame):
+    def place_of(self, frame: int) -> Optional[int]:
         """The place of a frame, or None for the start."""
         return self.frame_places[frame] if frame >= 0 else None
 
-    def frame_before(self, place):
+    def frame_before(self, place: int) -> int:
         """The number of the last frame that ended before a place, or -1."""
         return bisect.bisect_left(self.frame_places, place) - 1
 
-    def frames_at(self, place):
+    def frames_at(self, place: int) -> range:
         """The numbers of the frames that the step at a place ended."""
         first = bisect.bisect_left(self.frame_places, place)
         return range(first, bisect.bisect_right(self.frame_places, place))
 
-    def cells_at(self, place):
+    def cells_at(self, place: int) -> Dict[Thing, int]:
         """The values of the slots that a synchronisation at a place was told."""
         values = self.sync_states[bisect.bisect_left(self.places, place)]
-        return {thing: value for thing, value in values.items() if thing[0] == "slot"}
+        return {thing: value for thing, value in values.items() if thing.slot is not None}
+
+    def filter_frames(self) -> None:
+        """Finds which filter ate each event, of the frames that ended while no client held the grab."""
+        filters = self.description.filters
+        for frame in self.frames if filters else ():
+            if not self.handles.is_grabbed(frame.place):
+                frame.eaten = [eater(filters, event, frame.time) for event in frame.events]
 
 
 # The second record
 
 
-def sync_points(history, places):
+def sync_points(state: DeviceState) -> Set[int]:
     """After how many of the source's steps a synchronisation of slots stands."""
-    return {bisect.bisect_left(places, place) for place, step in enumerate(history) if step[0] == "syncslots"}
+    places = (place for place, step in enumerate(state.history) if step.name == "syncslots")
+    return {bisect.bisect_left(state.places, place) for place in places}
 
 
-def action_of(step):
+def action_of(step: Step) -> str:
     """The words of the source's action for a step. A written event is a raw event as an injected one is."""
-    if step[0] == "write":
-        return ["event"] + step[2:]
-    return ["event" if step[0] == "inject" else step[0]] + step[1:]
+    if step.name == "write":
+        return "event " + step.rest.split(" ", 1)[1]
+    return f"event {step.rest}" if step.name == "inject" else step.text()
 
 
-def is_read_behind(step, waiting, hint):
+def is_read_behind(step: Step, waiting: int, hint: int) -> bool:
     """Is to be read after this step? Where frames may have ended, and before more events wait than a ring
     holds."""
-    is_event = step[0] in ("inject", "write")
-    return not is_event or step[-3:-1] == ["EV_SYN", "SYN_REPORT"] or waiting >= hint
+    is_event = step.name in ("inject", "write")
+    return not is_event or " EV_SYN SYN_REPORT " in step.rest or waiting >= hint
 
 
-def is_sent(step):
+def is_sent(step: Step) -> bool:
     """May this step send something to the device?"""
-    if step[0] not in ("inject", "write"):
+    if step.name not in ("inject", "write"):
         return False
-    return step[-3] in OUTPUT_KINDS or step[-3:-1] == OUTPUT_SYN
+    *_, kind, code, _ = step.words
+    return kind in OUTPUT_KINDS or (kind, code) == ("EV_SYN", OUTPUT_SYN)
 
 
-def sending_places(state):
+def sending_places(state: DeviceState) -> List[int]:
     """The places of the steps after which the owner asks, where there is one."""
     is_requested = state.description.is_requested
     return [place for place in state.places if is_requested and is_sent(state.history[place])]
 
 
-def device_lines(number, state):
+def device_lines(number: int, state: DeviceState) -> List[str]:
     """The lines of a device and its actors: a source `s`, the clients `frames` and `state`, a tap where axes
     are described, and an owner where it is made by requests."""
     word = "udevice" if state.description.is_requested else "device"
@@ -191,20 +213,20 @@ def device_lines(number, state):
     return lines + ([f"owner owner{number}"] if state.description.is_requested else [])
 
 
-def action_lines(number, state):
+def action_lines(number: int, state: DeviceState) -> List[str]:
     """What the source and both clients of a device do."""
-    read, tap = [f"do frames{number} follow"], f"do axes{number}"
+    read, tap, source = [f"do frames{number} follow"], f"do axes{number}", f"do s{number} "
     ask = [f"do state{number} force", f"do state{number} follow"]
-    points, sending = sync_points(state.history, state.places), set(sending_places(state))
+    points, sending = sync_points(state), set(sending_places(state))
     lines = [f"do frames{number} open", f"do frames{number} clock monotonic 0", f"do state{number} open"]
     lines += [f"{tap} open"] if state.described else []
     lines += ask if 0 in points else []
     waiting = 0
     for index, place in enumerate(state.places, 1):
         step = state.history[place]
-        is_description = step[0] == DESCRIPTION
-        words = [tap, DESCRIPTION] + step[2:] if is_description else [f"do s{number}"] + action_of(step)
-        lines += [" ".join(words)] + [f"{tap} axis {code}" for code in state.described]
+        is_description = step.name == DESCRIPTION
+        lines.append(" ".join((tap, DESCRIPTION, *step.words[2:])) if is_description else source + action_of(step))
+        lines += [f"{tap} axis {code}" for code in state.described]
         lines += [f"do owner{number} feedback 1"] if place in sending else []
         waiting += 1
         if is_read_behind(step, waiting, state.description.hint):
@@ -214,7 +236,7 @@ def action_lines(number, state):
     return lines + read + ask
 
 
-def second_record(states):
+def second_record(states: List[DeviceState]) -> str:
     """The text of the second record."""
     # (version 2 has all that version 1 has, and more slots)
     lines = ["inputrecord 2"]
@@ -231,86 +253,80 @@ def second_record(states):
 # The result
 
 
-def own_places(part):
-    """The places of a client's accepted calls, but for the descriptions that it made."""
-    calls = [entry for entry in part.sight if entry[0] == "call" and entry[1][0] != DESCRIPTION]
-    return {int(reply[1]) for _, _, reply in calls if reply[0] != "refused"}
+class SourcePlaces:
+    """Of the second history's places those that are the source's, each with its place in the first history."""
+
+    def __init__(self, device: ReportedDevice, state: DeviceState) -> None:
+        taken = {call.reply.place for part in device.readers() for call in part.all_of(Call)
+                 if call.step.name != DESCRIPTION and not call.reply.is_refused}
+        self.own = [place for place in range(device.steps) if place not in taken]
+        self.first = state.places
+        if len(self.own) != len(self.first):
+            raise Wrong(f"{state.name}: the second history does not have the steps of the first one")
+
+    def last_before(self, place: int) -> int:
+        """The source's last place up to a place of the second history, as one of the first history."""
+        return self.first[bisect.bisect_right(self.own, place) - 1]
 
 
-def source_places(device, state):
-    """For each place of the second history that is the source's, the place of the first one."""
-    taken = set().union(*(own_places(part) for part in device.parts[1:]))
-    places = [place for place in range(device.steps) if place not in taken]
-    if len(places) != len(state.places):
-        raise Wrong(f"{state.name}: the second history does not have the steps of the first one")
-    return dict(zip(places, state.places))
-
-
-def is_start(entry):
-    return entry[0] == "call" and entry[1][0] in ("open", "getaxis", "syncslots", *QUERIED_KIND)
-
-
-def start_values(part):
+def start_values(part: Part) -> Dict[Thing, int]:
     """The state at the start, as the answers to a client's first queries tell it."""
     belief = Belief(0)
-    for _, step, reply in itertools.takewhile(is_start, part.sight):
-        if reply[0] == "bits":
-            belief.answer_bits(QUERIED_KIND[step[0]], reply[2:], None)
-        elif reply[0] == "axis":
-            belief.set(("EV_ABS", step[2]), int(reply[2]), None)
+    starts = ("open", "getaxis", "syncslots", *QUERIED_KIND)
+    for call in itertools.takewhile(lambda entry: isinstance(entry, Call) and entry.step.name in starts, part.sight):
+        assert isinstance(call, Call)
+        if call.reply.name == "bits":
+            belief.answer_bits(QUERIED_KIND[call.step.name], call.reply.rest, None)
+        elif call.reply.name == "axis":
+            belief.set(Thing("EV_ABS", call.step.code), call.reply.number, None)
     return belief.values
 
 
-def last_before(places, place):
-    """The source's last place before a place of the second history, in places of the first one."""
-    while place not in places:
-        place -= 1
-    return places[place]
-
-
-def frames_of(part, places):
+def frames_of(part: Part, places: SourcePlaces) -> List[Frame]:
     """The frames that the client read. Events that it made itself, since its ring ran over, stand for those
     lost."""
-    frames, events, place, time, called = [], [], None, 0, 0
+    frames: List[Frame] = []
+    events: List[Event] = []
+    time = called = 0
     for entry in part.sight:
-        if entry[0] == "call":
-            called = int(entry[2][1])
-        if entry[0] not in ("took", "made"):
+        if isinstance(entry, Call):
+            called = entry.reply.place
+        if not isinstance(entry, (Took, Made)):
             continue
-        place = places[entry[1]] if entry[0] == "took" else last_before(places, called)
-        time = entry[2] if entry[0] == "took" else time
-        event = entry[-1]
-        if event[:2] != ("EV_SYN", "SYN_DROPPED"):
-            events.append(event)
-        if event[:2] == ("EV_SYN", "SYN_REPORT"):
-            frames.append(Frame(place, time, events))
+        place, time = (entry.place, entry.time) if isinstance(entry, Took) else (called, time)
+        if not entry.event.is_loss:
+            events.append(entry.event)
+        if entry.event.is_report:
+            frames.append(Frame(places.last_before(place), time, events))
             events = []
     return frames
 
 
-def read_frames(state, part, places):
+def read_frames(state: DeviceState, part: Part, places: SourcePlaces) -> None:
     """The frames, and how each changed each thing."""
     belief = Belief(state.description.slots)
     belief.values = start_values(part)
-    state.changes = {thing: Changes(value) for thing, value in belief.values.items()}
+    changes = state.changes = {thing: Changes(value) for thing, value in belief.values.items()}
     state.frames = frames_of(part, places)
     state.frame_places = [frame.place for frame in state.frames]
     for number, frame in enumerate(state.frames):
-        things = {belief.take(event, None) for event in frame.events} - {None}
+        things = {thing for thing in (belief.take(event, None) for event in frame.events) if thing is not None}
         state.changed.append(things)
         for thing in things:
-            state.changes.setdefault(thing, Changes(first_value(thing))).add(number, belief.value(thing))
+            if thing not in changes:
+                changes[thing] = Changes(thing.first_value)
+            changes[thing].add(number, belief.value(thing))
     is_told_by(part, belief, state)
 
 
-def read_described(state, part, places):
+def read_described(state: DeviceState, part: Part, places: SourcePlaces) -> None:
     """The axes that were described anew, at the end of each frame, as the tap was told after its step."""
-    told = {}
-    for entry in part.sight:
-        if entry[0] == "call" and entry[1][0] == "getaxis":
-            told[last_before(places, int(entry[2][1])), ("EV_ABS", entry[1][2])] = int(entry[2][2])
+    told: Dict[Tuple[int, Thing], int] = {}
+    for call in part.all_of(Call):
+        if call.step.name == "getaxis":
+            told[places.last_before(call.reply.place), Thing("EV_ABS", call.step.code)] = call.reply.number
     for thing in {thing for _, thing in told}:
-        start = state.changes[thing].values[0] if thing in state.changes else first_value(thing)
+        start = state.changes[thing].values[0] if thing in state.changes else thing.first_value
         state.changes[thing] = changes = Changes(start)
         for number, frame in enumerate(state.frames):
             if changes.values[-1] != told[frame.place, thing]:
@@ -318,41 +334,39 @@ def read_described(state, part, places):
                 state.changed[number].add(thing)
 
 
-def read_synchronisations(state, part):
+def read_synchronisations(state: DeviceState, part: Part) -> None:
     """The slots at each synchronisation, and the state at the end."""
     belief = Belief(state.description.slots)
     belief.values = start_values(part)
-    points = sorted(sync_points(state.history, state.places))
-    told = []
+    told: List[Dict[Thing, int]] = []
     for entry in part.sight:
-        if entry[0] == "made":
-            belief.take(entry[1], None)
-        elif entry[0] == "again":
+        if isinstance(entry, Made):
+            belief.take(entry.event, None)
+        elif isinstance(entry, Again):
             told.append(dict(belief.values))
-    for point, values in zip(points, told):
-        state.sync_states[point] = values
+    state.sync_states = dict(zip(sorted(sync_points(state)), told))
     state.end, state.view = told[-1], part.view
     is_told_by(part, belief, state)
 
 
-def read_sent(state, part):
+def read_sent(state: DeviceState, part: Part) -> None:
     """What each step sent to the device, as its owner was told after it. A step sends one event at most."""
-    calls = iter(sending_places(state))
+    calls, place = iter(sending_places(state)), 0
     for entry in part.sight:
-        if entry[0] == "feedback":
+        if isinstance(entry, Feedback):
             place = next(calls)
-        else:
-            state.sent.append((place, entry[1]))
+        elif isinstance(entry, Fed):
+            state.sent.append(Sent(place, entry.event))
 
 
-def is_told_by(part, belief, state):
+def is_told_by(part: Part, belief: Belief, state: DeviceState) -> None:
     """Refuses to go on where a client's belief is not the one that the report has at its end."""
     thing = first_difference(belief, view_of_lines(part.view), state.description)
     if thing:
-        raise Wrong(f"{part.name}: {thing_text(thing)} is not as the report has it at the end")
+        raise Wrong(f"{part.name}: {thing.text()} is not as the report has it at the end")
 
 
-def ask(states, player):
+def ask(states: List[DeviceState], player: Player) -> None:
     """Plays the second record, and reads the state of each device from its report."""
     text = second_record(states)
     with tempfile.TemporaryDirectory() as folder:
@@ -362,13 +376,13 @@ def ask(states, player):
         status, written = player.play(path, folder, what="the device's own state is asked for")
     if status != 0:
         raise Wrong(f"the record that asks for the device's state was not played: {written.strip()}")
-    owners = {part.name: part for part in parts_behind(written)}
-    for number, (device, state) in enumerate(zip(read_report(written), states)):
-        places = source_places(device, state)
-        read_frames(state, device.parts[1], places)
+    report = Report(written)
+    for number, (device, state) in enumerate(zip(report.devices, states)):
+        places = SourcePlaces(device, state)
+        read_frames(state, report.parts[f"frames{number}"], places)
         if state.described:
-            read_described(state, device.parts[3], places)
-        read_synchronisations(state, device.parts[2])
+            read_described(state, report.parts[f"axes{number}"], places)
+        read_synchronisations(state, report.parts[f"state{number}"])
         if state.description.is_requested:
-            read_sent(state, owners[f"owner{number}"])
-        filter_frames(state.frames, state.description.filters, state.handles.is_grabbed)
+            read_sent(state, report.parts[f"owner{number}"])
+        state.filter_frames()

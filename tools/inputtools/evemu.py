@@ -6,6 +6,7 @@ same and means nothing. Values of axes stand in comments alone.
 """
 
 import re
+from typing import Dict, List, Union
 
 from inputtools.command import Wrong, at_line, number
 from inputtools.identity import ids_of
@@ -25,18 +26,19 @@ AXIS = re.compile(r"([0-9a-fA-F]{1,2})((?:\s+-?\d+){4,5})\s*$")
 STATE = re.compile(r"([0-9a-fA-F]{1,2})\s+(\d+)\s*$")
 
 
-def is_evemu(text):
-    return HEAD.search(text) or HEADLESS.search(text)
+def is_evemu(text: str) -> bool:
+    return HEAD.search(text) is not None or HEADLESS.search(text) is not None
 
 
 class Parser:
     """One device and its events."""
 
-    def __init__(self):
+    def __init__(self) -> None:
         self.device, self.listing = Device("evemu"), Listing("evemu")
-        self.bits, self.recording, self.is_described = {}, Recording(), False
+        self.bits: Dict[Union[int, str], bytearray] = {}
+        self.recording, self.is_described = Recording(), False
 
-    def take(self, line, index, is_last):
+    def take(self, line: str, index: int, is_last: bool) -> None:
         if line.startswith("#"):
             self.listing.take(line.lstrip("#"))
             return
@@ -57,42 +59,42 @@ class Parser:
                 raise at_line(index, f"{wrong}: {line.strip()[:60]}") from None
             self.recording.ends_in_a_line = True
 
-    def take_ids(self, rest, _letter):
+    def take_ids(self, rest: str, _letter: str) -> None:
         self.device.identity.ids = ids_of(rest)
 
-    def take_name(self, rest, _letter):
+    def take_name(self, rest: str, _letter: str) -> None:
         self.device.name = rest
 
-    def take_properties(self, rest, _letter):
+    def take_properties(self, rest: str, _letter: str) -> None:
         self.bits.setdefault("properties", bytearray()).extend(self.bytes_of(rest))
 
-    def take_bits(self, rest, _letter):
+    def take_bits(self, rest: str, _letter: str) -> None:
         kind = rest.split()[0] if rest else ""
         if not re.fullmatch("[0-9a-fA-F]{1,2}", kind):
             raise Wrong("bits without a type")
         self.bits.setdefault(int(kind, 16), bytearray()).extend(self.bytes_of(rest.partition(kind)[2]))
 
-    def bytes_of(self, text):
+    def bytes_of(self, text: str) -> List[int]:
         words = text.split()
         if not all(re.fullmatch("[0-9a-fA-F]{2}", word) for word in words):
             raise Wrong("bits that are no bytes")
         return [int(word, 16) for word in words]
 
-    def take_axis(self, rest, _letter):
+    def take_axis(self, rest: str, _letter: str) -> None:
         found = AXIS.match(rest)
         if not found:
             raise Wrong("an axis wants four or five numbers behind its code")
         numbers = [number(word, LEAST, GREATEST, "the number") for word in found[2].split()]
         self.device.axes[int(found[1], 16)] = Axis(None, *numbers)
 
-    def take_state(self, rest, letter):
+    def take_state(self, rest: str, letter: str) -> None:
         found = STATE.match(rest)
         if not found:
             raise Wrong("a state wants a code and a number")
         if int(found[2]):
             self.device.on[LED if letter == "L" else SW].add(int(found[1], 16))
 
-    def take_event(self, line):
+    def take_event(self, line: str) -> None:
         found = EVENT.match(line)
         if not found:
             raise Wrong("no event as evemu writes it")
@@ -100,13 +102,13 @@ class Parser:
         value = number(found[5], LEAST, GREATEST, "the value")
         self.recording.events.append(Event(time, int(found[3], 16), int(found[4], 16), value))
 
-    def finished(self):
+    def finished(self) -> Recording:
         device = self.device
         for kind, octets in self.bits.items():
             codes = [8 * i + bit for i, octet in enumerate(octets) for bit in range(8) if octet >> bit & 1]
             if kind == "properties":
                 device.properties = codes
-            elif kind and codes:
+            elif isinstance(kind, int) and kind and codes:
                 device.add(kind, codes)
         complete(device, self.listing.device)
         if self.is_described:
@@ -114,7 +116,7 @@ class Parser:
         return self.recording
 
 
-def parse(text):
+def parse(text: str) -> List[Recording]:
     """The recordings of a file: one for each description that it has, or one of events alone."""
     head = HEAD.search(text)
     if head and not re.search("^N:", text[: head.start()], re.MULTILINE):

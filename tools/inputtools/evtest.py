@@ -6,14 +6,16 @@ description, or what a terminal shows when the program is stopped, mean nothing.
 """
 
 import re
+from typing import List, Optional, Tuple
 
 from inputtools.command import at_line, number
 from inputtools.identity import ids_of
 from inputtools.listing import Listing, forget_values_of_slots
 from inputtools.names import MSC, SYN
 from inputtools.recording import (
-    GREATEST, LEAST, SYN_CONFIG, SYN_DROPPED, SYN_MT_REPORT, SYN_REPORT, Event, Recording,
+    GREATEST, LEAST, SYN_CONFIG, SYN_DROPPED, SYN_MT_REPORT, SYN_REPORT, UNTOLD, Event, Recording,
 )
+from inputtools.recording import Device
 
 START = "Input driver version is"
 NAME = re.compile(r'Input device name: "(.*)"')
@@ -30,14 +32,14 @@ WHY_GRABBED = ("evtest says that another process has grabbed the device, and it 
 END_OF_LISTING = re.compile(r"\s*(Testing|Properties:)")
 
 
-def is_evtest(text):
-    return RECOGNISED.search(text)
+def is_evtest(text: str) -> bool:
+    return RECOGNISED.search(text) is not None
 
 
-def parse(text):
+def parse(text: str) -> List[Recording]:
     """The recordings of a file, one for each description that it has, or one of events alone."""
     lines = text.split("\n")
-    recordings = []
+    recordings: List[Tuple[Listing, Recording]] = []
     for index, line in enumerate(lines):
         if START in line or not recordings:
             recordings.append((Listing("evtest"), Recording()))
@@ -45,18 +47,18 @@ def parse(text):
     return [finished(listing.device, found) for listing, found in recordings if is_told(listing, found)]
 
 
-def is_told(listing, recording):
-    return listing.device.codes or listing.device.name or recording.events
+def is_told(listing: Listing, recording: Recording) -> bool:
+    return bool(listing.device.codes or listing.device.name or recording.events)
 
 
-def finished(device, recording):
+def finished(device: Device, recording: Recording) -> Recording:
     if device.codes or device.name:
         forget_values_of_slots(device)
         recording.device = device
     return recording
 
 
-def take_line(listing, recording, line, index, is_last):
+def take_line(listing: Listing, recording: Recording, line: str, index: int, is_last: bool) -> None:
     if "Event: time" in line:
         event = event_of(line, index)
         if event is not None:
@@ -78,7 +80,7 @@ def take_line(listing, recording, line, index, is_last):
         listing.take(line)
 
 
-def event_of(line, index):
+def event_of(line: str, index: int) -> Optional[Event]:
     """The event of a line, or None where the line is not whole."""
     found = EVENT.search(line)
     if not found:
@@ -94,7 +96,7 @@ def event_of(line, index):
     return Event(time, kind, code, value_of(kind, code, plain[3], index))
 
 
-def value_of(kind, code, word, index):
+def value_of(kind: int, code: int, word: str, index: int) -> int:
     what = f"line {index + 1}: the value"
     if (kind, code) in HEXADECIMAL:
         value = number(word, LEAST, 2**32 - 1, what, 16)
@@ -104,7 +106,7 @@ def value_of(kind, code, word, index):
     return number(word, LEAST, GREATEST, what)
 
 
-def syn_event(time, text):
+def syn_event(time: int, text: str) -> Optional[Event]:
     """An event of EV_SYN, which older versions write as `Report Sync` and newer ones as `SYN_REPORT`."""
     if re.match(r">+ .* <+\s*$", text):
         return Event(time, SYN, SYN_DROPPED, 0)
@@ -112,5 +114,5 @@ def syn_event(time, text):
         return Event(time, SYN, SYN_MT_REPORT, 0)
     if re.match(r"-+ .* -+\s*$", text):
         is_config = "config" in text.lower()
-        return Event(time, SYN, SYN_CONFIG, 0) if is_config else Event(time, SYN, SYN_REPORT, None)
+        return Event(time, SYN, SYN_CONFIG, 0) if is_config else Event(time, SYN, SYN_REPORT, UNTOLD)
     return None

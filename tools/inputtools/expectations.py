@@ -13,10 +13,12 @@ They are comments, so a record with them is played as one without.
 """
 
 import re
+from typing import Dict, Iterable, List, Optional, Tuple
 
 from inputtools.command import Wrong
 from inputtools.names import CODES, KEY, LED, SW, TYPES, code_text, kind_text, number_of_code, number_of_kind
-from inputtools.recordlines import ROLES
+from inputtools.record import roles_of
+from inputtools.report import Event
 
 MARK = "#="
 OF_RECORD = ("report", "status")
@@ -36,12 +38,22 @@ ROLE_TEXT = {"client": "client", "tap": "tap", "joy": "joystick", "owner": "owne
 
 class Expectation:
     """A line of a record that expects something: its number, its words, the actor that it is of (or None),
-    what it expects (`kind`), and the words after that."""
+    what it expects (`kind`), and the words after that.
 
-    def __init__(self, number, words, actors):
+    Of a line of the view `line` has the words that it begins with, and `wanted` those that are to stand behind. Of an
+    event `event` has its type and its code, or None for each, and `value` its value, or None for each.
+    """
+
+    event: Tuple[str, Optional[str]]
+    value: Optional[int]
+    line: List[str]
+    wanted: List[str]
+
+    def __init__(self, number: Optional[int], words: List[str], actors: Dict[str, str]) -> None:
         self.number, self.text = number, " ".join(words)
+        self.actor: Optional[str] = None
         if words[0] in OF_RECORD:
-            self.actor, self.kind, self.words = None, words[0], words[1:]
+            self.kind, self.words = words[0], words[1:]
             self.check_of_record()
             return
         if words[0] not in actors:
@@ -49,16 +61,26 @@ class Expectation:
         if len(words) < 2:
             raise Wrong(f"nothing stands behind {words[0]}: one of {', '.join(KINDS[actors[words[0]]])}")
         self.actor, self.kind, self.words = words[0], words[1], words[2:]
-        self.role = actors[self.actor]
+        self.role = actors[words[0]]
         self.check_of_actor()
 
-    def check_of_record(self):
+    @property
+    def name(self) -> str:
+        """The actor's name, of what is expected of one."""
+        return self.actor or ""
+
+    def speaks_of(self, event: Event) -> bool:
+        """Is this one of the events that are expected, or never to come?"""
+        kind, code = self.event
+        return event.kind == kind and code in (None, event.code) and self.value in (None, event.value)
+
+    def check_of_record(self) -> None:
         if len(self.words) != 1:
             raise Wrong(f"{self.kind} wants one word behind it")
         if self.kind == "status" and self.words[0] not in "01234567":
             raise Wrong(f"{self.words[0]} is no status of the program: those are 0 to 7")
 
-    def check_of_actor(self):
+    def check_of_actor(self) -> None:
         kinds = KINDS[self.role]
         if self.kind not in kinds:
             of_it = f"of a {ROLE_TEXT[self.role]} one expects {' or '.join(kinds)}" if kinds else (
@@ -67,21 +89,21 @@ class Expectation:
         {AT_END: self.check_line, "never": self.check_event, "takes": self.check_event,
          "drops": self.check_drops, "agrees": self.check_agrees}[self.kind]()
 
-    def check_agrees(self):
+    def check_agrees(self) -> None:
         if self.words:
             raise Wrong("nothing stands behind agrees")
 
-    def check_drops(self):
+    def check_drops(self) -> None:
         if len(self.words) != 1 or not NUMBER.match(self.words[0]):
             raise Wrong("drops wants a number behind it")
 
-    def check_event(self):
+    def check_event(self) -> None:
         if len(self.words) not in (1, 2) or not all(map(SIGNED.match, self.words[1:])):
             raise Wrong(f"{self.kind} wants a code (KEY_A, EV_KEY/656) or a type (EV_KEY), and maybe a value")
         self.event = kind_and_code(self.words[0])
         self.value = int(self.words[1]) if self.words[1:] else None
 
-    def check_line(self):
+    def check_line(self) -> None:
         """The line of the view that is named, and what stands after it."""
         lines = LINES[self.role]
         if not self.words or self.words[0] not in lines:
@@ -101,7 +123,7 @@ class Expectation:
             if not self.wanted:
                 raise Wrong(f"{self.line[0]} wants a value behind it, as ABS_X=5")
 
-    def check_numbers(self):
+    def check_numbers(self) -> None:
         wrong = next((word for word in self.wanted if not SIGNED.match(word)), None)
         if wrong is not None:
             raise Wrong(f"{wrong} is no number")
@@ -110,11 +132,17 @@ class Expectation:
         self.wanted = [str(int(word)) for word in self.wanted]
 
 
-def named(actors):
-    return f"; there are {', '.join(sorted(actors))}" if actors else "; the record has none"
+def ends_well() -> Expectation:
+    """What is expected of a record that tells no status."""
+    return Expectation(None, ["status", "0"], {})
 
 
-def written_code(kind, word):
+def named(actors: Iterable[str]) -> str:
+    names = ", ".join(sorted(actors))
+    return f"; there are {names}" if names else "; the record has none"
+
+
+def written_code(kind: int, word: str) -> str:
     """A code as a report writes it."""
     number = number_of_code(kind, word)
     if number is None:
@@ -122,14 +150,14 @@ def written_code(kind, word):
     return code_text(kind, number)
 
 
-def written_pair(word):
+def written_pair(word: str) -> str:
     name, _, value = word.partition("=")
     if not SIGNED.match(value):
         raise Wrong(f"{word} is no axis with a value, as ABS_X=5")
     return f"{written_code(TYPES['EV_ABS'], name)}={int(value)}"
 
 
-def kind_and_code(word):
+def kind_and_code(word: str) -> Tuple[str, Optional[str]]:
     """The type and the code that a word names, as a report writes them; the code is None for all of a
     type."""
     first, slash, second = word.partition("/")
@@ -143,13 +171,7 @@ def kind_and_code(word):
     return kind_text(kind), None if code is None else code_text(kind, code)
 
 
-def actors_of(lines):
-    """The roles of a record's actors, by their names. The record need not be one that the program takes."""
-    words = (line.split() for line in lines)
-    return {each[1]: each[0] for each in words if len(each) == 2 and each[0] in ROLES}
-
-
-def words_of(line):
+def words_of(line: str) -> Optional[List[str]]:
     """The words of an expectation, or None for another line. A rule of `=` is none."""
     line = line.strip()
     if not line.startswith(MARK) or (len(line) > 2 and not line.strip("#=")):
@@ -157,11 +179,11 @@ def words_of(line):
     return line[len(MARK) :].split()
 
 
-def expectations_of(text):
+def expectations_of(text: str) -> List[Expectation]:
     """The expectations of a record's text, in order."""
-    lines = text.split("\n")
-    actors, found = actors_of(lines), []
-    for number, line in enumerate(lines, 1):
+    actors = roles_of(text)
+    found: List[Expectation] = []
+    for number, line in enumerate(text.split("\n"), 1):
         words = words_of(line)
         if words is None:
             continue

@@ -7,7 +7,7 @@ import os
 import re
 from typing import Any, List, Optional, Sequence, Tuple
 
-from inputtools.command import STOPPED, Words, Wrong, number, say
+from inputtools.command import STOPPED, Result, Words, Wrong, number, say
 from inputtools.explore_run import Settings, explored, items_of
 from inputtools.explored_answers import Answer, Found, answer_lines, joined, shard_line
 from inputtools.explored_record import GRAINS
@@ -194,14 +194,14 @@ def asked_text(asked: Any) -> str:
     return json.dumps({key: value for key, value in sorted(vars(asked).items()) if key not in left_out})
 
 
-def command(arguments: Sequence[str]) -> Tuple[str, List[str], int]:
+def command(arguments: Sequence[str]) -> Result:
     asked = words_of_command().parse_args(arguments)
     output = Output(asked)
     if asked.join:
         files = [(shown(path), read_bytes(path).decode("latin-1")) for path in asked.records]
         for answer in joined(files):
             output.add(answer)
-        return output.text(), [], output.status()
+        return Result(output.text(), [], output.status())
     settings = settings_of(asked)
     processes = natural(asked.j, "-j", 1) or 1
     items, wrong = items_of(givens_of(asked.records), settings)
@@ -215,5 +215,5 @@ def command(arguments: Sequence[str]) -> Tuple[str, List[str], int]:
                 output.add(answer)
     except KeyboardInterrupt:
         say("explore", "stopped: what is written is not all that was asked for")
-        return output.text(), [], STOPPED
-    return output.text(), [], 2 if wrong else output.status()
+        return Result(output.text(), [], STOPPED)
+    return Result(output.text(), [], 2 if wrong else output.status())

@@ -8,7 +8,6 @@ import signal
 from dataclasses import dataclass, replace
 from typing import Dict, Iterator, List, Optional, Sequence, Tuple
 
-from inputtools.belief import value_text
 from inputtools.command import Wrong
 from inputtools.drawn_orders import Draws
 from inputtools.explored_answers import Answer, Found, in_order
@@ -19,11 +18,10 @@ from inputtools.exploring import Asked, Problem
 from inputtools.exploring_graph import Counts, Graph, LeastOrders
 from inputtools.program import PLAYED
 from inputtools.progress import progress
-from inputtools.recordfile import read_text
 from inputtools.replaying import judge, player_of_orders
 from inputtools.schedules import Turn, is_record, record_of, shortened, turns_of
-from inputtools.slips import refusal_text
-from inputtools.source import Given
+from inputtools.refusal_hints import refusal_text
+from inputtools.source import Given, read_text
 
 # Where the graph is too great: bounds of changes of actor that nobody needed, and how many orders are drawn.
 PREEMPTIONS = (0, 1, 2)
@@ -259,7 +257,7 @@ def found_of(
 ) -> Found:
     believed = present = None
     if thing.believed is not None:
-        believed, present = value_text(thing.what, thing.believed), value_text(thing.what, thing.present)
+        believed, present = thing.what.value_text(thing.believed), thing.what.value_text(thing.present)
     return Found(
         thing.kind, thing.name(), thing.why, believed, present, orders, chance, changes, overtaken, draw
     )

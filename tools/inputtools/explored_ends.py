@@ -5,10 +5,13 @@ The reads of the end are those of `tools/stuck`; so what is not read yet is no f
 """
 
 from __future__ import annotations
+from typing import (
+    Any, Callable, Dict, FrozenSet, List, NamedTuple, Optional, Sequence, Set, TYPE_CHECKING, Tuple,
+)
 
-from typing import TYPE_CHECKING, Any, Dict, FrozenSet, List, NamedTuple, Optional, Sequence, Set, Tuple
 
-from inputtools.belief import CURRENT, thing_text
+from inputtools.belief import CURRENT
+from inputtools.belief import Thing as What
 from inputtools.checking import is_line_held
 from inputtools.command import Wrong
 from inputtools.explored_record import Unit
@@ -54,7 +57,7 @@ class Thing(NamedTuple):
         return self.kind in ("apart", "open-frame", "moment", "missed")
 
     def name(self) -> str:
-        return str(thing_text(self.what) if isinstance(self.what, tuple) else self.what)
+        return self.what.text() if isinstance(self.what, What) else str(self.what)
 
 
 def drained(state: State, number: int, log: Optional[List[Step]] = None) -> Tuple[ActorState, ExploredDevice]:
@@ -100,7 +103,7 @@ def missed(
     took = {mark.what for mark in marks if mark.kind == "took"}
     things = []
     for each in expectations:
-        is_held = {
+        is_held: Callable[[Any], bool] = {
             "agrees": lambda _: not differences(actor, device),
             "never": lambda each: each.number not in took,
             "takes": lambda each: each.number in took,
@@ -155,7 +158,7 @@ def things_of_batch(device: ExploredDevice) -> Set[Any]:
         if (kind, code) == (ABS, SLOT):
             slot = value
         things.add(
-            ("slot", slot, code_text(kind, code)) if is_of_slot else (kind_text(kind), code_text(kind, code))
+            What(kind_text(kind), code_text(kind, code), slot if is_of_slot else None)
         )
     return things
 
@@ -181,10 +184,10 @@ def differences_of_joystick(actor: ActorState, device: ExploredDevice) -> List[D
     rows = []
     for code, down in zip(joystick.buttons, joystick.down):
         if down != int(code in device.on[KEY]):
-            rows.append(((kind_text(KEY), code_text(KEY, code)), int(down), int(code in device.on[KEY])))
+            rows.append((What(kind_text(KEY), code_text(KEY, code)), int(down), int(code in device.on[KEY])))
     for code, value in zip(joystick.axes, joystick.values):
         if value != cut(device.axes[code]):
-            rows.append(((kind_text(ABS), code_text(ABS, code)), value, device.axes[code]))
+            rows.append((What(kind_text(ABS), code_text(ABS, code)), value, device.axes[code]))
     return rows
 
 
@@ -193,7 +196,7 @@ def differences_of_owner(actor: ActorState, device: ExploredDevice) -> List[Diff
     for (kind, code), present in sorted(device.outputs.last.items()):
         heard = actor.heard.get((kind, code), FIRST_SETTINGS.get(code_text(kind, code), 0))
         if heard != present:
-            rows.append(((kind_text(kind), code_text(kind, code)), heard, present))
+            rows.append((What(kind_text(kind), code_text(kind, code)), heard, present))
     return rows
 
 
@@ -203,7 +206,7 @@ def differences_of_bits(actor: ActorState, device: ExploredDevice) -> List[Diffe
         for code in sorted(on[kind] ^ device.on[kind]):
             rows.append(
                 (
-                    (kind_text(kind), code_text(kind, code)),
+                    What(kind_text(kind), code_text(kind, code)),
                     int(code in on[kind]),
                     int(code in device.on[kind]),
                 )
@@ -215,7 +218,7 @@ def differences_of_axes(actor: ActorState, device: ExploredDevice) -> List[Diffe
     axes, rows = actor.belief().axes, []
     for code in sorted(device.caps.axes):
         if not SLOT <= code <= LAST and axes[code] != device.axes[code]:
-            rows.append(((kind_text(ABS), code_text(ABS, code)), axes[code], device.axes[code]))
+            rows.append((What(kind_text(ABS), code_text(ABS, code)), axes[code], device.axes[code]))
     return rows
 
 
@@ -227,7 +230,7 @@ def differences_of_slots(actor: ActorState, device: ExploredDevice) -> List[Diff
         for code in codes:
             if believed[code - FIRST] != present[code - FIRST]:
                 rows.append(
-                    (("slot", slot, code_text(ABS, code)), believed[code - FIRST], present[code - FIRST])
+                    (What(kind_text(ABS), code_text(ABS, code), slot), believed[code - FIRST], present[code - FIRST])
                 )
     if device.caps.slots and view.slot != device.at_frame:
         rows.append((CURRENT, view.slot, device.at_frame))

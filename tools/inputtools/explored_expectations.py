@@ -2,8 +2,8 @@
 and `never`, `takes` and `drops` of what the actor is handed on its way."""
 
 from __future__ import annotations
-
 from typing import Any, List, NamedTuple, Sequence, Tuple
+
 
 from inputtools.command import Wrong
 from inputtools.expectations import expectations_of
@@ -31,7 +31,7 @@ def expected_of(expectations: Sequence[Any]) -> Expected:
 
 def expected_event(expectation: Any) -> ExpectedEvent:
     kind_name, code_name = expectation.event
-    kind = number_of_kind(kind_name)
+    kind = number_of_kind(kind_name) or 0
     code = None if code_name is None else number_of_code(kind, code_name)
     return ExpectedEvent(expectation.number, kind, code, expectation.value)
 

@@ -12,8 +12,8 @@ from dataclasses import dataclass
 from typing import Dict, List, NamedTuple, Sequence, Tuple
 
 from inputtools.command import at_line
-from inputtools.recordfile import read_text
 from inputtools.shrinking import with_events
+from inputtools.source import read_text
 from second.device import Caps, is_report
 from second.model import event_of, read_record
 

@@ -6,8 +6,8 @@ believes comes of it.
 """
 
 from __future__ import annotations
-
 from typing import Any, Dict, FrozenSet, List, NamedTuple, Optional, Sequence, Set, Tuple
+
 
 from inputtools.explored_record import Unit
 from second.device import DROPPED, Caps, Client, Device, Filter, Outputs, is_output
@@ -130,6 +130,11 @@ class ExploredClient(Client):
         return new
 
 
+def copied(client: Client) -> ExploredClient:
+    assert isinstance(client, ExploredClient)
+    return client.copy()
+
+
 def copy_of_filter(old: Filter) -> Filter:
     new = Filter(old.form, *old.words)
     new.given = old.given[:]
@@ -161,12 +166,12 @@ class ExploredDevice(Device):
         if not is_core_changed:
             new.clients = dict(self.clients)
             if client in new.clients:
-                new.clients[client] = new.clients[client].copy()
+                new.clients[client] = copied(new.clients[client])
             return new
         new.on = {kind: set(codes) for kind, codes in self.on.items()}
         new.repeat, new.infos, new.axes = self.repeat[:], dict(self.infos), dict(self.axes)
         new.cells, new.batch = [cells[:] for cells in self.cells], self.batch[:]
-        new.clients = {number: each.copy() for number, each in self.clients.items()}
+        new.clients = {number: copied(each) for number, each in self.clients.items()}
         new.filters = [copy_of_filter(each) for each in self.filters]
         new.outputs = self.outputs.copy()
         new.core_number = None
@@ -306,7 +311,7 @@ class ActorState(Actor):
             if reply[0] == "opened":
                 self.client = reply[2]
         elif self.stop == FINISHED and words[0] in EFFECTS:
-            step = self.single_step(self.client, words)
+            step = self.single_step(self.client, words) or ()
             self.see(step, self.device.step(step)[0])
 
     def waits_on(self, reply: Reply) -> bool:

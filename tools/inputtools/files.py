@@ -1,10 +1,12 @@
 """Reads a description or a capture, in whichever of the known forms it is, and chooses one of its devices."""
 
 import re
+from typing import Callable, List, Optional, TypeVar
 
-from inputtools import evemu, evtest, kinds, libinput, procfs, raw, recordlines, source, udevadm
+from inputtools import evemu, evtest, kinds, libinput, procfs, raw, record, source, udevadm
 from inputtools.command import Wrong
 from inputtools.progress import progress
+from inputtools.recording import Recording
 
 # The first that recognises a text reads it.
 FORMS = [
@@ -12,21 +14,24 @@ FORMS = [
     (libinput.is_libinput, libinput.parse),
     (procfs.is_procfs, procfs.parse),
     (udevadm.is_udevadm, udevadm.parse),
-    (recordlines.is_record, recordlines.parse),
+    (record.is_record, record.parse),
     (evtest.is_evtest, evtest.parse),
 ]
-KNOWN = "evtest's output, an evemu file, a recording of libinput, /proc/bus/input/devices, udevadm info, a record's lines"
+KNOWN = ("evtest's output, an evemu file, a recording of libinput, /proc/bus/input/devices, udevadm info, "
+         "a record's lines")
 GREATEST_SIZE = 1 << 28
 
+Read = TypeVar("Read")
 
-def read_bytes(path):
+
+def read_bytes(path: str) -> bytes:
     data = source.read_bytes(path, GREATEST_SIZE + 1)
     if len(data) > GREATEST_SIZE:
         raise Wrong(f"{source.shown(path)}: more than {GREATEST_SIZE} bytes")
     return data
 
 
-def recordings_of(data, raw_size=None):
+def recordings_of(data: bytes, raw_size: Optional[int] = None) -> List[Recording]:
     if not data:
         raise Wrong("the file is empty")
     refuse_other_kinds(data)
@@ -43,7 +48,7 @@ def recordings_of(data, raw_size=None):
     raise Wrong(f"not in a form that is known here ({KNOWN}, a raw capture)")
 
 
-def refuse_other_kinds(data):
+def refuse_other_kinds(data: bytes) -> None:
     """Refuses what neither describes a device nor is a capture: a packed file, a picture, a page."""
     start = data[:512].lstrip(b"\xef\xbb\xbf \t\r\n").lower()
     for magic, said in kinds.MAGICS:
@@ -51,19 +56,19 @@ def refuse_other_kinds(data):
             raise Wrong(said.replace(", and no record", ", and no capture"))
 
 
-def read(path, chosen=None, raw_size=None):
+def read(path: str, chosen: Optional[str] = None, raw_size: Optional[int] = None) -> Recording:
     """The recording of a file, the chosen one where it has several."""
     progress.tell(f"{source.shown(path)} is read")
     return told_of(path, lambda: choose(recordings_of(read_bytes(path), raw_size), chosen))
 
 
-def read_all(path):
+def read_all(path: str) -> List[Recording]:
     """All recordings of a file."""
     progress.tell(f"{source.shown(path)} is read")
     return told_of(path, lambda: recordings_of(read_bytes(path)))
 
 
-def told_of(path, reads):
+def told_of(path: str, reads: Callable[[], Read]) -> Read:
     """What is read of a file. What is wrong with it is told with its name."""
     try:
         return reads()
@@ -73,7 +78,7 @@ def told_of(path, reads):
         raise Wrong(text if text.startswith((f"{name}: ", source.NAME)) else f"{name}: {text}") from None
 
 
-def choose(recordings, chosen):
+def choose(recordings: List[Recording], chosen: Optional[str]) -> Recording:
     """The one recording, or that whose number, from 1, or whose name is chosen."""
     if len(recordings) == 1:
         return recordings[0]

@@ -2,103 +2,146 @@
 clocks."""
 
 import bisect
+from typing import Dict, List, NamedTuple, Optional, Tuple
 
 from inputtools.names import TYPES, number_of_code
+from inputtools.report import Step
 
 ALL_BITS = 2**64 - 1
+STEPS = ("open", "grab", "ungrab", "close", "revoke", "mask", "clock")
 
 
 class Grab:
     """A grab: its client, the place from which it held, and the place where it ended, or None."""
 
-    def __init__(self, client, begin):
-        self.client, self.begin, self.end = client, begin, None
+    def __init__(self, client: int, begin: int) -> None:
+        self.client, self.begin = client, begin
+        self.end: Optional[int] = None
 
-    def holds_at(self, place):
+    def holds_at(self, place: int) -> bool:
         return self.begin < place and (self.end is None or place < self.end)
+
+
+class Mask(NamedTuple):
+    """A step that sets a word of a mask: its place, the type, the word's number, and its bits."""
+
+    place: int
+    kind: str
+    word: int
+    bits: int
+
+
+class Span(NamedTuple):
+    """A span of places, the last of which is None where it did not end."""
+
+    begin: int
+    end: Optional[int]
+
+
+class MaskSpan(NamedTuple):
+    """From which place to which a mask leaves anything of a type out."""
+
+    kind: str
+    begin: int
+    end: Optional[int]
+
+
+class Clock(NamedTuple):
+    """The place from which on a client has a clock."""
+
+    place: int
+    name: str
 
 
 class Handles:
     """The clients of a device, by their numbers."""
 
-    def __init__(self, history):
-        self.opens, self.closes, self.revokes = [], {}, {}
-        self.grabs, self.grab_begins, self.masks, self.clocks = [], [], {}, {}
+    def __init__(self, history: List[Step]) -> None:
+        self.opens: List[int] = []
+        self.closes: Dict[int, int] = {}
+        self.revokes: Dict[int, int] = {}
+        self.grabs: List[Grab] = []
+        self.grab_begins: List[int] = []
+        self.masks: Dict[int, List[Mask]] = {}
+        self.clocks: Dict[int, List[Clock]] = {}
         for place, step in enumerate(history):
-            self.add(place, step)
+            if step.name in STEPS:
+                self.add(place, step)
 
-    def add(self, place, step):
-        if step[0] == "open":
+    def add(self, place: int, step: Step) -> None:
+        if step.name == "open":
             self.opens.append(place)
-        elif step[0] == "grab":
-            self.grabs.append(Grab(int(step[1]), place))
+        elif step.name == "grab":
+            self.grabs.append(Grab(step.client, place))
             self.grab_begins.append(place)
-        elif step[0] in ("ungrab", "close", "revoke"):
-            self.end_grab(place, int(step[1]))
-            ends = {"close": self.closes, "revoke": self.revokes}.get(step[0], {})
-            ends.setdefault(int(step[1]), place)
-        elif step[0] == "mask":
-            self.masks.setdefault(int(step[1]), []).append((place, step[2], int(step[3]), int(step[4], 16)))
-        elif step[0] == "clock":
-            self.add_clock(place, int(step[1]), step[2])
+        elif step.name == "mask":
+            word, bits = step.rest.split(" ")[2:]
+            self.masks.setdefault(step.client, []).append(Mask(place, step.code, int(word), int(bits, 16)))
+        elif step.name == "clock":
+            self.add_clock(place, step.client, step.code)
+        else:
+            self.end_grab(place, step.client)
+            ends: Dict[int, int] = {"close": self.closes, "revoke": self.revokes}.get(step.name, {})
+            ends.setdefault(step.client, place)
 
-    def end_grab(self, place, client):
+    def end_grab(self, place: int, client: int) -> None:
         if self.grabs and self.grabs[-1].client == client and self.grabs[-1].end is None:
             self.grabs[-1].end = place
 
-    def add_clock(self, place, client, clock):
+    def add_clock(self, place: int, client: int, clock: str) -> None:
         """Keeps the changes to another clock. A client starts on the realtime clock."""
-        changes = self.clocks.setdefault(client, [(-1, "realtime")])
-        if changes[-1][1] != clock:
-            changes.append((place, clock))
+        changes = self.clocks.setdefault(client, [Clock(-1, "realtime")])
+        if changes[-1].name != clock:
+            changes.append(Clock(place, clock))
 
-    def grab_at(self, place):
+    def grab_at(self, place: int) -> Optional[Grab]:
         """The grab that was held when the step at a place was made, or None. One holds at a time."""
         index = bisect.bisect_left(self.grab_begins, place) - 1
         return self.grabs[index] if index >= 0 and self.grabs[index].holds_at(place) else None
 
-    def is_grabbed(self, place):
+    def is_grabbed(self, place: int) -> bool:
         return self.grab_at(place) is not None
 
-    def grab_of_another(self, client, place):
+    def grab_of_another(self, client: int, place: int) -> Optional[Grab]:
         """The grab that another client held when the step at a place was made, or None."""
         grab = self.grab_at(place)
         return grab if grab is not None and grab.client != client else None
 
-    def mask_at(self, client, place, kind, code):
+    def mask_at(self, client: int, place: int, kind: str, code: str) -> Optional[MaskSpan]:
         """The client's mask that leaves an event out at a place: its type, from which place to which; or
         None."""
-        for mask, number in (("EV_SYN", TYPES[kind]), (kind, number_of_code(TYPES[kind], code))):
-            steps = [step for step in self.masks.get(client, []) if step[1:3] == (mask, number // 64)]
-            begun = (span for span in masked_spans(steps, number % 64) if span[0] < place)
-            span = next((span for span in begun if span[1] is None or place < span[1]), None)
+        for mask, number in (("EV_SYN", TYPES[kind]), (kind, number_of_code(TYPES[kind], code) or 0)):
+            steps = [step for step in self.masks.get(client, []) if (step.kind, step.word) == (mask, number // 64)]
+            begun = (span for span in masked_spans(steps, number % 64) if span.begin < place)
+            span = next((span for span in begun if span.end is None or place < span.end), None)
             if span:
-                return "types" if mask == "EV_SYN" else mask, *span
+                return MaskSpan("types" if mask == "EV_SYN" else mask, *span)
         return None
 
-    def spans_of_masks(self, client):
+    def spans_of_masks(self, client: int) -> List[MaskSpan]:
         """The client's masks that leave anything out: the type, from which place, and to which or None."""
-        kinds = {}
-        for place, kind, word, bits in self.masks.get(client, []):
-            kinds.setdefault((kind, word), []).append((place, kind, word, int(bits == ALL_BITS)))
-        spans = [(kind, *span) for (kind, _), steps in kinds.items() for span in masked_spans(steps, 0)]
-        return [("types" if kind == "EV_SYN" else kind, begin, end) for kind, begin, end in spans]
+        words: Dict[Tuple[str, int], List[Mask]] = {}
+        for mask in self.masks.get(client, []):
+            words.setdefault((mask.kind, mask.word), []).append(mask._replace(bits=int(mask.bits == ALL_BITS)))
+        names = {"EV_SYN": "types"}
+        return [MaskSpan(names.get(kind, kind), *span) for (kind, _), steps in words.items()
+                for span in masked_spans(steps, 0)]
 
-    def is_clock_change(self, client, place):
-        return any(changed == place for changed, _ in self.clocks.get(client, [])[1:])
+    def is_clock_change(self, client: int, place: int) -> bool:
+        return any(changed.place == place for changed in self.clocks.get(client, [])[1:])
 
-    def clock_change_behind(self, client, place):
+    def clock_change_behind(self, client: int, place: int) -> Optional[int]:
         """The place of the client's first change of clock after a place, or None."""
-        return next((changed for changed, _ in self.clocks.get(client, [])[1:] if changed > place), None)
+        return next((changed.place for changed in self.clocks.get(client, [])[1:] if changed.place > place), None)
 
 
-def masked_spans(steps, bit):
+def masked_spans(steps: List[Mask], bit: int) -> List[Span]:
     """From which place to which a bit of a mask was cleared, None for no end."""
-    spans = []
-    for place, _, _, bits in steps:
-        is_set, is_open = bits >> bit & 1, bool(spans) and spans[-1][1] is None
+    spans: List[Span] = []
+    for step in steps:
+        is_set, is_open = step.bits >> bit & 1, bool(spans) and spans[-1].end is None
         if is_set and is_open:
-            spans[-1] = (spans[-1][0], place)
+            spans[-1] = spans[-1]._replace(end=step.place)
         elif not is_set and not is_open:
-            spans.append((place, None))
+            spans.append(Span(step.place, None))
     return spans

@@ -1,6 +1,7 @@
 """What a file is that is no record, and what to do with it: it is told where one is played by mistake."""
 
 import re
+from typing import Optional
 
 from inputtools import raw
 
@@ -33,7 +34,7 @@ TEXTS = [
 ]
 
 
-def said_of(data):
+def said_of(data: bytes) -> Optional[str]:
     """What is said of a file of these bytes, or None where it is nothing that is known."""
     start = data[:512].lstrip(b"\xef\xbb\xbf \t\r\n")
     for magic, said in MAGICS:

@@ -6,6 +6,7 @@ were obfuscated.
 """
 
 import re
+from typing import List
 
 from inputtools.command import Wrong, at_line, number
 from inputtools.identity import Ids
@@ -21,18 +22,18 @@ KIND_OF_EVENT = re.compile(r"\s*- (\w+):\s*$")
 EVENT = re.compile(r"\s*- \[(.*)\]\s*(#.*)?$")
 
 
-def is_libinput(text):
-    return re.search(r"^(# libinput record|ndevices:|devices:\s*$|\s*- node: /dev/input)", text, re.M)
+def is_libinput(text: str) -> bool:
+    return re.search(r"^(# libinput record|ndevices:|devices:\s*$|\s*- node: /dev/input)", text, re.M) is not None
 
 
 class Parser:
     """One device and its events."""
 
-    def __init__(self):
+    def __init__(self) -> None:
         self.device, self.listing = Device("libinput record"), Listing("libinput record")
         self.recording, self.section, self.kind = Recording(), "", ""
 
-    def take(self, line, index, is_last):
+    def take(self, line: str, index: int, is_last: bool) -> None:
         stripped = line.strip()
         if stripped.startswith("#"):
             self.listing.take(stripped[1:])
@@ -41,7 +42,7 @@ class Parser:
         else:
             self.take_in_description(line, index)
 
-    def take_in_description(self, line, index):
+    def take_in_description(self, line: str, index: int) -> None:
         section = SECTION.match(line)
         if section:
             self.take_section(*section.groups())
@@ -56,7 +57,7 @@ class Parser:
         except (Wrong, ValueError):
             raise at_line(index, f"no list of numbers: {line.strip()[:60]}") from None
 
-    def take_section(self, name, rest):
+    def take_section(self, name: str, rest: str) -> None:
         self.section = name
         if name == "name":
             rest = rest.strip()
@@ -67,7 +68,7 @@ class Parser:
         elif name == "properties" and rest.startswith("["):
             self.device.properties = [int(word) for word in re.findall(r"\d+", rest.partition("#")[0])]
 
-    def take_list(self, key, text):
+    def take_list(self, key: int, text: str) -> None:
         words = [word.strip() for word in text.split(",") if word.strip()]
         values = [number(word, LEAST, GREATEST, "the number") for word in words]
         if self.section == "absinfo":
@@ -77,7 +78,7 @@ class Parser:
         elif key:
             self.device.add(key, values)
 
-    def take_in_events(self, line, index, is_last):
+    def take_in_events(self, line: str, index: int, is_last: bool) -> None:
         kind = KIND_OF_EVENT.match(line)
         if kind:
             self.kind = kind[1]
@@ -91,7 +92,7 @@ class Parser:
             raise at_line(index, f"no event as libinput writes it: {line.strip()[:60]}")
         self.recording.ends_in_a_line = True
 
-    def take_event(self, text, comment, index):
+    def take_event(self, text: str, comment: str, index: int) -> bool:
         words = [word.strip() for word in text.split(",")]
         if len(words) != 5 or not all(re.fullmatch(r"-?\d+", word) for word in words):
             return False
@@ -104,14 +105,14 @@ class Parser:
             self.recording.hides_scan_codes |= (kind, code) == (MSC, MSC_SCAN)
         return True
 
-    def finished(self):
+    def finished(self) -> Recording:
         device = self.device
         complete(device, self.listing.device)
         self.find_hidden()
         self.recording.device = device
         return self.recording
 
-    def find_hidden(self):
+    def find_hidden(self) -> None:
         """A file without comments shows it too: each scan code is 30, also that of other keys than KEY_A."""
         events = self.recording.events
         scans = {event.value for event in events if (event.kind, event.code) == (MSC, MSC_SCAN)}
@@ -122,7 +123,7 @@ class Parser:
             self.recording.hides_keys |= HIDDEN in keys
 
 
-def parse(text):
+def parse(text: str) -> List[Recording]:
     """The recordings of a file, one for each device."""
     parsers, lines = [], text.split("\n")
     for index, line in enumerate(lines):

@@ -9,6 +9,7 @@ The numbers count and the names do not: those are of the tool's time, and a code
 """
 
 import re
+from typing import Match, Optional
 
 from inputtools.command import number
 from inputtools.names import ABS, KEY, LED, REP, SLOT, SW, is_slot_value
@@ -27,10 +28,12 @@ NAMES = {
 class Listing:
     """Takes a listing's lines, one by one, and keeps the device that they tell."""
 
-    def __init__(self, form):
-        self.device, self.kind, self.code = Device(form), None, None
+    def __init__(self, form: str) -> None:
+        self.device = Device(form)
+        self.kind: Optional[int] = None
+        self.code: Optional[int] = None
 
-    def take(self, line):
+    def take(self, line: str) -> None:
         for pattern, takes in ((FIELD, self.take_field), (CODE, self.take_code), (TYPE, self.take_type)):
             found = pattern.match(line)
             if found:
@@ -40,12 +43,12 @@ class Listing:
         if found:
             self.device.properties.append(number(found[1], 0, 1023, "the property"))
 
-    def take_type(self, found):
+    def take_type(self, found: Match[str]) -> None:
         self.kind, self.code = number(found[2], 0, 65535, "the type"), None
         if self.kind:
             self.device.add(self.kind)
 
-    def take_code(self, found):
+    def take_code(self, found: Match[str]) -> None:
         if not self.kind:
             return
         self.code = number(found[2], 0, 65535, "the code")
@@ -54,11 +57,11 @@ class Listing:
             self.device.axes[self.code] = Axis()
         self.take_state(found[3])
 
-    def take_state(self, state):
-        if state and int(state) and self.kind in (KEY, SW, LED):
+    def take_state(self, state: Optional[str]) -> None:
+        if state and int(state) and self.kind in (KEY, SW, LED) and self.code is not None:
             self.device.on[self.kind].add(self.code)
 
-    def take_field(self, found):
+    def take_field(self, found: Match[str]) -> None:
         if self.kind is None or self.code is None:
             return
         if found[1] == "State":
@@ -69,7 +72,7 @@ class Listing:
             self.device.repeat[self.code] = number(found[2], LEAST, GREATEST, "Value")
 
 
-def take_values(device, listing):
+def take_values(device: Device, listing: Device) -> None:
     """Takes over what a listing beside a description tells besides: values of axes, and what is on."""
     for code, axis in listing.axes.items():
         if code in device.axes:
@@ -79,7 +82,7 @@ def take_values(device, listing):
     device.repeat.update(listing.repeat)
 
 
-def complete(device, listing):
+def complete(device: Device, listing: Device) -> None:
     """Has each axis of a description, also one without ranges, and takes over what a listing beside it tells."""
     for code in device.codes.get(ABS, ()):
         device.axes.setdefault(code, Axis())
@@ -89,7 +92,7 @@ def complete(device, listing):
     forget_values_of_slots(device)
 
 
-def forget_values_of_slots(device):
+def forget_values_of_slots(device: Device) -> None:
     """An axis whose values belong to slots has none of its own: what a tool prints there is always 0."""
     for code, axis in device.axes.items():
         if is_slot_value(code) or (code == SLOT and not device.slot_count()):

@@ -1,14 +1,18 @@
 """When the steps of a history were made, for the axes of pictures, and texts of ranges of places."""
 
-from inputtools.places import MOMENT_AT, seconds_text
+from typing import List, Optional, Sequence
+
+from inputtools.places import seconds_text
+from inputtools.report import Step
 
 
-def moments_of(history):
+def moments_of(history: Sequence[Step]) -> List[int]:
     """A moment for each place: the greatest that a step had until then."""
-    moments, now = [], None
+    moments: List[Optional[int]] = []
+    now: Optional[int] = None
     for step in history:
-        if step[0] in MOMENT_AT:
-            moment = int(step[MOMENT_AT[step[0]]])
+        moment = step.moment
+        if moment is not None:
             now = moment if now is None else max(now, moment)
         moments.append(now)
     first = next((moment for moment in moments if moment is not None), 0)
@@ -18,11 +22,11 @@ def moments_of(history):
 class Moments:
     """The moments of a history's places. Where no step has one, texts tell the places alone."""
 
-    def __init__(self, history):
+    def __init__(self, history: Sequence[Step]) -> None:
         self.all = moments_of(history)
-        self.are_told = any(step[0] in MOMENT_AT for step in history)
+        self.are_told = any(step.moment is not None for step in history)
 
-    def range_text(self, begin, end):
+    def range_text(self, begin: int, end: int) -> str:
         """The places from `begin` up to, and without, `end`."""
         places = f"places {begin} to {end - 1}" if end - begin > 1 else f"place {begin}"
         if not self.are_told:

@@ -1,36 +1,19 @@
 """The page of a played record: for each device a picture of all places, and pictures of ranges of them."""
 
-import re
 from html import escape
+from typing import List, Optional, Sequence, Tuple
 
-from inputtools.happenings import between, gravest, happenings, lines_of, ranges_of, text_of
+from inputtools.played import PlayedDevice
+from inputtools.timeline import between, gravest, lines_of, ranges_of, text_of, timeline
 from inputtools.lanes import Lanes, sections_between
-from inputtools.pagescript import SCRIPT
-from inputtools.paper import style
+from inputtools.colours import read_rules, style
 from inputtools.picture import AXIS, height_of, no_picture, panes, picture
 from inputtools.progress import progress
 from inputtools.scale import WIDTH, Scale
 from inputtools.shapes import mark_shape
-from inputtools.told import device_lines
+from inputtools.stuck_text import device_lines
 
-PAGE_RULES = """body { background: var(--paper); color: var(--ink); font: 14px sans-serif; margin: 1.5em auto
-6em; padding: 0 1em; max-width: 1230px; color-scheme: light dark } h1 { font-size: 1.4em; overflow-wrap:
-anywhere } h2 { font-size: 1.15em; margin-top: 1.6em } .chart { display: flex; overflow-x: auto; border: 1px
-solid var(--grid) } .chart svg { display: block; flex: none } .chart .labels { position: sticky; left: 0;
-overflow: visible; background: var(--paper) } pre { white-space: pre-wrap; overflow-wrap: anywhere;
-font-size: 12px } summary { cursor: pointer; padding: 6px 0 } summary ul { margin: 2px 0; color:
-var(--faint) } a { color: var(--device) } .by-place .time, .by-time .place { display: none } label { padding:
-6px 4px } .legend span { margin-right: 1.2em; display: inline-block } .legend svg { vertical-align: -4px;
-margin-right: .3em } .now { stroke: var(--ink); stroke-width: 3 } .hit.now { fill: none; stroke-width: 1 }
-#said { position: fixed; left: 0; right: 0; bottom: 0; margin: 0; padding: .7em 1em; max-height: 40vh;
-overflow: auto; background: var(--paper); border-top: 2px solid var(--ink); overflow-wrap: anywhere }
-#said[hidden] { display: none } .pick { fill: var(--faint) } .pick.parts, .pick.meets { fill: var(--parted) }
-.pick.loses, .pick.revoked { fill: var(--loss) } .pick.grabs, .pick.ungrabs { fill: var(--grab) }
-@media (max-width: 600px) { body { padding: 0 .6em } }
-@media print { body { margin: 0; max-width: none; print-color-adjust: exact; -webkit-print-color-adjust: exact }
-.chart { overflow: visible; border: none; break-inside: avoid } .chart svg { flex: 1052 1 0; min-width: 0;
-height: auto } .chart .labels { position: relative; flex-grow: 168 } details::details-content {
-content-visibility: visible; display: block; height: auto } #said { display: none } }"""
+Range = Tuple[int, int]
 
 MARKS = (
     ("event", "event"), ("report", "report"), ("timer", "tick or inhibition"),
@@ -52,14 +35,14 @@ HOW = """What a mark or bar stands for is shown where the pointer rests on it, w
 arrow keys in a picture."""
 
 
-def legend_parts():
+def legend_parts() -> List[Tuple[str, str]]:
     """What the marks, bars and lines stand for: of each a shape without its end, 16 by 16, and its text."""
     parts = [(mark_shape(kind, 8, 1, 14), text) for kind, text in MARKS]
     parts += [(f'<rect class="{kind}" x="1" y="4" width="14" height="8"', text) for kind, text in BARS]
     return parts + [(f'<path class="{kind}" d="M1 12H6V5H15"', text) for kind, text in LINES]
 
 
-def legend():
+def legend() -> str:
     icon = '<svg width="16" height="16" viewBox="0 0 16 16" aria-hidden="true">{}/></svg>'
     boxes = [(f'<rect class="pick {kind}" x="1" y="5" width="14" height="6"', text) for kind, text in BOXES]
     parts = (f"<span>{icon.format(shape)}{text}</span>" for shape, text in legend_parts() + boxes)
@@ -69,13 +52,13 @@ def legend():
 class DevicePart:
     """The part of a device between two places."""
 
-    def __init__(self, played, number):
+    def __init__(self, played: PlayedDevice, number: int) -> None:
         self.played, self.ident = played, f"d{number}"
-        self.lanes, self.found = Lanes(played), happenings(played)
+        self.lanes, self.found = Lanes(played), timeline(played)
         self.sections, self.moments = self.lanes.sections(), self.lanes.moments
         self.at, self.steps = played.state.at, len(played.report.history)
 
-    def said(self, begin, end):
+    def said(self, begin: int, end: int) -> Tuple[str, str]:
         """The title and the description of a picture."""
         title = f"device {self.played.name}, {self.moments.range_text(begin, end)}"
         names = [f"source {part.name}" for part in self.played.report.parts if part.role == "source"]
@@ -83,7 +66,7 @@ class DevicePart:
         happens = text_of(between(self.found, begin, end), self.at)
         return title, f"Lanes for {', '.join(names) or 'the device'}. {happens or 'Nothing parts, is grabbed or is lost'}."
 
-    def both_ways(self, begin, end, ranges=()):
+    def both_ways(self, begin: int, end: int, ranges: Sequence[Range] = ()) -> str:
         """A picture over places and one over moments; the page shows one of them."""
         rows, said = sections_between(self.sections, begin, end), self.said(begin, end)
         progress.tell(f"{said[0]} is drawn")
@@ -96,7 +79,7 @@ class DevicePart:
             parts.append(f'<div class="{kind}">{chart}</div>')
         return "\n".join(parts)
 
-    def picks(self, ranges, scale):
+    def picks(self, ranges: Sequence[Range], scale: Scale) -> str:
         """Boxes below the axis of the whole picture that lead to the ranges."""
         shapes = []
         for begin, end in ranges:
@@ -108,7 +91,7 @@ class DevicePart:
             shapes.append(f'<a href="#{self.ident}-{begin}" tabindex="-1">{shape}</a>')
         return "".join(shapes)
 
-    def range_part(self, begin, end):
+    def range_part(self, begin: int, end: int) -> str:
         """A range in which something happens, which is opened to be seen."""
         lines = lines_of(between(self.found, begin, end), self.at)
         told = "".join(f"<li>{escape(line)}</li>" for line in lines)
@@ -116,7 +99,7 @@ class DevicePart:
         head = f'<details id="{self.ident}-{begin}"><summary>{summary}</summary>'
         return head + self.both_ways(begin, end) + "</details>"
 
-    def ranges_part(self, ranges, begin, end):
+    def ranges_part(self, ranges: Sequence[Range], begin: int, end: int) -> List[str]:
         if end - begin <= 1 or self.steps < 2:
             return []
         any_other = "<code>tools/draw --from PLACE --to PLACE FILE</code> draws any other range"
@@ -127,7 +110,7 @@ class DevicePart:
         told = "The boxes below the axis lead to the ranges in which something parts, meets, is grabbed or is lost"
         return [f"<p>{told}; {any_other}.</p>"] + [self.range_part(*each) for each in ranges]
 
-    def text(self, first, last):
+    def text(self, first: Optional[int], last: Optional[int]) -> str:
         begin, end = first or 0, min(self.steps if last is None else last + 1, self.steps)
         head = f"<h2>device {escape(self.played.name)}: {steps_text(self.steps)}"
         why = why_nothing(self.played, first)
@@ -142,11 +125,11 @@ class DevicePart:
         )
 
 
-def steps_text(steps):
+def steps_text(steps: int) -> str:
     return "1 step" if steps == 1 else f"{steps} steps"
 
 
-def why_nothing(played, first):
+def why_nothing(played: PlayedDevice, first: Optional[int]) -> Optional[str]:
     """Why nothing of a device can be drawn from a place on, or None."""
     steps = len(played.report.history)
     if not steps:
@@ -156,12 +139,13 @@ def why_nothing(played, first):
     return None
 
 
-def page(name, devices, first=None, last=None):
+def page(name: str, devices: Sequence[PlayedDevice], first: Optional[int] = None,
+         last: Optional[int] = None) -> str:
     """The text of the page."""
     parts = [
         '<!doctype html>\n<html lang="en"><head><meta charset="utf-8">',
         '<meta name="viewport" content="width=device-width, initial-scale=1">',
-        f"<title>{escape(name)}</title>\n<style>{style()}\n{PAGE_RULES}</style></head>",
+        f"<title>{escape(name)}</title>\n<style>{style()}\n{read_rules('page.css')}</style></head>",
         f'<body class="by-place"><h1>{escape(name)}</h1>',
         '<p>Over <label><input type="radio" name="by" value="by-place" checked> places</label> '
         '<label><input type="radio" name="by" value="by-time"> time</label></p>',
@@ -170,14 +154,14 @@ def page(name, devices, first=None, last=None):
     ]
     parts += [DevicePart(played, number).text(first, last) for number, played in enumerate(devices)]
     parts.append('<p id="said" role="status" hidden></p>')
-    return "\n".join(parts) + f"\n<script>{SCRIPT}</script></body></html>\n"
+    return "\n".join(parts) + f"\n<script>\n{read_rules('page.js')}</script></body></html>\n"
 
 
-def svg_legend(shown, y):
+def svg_legend(shown: str, y: int) -> Tuple[str, int]:
     """What a picture's shapes stand for, as rows of the picture from y on; and how high they are."""
     shapes, x, top, y = [], 10, y, y + 8
     for shape, text in legend_parts():
-        kind = re.search('class="([a-z]+)"', shape)[1]
+        kind = shape.split('class="')[1].split('"')[0]
         if f'class="{kind}"' not in shown and f'class="dense {kind}"' not in shown:
             continue
         width = 30 + 6 * len(text)
@@ -189,10 +173,10 @@ def svg_legend(shown, y):
     return "\n".join(shapes), y + 24 - top
 
 
-def svg(played, first=None, last=None):
+def svg(played: PlayedDevice, first: Optional[int] = None, last: Optional[int] = None) -> str:
     """The picture of one device alone, with its own style and a legend."""
     if not played.report.history:
-        return no_picture(why_nothing(played, first))
+        return no_picture(why_nothing(played, first) or "")
     part = DevicePart(played, 0)
     begin, end = first or 0, min(part.steps if last is None else last + 1, part.steps)
     rows, scale = sections_between(part.sections, begin, end), Scale(begin, end, part.moments)

@@ -5,10 +5,16 @@ plot, which is moved where the paper is narrow.
 """
 
 from html import escape
+from typing import List, Optional, Sequence, Tuple
 
-from inputtools.paper import style
+from inputtools.colours import style
+from inputtools.lanes import Row, Section
 from inputtools.scale import EDGE, GUTTER, WIDTH
+from inputtools.scale import Scale
 from inputtools.shapes import bars, lines, marks, numbers
+
+# A title, and a description.
+Said = Tuple[str, str]
 
 AXIS, HEADING, FOOT = 52, 22, 10
 HEIGHTS = {"row": 16, "client": 24, "line": 38, "parted": 16, "note": 14}
@@ -18,11 +24,12 @@ LONGEST_LABEL, LONGEST_OF_A_LINE = 25, 17
 class Sheet:
     """The shapes of a picture: those of the labels, and those of the plot."""
 
-    def __init__(self):
-        self.labels, self.plot = [], []
+    def __init__(self) -> None:
+        self.labels: List[str] = []
+        self.plot: List[str] = []
 
 
-def label(row, y, height):
+def label(row: Row, y: int, height: int) -> str:
     """A row's label, cut to the room that it has."""
     longest = LONGEST_OF_A_LINE if row.lines else LONGEST_LABEL
     shown = row.label if len(row.label) <= longest else row.label[: longest - 2] + ".."
@@ -32,7 +39,7 @@ def label(row, y, height):
     return f'<text {place} class="{kind}">{escape(shown)}</text>'
 
 
-def add_axis(sheet, scale, height):
+def add_axis(sheet: Sheet, scale: Scale, height: int) -> None:
     for text, y in zip(scale.names(), (16, 31)):
         sheet.labels.append(f'<text x="10" y="{y}" class="faint">{escape(text)}</text>')
     for tick in scale.ticks():
@@ -43,7 +50,7 @@ def add_axis(sheet, scale, height):
             sheet.plot += [f'<text {place} class="faint">{text}</text>'] if text else []
 
 
-def add_section(sheet, heading, rows, scale, y):
+def add_section(sheet: Sheet, heading: str, rows: Sequence[Row], scale: Scale, y: int) -> None:
     """The shapes of a section that begins at y."""
     sheet.labels.append(f'<line class="rule" x1="8" y1="{y + 2}" x2="{EDGE}" y2="{y + 2}"/>')
     sheet.plot.append(f'<line class="rule" x1="{EDGE}" y1="{y + 2}" x2="{WIDTH - 4}" y2="{y + 2}"/>')
@@ -60,12 +67,12 @@ def add_section(sheet, heading, rows, scale, y):
         y += height
 
 
-def height_of(sections):
+def height_of(sections: Sequence[Section]) -> int:
     """How high the picture of sections is."""
     return AXIS + FOOT + sum(HEADING + sum(HEIGHTS[row.kind] for row in rows) for _, rows in sections)
 
 
-def drawn(sections, scale):
+def drawn(sections: Sequence[Section], scale: Scale) -> Sheet:
     """The shapes of sections, each a heading and its rows."""
     sheet, y = Sheet(), AXIS
     add_axis(sheet, scale, height_of(sections))
@@ -75,7 +82,7 @@ def drawn(sections, scale):
     return sheet
 
 
-def svg_element(left, width, height, said, ident):
+def svg_element(left: int, width: int, height: int, said: Optional[Said], ident: str) -> str:
     """The begin of an SVG. `said` is its title and its description, or None where another one tells it."""
     size = f'viewBox="{left} 0 {width} {height}" width="{width}" height="{height}"'
     paper = f'<rect class="paper" x="{left}" width="{width}" height="{height}"/>'
@@ -87,14 +94,15 @@ def svg_element(left, width, height, said, ident):
     return f'{head} role="img" aria-labelledby="{ident}-title {ident}-about">{title}{about}{paper}'
 
 
-def picture(sections, scale, said, legend="", legend_height=0):
+def picture(sections: Sequence[Section], scale: Scale, said: Said, legend: str = "",
+            legend_height: int = 0) -> str:
     """One SVG of sections, with its own style and a legend below."""
     sheet, height = drawn(sections, scale), height_of(sections) + legend_height
     head = svg_element(0, WIDTH, height, said, "picture").replace("<rect", f"<style>{style()}</style><rect", 1)
     return "\n".join([head, *sheet.labels, *sheet.plot, legend + "</svg>"])
 
 
-def panes(sections, scale, said, ident, picks=""):
+def panes(sections: Sequence[Section], scale: Scale, said: Said, ident: str, picks: str = "") -> str:
     """Two SVGs of sections beside one another: the labels and the plot."""
     sheet, height = drawn(sections, scale), height_of(sections)
     labels = [svg_element(0, EDGE, height, None, ident), *sheet.labels, "</svg>"]
@@ -102,7 +110,7 @@ def panes(sections, scale, said, ident, picks=""):
     return "\n".join(labels + plot)
 
 
-def no_picture(text):
+def no_picture(text: str) -> str:
     """An SVG that says why there is nothing to draw."""
     head = svg_element(0, WIDTH, 60, (text, "There is nothing to draw."), "picture")
     head = head.replace("<rect", f"<style>{style()}</style><rect", 1)

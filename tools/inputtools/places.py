@@ -5,12 +5,12 @@ seconds, with as many digits as it has.
 """
 
 import bisect
+from typing import List, Optional, Sequence
 
-# Where the moment stands in the words of a step.
-MOMENT_AT = {"inject": 1, "tick": 1, "inhibit": 1, "write": 2, "clock": 3}
+from inputtools.report import Step
 
 
-def seconds_text(micros):
+def seconds_text(micros: int) -> str:
     """Microseconds as seconds: 12.3 s."""
     whole, rest = divmod(micros, 1000000)
     return f"{whole}.{f'{rest:06d}'.rstrip('0') or '0'} s"
@@ -19,31 +19,33 @@ def seconds_text(micros):
 class Places:
     """The places of a history."""
 
-    def __init__(self, history):
-        self.places, self.moments = [], []
+    def __init__(self, history: Sequence[Step]) -> None:
+        self.places: List[int] = []
+        self.moments: List[int] = []
         for place, step in enumerate(history):
-            if step[0] in MOMENT_AT:
+            moment = step.moment
+            if moment is not None:
                 self.places.append(place)
-                self.moments.append(int(step[MOMENT_AT[step[0]]]))
+                self.moments.append(moment)
 
-    def moment(self, place):
+    def moment(self, place: int) -> Optional[int]:
         """The time of a place in microseconds, or None where no step up to it has one."""
         index = bisect.bisect_right(self.places, place) - 1
         return self.moments[index] if index >= 0 else None
 
-    def bare(self, place):
+    def bare(self, place: int) -> str:
         """A place and its time: `12 (12.3 s)`."""
         moment = self.moment(place)
         return str(place) if moment is None else f"{place} ({seconds_text(moment)})"
 
-    def text(self, place):
+    def text(self, place: int) -> str:
         return f"place {self.bare(place)}"
 
-    def span(self, begin, end):
+    def span(self, begin: int, end: Optional[int]) -> str:
         """From one place to another, or on where it did not end."""
         return f"from {self.text(begin)} " + ("on" if end is None else f"to {self.bare(end)}")
 
-    def several(self, one, more, places):
+    def several(self, one: str, more: str, places: Sequence[int]) -> str:
         """Places of one kind, the first three and the last of many."""
         if len(places) == 1:
             return f"{one} {self.bare(places[0])}"

@@ -1,21 +1,23 @@
 """A record that was played with its history, and all that is said of it: the state of each device, what
-each client believed of it, and where both part. `tools/stuck` prints this, and `tools/draw` draws it."""
+each client believed of it, and where both differ. `tools/stuck` prints this, and `tools/draw` draws it."""
 
 import os
 import tempfile
+from typing import Dict, List, NamedTuple, Optional, Union
 
 from inputtools import devicestate
-from inputtools.devicestate import SOURCE_STEPS
 from inputtools.causes import Causes
 from inputtools.command import Wrong
+from inputtools.devicestate import SOURCE_STEPS, DeviceState
+from inputtools.divergences import Divergence, Walk
 from inputtools.joysticks import JoyWalk
 from inputtools.owners import Owner
-from inputtools.partings import Walk
-from inputtools.program import PLAYED
+from inputtools.program import PLAYED, Player
 from inputtools.progress import progress
-from inputtools.recordfile import RECORD_SIZES, Record, read_text
-from inputtools.report import parts_behind, read_report
-from inputtools.slips import refusal_text
+from inputtools.record import Line, Record
+from inputtools.refusal_hints import refusal_text
+from inputtools.report import Call, Device, Part, Report, Took
+from inputtools.source import Given, read_text
 
 # The command by which an actor reads all that is queued.
 READS = {"client": "follow", "tap": "read 4096", "joy": "read 100000"}
@@ -25,23 +27,22 @@ class Unread:
     """What clients would lose if they read on at the end: the record is played again with such lines after
     it."""
 
-    def __init__(self, text, record, folder, player, report):
+    def __init__(self, text: str, record: Record, folder: str, player: Player, report: Report) -> None:
         self.text, self.record, self.folder, self.player, self.report = text, record, folder, player, report
-        self.parts = None
+        self.parts: Optional[Dict[str, Part]] = None
 
-    def losses(self, name):
+    def losses(self, name: str) -> List[Optional[int]]:
         """The places of the losses that an actor would read of at the end; None for one whose place is not
         told, as to a joystick, which then synchronises."""
         if self.parts is None:
             self.parts = self.play()
-        parts = (part for device in self.report for part in device.parts + device.joysticks)
-        before = next(part for part in parts if part.name == name)
+        before = self.report.parts[name]
         behind = self.parts[name].sight[len(before.sight) :] if name in self.parts else []
         if before.role == "joy":
-            return [None for entry in behind if entry[0] == "call" and entry[1][0] == "discard"]
-        return [entry[1] for entry in behind if entry[0] == "took" and entry[3][1] == "SYN_DROPPED"]
+            return [None for entry in behind if isinstance(entry, Call) and entry.step.name == "discard"]
+        return [entry.place for entry in behind if isinstance(entry, Took) and entry.event.is_loss]
 
-    def play(self):
+    def play(self) -> Dict[str, Part]:
         lines = ["", "# All that is queued is read."]
         for actor in self.record.actors.values():
             if actor.role in READS:
@@ -51,84 +52,89 @@ class Unread:
             with open(path, "w", encoding="latin-1", newline="") as file:
                 file.write(self.text + "\n".join(lines) + "\n")
             status, written = self.player.play(path, self.folder, what="what waits unread is asked for")
-        if status not in PLAYED:
-            return {}
-        parts = [part for device in read_report(written) for part in device.parts] + parts_behind(written)
-        return {part.name: part for part in parts}
+        return Report(written).parts if status in PLAYED else {}
 
 
 class Client:
     """A client, tap or joystick: what it saw, where it parted from its device and met it again, and where it
     differs at the end."""
 
-    def __init__(self, part, walk, at_end):
-        self.name, self.role, self.part = part.name, part.role, part
-        self.walk, self.partings, self.at_end = walk, walk.partings, at_end
+    def __init__(self, walk: Walk) -> None:
+        self.name, self.role, self.part, self.walk = walk.part.name, walk.part.role, walk.part, walk
+        self.at_end: List[Divergence] = walk.run()
+        self.divergences = walk.divergences
 
 
-def steps_of_action(words, folder):
+Reader = Union[Client, Owner]
+
+
+class Made(NamedTuple):
+    """A step that a source made: its place, and the source's name."""
+
+    place: int
+    source: str
+
+
+def steps_of_action(line: Line, folder: str) -> int:
     """How many steps a source's action makes: one for each event of a stream, else one."""
-    if words[0] not in RECORD_SIZES:
-        return 1
-    return os.path.getsize(os.path.join(folder, words[1])) // RECORD_SIZES[words[0]]
+    stream = line.stream
+    return 1 if stream is None else os.path.getsize(os.path.join(folder, stream.file)) // stream.size
 
 
-def source_steps(record, number, history, folder):
-    """The steps that the sources of a device made: of each its place and its source's name."""
-    names = [
-        name
-        for _, name, words in record.actions
-        if record.actors[name].role == "source" and record.actors[name].device == number
-        for _ in range(steps_of_action(words, folder))
-    ]
-    places = [place for place, step in enumerate(history) if step[0] in SOURCE_STEPS and step[0] != "write"]
-    return list(zip(places, names))
+def source_steps(record: Record, number: int, device: Device, folder: str) -> List[Made]:
+    """The steps that the sources of a device made."""
+    sources = {actor.name for actor in record.actors.values() if actor.role == "source" and actor.device == number}
+    lines = (line for line in record.actions if line.actor in sources)
+    names = [line.actor for line in lines for _ in range(steps_of_action(line, folder))]
+    places = [place for place, step in enumerate(device.history) if step.name in SOURCE_STEPS and step.name != "write"]
+    return [Made(*each) for each in zip(places, names)]
 
 
 class PlayedDevice:
     """A device: its description, what was reported of it, its state, its clients' handles, its clients and
-    taps, its joysticks, and its owners, of which there is one at most.
+    taps, its joysticks, and its owners, of which there is one at most."""
 
-    `source_steps` has the place and the source's name of each step that a source made.
-    """
-
-    def __init__(self, report, state, unread, steps):
+    def __init__(self, report: Device, state: DeviceState, unread: Unread, steps: List[Made]) -> None:
         self.name, self.report, self.state, self.source_steps = report.name, report, state, steps
         self.handles = state.handles
-        causes = Causes(state, report, unread)
-        parts = [part for part in report.parts if part.role != "source"]
-        self.clients = [walked(Walk(part, state, causes.cause_of)) for part in parts]
-        self.joysticks = [walked(JoyWalk(part, state, causes.cause_of)) for part in report.joysticks]
+        causes = Causes(state, report, unread.losses)
+        self.clients = [Client(Walk(part, state, causes.cause_of)) for part in report.readers()]
+        self.joysticks = [Client(JoyWalk(part, state, causes.cause_of)) for part in report.joysticks]
         self.owners = [Owner(part, state) for part in report.owners]
 
-    def readers(self):
+    def readers(self) -> List[Reader]:
         """All who may part from the device."""
-        return self.clients + self.joysticks + self.owners
+        return [*self.clients, *self.joysticks, *self.owners]
 
 
-def walked(walk):
-    return Client(walk.part, walk, walk.run())
-
-
-def add_parts_behind(devices, parts, record):
+def add_parts_behind(report: Report, record: Record) -> None:
     """Puts the parts of joysticks and owners to their devices."""
-    for part in parts:
-        device = devices[record.actors[part.name].device]
-        (device.joysticks if part.role == "joy" else device.owners).append(part)
+    for part in report.parts.values():
+        device = report.devices[record.actors[part.name].device]
+        if part.role == "joy":
+            device.joysticks.append(part)
+        elif part.role == "owner":
+            device.owners.append(part)
 
 
-def play(given, player):
+def play(given: Given, player: Player) -> List[PlayedDevice]:
     """Plays a record and asks for its devices' states; the played devices."""
     text, folder = read_text(given.path), given.folder
     status, written = player.play(given.path, folder, ["--history"])
     if status not in PLAYED:
         raise Wrong(f"{given.name}: {refusal_text(text, written, status, folder)}")
-    record, report = Record(text), read_report(written)
-    add_parts_behind(report, parts_behind(written), record)
-    histories = [device.history for device in report]
-    states = [devicestate.DeviceState(*pair) for pair in zip(record.devices, histories)]
-    progress.tell(f"{given.name}: the devices are played alone, {sum(map(len, histories))} steps")
+    return played(given.name, text, folder, player, written)
+
+
+def played(name: str, text: str, folder: str, player: Player, written: str) -> List[PlayedDevice]:
+    """The played devices of a record, by the report that was written of it."""
+    record, report = Record(text), Report(written)
+    add_parts_behind(report, record)
+    states = [DeviceState(description, device.history) for description, device in zip(record.devices, report.devices)]
+    progress.tell(f"{name}: the devices are played alone, {sum(len(state.history) for state in states)} steps")
     devicestate.ask(states, player)
     unread = Unread(text, record, folder, player, report)
-    steps = [source_steps(record, number, device.history, folder) for number, device in enumerate(report)]
-    return [PlayedDevice(*each, unread, made) for *each, made in zip(report, states, steps)]
+    return [
+        PlayedDevice(device, state, unread, source_steps(record, number, device, folder))
+        for number, (device, state) in enumerate(zip(report.devices, states))
+    ]

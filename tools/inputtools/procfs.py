@@ -5,7 +5,7 @@ Ranges and values of axes and the number of slots are not told.
 """
 
 import re
-from typing import List
+from typing import List, Sequence
 
 from inputtools.command import Wrong, at_line
 from inputtools.identity import Identity, ids_of
@@ -19,11 +19,11 @@ BITS = re.compile(r"B: (\w+)=\s*([0-9a-fA-F ]*)$")
 MOST_KEYS = 0x300
 
 
-def is_procfs(text):
-    return re.search(r"^I: Bus=[0-9a-fA-F]{4} ", text, re.M)
+def is_procfs(text: str) -> bool:
+    return re.search(r"^I: Bus=[0-9a-fA-F]{4} ", text, re.M) is not None
 
 
-def word_bits(text):
+def word_bits(text: str) -> int:
     """The size of a word: 64 where one has more than 8 digits, 32 where keys take more words than with 64."""
     return word_size([found[2].split() for found in map(BITS.match, text.split("\n")) if found])
 
@@ -35,28 +35,29 @@ def word_size(words: List[List[str]]) -> int:
     return 32 if any(len(line) > MOST_KEYS // 64 for line in words) else 64
 
 
-def codes_of(words, size):
+def codes_of(words: Sequence[str], size: int) -> List[int]:
     value = 0
     for word in words:
         value = value << size | int(word, 16)
     return [code for code in range(value.bit_length()) if value >> code & 1]
 
 
-def parse(text):
+def parse(text: str) -> List[Recording]:
     """The devices of a file, without events."""
-    size, recordings, lines = word_bits(text), [], text.split("\n")
+    size, lines = word_bits(text), text.split("\n")
+    devices: List[Device] = []
     for index, line in enumerate(lines):
         if line.startswith("I: Bus="):
-            recordings.append(Recording(Device("/proc/bus/input/devices", has_ranges=False)))
-            take_identity(recordings[-1].device.identity, line)
-        elif recordings and line.strip():
-            take_line(recordings[-1].device, line, index, size)
-    for recording in recordings:
-        finish(recording.device)
-    return recordings
+            devices.append(Device("/proc/bus/input/devices", has_ranges=False))
+            take_identity(devices[-1].identity, line)
+        elif devices and line.strip():
+            take_line(devices[-1], line, index, size)
+    for device in devices:
+        finish(device)
+    return [Recording(device) for device in devices]
 
 
-def take_line(device, line, index, size):
+def take_line(device: Device, line: str, index: int, size: int) -> None:
     name = re.match(r'N: Name="(.*)"$', line)
     bits = BITS.match(line)
     if name:
@@ -82,7 +83,7 @@ def take_identity(identity: Identity, line: str) -> bool:
     return bool(ids or place)
 
 
-def take_bits(device, name, codes):
+def take_bits(device: Device, name: str, codes: List[int]) -> None:
     if name == "PROP":
         device.properties = codes
     elif name == "EV":
@@ -93,7 +94,7 @@ def take_bits(device, name, codes):
         device.add(KINDS[name], codes)
 
 
-def finish(device):
+def finish(device: Device) -> None:
     if not device.codes and not device.name:
         raise Wrong("a device without bits and without a name")
     if REP in device.codes:

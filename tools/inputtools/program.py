@@ -16,15 +16,17 @@ import shutil
 import subprocess
 import sys
 import tempfile
+from abc import ABC, abstractmethod
+from typing import IO, List, NamedTuple, Optional, Sequence
 
 from inputtools.command import Wrong
 from inputtools.progress import progress
-from inputtools.recordfile import stream_names
+from inputtools.record import stream_names
 
 REPOSITORY = os.path.dirname(os.path.dirname(os.path.dirname(os.path.abspath(__file__))))
 BUILT = os.path.join(REPOSITORY, "crates", "inp_main", "out", "inp_main")
 SOURCE = os.path.join(REPOSITORY, "crates", "inp_main")
-SECOND = os.path.join(REPOSITORY, "second", "outcome.py")
+SECOND = os.path.join(REPOSITORY, "second")
 
 # The statuses with which a report was written.
 PLAYED = (0, 6)
@@ -41,121 +43,201 @@ BUILD = "build the program with bin/inputplay, which plays it at once"
 TOO_LONG = re.compile(r"more than \d+ bytes|the limit on each|standard output")
 
 
-class Player:
-    """How a record is played: by which program, and whether that is the second one or the toolchain."""
+class Launch(NamedTuple):
+    """The words of a command, and the folder in which it runs."""
 
-    def __init__(self):
-        self.by_second = self.by_toolchain = False
-        named = os.environ.get("INPUTPLAY")
-        self.name = named or os.path.relpath(BUILT, REPOSITORY)
-        self.program = os.path.abspath(named) if named else BUILT
-        if os.access(self.program, os.X_OK) and os.path.isfile(self.program):
-            return
-        if named:
-            raise Wrong(f"INPUTPLAY names {named}, which is no program")
-        if has_second():
-            self.take_second()
-            return
-        if shutil.which("rt") is None:
-            raise Wrong("there is no built program (crates/inp_main/out/inp_main) and no toolchain (rt)")
-        self.by_toolchain = True
+    words: List[str]
+    folder: str
 
-    def take_second(self):
-        """Has the second program play."""
-        self.by_second, self.program, self.name = True, SECOND, "the second program (second)"
 
-    def is_told(self):
-        """What is said of the way in which a record is played."""
-        if self.by_toolchain:
-            return "played by the toolchain without proof (rt try); this takes one to three minutes"
-        if self.by_second:
-            return f"played by {self.name}, in Python, without proof"
-        return f"played by {self.name}"
+class Ended(NamedTuple):
+    """A run that has ended: the program's status, and the text that it wrote."""
 
-    def command(self, path, folder, flags):
-        """The words of the command, and the folder in which it runs."""
-        if self.by_second:
-            return [sys.executable, "-B", self.program, *flags, os.path.abspath(path)], folder
-        if not self.by_toolchain:
-            return [self.program, *flags, os.path.abspath(path)], folder
-        name = os.path.basename(path)
-        data = [f"{name}={os.path.abspath(path)}"]
-        for stream in stream_names(path):
-            if os.path.isfile(os.path.join(folder, stream)):
-                data.append(f"{stream}={os.path.abspath(os.path.join(folder, stream))}")
-        words = ["rt", "try"]
-        for word in data:
-            words += ["--data", word]
-        return [*words, "--", *flags, f"./{name}"], SOURCE
+    status: int
+    text: str
 
-    def start(self, path, folder, flags, what=None):
-        """The running program. What it says beside its output goes to a file, so that it never waits for a
-        reader."""
-        words, where = self.command(path, folder, flags)
+
+class Run:
+    """A running program. What it says beside its output goes to a file, so that it never waits for a reader."""
+
+    def __init__(self, player: "Player", launch: Launch) -> None:
+        self.player = player
         self.beside = tempfile.TemporaryFile()
-        given = {"stdin": subprocess.DEVNULL, "stdout": subprocess.PIPE, "stderr": self.beside}
-        how = " by the toolchain, which takes one to three minutes" if self.by_toolchain else ""
-        progress.tell((what or f"{os.path.basename(path)} is played") + how)
         try:
-            return subprocess.Popen(words, cwd=where, **given)
+            self.process = subprocess.Popen(
+                launch.words, cwd=launch.folder, stdin=subprocess.DEVNULL, stdout=subprocess.PIPE, stderr=self.beside
+            )
         except OSError as fault:
-            raise Wrong(f"{self.who()} does not start: {fault.strerror}") from None
+            raise Wrong(f"{player.who()} does not start: {fault.strerror}") from None
 
-    def who(self):
-        """The program's name, where it is to be told that something is wrong with it."""
-        if self.by_toolchain:
-            return "the toolchain (rt)"
-        if self.by_second:
-            return self.name
-        return f"{self.name}, which INPUTPLAY names," if os.environ.get("INPUTPLAY") else self.name
+    @property
+    def output(self) -> IO[bytes]:
+        assert self.process.stdout is not None
+        return self.process.stdout
 
-    def lines_beside(self):
+    def whole_output(self) -> bytes:
+        """All that it writes, until its end."""
+        with self.output as written:
+            return written.read()
+
+    def stop(self) -> None:
+        self.process.kill()
+        self.process.wait()
+
+    def lines_beside(self) -> List[str]:
         self.beside.seek(0)
         return self.beside.read().decode("utf-8", "replace").splitlines()
 
-    def said(self):
-        """The lines that were said beside the output of the last run, but the toolchain's own."""
+    def said(self) -> List[str]:
+        """The lines that were said beside the output, but the toolchain's own."""
         return [line for line in self.lines_beside() if not line.startswith(TOOLCHAIN_LINES)]
 
-    def check_begin(self, written, path):
-        """Refuses what another program wrote: neither a report nor a message."""
-        if written.startswith(BEGINS) or self.by_toolchain:
-            return
-        if written or has_devices(path):
-            wrote = "what it wrote is no report" if written else "it wrote nothing"
-            raise Wrong(f"{self.who()} is not inputplay, or is broken: {wrote}")
-
-    def status(self, process):
+    def status(self) -> int:
         """The program's status, once its output was read. Every other end is one line that says what to do."""
-        status = process.wait()
-        if self.by_toolchain:
-            return toolchain_status(self.lines_beside())
+        return self.player.status_of(self.process.wait(), self.lines_beside())
+
+
+class Player(ABC):
+    """What plays records. `name` is that by which it is told, and `takes` how long it takes, where that is long."""
+
+    name: str
+    takes = ""
+
+    @abstractmethod
+    def told(self) -> str:
+        """What is said of the way in which a record is played."""
+
+    @abstractmethod
+    def who(self) -> str:
+        """Its name, where it is to be told that something is wrong with it."""
+
+    @abstractmethod
+    def launch(self, path: Optional[str], folder: str, flags: Sequence[str]) -> Launch:
+        """How it is started for a record, or with its flags alone."""
+
+    def status_of(self, status: int, beside: List[str]) -> int:
+        """The program's status, by that of its process and what was said beside its output."""
         if status < 0:
             raise Wrong(f"{self.who()} was ended by signal {-status}")
         if status > GREATEST_STATUS:
             raise Wrong(f"{self.who()} is not inputplay: it ended in status {status}")
         return status
 
-    def play(self, path, folder, flags=(), what=None):
-        """The status, and what was written. `what` says what it is played for."""
-        process = self.start(path, folder, flags, what)
+    def check_begin(self, written: bytes, path: str) -> None:
+        """Refuses what another program wrote: neither a report nor a message."""
+        if written.startswith(BEGINS):
+            return
+        if written or has_devices(path):
+            wrote = "what it wrote is no report" if written else "it wrote nothing"
+            raise Wrong(f"{self.who()} is not inputplay, or is broken: {wrote}")
+
+    def start(self, path: Optional[str], folder: str, flags: Sequence[str] = (), what: Optional[str] = None) -> Run:
+        """The running program. `what` says what it is played for."""
+        launch = self.launch(path, folder, flags)
+        progress.tell((what or f"{os.path.basename(path or '')} is played") + self.takes)
+        return Run(self, launch)
+
+    def play(self, path: Optional[str], folder: str, flags: Sequence[str] = (), what: Optional[str] = None) -> Ended:
+        """The status, and what was written."""
+        run = self.start(path, folder, flags, what)
         try:
-            written, _ = process.communicate()
+            written = run.whole_output()
         except BaseException:
-            process.kill()
-            process.wait()
+            run.stop()
             raise
-        status = self.status(process)
-        self.check_begin(written[:64], path)
-        return status, written.decode("ascii", "replace")
+        status = run.status()
+        self.check_begin(written[:64], path or "")
+        return Ended(status, written.decode("ascii", "replace"))
 
 
-def has_second():
+class BuiltProgram(Player):
+    """The program that INPUTPLAY names, or the built one of this repository."""
+
+    def __init__(self, program: str, name: str, is_named: bool) -> None:
+        self.program, self.name, self.is_named = program, name, is_named
+
+    def told(self) -> str:
+        return f"played by {self.name}"
+
+    def who(self) -> str:
+        return f"{self.name}, which INPUTPLAY names," if self.is_named else self.name
+
+    def launch(self, path: Optional[str], folder: str, flags: Sequence[str]) -> Launch:
+        return Launch([self.program, *flags, *([os.path.abspath(path)] if path else [])], folder)
+
+
+class SecondProgram(Player):
+    """The second program, which is in Python."""
+
+    name = "the second program (second)"
+
+    def told(self) -> str:
+        return f"played by {self.name}, in Python, without proof"
+
+    def who(self) -> str:
+        return self.name
+
+    def launch(self, path: Optional[str], folder: str, flags: Sequence[str]) -> Launch:
+        return Launch([sys.executable, "-B", SECOND, *flags, *([os.path.abspath(path)] if path else [])], folder)
+
+
+class Toolchain(Player):
+    """The toolchain, which runs the program without proof."""
+
+    name = "rt try"
+    takes = " by the toolchain, which takes one to three minutes"
+
+    def __init__(self) -> None:
+        if shutil.which("rt") is None:
+            raise Wrong("there is no built program (crates/inp_main/out/inp_main) and no toolchain (rt)")
+
+    def told(self) -> str:
+        return "played by the toolchain without proof (rt try); this takes one to three minutes"
+
+    def who(self) -> str:
+        return "the toolchain (rt)"
+
+    def launch(self, path: Optional[str], folder: str, flags: Sequence[str]) -> Launch:
+        if path is None:
+            return Launch(["rt", "try", "--", *flags], SOURCE)
+        name, words = os.path.basename(path), ["rt", "try"]
+        files = {name: os.path.abspath(path)}
+        files.update({stream: os.path.abspath(os.path.join(folder, stream)) for stream in stream_names(path)})
+        for each, file in files.items():
+            words += ["--data", f"{each}={file}"] if os.path.isfile(file) else []
+        return Launch([*words, "--", *flags, f"./{name}"], SOURCE)
+
+    def check_begin(self, written: bytes, path: str) -> None:
+        """(what it wrote is known by its last line)"""
+
+    def status_of(self, status: int, beside: List[str]) -> int:
+        """The program's status, by the toolchain's last line. Each other end is told with what to do."""
+        last = LAST_LINE.match(beside[-1]) if beside else None
+        how = last[1] if last else "none"
+        if last and how == "ended" and last[2] is not None:
+            return int(last[2])
+        told = next((line for line in reversed(beside[:-1]) if line.startswith("checked: ")), "")
+        told = told or next((line for line in beside if "error" in line or line.startswith("rt: ")), "")
+        raise Wrong(f"{toolchain_end(how, told)}" + (f" [{told[:160]}]" if told else ""))
+
+
+def find_player() -> Player:
+    """What plays: the built program, else the second one, else the toolchain."""
+    named = os.environ.get("INPUTPLAY")
+    program = os.path.abspath(named) if named else BUILT
+    if os.access(program, os.X_OK) and os.path.isfile(program):
+        return BuiltProgram(program, named or os.path.relpath(BUILT, REPOSITORY), bool(named))
+    if named:
+        raise Wrong(f"INPUTPLAY names {named}, which is no program")
+    return SecondProgram() if has_second() else Toolchain()
+
+
+def has_second() -> bool:
     """Is the second program there?"""
-    return os.path.isfile(SECOND)
+    return os.path.isfile(os.path.join(SECOND, "__main__.py"))
 
 
-def has_devices(path):
+def has_devices(path: str) -> bool:
     """Does a file have a line that begins a device? Its report is not empty then."""
     try:
         with open(path, "rb") as file:
@@ -164,18 +246,7 @@ def has_devices(path):
         return False
 
 
-def toolchain_status(lines):
-    """The program's status, by the toolchain's last line. Each other end is told with what to do."""
-    last = LAST_LINE.match(lines[-1]) if lines else None
-    how = last[1] if last else "none"
-    if how == "ended" and last[2] is not None:
-        return int(last[2])
-    told = next((line for line in reversed(lines[:-1]) if line.startswith("checked: ")), "")
-    told = told or next((line for line in lines if "error" in line or line.startswith("rt: ")), "")
-    raise Wrong(f"{toolchain_end(how, told)}" + (f" [{told[:160]}]" if told else ""))
-
-
-def toolchain_end(how, told):
+def toolchain_end(how: str, told: str) -> str:
     if how == "no-answer" and TOO_LONG.search(told):
         return f"the toolchain hands on 1 MiB of a report at most, and this one is longer: {BUILD}"
     if how == "no-answer":

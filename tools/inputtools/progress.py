@@ -3,6 +3,7 @@
 import sys
 import threading
 import time
+from typing import Optional
 
 QUIET = 2.0
 STEP = 0.5
@@ -12,16 +13,18 @@ class Progress:
     """One line on standard error, which is written over and cleared again. Where standard error is no
     terminal nothing is written."""
 
-    def __init__(self):
-        self.program, self.what, self.share = "", None, None
-        self.begun, self.is_shown, self.thread = 0.0, False, None
+    def __init__(self) -> None:
+        self.program, self.share = "", ""
+        self.what: Optional[str] = None
+        self.thread: Optional[threading.Thread] = None
+        self.begun, self.is_shown = 0.0, False
         self.lock, self.is_over = threading.Lock(), threading.Event()
 
-    def begin(self, program):
+    def begin(self, program: str) -> None:
         self.program, self.begun = program, time.monotonic()
         self.is_over.clear()
 
-    def tell(self, what, done=None, total=None):
+    def tell(self, what: str, done: Optional[int] = None, total: Optional[int] = None) -> None:
         """What is done now, and how much of it."""
         self.what = what
         self.share = f" {done} of {total}" if total else ""
@@ -29,12 +32,12 @@ class Progress:
             self.thread = threading.Thread(target=self.show_on, daemon=True)
             self.thread.start()
 
-    def show_on(self):
+    def show_on(self) -> None:
         while not self.is_over.wait(STEP):
             if time.monotonic() - self.begun >= QUIET:
                 self.show()
 
-    def show(self):
+    def show(self) -> None:
         with self.lock:
             if self.what is None or self.is_over.is_set():
                 return
@@ -43,7 +46,7 @@ class Progress:
             sys.stderr.flush()
             self.is_shown = True
 
-    def clear(self):
+    def clear(self) -> None:
         """Takes the line away, so that another one may be written."""
         with self.lock:
             if self.is_shown:
@@ -51,7 +54,7 @@ class Progress:
                 sys.stderr.flush()
             self.is_shown, self.what = False, None
 
-    def end(self):
+    def end(self) -> None:
         self.is_over.set()
         self.clear()
         self.thread = None

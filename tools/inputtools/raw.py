@@ -4,6 +4,7 @@ A record has 24 bytes on a 64-bit machine and 16 on a 32-bit one: seconds, micro
 """
 
 import struct
+from typing import List, Optional, Tuple
 
 from inputtools.command import Wrong, counted
 from inputtools.names import GREATEST as GREATEST_CODES
@@ -15,16 +16,16 @@ LATEST = 2**40  # seconds
 LATEST_MOMENT = 9000000000000000
 
 
-def is_raw(data):
+def is_raw(data: bytes) -> bool:
     return b"\0" in data[:4096]
 
 
-def is_plausible(data, size):
+def is_plausible(data: bytes, size: int) -> bool:
     """Are these records of this size? Times, types and codes are then such as there are."""
     return len(data) % size == 0 and first_bad(data, size) is None
 
 
-def first_bad(data, size):
+def first_bad(data: bytes, size: int) -> Optional[Tuple[int, str]]:
     """The number of the first record that is no event, from 1, and why; or None."""
     whole = data[: len(data) - len(data) % size]
     for number, (seconds, micros, kind, code, _) in enumerate(FORMS[size].iter_unpack(whole), 1):
@@ -33,7 +34,7 @@ def first_bad(data, size):
     return None
 
 
-def what_is_bad(seconds, micros, kind, code):
+def what_is_bad(seconds: int, micros: int, kind: int, code: int) -> str:
     if seconds >= LATEST:
         return f"its time is {seconds} s"
     if micros >= 1000000:
@@ -43,13 +44,13 @@ def what_is_bad(seconds, micros, kind, code):
     return f"{kind_text(kind)} has no code {code}"
 
 
-def is_kind_and_code(kind, code):
+def is_kind_and_code(kind: int, code: int) -> bool:
     if kind == SYN:
         return code <= 15
     return kind in NOT_IN_A_RECORD or (kind in GREATEST_CODES and code <= GREATEST_CODES[kind])
 
 
-def parse(data, size=None):
+def parse(data: bytes, size: Optional[int] = None) -> List[Recording]:
     """The events of a capture. Where no size is given, it is the one at which the records have a meaning."""
     sizes = [size] if size else [24, 16]
     for each in sizes:
@@ -59,7 +60,7 @@ def parse(data, size=None):
     raise Wrong(what_is_wrong(data, sizes))
 
 
-def stream_fault(data, size):
+def stream_fault(data: bytes, size: int) -> Optional[str]:
     """Why these bytes are no stream of a record, or None: any type and code may stand in one."""
     rest = len(data) % size
     for number, (seconds, micros, *_) in enumerate(FORMS[size].iter_unpack(data[: len(data) - rest]), 1):
@@ -71,7 +72,7 @@ def stream_fault(data, size):
     return None
 
 
-def what_is_wrong(data, sizes):
+def what_is_wrong(data: bytes, sizes: List[int]) -> str:
     """Why these bytes are no capture, by the size for which the most of them are."""
     found = {size: first_bad(data, size) for size in sizes}
     for size in sizes:
@@ -80,8 +81,9 @@ def what_is_wrong(data, sizes):
             records = counted(len(data) // size, "record")
             return (f"a raw capture of {len(data)} bytes, which are {records} of {size} bytes and "
                     f"{counted(rest, 'byte')} more: it was cut off")
-    size = max(sizes, key=lambda each: (found[each][0] - 1) * each)
-    number, why = found[size]
+    size, (number, why) = max(
+        ((size, bad) for size, bad in found.items() if bad), key=lambda each: (each[1][0] - 1) * each[0]
+    )
     if number == 1:
         return f"no raw capture: its bytes are no records of {' or '.join(str(each) for each in sizes)} bytes"
     at = (number - 1) * size

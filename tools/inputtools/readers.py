@@ -1,6 +1,7 @@
 """The readers of a record, as the words after `--reader` tell them, and the lines that each of them has."""
 
 import re
+from typing import Dict, Iterable, List, NamedTuple, Optional, Set, Tuple
 
 from inputtools.command import Wrong, number
 from inputtools.description import is_name
@@ -16,6 +17,17 @@ LATEST_SECOND = 9000000000
 RANKS = ("ungrab", "revoke", "open", "grab")
 
 
+Wants = Dict[int, Optional[Set[int]]]
+
+
+class Act(NamedTuple):
+    """What a reader does at a time, or at the start (None), in which order of one moment, and by which commands."""
+
+    time: Optional[int]
+    rank: int
+    words: List[str]
+
+
 class Reader:
     """A client that opens at the start, or at a time, and follows after each frame, each N-th, or at the end
     alone. Times are in microseconds from the capture's first event on.
@@ -24,10 +36,14 @@ class Reader:
     a joystick.
     """
 
-    def __init__(self, text):
+    def __init__(self, text: str) -> None:
         self.name, *options = text.split(":")
-        self.every, self.grab, self.wants = 1, None, None
-        self.opens, self.revoked, self.is_joy = None, None, False
+        self.every: Optional[int] = 1
+        self.grab: Optional[Tuple[Optional[int], Optional[int]]] = None
+        self.wants: Optional[Wants] = None
+        self.opens: Optional[int] = None
+        self.revoked: Optional[int] = None
+        self.is_joy = False
         self.unread, self.is_open = 0, False
         if not is_name(self.name):
             raise Wrong(f'the reader "{self.name}" is not named by 1 to 32 of a to z, 0 to 9, _ and -')
@@ -37,7 +53,7 @@ class Reader:
             self.take(option)
         self.check(options)
 
-    def take(self, option):
+    def take(self, option: str) -> None:
         word, _, value = option.partition("=")
         if option == "slow":
             self.every = None
@@ -58,7 +74,7 @@ class Reader:
         else:
             raise Wrong(f'the reader\'s option "{option}" is none of {FORM}')
 
-    def check(self, options):
+    def check(self, options: List[str]) -> None:
         """A joystick has no mask, no grab and no revocation; and what is done is done in order."""
         others = [option for option in options if option.partition("=")[0] in ("grab", "mask", "revoke")]
         if self.is_joy and others:
@@ -70,72 +86,83 @@ class Reader:
         if self.revoked is not None and self.revoked < max(begun, grabbed or 0):
             raise Wrong(f"{self.name} is revoked before it opens, or grabs")
 
-    def role(self):
+    def role(self) -> str:
         return "joy" if self.is_joy else "client"
 
-    def acts(self):
+    def acts(self) -> List[Act]:
         """What the reader does at times, or at the start (None): (time, rank, words), in order."""
         mask = mask_words(self.wants) if self.wants is not None else []
-        found = [(self.opens, ["open"] + mask)]
+        found: List[Tuple[Optional[int], List[str]]] = [(self.opens, ["open"] + mask)]
         if self.grab:
             begin, end = self.grab
             found += [(self.opens if begin is None else begin, ["grab"])]
             found += [(end, ["ungrab"])] if end is not None else []
         found += [(self.revoked, ["revoke"])] if self.revoked is not None else []
-        return [(time, RANKS.index(words[0]), words) for time, words in found]
+        return [Act(time, RANKS.index(words[0]), words) for time, words in found]
 
-    def does_at_times(self):
+    def does_at_times(self) -> bool:
         """Does it do anything later than at the start?"""
-        return any(time is not None for time, *_ in self.acts())
+        return any(act.time is not None for act in self.acts())
 
-    def lines_of(self, words):
+    def lines_of(self, words: List[str]) -> List[str]:
         """The lines of one act. What waits is read before an end, and a joystick's startup after its open."""
         lines = self.lines_at_the_end() if words[0] == "revoke" else []
         self.is_open = words[0] != "revoke"
         lines += [f"do {self.name} {word}" for word in words]
         return lines + ([f"do {self.name} read {GREATEST_READ}"] if self.is_joy and self.every else [])
 
-    def lines_behind_a_frame(self):
+    def lines_behind_a_frame(self) -> List[str]:
         if not self.is_open:
             return []
         self.unread += 1
         return self.lines_at_the_end() if self.every and self.unread >= self.every else []
 
-    def lines_at_the_end(self):
+    def lines_at_the_end(self) -> List[str]:
         if not self.unread:
             return []
         self.unread = 0
         return [f"do {self.name} {f'read {GREATEST_READ}' if self.is_joy else 'follow'}"]
 
 
+class Due(NamedTuple):
+    """What a reader does, and the reader."""
+
+    act: Act
+    reader: Reader
+
+
 class Acts:
     """What readers do at times, in order: each is done before the first frame of its time or later."""
 
-    def __init__(self, readers):
-        acts = [(time, rank, reader, words) for reader in readers for time, rank, words in reader.acts()]
+    def __init__(self, readers: Iterable[Reader]) -> None:
+        dues = [Due(act, reader) for reader in readers for act in reader.acts()]
         # (what is done at the start stands in the order of the readers)
-        self.at_start = [act for act in acts if act[0] is None]
-        self.later = sorted((act for act in acts if act[0] is not None), key=lambda act: act[:2])
+        self.at_start = [due for due in dues if due.act.time is None]
+        self.later = sorted((due for due in dues if due.act.time is not None), key=in_time)
 
-    def begin(self):
+    def begin(self) -> None:
         """No reader has done anything yet."""
-        for *_, reader, _ in self.at_start + self.later:
-            reader.unread, reader.is_open = 0, False
+        for due in self.at_start + self.later:
+            due.reader.unread, due.reader.is_open = 0, False
 
-    def opening_lines(self):
+    def opening_lines(self) -> List[str]:
         self.begin()
-        return [line for *_, reader, words in self.at_start for line in reader.lines_of(words)]
+        return [line for due in self.at_start for line in due.reader.lines_of(due.act.words)]
 
-    def lines_before(self, time=None):
+    def lines_before(self, time: Optional[int] = None) -> List[str]:
         """The lines of what is due at a time, or of all that is left."""
-        lines = []
-        while self.later and (time is None or self.later[0][0] <= time):
-            *_, reader, words = self.later.pop(0)
-            lines += reader.lines_of(words)
+        lines: List[str] = []
+        while self.later and (time is None or in_time(self.later[0])[0] <= time):
+            due = self.later.pop(0)
+            lines += due.reader.lines_of(due.act.words)
         return lines
 
 
-def micros_of(text):
+def in_time(due: Due) -> Tuple[int, int]:
+    return due.act.time or 0, due.act.rank
+
+
+def micros_of(text: str) -> int:
     """A time in seconds, with six digits after the point at most, as microseconds."""
     match = re.fullmatch(r"([0-9]{1,10})(?:\.([0-9]{1,6}))?", text)
     if not match or int(match[1]) > LATEST_SECOND:
@@ -143,7 +170,7 @@ def micros_of(text):
     return int(match[1]) * 1000000 + int((match[2] or "").ljust(6, "0"))
 
 
-def span_of(text):
+def span_of(text: str) -> Tuple[int, Optional[int]]:
     """From which time, and to which or None: 1.5-3.2, or 1.5."""
     first, dash, last = text.partition("-")
     begin, end = micros_of(first), micros_of(last) if dash else None
@@ -152,19 +179,20 @@ def span_of(text):
     return begin, end
 
 
-def wanted_codes(text):
+def wanted_codes(text: str) -> Wants:
     """The types that a mask lets through, each with its codes, or with None for all of them."""
-    wants = {}
+    wants: Wants = {}
     for word in re.split("[,+]", text):
         kind, code = kind_and_code(word)
+        codes = wants.setdefault(kind, set())
         if code is None:
             wants[kind] = None
-        elif wants.setdefault(kind, set()) is not None:
-            wants[kind].add(code)
+        elif codes is not None:
+            codes.add(code)
     return wants
 
 
-def kind_and_code(word):
+def kind_and_code(word: str) -> Tuple[int, Optional[int]]:
     first, _, second = word.partition("/")
     kind, code = number_of_kind(first), None
     if kind is None and not second:
@@ -172,13 +200,16 @@ def kind_and_code(word):
         code = CODES[kind][first] if kind is not None else None
     elif kind is not None and second:
         code = number_of_code(kind, second)
-    is_right = kind in GREATEST and (code is None or (kind != REP and code <= GREATEST[kind]))
-    if not is_right or (second and code is None):
+    if kind is None or not can_be_masked(kind, code) or (second and code is None):
         raise Wrong(f'"{word}" of a mask is no type (EV_KEY), no code (KEY_A) and no TYPE/CODE (EV_KEY/656)')
     return kind, code
 
 
-def mask_words(wants):
+def can_be_masked(kind: int, code: Optional[int]) -> bool:
+    return kind in GREATEST and (code is None or (kind != REP and code <= GREATEST[kind]))
+
+
+def mask_words(wants: Wants) -> List[str]:
     """The commands that set the mask of types, and a mask of codes where not all are wanted."""
     words = [f"mask EV_SYN 0 0x{bits_of(wants):016x}"]
     for kind, codes in sorted(wants.items()):
@@ -190,11 +221,11 @@ def mask_words(wants):
     return words
 
 
-def bits_of(numbers):
+def bits_of(numbers: Iterable[int]) -> int:
     return sum(1 << number for number in numbers)
 
 
-def readers_of(texts):
+def readers_of(texts: Optional[List[str]]) -> List[Reader]:
     """The readers that are asked for: one that follows after each frame where no reader is asked for."""
     readers = [Reader(text) for text in texts or ["reader"]]
     names = [reader.name for reader in readers]
@@ -209,7 +240,7 @@ def readers_of(texts):
     return readers
 
 
-def held_span(reader):
+def held_span(reader: Reader) -> Optional[Tuple[int, int]]:
     """From which time to which a reader holds the grab, or None."""
     if not reader.grab:
         return None

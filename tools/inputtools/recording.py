@@ -1,24 +1,35 @@
 """What a file tells: a device and the events that it sent. They are cut into frames here."""
 
-from collections import namedtuple
 from dataclasses import dataclass, field
+from typing import Dict, Iterable, List, NamedTuple, Optional, Set, Tuple
 
 from inputtools.identity import Identity
-from inputtools.names import KEY, LED, REP, SLOT, SW, SYN
+from inputtools.names import KEY, LED, REP, SLOT, SW, SYN, event_text
 
 LEAST, GREATEST = -(2**31), 2**31 - 1
+# The value of a report in forms that do not tell it: no event has such a one.
+UNTOLD = -(2**40)
 SYN_REPORT, SYN_CONFIG, SYN_MT_REPORT, SYN_DROPPED = 0, 1, 2, 3
 
-# An event of a capture: its time in microseconds, type, code and value. The value of a SYN_REPORT is None in
-# forms that do not tell it.
-Event = namedtuple("Event", "time kind code value")
+
+class Event(NamedTuple):
+    """An event of a capture. The value of a SYN_REPORT is UNTOLD in forms that do not tell it."""
+
+    time: int
+    kind: int
+    code: int
+    value: int
+
+    def text(self) -> str:
+        """Its type, code and value, as a line of a record has them."""
+        return event_text(self.kind, self.code, self.value)
 
 
 @dataclass
 class Axis:
     """An axis as the kernel tells it. A value is None where the form has none."""
 
-    value: int = None
+    value: Optional[int] = None
     minimum: int = 0
     maximum: int = 0
     fuzz: int = 0
@@ -32,27 +43,27 @@ class Device:
 
     form: str
     name: str = ""
-    codes: dict = field(default_factory=dict)  # the codes of each type but EV_SYN
-    axes: dict = field(default_factory=dict)
-    on: dict = field(default_factory=lambda: {KEY: set(), SW: set(), LED: set()})
-    repeat: dict = field(default_factory=dict)  # the settings of EV_REP, in milliseconds
-    properties: list = field(default_factory=list)
+    codes: Dict[int, Set[int]] = field(default_factory=dict)  # the codes of each type but EV_SYN
+    axes: Dict[int, Axis] = field(default_factory=dict)
+    on: Dict[int, Set[int]] = field(default_factory=lambda: {KEY: set(), SW: set(), LED: set()})
+    repeat: Dict[int, int] = field(default_factory=dict)  # the settings of EV_REP, in milliseconds
+    properties: List[int] = field(default_factory=list)
     identity: Identity = field(default_factory=Identity)
     has_ranges: bool = True
     # Told by the lines of a record alone.
-    hint: int = None
-    slots: int = None
-    other_lines: list = field(default_factory=list)
+    hint: Optional[int] = None
+    slots: Optional[int] = None
+    other_lines: List[str] = field(default_factory=list)
 
-    def add(self, kind, codes=()):
+    def add(self, kind: int, codes: Iterable[int] = ()) -> None:
         self.codes.setdefault(kind, set()).update(codes)
 
-    def has(self, kind, code):
+    def has(self, kind: int, code: int) -> bool:
         if kind == SYN:
             return True
         return kind in self.codes and (code in self.codes[kind] or (kind == REP and code <= 1))
 
-    def slot_count(self):
+    def slot_count(self) -> int:
         """The number of slots: none where the axis before ABS_MT_SLOT is there too, as one of many."""
         if self.slots is not None:
             return self.slots
@@ -65,8 +76,8 @@ class Device:
 class Recording:
     """A device and its events; either may be missing."""
 
-    device: Device = None
-    events: list = field(default_factory=list)
+    device: Optional[Device] = None
+    events: List[Event] = field(default_factory=list)
     hides_keys: bool = False
     hides_scan_codes: bool = False
     ends_in_a_line: bool = False
@@ -78,18 +89,20 @@ class Frame:
     """The events of a frame and the value of its report. After a loss `lost` is the time of SYN_DROPPED."""
 
     time: int
-    events: list
-    report: int
-    lost: int = None
+    events: List[Event]
+    report: Optional[int]
+    lost: Optional[int] = None
 
 
-def frames_of(events):
+def frames_of(events: List[Event]) -> Tuple[List[Frame], int, Optional[int]]:
     """The frames of a capture, how many events stand after the last one, and the time of a loss after it.
 
     A SYN_DROPPED is no event of a frame: it tells that events before it are missing. What came before it in
     the same frame is a frame of its own.
     """
-    frames, batch, lost = [], [], None
+    frames: List[Frame] = []
+    batch: List[Event] = []
+    lost: Optional[int] = None
     for event in events:
         is_report = (event.kind, event.code) == (SYN, SYN_REPORT)
         is_loss = (event.kind, event.code) == (SYN, SYN_DROPPED)
@@ -98,7 +111,7 @@ def frames_of(events):
             continue
         if batch:
             time, report = (event.time, event.value) if is_report else (batch[-1].time, 0)
-            frames.append(Frame(time, batch, report, lost))
+            frames.append(Frame(time, batch, None if report == UNTOLD else report, lost))
             batch, lost = [], None
         if is_loss:
             lost = event.time

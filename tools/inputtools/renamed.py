@@ -4,8 +4,12 @@ The k-th key that the capture tells of becomes the k-th key of the device. So ho
 they were. Modifiers and locks stay, and so do buttons; scan codes are left out, which would tell the keys.
 """
 
+from typing import Dict
+
+from inputtools.capture import Capture
 from inputtools.command import Wrong, counted
 from inputtools.names import KEY, MSC
+from inputtools.recording import Device, Event
 from inputtools.recording import Frame
 
 # MSC_RAW and MSC_SCAN, each of which tells a scan code.
@@ -16,11 +20,11 @@ KEPT = {29, 42, 54, 56, 58, 69, 70, 97, 100, 125, 126}
 FIRST_BUTTON = 0x100
 
 
-def is_renamed(code):
+def is_renamed(code: int) -> bool:
     return 0 < code < FIRST_BUTTON and code not in KEPT
 
 
-def names_of(device, capture):
+def names_of(device: Device, capture: Capture) -> Dict[int, int]:
     """What each renamed key becomes."""
     told = sorted(code for code in device.on[KEY] if is_renamed(code))
     told += [event.code for frame in capture.frames for event in frame.events if event.kind == KEY]
@@ -28,7 +32,7 @@ def names_of(device, capture):
     return dict(zip(told, sorted(code for code in device.codes.get(KEY, ()) if is_renamed(code))))
 
 
-def hide_keys(device, capture):
+def hide_keys(device: Device, capture: Capture) -> None:
     """Renames the keys of a capture, and of what was down when its device was described."""
     names, dropped, frames, lost = names_of(device, capture), 0, [], None
     for frame in capture.frames:
@@ -47,11 +51,11 @@ def hide_keys(device, capture):
                          f"{counted(dropped, 'scan code')} left out")
 
 
-def is_scan_code(event):
+def is_scan_code(event: Event) -> bool:
     return event.kind == MSC and event.code in SCAN_CODES
 
 
-def renamed(event, names):
+def renamed(event: Event, names: Dict[int, int]) -> Event:
     if event.kind != KEY:
         return event
     return event._replace(code=names.get(event.code, event.code))

@@ -6,34 +6,32 @@ from __future__ import annotations
 
 import os
 import tempfile
-from typing import Any, NamedTuple, Optional, Sequence, Tuple
+from typing import NamedTuple, Optional, Sequence, Tuple
 
 from inputtools.checking import outcomes_of
 from inputtools.explored_ends import Thing
-from inputtools.played import play
-from inputtools.program import Player
+from inputtools.divergences import Divergence
+from inputtools.joysticks import JoyWalk
+from inputtools.owners import Owner
+from inputtools.played import Reader, play
+from inputtools.program import BuiltProgram, Ended, Player, SecondProgram, find_player
+from inputtools.report import Call, Entry
 from inputtools.source import Given
 from second.outcome import outcome
 
 
-class SecondInProcess(Player):
+class SecondInProcess(SecondProgram):
     """The second program, which plays in this process."""
 
-    def __init__(self) -> None:
-        self.take_second()
-        self.by_toolchain = False
-
-    def play(
-        self, path: str, folder: str, flags: Sequence[str] = (), what: Optional[str] = None
-    ) -> Tuple[int, str]:
-        status, text = outcome(path, "--history" in flags)
-        return status, text.decode("ascii", "replace")
+    def play(self, path: Optional[str], folder: str, flags: Sequence[str] = (), what: Optional[str] = None) -> Ended:
+        status, text = outcome(path or "", "--history" in flags, folder)
+        return Ended(status, text.decode("ascii", "replace"))
 
 
 def player_of_orders() -> Player:
     """The built program where there is one, else the second program."""
-    player = Player()
-    return player if not (player.by_second or player.by_toolchain) else SecondInProcess()
+    player = find_player()
+    return player if isinstance(player, BuiltProgram) else SecondInProcess()
 
 
 class Judged(NamedTuple):
@@ -60,29 +58,33 @@ def judge(text: str, thing: Thing, player: Player) -> Judged:
     return judged_by(readers[0], thing)
 
 
-def judged_by(reader: Any, thing: Thing) -> Judged:
+def judged_by(reader: Reader, thing: Thing) -> Judged:
     """What is told of a reader that has such a thing."""
     if thing.kind in ("apart", "open-frame"):
-        return judged_parting(reader.at_end, thing, (thing.believed, thing.present))
+        return judged_divergence(reader.at_end, thing, (thing.believed, thing.present))
     if thing.kind == "moment":
-        return judged_parting(reader.partings, thing, None)
+        return judged_divergence(reader.divergences, thing, None)
     if thing.kind == "lost":
-        walk = reader.walk
-        return Judged(bool(walk.losses or getattr(walk, "synchronised", ())))
+        return Judged(has_lost(reader))
     if thing.kind == "refused":
         return Judged(any(is_refusal(entry, thing) for entry in reader.part.sight))
-    return Judged(reader.part.stop.startswith("full"))
+    return Judged(reader.part.end.is_full)
 
 
-def judged_parting(partings: Sequence[Any], thing: Thing, values: Optional[Tuple[int, int]]) -> Judged:
-    for parting in partings:
-        if parting.thing == thing.what and values in (None, (parting.believed, parting.present)):
-            return Judged(True, parting.cause.kind, str(parting.cause))
+def has_lost(reader: Reader) -> bool:
+    if isinstance(reader, Owner):
+        return bool(reader.lost)
+    return bool(reader.walk.losses or (isinstance(reader.walk, JoyWalk) and reader.walk.synchronised))
+
+
+def judged_divergence(found: Sequence[Divergence], thing: Thing, values: Optional[Tuple[int, int]]) -> Judged:
+    for each in found:
+        if each.thing == thing.what and values in (None, (each.believed, each.present)):
+            return Judged(True, each.cause.kind, each.cause.text)
     return Judged(False)
 
 
-def is_refusal(entry: Any, thing: Thing) -> bool:
-    if entry[0] != "call":
+def is_refusal(entry: Entry, thing: Thing) -> bool:
+    if not isinstance(entry, Call) or not entry.reply.is_refused:
         return False
-    step, reply = entry[1], entry[2]
-    return bool(reply[0] == "refused" and step[0] == thing.what and reply[-1] == thing.why)
+    return entry.step.name == thing.what and entry.reply.words[-1] == thing.why

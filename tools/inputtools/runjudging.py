@@ -12,10 +12,9 @@ from inputtools.command import Wrong
 from inputtools.expectations import words_of
 from inputtools.page import page
 from inputtools.played import play
-from inputtools.program import Player
-from inputtools.recordfile import read_text
+from inputtools.program import find_player
 from inputtools.results import Checked, lines_for_people
-from inputtools.source import Given
+from inputtools.source import Given, read_text
 
 
 def expected_of(text: str, name: str) -> List[Tuple[int, str]]:
@@ -44,19 +43,19 @@ class History:
         if not self.expected:
             return "", True
         try:
-            outcomes = outcomes_of(self.path, Player())
+            outcomes = outcomes_of(self.path, find_player())
         except Wrong as wrong:
             raise Wrong(f"what {self.record.name} expects cannot be judged: {wrong}") from None
         # (the lines stand behind the first one, in their order)
         numbers = {2 + at: number for at, (number, _) in enumerate(self.expected)}
         for outcome in outcomes:
-            outcome.number = numbers.get(outcome.number)
+            outcome.number = numbers.get(outcome.number or 0)
         checked = Checked(self.record.name, outcomes, None, 0.0)
         return lines_for_people([checked]), not checked.failed()
 
     def draw(self, to: str) -> None:
         """Draws it as one page."""
-        devices = play(Given(self.path), Player())
+        devices = play(Given(self.path), find_player())
         text = page(os.path.basename(self.record.name), devices, None, None)
         try:
             with open(to, "w", encoding="utf-8") as file:

@@ -8,7 +8,7 @@ import shutil
 from typing import List
 
 from inputtools.command import Wrong, say
-from inputtools.recordfile import read_text
+from inputtools.source import read_text
 from inputtools.umockdev import umockdev_text
 
 RUNNER, DESCRIPTION = "umockdev-run", "devices.umockdev"

@@ -4,7 +4,9 @@ Each tick has two texts: over the places a place and the time there, over time a
 """
 
 import bisect
+from typing import Iterator, List, Tuple
 
+from inputtools.moments import Moments
 from inputtools.places import seconds_text
 
 GUTTER, PLOT, RIGHT = 176, 1000, 44
@@ -17,26 +19,26 @@ EDGE = GUTTER - 8
 LETTER, APART = 6.5, 10
 
 
-def round_steps():
-    return (digit * 10**zeros for zeros in range(17) for digit in (1, 2, 5))
+def round_steps() -> Iterator[int]:
+    return (digit * int(10**zeros) for zeros in range(17) for digit in (1, 2, 5))
 
 
 class Tick:
     """A tick: where it stands, its texts, and to which side of it they stand so that none is cut off."""
 
-    def __init__(self, x, text, below):
+    def __init__(self, x: float, text: str, below: str) -> None:
         self.x, self.text, self.below = x, text, below
         half = self.width() / 2
         self.anchor = "start" if x - half < EDGE else "end" if x + half > WIDTH - 2 else "middle"
 
-    def width(self):
+    def width(self) -> float:
         return LETTER * max(len(self.text), len(self.below))
 
 
 class Scale:
     """The places from `begin` up to `end` of a history, over the places or over their moments."""
 
-    def __init__(self, begin, end, moments, is_over_time=False):
+    def __init__(self, begin: int, end: int, moments: Moments, is_over_time: bool = False) -> None:
         self.begin, self.end, self.moments, self.is_over_time = begin, end, moments, is_over_time
         self.first, self.last = moments.all[begin], moments.all[min(end, len(moments.all)) - 1]
         self.length = max(self.last - self.first, 1)
@@ -44,7 +46,7 @@ class Scale:
         is_long = self.first >= 10**9 and self.length < self.first // 100
         self.base = self.first - self.first % 1000000 if is_long else 0
 
-    def x(self, place):
+    def x(self, place: float) -> float:
         place = max(self.begin, min(place, self.end))
         if not self.is_over_time:
             middle = 0.5 if place < self.end else 0
@@ -53,25 +55,25 @@ class Scale:
             return GUTTER + PLOT
         return self.x_of_moment(self.moments.all[int(place)])
 
-    def x_of_moment(self, moment):
+    def x_of_moment(self, moment: int) -> float:
         return GUTTER + PLOT * 0.99 * (moment - self.first) / self.length
 
-    def names(self):
+    def names(self) -> Tuple[str, str]:
         """What the two texts of a tick are."""
         time = f"time from {seconds_text(self.base)}" if self.base else "time"
         if not self.moments.are_told:
             return ("place", "")
         return (time, "place") if self.is_over_time else ("place", time)
 
-    def time(self, moment):
+    def time(self, moment: int) -> str:
         return ("+" if self.base else "") + seconds_text(moment - self.base)
 
-    def rounded(self, moment):
+    def rounded(self, moment: int) -> int:
         """A moment to a thousandth of the scale's length, or finer."""
-        digits = 10 ** max(len(str(self.length)) - 4, 0)
+        digits = int(10 ** max(len(str(self.length)) - 4, 0))
         return moment - moment % digits if digits > 1 else moment
 
-    def ticks(self):
+    def ticks(self) -> List[Tick]:
         """Ticks at round places or moments: as many as have room for their texts."""
         made = self.moment_ticks if self.is_over_time else self.place_ticks
         span = self.length / 0.99 if self.is_over_time else max(self.end - self.begin, 1)
@@ -85,18 +87,18 @@ class Scale:
                 return ticks
         return []
 
-    def place_ticks(self, step):
+    def place_ticks(self, step: int) -> List[Tick]:
         first = -(-self.begin // step) * step
         return [self.place_tick(place) for place in range(first, self.end, step)]
 
-    def place_tick(self, place):
+    def place_tick(self, place: int) -> Tick:
         time = self.time(self.rounded(self.moments.all[place])) if self.moments.are_told else ""
         return Tick(self.x(place), str(place), time)
 
-    def moment_ticks(self, step):
+    def moment_ticks(self, step: int) -> List[Tick]:
         first = self.base + -(-(self.first - self.base) // step) * step
         return [self.moment_tick(moment) for moment in range(first, self.last + 1, step)]
 
-    def moment_tick(self, moment):
+    def moment_tick(self, moment: int) -> Tick:
         place = bisect.bisect_left(self.moments.all, moment, self.begin, self.end)
         return Tick(self.x_of_moment(moment), self.time(moment), str(min(place, self.end - 1)))

@@ -5,8 +5,14 @@ stands for. Where there are very many, they are drawn as one, and strips of the 
 """
 
 from html import escape
+from typing import Dict, List, Tuple
 
+from inputtools.lanes import Row, Stretch
 from inputtools.scale import GUTTER, PLOT
+from inputtools.scale import Scale
+
+# Marks on one point of the paper: where each stands, and its text.
+Points = List[Tuple[float, str]]
 
 # In which order marks are drawn, and how many of one kind in a row are drawn each with its text.
 MARK_KINDS = ("event", "timer", "report", "frame", "again", "read", "ask", "eaten", "loss")
@@ -19,13 +25,13 @@ STRIP, TOLD = 8, 3
 BAR_HEIGHTS = {"open": (2, 5), "contact": (2, 5), "mask": (2, 5), "revoked": (2, 5), "grab": (2, 19)}
 
 
-def titled(shape, text):
+def titled(shape: str, text: str) -> str:
     """A shape, an element without its end, that shows a text where the pointer rests on it."""
     name = shape[1 : shape.index(" ")]
     return f"{shape}><title>{escape(text)}</title></{name}>"
 
 
-def mark_shape(kind, x, y, height):
+def mark_shape(kind: str, x: float, y: float, height: float) -> str:
     """The shape of a mark in a row of this height at y."""
     middle = y + height / 2
     if kind == "loss":
@@ -42,12 +48,12 @@ def mark_shape(kind, x, y, height):
     return f'<rect class="{kind}" x="{x - 1:.1f}" y="{y + top:.1f}" width="2" height="{height - top - 2:.1f}"'
 
 
-def marks(row, scale, y, height):
+def marks(row: Row, scale: Scale, y: int, height: int) -> List[str]:
     """The marks of a row, each point of the paper once for each kind."""
-    kinds = {kind: {} for kind in MARK_KINDS}
-    for place, kind, text in row.marks.between(scale.begin, scale.end):
-        x = scale.x(place)
-        kinds[kind].setdefault(round(x), []).append((x, text))
+    kinds: Dict[str, Dict[int, Points]] = {kind: {} for kind in MARK_KINDS}
+    for mark in row.marks.between(scale.begin, scale.end):
+        x = scale.x(mark.place)
+        kinds[mark.kind].setdefault(round(x), []).append((x, mark.text))
     dense = {kind: points for kind, points in kinds.items() if len(points) > DENSE}
     shapes = [dense_marks(kind, sorted(points), y, height) for kind, points in dense.items()]
     shapes += strips([point for points in dense.values() for point in points.values()], y, height)
@@ -57,23 +63,23 @@ def marks(row, scale, y, height):
     return shapes
 
 
-def several_text(found, told):
+def several_text(found: Points, told: int) -> str:
     """The texts of marks on one point of the paper: the first ones, and how many more there are."""
     texts = [text for _, text in found[:told]]
     more = len(found) - len(texts)
     return "; ".join(texts) + (f" (and {more} more here)" if more else "")
 
 
-def dense_marks(kind, points, y, height):
+def dense_marks(kind: str, points: List[int], y: int, height: int) -> str:
     """Many marks of one kind: one path, whose texts the strips have."""
     top = y + height * {"event": 0.35, "timer": 0.2, "again": 0.55, "read": 0.3}.get(kind, 0.1)
     path = "".join(f"M{x} {top:.0f}V{y + height - 2}" for x in points)
     return f'<path class="dense {kind}" d="{path}"/>'
 
 
-def strips(points, y, height):
+def strips(points: List[Points], y: int, height: int) -> List[str]:
     """Strips of the paper, each with the texts of the first dense marks in it."""
-    found = {}
+    found: Dict[int, Points] = {}
     for marks_there in points:
         for x, text in marks_there:
             found.setdefault(int(x - GUTTER) // STRIP, []).append((x, text))
@@ -85,10 +91,11 @@ def strips(points, y, height):
     return shapes
 
 
-def bars(row, scale, y, height):
+def bars(row: Row, scale: Scale, y: int, height: int) -> List[str]:
     """The bars of a row. Those that end where the next begins, on one point of the paper, are drawn as
     one."""
-    shapes, drawn = [], {}
+    shapes: List[str] = []
+    drawn: Dict[str, float] = {}
     for begin, end, kind, text in row.bars:
         if begin >= scale.end or end < scale.begin:
             continue
@@ -103,23 +110,23 @@ def bars(row, scale, y, height):
     return shapes
 
 
-def columns(span, scale):
-    """The points of a line's span between the scale's ends; of those on one point of the paper the first,
+def columns(stretch: Stretch, scale: Scale) -> List[Tuple[int, int]]:
+    """The points of a line's stretch between the scale's ends; of those on one point of the paper the first,
     least, greatest, last."""
-    begin, _, points = span
-    inside = [(scale.x(place), value) for place, value in points.between(scale.begin, scale.end)]
+    begin, points = stretch.begin, stretch.values
+    inside = [(scale.x(point.place), point.value) for point in points.between(scale.begin, scale.end)]
     start = scale.x(max(begin, scale.begin)) if begin >= scale.begin else GUTTER
-    found = {}
-    for x, value in [(start, value) for _, value in points.before(scale.begin)] + inside:
+    found: Dict[int, List[int]] = {}
+    for x, value in [(start, point.value) for point in points.before(scale.begin)] + inside:
         found.setdefault(round(x), []).append(value)
-    kept = []
-    for x, values in found.items():
-        several = (values[0], min(values), max(values), values[-1]) if len(values) > 1 else values
-        kept += [(x, value) for value in several]
+    kept: List[Tuple[int, int]] = []
+    for at, values in found.items():
+        several = [values[0], min(values), max(values), values[-1]] if len(values) > 1 else values
+        kept += [(at, value) for value in several]
     return kept
 
 
-def stepped(points, end):
+def stepped(points: List[Tuple[int, int]], end: float) -> str:
     """The path of a line that goes to the right, and up or down where the value changes."""
     parts, level = [f"M{points[0][0]} {points[0][1]}"], points[0][1]
     for x, y in points[1:]:
@@ -129,23 +136,23 @@ def stepped(points, end):
     return "".join(parts) + f"H{max(round(end), points[-1][0] + 1)}"
 
 
-def lines(row, scale, y, height):
+def lines(row: Row, scale: Scale, y: int, height: int) -> List[str]:
     """The lines of a row, each between the least and the greatest value that it has at all."""
     shapes = []
     for line in row.lines:
         room = (height - 10) / max(line.greatest - line.least, 1)
         path = []
-        for span in line.between(scale.begin, scale.end):
-            kept = columns(span, scale)
+        for stretch in line.between(scale.begin, scale.end):
+            kept = columns(stretch, scale)
             kept = [(x, round(y + height - 5 - room * (value - line.least))) for x, value in kept]
-            path += [stepped(kept, scale.x(min(span[1], scale.end)))] if kept else []
+            path += [stepped(kept, scale.x(min(stretch.end, scale.end)))] if kept else []
         if path:
             text = f"{line.name} from {line.least} to {line.greatest}"
             shapes.append(titled(f'<path class="{line.kind}" d="{"".join(path)}"', text))
     return shapes
 
 
-def numbers(row, y, height):
+def numbers(row: Row, y: int, height: int) -> List[Tuple[bool, str]]:
     """The least and the greatest value of a row's lines: of the first to their left, of the second to their
     right."""
     shapes = []

@@ -5,25 +5,26 @@ import os
 import shutil
 import sys
 import tempfile
+from typing import List
 
 from inputtools.command import Wrong
 
 INPUT = "-"
 NAME = "standard input"
 
-_read = []
+_read: List[bool] = []
 
 
-def shown(path):
+def shown(path: str) -> str:
     """A file's name, as it is told to people."""
     return NAME if path == INPUT else path
 
 
-def fault_text(fault):
-    return getattr(fault, "strerror", None) or str(fault)
+def fault_text(fault: Exception) -> str:
+    return fault.strerror or str(fault) if isinstance(fault, OSError) else str(fault)
 
 
-def read_bytes(path, most=-1):
+def read_bytes(path: str, most: int = -1) -> bytes:
     """The bytes of a file, or of standard input, up to so many."""
     try:
         if path != INPUT:
@@ -39,7 +40,15 @@ def read_bytes(path, most=-1):
         raise Wrong(f"{shown(path)}: {fault_text(fault)}") from None
 
 
-def as_file(path):
+def write_bytes(path: str, data: bytes) -> None:
+    try:
+        with open(path, "wb") as file:
+            file.write(data)
+    except (OSError, ValueError) as fault:
+        raise Wrong(f"{path}: {fault_text(fault)}") from None
+
+
+def as_file(path: str) -> str:
     """A file that has what is to be read: the file itself, or a copy of standard input."""
     if path != INPUT:
         return path
@@ -52,7 +61,7 @@ def as_file(path):
     return copy
 
 
-def folder_of(path):
+def folder_of(path: str) -> str:
     """The folder in which a record is played, which has the files of its `stream` lines: for standard input
     the present one."""
     return os.getcwd() if path == INPUT else os.path.dirname(os.path.abspath(path))
@@ -62,5 +71,10 @@ class Given:
     """A record that a command is given: the name by which it is told, the folder that has the files which it
     names, and the file that has it."""
 
-    def __init__(self, path):
+    def __init__(self, path: str) -> None:
         self.name, self.folder, self.path = shown(path), folder_of(path), as_file(path)
+
+
+def read_text(path: str) -> str:
+    """The text of a record or a report. A byte that is no text stays one character."""
+    return read_bytes(path).decode("latin-1")

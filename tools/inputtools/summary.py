@@ -1,10 +1,13 @@
-"""The count that `tools/stuck --summary` writes first: who ends apart from its device, and the partings by
+"""The count that `tools/stuck --summary` writes first: who ends apart from its device, and the divergences by
 their causes and keys."""
 
 from collections import Counter
+from typing import Counter as Counts
+from typing import List, Sequence, Tuple
 
-from inputtools.belief import thing_text
 from inputtools.command import counted
+from inputtools.owners import Owner
+from inputtools.played import PlayedDevice, Reader
 
 CAUSES = {
     "grab": "a grab of another",
@@ -31,37 +34,37 @@ CAUSES = {
 }
 
 
-def readers_of(devices):
+def readers_of(devices: Sequence[PlayedDevice]) -> List[Reader]:
     """All who may part from their device: who never opened it has nothing to part from."""
     readers = (reader for device in devices for reader in device.readers())
-    return [reader for reader in readers if reader.role == "owner" or reader.walk.clients]
+    return [reader for reader in readers if isinstance(reader, Owner) or reader.walk.clients]
 
 
-def ends_apart(devices):
+def ends_apart(devices: Sequence[PlayedDevice]) -> List[Reader]:
     """The readers that end apart from their device."""
     return [reader for reader in readers_of(devices) if reader.at_end]
 
 
-def things_text(counts):
+def things_text(counts: Counts[str]) -> str:
     return ", ".join(f"{name} {count}" for name, count in ordered(counts))
 
 
-def ordered(counts):
+def ordered(counts: Counts[str]) -> List[Tuple[str, int]]:
     """What was counted, the most first."""
     return sorted(counts.items(), key=lambda each: (-each[1], each[0]))
 
 
-def summary_lines(devices):
+def summary_lines(devices: Sequence[PlayedDevice]) -> List[str]:
     """The lines of the count."""
     readers = readers_of(devices)
-    partings = [parting for reader in readers for parting in reader.partings]
+    divergences = [divergence for reader in readers for divergence in reader.divergences]
     apart = f"{len(ends_apart(devices))} of {counted(len(readers), 'reader')}"
     lines = [f"summary: {apart} apart from the device at the end"]
-    causes = Counter(parting.cause.kind for parting in partings)
+    causes = Counter(divergence.cause.kind for divergence in divergences)
     for kind, count in ordered(causes):
-        things = Counter(thing_text(parting.thing) for parting in partings if parting.cause.kind == kind)
+        things = Counter(divergence.thing.text() for divergence in divergences if divergence.cause.kind == kind)
         lines.append(f"  {CAUSES[kind]}: {counted(count, 'parting')}: {things_text(things)}")
     for reader in ends_apart(devices):
-        things = Counter(thing_text(parting.thing) for parting in reader.at_end)
+        things = Counter(divergence.thing.text() for divergence in reader.at_end)
         lines.append(f"  {reader.role} {reader.name} ends apart in {', '.join(sorted(things))}")
     return lines

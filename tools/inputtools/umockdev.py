@@ -4,13 +4,14 @@ Programs that look for devices by udev find them so: libinput, SDL and composito
 `tools/run` serves the nodes, and starts a program under umockdev-run for the rest.
 """
 
+
 from typing import Dict, Iterable, List, Set
 
 from inputtools.identity import Identity, Ids
 from inputtools.inputid import properties_of
 from inputtools.names import ABS, KEY, LED, MSC, REL, REP, SND, SW, SYN
 from inputtools.recording import Device
-from inputtools.recordlines import parse
+from inputtools.record import descriptions_of
 
 # The directory of the first device in /sys, so that no device of this machine has the same.
 FIRST_INPUT = 90
@@ -92,6 +93,6 @@ def escaped(text: str) -> str:
 def umockdev_text(text: str, first: int = 0) -> str:
     """What `umockdev-run -d` takes of the devices of a record, whose nodes are numbered from `first` on."""
     lines: List[str] = []
-    for number, recording in enumerate(parse(text), first):
-        lines += device_lines(recording.device, number)
+    for number, device in enumerate(descriptions_of(text), first):
+        lines += device_lines(device, number)
     return "".join(f"{line}\n" for line in lines)

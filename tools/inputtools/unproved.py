@@ -5,20 +5,22 @@ A record is played by the second program, which plays on one thread. With any ot
 
 import os
 import shutil
+from typing import List, Optional, Tuple
 
-from inputtools.command import Wrong
-from inputtools.output import write_bytes
-from inputtools.program import SOURCE, Player, has_second
+from inputtools.command import Result, Wrong
+from inputtools.program import Player, SecondProgram, Toolchain, has_second
 from inputtools.source import folder_of
 
 WITH_VALUE = ("--idle", "--make", "--count")
 # The words beside a record with which the second program plays it.
-BY_SECOND = ([], ["--history"])
+BY_SECOND: Tuple[List[str], ...] = ([], ["--history"])
 
 
-def file_of(words):
+def file_of(words: List[str]) -> Tuple[Optional[str], List[str]]:
     """The record among the program's words, or None; and the other words."""
-    rest, files, is_behind, waits = [], [], False, False
+    rest: List[str] = []
+    files: List[str] = []
+    is_behind = waits = False
     for word in words:
         if is_behind or (not word.startswith("--") and not waits):
             files.append(word)
@@ -27,38 +29,25 @@ def file_of(words):
         else:
             rest.append(word)
             waits = not waits and word in WITH_VALUE
-    return (files[0] if len(files) == 1 else None), (rest if len(files) == 1 else list(words))
+    return (files[0], rest) if len(files) == 1 else (None, list(words))
 
 
-class Second(Player):
-    """The second program as the player, also where the program is built."""
-
-    def __init__(self):
-        self.by_toolchain = False
-        self.take_second()
-
-
-class Toolchain(Player):
-    """The toolchain as the player, also where the program is built."""
-
-    def __init__(self):
-        if shutil.which("rt") is None:
-            raise Wrong("there is no toolchain (rt) on the path")
-        self.by_second, self.by_toolchain, self.name = False, True, "rt try"
-
-    def command(self, path, folder, flags):
-        return super().command(path, folder, flags) if path else (["rt", "try", "--", *flags], SOURCE)
+def player_of(path: Optional[str], flags: List[str]) -> Player:
+    """The second program or the toolchain, also where the program is built."""
+    if has_second() and path is not None and flags in BY_SECOND:
+        return SecondProgram()
+    if shutil.which("rt") is None:
+        raise Wrong("there is no toolchain (rt) on the path")
+    return Toolchain()
 
 
-def play(words):
-    """Plays without proof; the status."""
+def play(words: List[str]) -> Result:
+    """Plays without proof."""
     path, flags = file_of(words)
     if path is not None and not os.path.isfile(path):
         raise Wrong(f"{path}: no such file")
-    by_second = has_second() and path is not None and flags in BY_SECOND
-    player = Second() if by_second else Toolchain()
-    process = player.start(path or "", folder_of(path or "record"), flags)
-    written, _ = process.communicate()
-    status = player.status(process)
-    player.check_begin(written[:64], path or "")
-    return write_bytes("inputplay", written) or status
+    run = player_of(path, flags).start(path, folder_of(path or "record"), flags)
+    written = run.whole_output()
+    status = run.status()
+    run.player.check_begin(written[:64], path or "")
+    return Result(written, [], status)

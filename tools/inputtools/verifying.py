@@ -5,45 +5,50 @@ import bisect
 import copy
 import os
 import tempfile
+from typing import Dict, List, Tuple
 
 from inputtools.capture import seconds
 from inputtools.command import Wrong, counted
-from inputtools.names import code_text, event_text, kind_text
-from inputtools.program import PLAYED, Player
+from inputtools.names import code_text, kind_text
+from inputtools.program import PLAYED, find_player
 from inputtools.readers import Reader
-from inputtools.report import read_report
-from inputtools.slips import refusal_text
+from inputtools.recording import Event
+from inputtools.report import Report, Took
+from inputtools.refusal_hints import refusal_text
+from inputtools.writing import Record
 from inputtools.writing import text_of
 
 NAME = "verify"
 
+# An event that the reader took: its time, type, code and value.
+Taken = Tuple[int, str, str, int]
 
-def verifying(record):
+
+def verifying(record: Record) -> str:
     """The same record with that reader alone."""
     other = copy.copy(record)
     other.readers, other.stream = [Reader(NAME)], None
     return text_of(other.lines())
 
 
-def taken_by(text):
+def taken_by(text: str) -> List[Taken]:
     """What the reader took: (time, type, code, value)."""
     with tempfile.TemporaryDirectory() as folder:
         path = os.path.join(folder, "verify.rec")
         with open(path, "w", encoding="ascii", newline="") as file:
             file.write(text)
-        status, written = Player().play(path, folder)
+        status, written = find_player().play(path, folder)
     if status not in PLAYED:
-        raise Wrong(f"the record is not played: {refusal_text(text, written, status)}")
-    part = read_report(written)[0].part(NAME)
-    return [(entry[2], *entry[3]) for entry in part.sight if entry[0] == "took"]
+        raise Wrong(f"the record is not played: {refusal_text(text, written, status, folder)}")
+    return [(entry.time, *entry.event) for entry in Report(written).parts[NAME].all_of(Took)]
 
 
-def as_report(event, ahead):
+def as_report(event: Event, ahead: int) -> Taken:
     """An event as a reader takes it whose clock is so far ahead of the moments."""
     return event.time + ahead, kind_text(event.kind), code_text(event.kind, event.code), event.value
 
 
-def verify(record):
+def verify(record: Record) -> Tuple[bool, str]:
     """Whether each event came as it was captured, and what is said of it.
 
     Each event that comes is among those of the record, in their order; those that the record has for a loss
@@ -56,16 +61,18 @@ def verify(record):
     missed, count = [event for event, is_there in captured if not is_there], len(captured)
     said = f"{count - len(missed)} of {counted(count, 'event')} as captured"
     if missed:
-        said += f"; the first that is not is {event_text(missed[0][1:])} at {seconds(missed[0].time)}"
+        said += f"; the first that is not is {missed[0].text()} at {seconds(missed[0].time)}"
     more = len(came) - sum(found)
     if more:
         said += f"; {counted(more, 'event')} came that {'was' if more == 1 else 'were'} not captured"
     return not missed and not more, f"{record.name}: {said}"
 
 
-def found_in_order(wanted, came):
+def found_in_order(wanted: List[Taken], came: List[Taken]) -> List[bool]:
     """Of each event that is wanted, whether it came, after those before it."""
-    places, index, found = {}, 0, []
+    places: Dict[Taken, List[int]] = {}
+    index = 0
+    found: List[bool] = []
     for place, event in enumerate(came):
         places.setdefault(event, []).append(place)
     for event in wanted:
@@ -76,7 +83,7 @@ def found_in_order(wanted, came):
     return found
 
 
-def realtime_of(record):
+def realtime_of(record: Record) -> int:
     """How far the reader's clock is ahead of the moments."""
     lines = [line.split() for line in record.device.other_lines]
     return next((int(words[2], 0) for words in lines if words[:2] == ["clock", "realtime"]), 0)

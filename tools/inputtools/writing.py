@@ -2,17 +2,20 @@
 
 import copy
 import struct
+from typing import Iterable, Iterator, List, NamedTuple, Optional, Set
 
 from inputtools.capture import Capture, seconds
 from inputtools.command import Wrong
 from inputtools.description import comments, description_lines, hint_of, slots_of, version_of
 from inputtools.evtest import WHY_GRABBED
-from inputtools.names import ABS, SYN, TRACKING_ID, event_text
+from inputtools.names import ABS, SYN, TRACKING_ID
 from inputtools.progress import progress
 from inputtools.readers import DRIVER, Acts
+from inputtools.readers import Reader
+from inputtools.recording import Device, Frame, Recording
 from inputtools.recording import Event
 from inputtools.renamed import hide_keys
-from inputtools.start import State, events_between, state_before, state_described
+from inputtools.initial_state import State, events_between, state_before, state_described
 
 GREATEST_TEXT = 16 * 1024 * 1024
 DEFAULT_LOG, GREATEST_LOG = 1048576, 8388608
@@ -23,24 +26,34 @@ STREAM_RECORD = struct.Struct("<QQHHi")
 class Written:
     """A frame as the record has it. One that stands for a loss was not captured."""
 
-    def __init__(self, time, events, report, was_captured=True):
+    def __init__(self, time: int, events: List[Event], report: int,
+                 was_captured: bool = True) -> None:
         self.time, self.events, self.report, self.was_captured = time, events, report, was_captured
 
-    def all_events(self):
+    def all_events(self) -> List[Event]:
         return self.events + [Event(self.time, SYN, 0, self.report)]
+
+
+class Options(NamedTuple):
+    """What is asked for of a record."""
+
+    window: "Window"
+    stream: Optional[str] = None
+    hidden_keys: bool = False
+    hide_keys: bool = False
 
 
 class Window:
     """Which part of a capture is taken: the frames from a time to another, both among them, in microseconds
     from its first event on. None is no bound."""
 
-    def __init__(self, begin=None, end=None):
+    def __init__(self, begin: Optional[int] = None, end: Optional[int] = None) -> None:
         self.begin, self.end = begin or 0, end
 
-    def has(self, time):
+    def has(self, time: int) -> bool:
         return self.begin <= time and (self.end is None or time <= self.end)
 
-    def refuse_none(self, frames, capture):
+    def refuse_none(self, frames: List[Written], capture: Capture) -> None:
         """Refuses to go on where no frame of the capture is in this part."""
         if not frames:
             last = seconds(capture.frames[-1].time)
@@ -51,7 +64,8 @@ class Window:
 class Record:
     """A record of a device and of a capture of it, or of a part of that."""
 
-    def __init__(self, device, name, capture, readers, stream=None, window=None, driver=DRIVER):
+    def __init__(self, device: Device, name: str, capture: Capture, readers: List[Reader],
+                 stream: Optional[str] = None, window: Optional[Window] = None, driver: str = DRIVER) -> None:
         self.device, self.name, self.readers, self.stream = copy.deepcopy(device), name, readers, stream
         self.window, self.driver = window or Window(), driver
         self.notes = list(capture.notes)
@@ -60,39 +74,41 @@ class Record:
         self.raise_log()
         self.note_small_rings()
 
-    def raise_hint(self, capture):
+    def raise_hint(self, capture: Capture) -> None:
         needed, reckoned = capture.needed_hint(), hint_of(self.device)
         self.hint_comment = []
         if needed > reckoned:
             self.hint_comment = [f"# hint {reckoned} is less than the {needed - 1} events of a frame need"]
             self.device.hint = needed
 
-    def find_start(self, capture):
+    def find_start(self, capture: Capture) -> None:
         """The state before the first frame that is taken, and the frames, with one more at each loss."""
         slots, ids = slots_of(self.device), ids_of(capture.frames)
         known = state_described(self.device, slots)
         parts = parts_between_losses(capture.frames)
         state = state_before(known, parts[0], ids)
-        self.frames, self.before, unpassed = [], state.copy(), []
+        self.frames: List[Written] = []
+        self.before = state.copy()
+        unpassed: List[Event] = []
         for part in parts:
             if part is not parts[0]:
                 state = self.add_what_was_lost(state, part, ids)
             for frame in part:
                 left_out = [event for event in frame.events if not state.take(event)]
-                self.add(Written(frame.time, frame.events, frame.report), state)
+                self.add(Written(frame.time, frame.events, frame.report or 0), state)
                 unpassed += left_out if self.window.has(frame.time) else []
         self.window.refuse_none(self.frames, capture)
         self.set_start(slots)
         self.note_unpassed(unpassed)
 
-    def add(self, frame, state):
+    def add(self, frame: Written, state: State) -> None:
         """Takes a frame, or the state after one that comes before the part that is taken."""
         if self.window.has(frame.time):
             self.frames.append(frame)
         elif not self.frames:
             self.before = state.copy()
 
-    def set_start(self, slots):
+    def set_start(self, slots: int) -> None:
         """The events that lead from a fresh device to the state before the first frame."""
         fresh = State(slots, self.device.axes)
         fresh.values = dict(self.before.values)
@@ -100,17 +116,17 @@ class Record:
             axis.value = self.before.values.get(code, axis.value)
         self.start = events_between(fresh, self.before)
 
-    def add_what_was_lost(self, state, part, ids):
+    def add_what_was_lost(self, state: State, part: List[Frame], ids: Set[int]) -> State:
         after = state_before(state, part, ids)
-        time = part[0].lost
+        time = part[0].lost or 0
         events = [Event(time, *event) for event in events_between(state, after)]
         if events:
             self.add(Written(time, events, 0, was_captured=False), after)
         return after
 
-    def note_unpassed(self, unpassed):
+    def note_unpassed(self, unpassed: List[Event]) -> None:
         if unpassed:
-            first = f"{event_text(unpassed[0][1:])} at {seconds(unpassed[0].time)}"
+            first = f"{unpassed[0].text()} at {seconds(unpassed[0].time)}"
             why = "the capture lost events before it, or hides keys"
             if len(unpassed) == 1:
                 self.notes.append(f"1 event changes nothing and is not passed, {first}: {why}")
@@ -118,7 +134,7 @@ class Record:
                 self.notes.append(f"{len(unpassed)} events change nothing and are not passed, the first being "
                                   f"{first}: {why}")
 
-    def note_small_rings(self):
+    def note_small_rings(self) -> None:
         places = 64
         while places < 8 * hint_of(self.device):
             places *= 2
@@ -126,7 +142,7 @@ class Record:
         if self.stream and count >= places:
             self.notes.append(f"the stream has {count} events, and a ring holds {places - 1}: some are lost")
 
-    def raise_log(self):
+    def raise_log(self) -> None:
         """A history has more steps than the default limit only where very many readers follow."""
         events = sum(len(frame.all_events()) for frame in self.frames)
         steps = len(self.start) + events + len(self.readers) * (len(self.frames) + events // 64 + 100)
@@ -134,7 +150,7 @@ class Record:
         if steps > DEFAULT_LOG and not is_given:
             self.device.other_lines.append(f"log {GREATEST_LOG}")
 
-    def lines(self):
+    def lines(self) -> Iterator[str]:
         yield f"inputrecord {self.version()}"
         yield from self.device_lines()
         acts = Acts(self.readers)
@@ -146,28 +162,28 @@ class Record:
         for reader in self.readers:
             yield from reader.lines_at_the_end()
 
-    def version(self):
+    def version(self) -> int:
         return 2 if any(reader.is_joy for reader in self.readers) else version_of(self.device)
 
-    def device_lines(self):
+    def device_lines(self) -> Iterator[str]:
         """The description and the actors."""
         yield from comments(self.device) + self.hint_comment
         yield from description_lines(self.device, self.name)
         yield f"source {self.driver}"
         yield from (f"{reader.role()} {reader.name}" for reader in self.readers)
 
-    def start_lines(self):
+    def start_lines(self) -> Iterator[str]:
         if self.start:
             yield "# What was on, down or there when the capture began."
             begin = self.window.begin
             yield from self.event_lines([Event(begin, *event) for event in self.start + [(SYN, 0, 0)]])
 
-    def frame_lines(self, acts):
+    def frame_lines(self, acts: Acts) -> Iterator[str]:
         for frame in self.frames:
             yield from acts.lines_before(frame.time)
             yield from self.lines_of_frame(frame)
 
-    def lines_of_frame(self, frame):
+    def lines_of_frame(self, frame: Written) -> Iterator[str]:
         """A frame, and what the readers do after it."""
         if not frame.was_captured:
             yield LOSS_COMMENT
@@ -175,25 +191,25 @@ class Record:
         for reader in self.readers:
             yield from reader.lines_behind_a_frame()
 
-    def stream_lines(self):
+    def stream_lines(self) -> Iterator[str]:
         yield f"do {self.driver} stream {self.stream}"
         for reader in self.readers:
             reader.unread = 1
 
-    def event_lines(self, events):
-        return [f"do {self.driver} event {event.time} {event_text(event[1:])}" for event in events]
+    def event_lines(self, events: Iterable[Event]) -> List[str]:
+        return [f"do {self.driver} event {event.time} {event.text()}" for event in events]
 
-    def text(self):
+    def text(self) -> str:
         return text_of(self.lines())
 
-    def stream_bytes(self):
+    def stream_bytes(self) -> bytes:
         events = [event for frame in self.frames for event in frame.all_events()]
         if len(events) * STREAM_RECORD.size > GREATEST_TEXT:
             raise Wrong(f"the stream would have more than {GREATEST_TEXT} bytes")
         return b"".join(STREAM_RECORD.pack(*divmod(event.time, 1000000), *event[1:]) for event in events)
 
 
-def text_of(lines):
+def text_of(lines: Iterable[str]) -> str:
     """The text of a record's lines."""
     parts, size = [], 0
     for line in lines:
@@ -205,14 +221,14 @@ def text_of(lines):
     return "".join(parts)
 
 
-def ids_of(frames):
+def ids_of(frames: List[Frame]) -> Set[int]:
     events = (event for frame in frames for event in frame.events)
     return {event.value for event in events if (event.kind, event.code) == (ABS, TRACKING_ID)}
 
 
-def parts_between_losses(frames):
+def parts_between_losses(frames: List[Frame]) -> List[List[Frame]]:
     """The frames, parted before each that stands after a loss."""
-    parts = [[]]
+    parts: List[List[Frame]] = [[]]
     for frame in frames:
         if frame.lost is not None and parts[-1]:
             parts.append([])
@@ -220,9 +236,11 @@ def parts_between_losses(frames):
     return parts
 
 
-def record_of(recording, name, readers, options, base=None, driver=DRIVER):
+def record_of(recording: Recording, name: str, readers: List[Reader], options: Options,
+              base: Optional[int] = None, driver: str = DRIVER) -> Record:
     """The record of a recording's device and its events. `options` are what was asked for of it."""
     progress.tell(f"the record of {name} is made, of {len(recording.events)} events")
+    assert recording.device is not None
     device = copy.deepcopy(recording.device)
     capture = Capture(recording, device, options.hidden_keys, base)
     if options.hide_keys:

@@ -1,0 +1,46 @@
+"""Every function of the tools, the second program and the scripts in checks/ has types, and mypy finds them right."""
+
+import shutil
+import subprocess
+
+from tests.playing import TOP, FolderCase
+
+PACKAGES = ("inputtools", "second")
+HELPERS = ("tests.playing", "tests.desk_cases", "tests.page_commands")
+# The scripts have no ending by which mypy would find them; it takes each as a module of its own name.
+SCRIPTS = ("tools", "bin", "checks", "tests")
+
+
+def modules():
+    """The modules of checks/ but the one that its scripts import by its own name, and what tests share."""
+    names = [path.stem for path in sorted((TOP / "checks").glob("*.py")) if path.stem not in ("__init__", "repository_path")]
+    return [*(f"checks.{name}" for name in names), *HELPERS]
+
+
+def scripts(folder):
+    """The files of a folder that Python runs as scripts."""
+    for path in sorted((TOP / folder).iterdir()):
+        if path.is_file() and not path.suffix and path.read_bytes().startswith(b"#!/usr/bin/env python3"):
+            yield str(path.relative_to(TOP))
+
+
+class Types(FolderCase):
+    def mypy(self, *words):
+        """It has nothing to say."""
+        done = subprocess.run(["mypy", "--config-file", "tests/mypy.ini", "--cache-dir", self.folder, *words], cwd=TOP,
+                              capture_output=True, text=True, check=False)
+        self.assertEqual((0, ""), (done.returncode, done.stderr), done.stdout)
+
+    def setUp(self):
+        super().setUp()
+        if shutil.which("mypy") is None:
+            self.skipTest("mypy is not there")
+
+    def test_modules(self):
+        packages = [word for name in PACKAGES for word in ("-p", name)]
+        self.mypy(*packages, *(word for name in modules() for word in ("-m", name)))
+
+    def test_scripts(self):
+        for folder in SCRIPTS:
+            with self.subTest(folder):
+                self.mypy("--scripts-are-modules", *scripts(folder))

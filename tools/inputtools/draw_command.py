@@ -1,0 +1,55 @@
+"""Draws a played record as one page."""
+
+import os
+from typing import List, Optional
+
+from inputtools.command import Result, Words, Wrong, number
+from inputtools.page import page, svg, why_nothing
+from inputtools.played import play
+from inputtools.program import find_player
+from inputtools.source import Given
+
+HELP = """Writes a page that shows a played record, to be looked at in a browser: a lane for each source,
+for the device's frames, keys, axes and contacts, and for each client, with its reads, losses, grabs and
+synchronisations, and where its belief is not the device's state. It needs no other file and no net.
+
+Of a long history the page has a picture of the whole, and pictures of the ranges in which something parts,
+meets, is grabbed or is lost, each with what happens in it; --from and --to draw any other range.
+
+What a mark or bar stands for is shown under the pointer, where it is touched, and by the arrow keys."""
+
+STATUSES = """Status 0: it was written. 2: wrong words, a record that cannot be played, or nothing to draw in the range. 4:
+standard output failed. 130: stopped from the keyboard."""
+
+GREATEST_PLACE = 8388608
+
+
+def place(text: Optional[str]) -> Optional[int]:
+    """A place, or None where none was given."""
+    if text is None:
+        return None
+    if not text.isascii() or not text.isdigit():
+        raise Wrong(f"{text} is no place")
+    return number(text, 0, GREATEST_PLACE, "the place")
+
+
+def command(arguments: List[str]) -> Result:
+    words = Words(prog="draw", description=HELP, epilog=STATUSES)
+    words.add_argument("file", metavar="FILE", help="a record; - is standard input")
+    words.add_argument("--from", dest="first", metavar="PLACE", help="begin at this place of the history")
+    words.add_argument("--to", dest="last", metavar="PLACE", help="end with this place")
+    words.add_argument("--svg", action="store_true", help="the first device's picture alone, as SVG")
+    asked = words.parse_args(arguments)
+    first, last = place(asked.first), place(asked.last)
+    if first is not None and last is not None and last < first:
+        raise Wrong(f"--to {last} is before --from {first}")
+    given = Given(asked.file)
+    devices = play(given, find_player())
+    if not devices:
+        raise Wrong(f"{given.name}: the record has no device to draw")
+    drawn = devices[:1] if asked.svg else devices
+    if first and all(len(played.report.history) <= first for played in drawn):
+        raise Wrong(f"--from {first}: {why_nothing(drawn[0], first)}")
+    if asked.svg:
+        return Result(svg(devices[0], first, last))
+    return Result(page(os.path.basename(given.name), devices, first, last))
