@@ -1,6 +1,7 @@
 #include "process.h"
 
 #include "client.h"
+#include "connection.h"
 #include "moments.h"
 #include "settings.h"
 
@@ -13,6 +14,7 @@
 enum { PATH_ROOM = 64, LINE_ROOM = 256 };
 
 static struct process processes[PROCESSES];
+static pid_t asking;
 
 static bool has_ended(pid_t id) {
     return kill(id, 0) && errno == ESRCH;
@@ -31,6 +33,22 @@ struct process *process_of(pid_t id) {
     if (free_one)
         *free_one = (struct process){.id = id, .asked_us = now_us()};
     return free_one;
+}
+
+void process_asks(pid_t id, bool is_waiting) {
+    struct process *process = process_of(id);
+    asking = id;
+    if (!process)
+        return;
+    process->asked_us = now_us();
+    process->is_waiting = is_waiting;
+}
+
+void process_is_answered(pid_t id) {
+    struct process *process = process_of(id);
+    asking = 0;
+    if (process)
+        process->asked_us = now_us();
 }
 
 /* Whether one of a process's threads runs, or would if a processor were free. */
@@ -52,12 +70,13 @@ static bool is_running(pid_t id) {
     return runs;
 }
 
-/* It has ended, or it has asked nothing for long, and does not run. */
+/* It has ended, or it has asked nothing for long, does not run, and waits for no answer. */
 static bool is_at_rest(pid_t id) {
     struct process *process = process_of(id);
     if (!process || has_ended(id))
         return true;
-    return now_us() >= process->asked_us + settings.patience_us && !is_running(id);
+    bool is_long = now_us() >= process->asked_us + settings.patience_us;
+    return is_long && id != asking && !connection_is_pending() && !is_running(id);
 }
 
 static bool waits(pid_t id) {
