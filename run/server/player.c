@@ -66,6 +66,11 @@ static bool play_frame(void) {
     return player.next > from;
 }
 
+void player_begin(void) {
+    while (player.next < record.before_open)
+        play(&record.actions[player.next++]);
+}
+
 static void refresh_all(void) {
     for (int i = 0; i < device_count; i++)
         clients_refresh(&devices[i]);
