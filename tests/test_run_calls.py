@@ -105,7 +105,7 @@ class RunCase(FolderCase):
     ) -> subprocess.CompletedProcess[str]:
         variables = {**variables_to_play(), BUILT_VARIABLE: str(programs or self.built)}
         return subprocess.run(
-            [RUN, *map(str, words)],
+            [RUN, "--sys", "none", *map(str, words)],
             env=variables,
             stdout=subprocess.PIPE,
             stderr=subprocess.PIPE,
@@ -143,6 +143,22 @@ class Calls(RunCase):
 
     def test_threads_that_ask_at_once(self) -> None:
         self.says_all(self.ran("threads"), r"9 checks, 0 failed")
+
+    def test_a_file_that_nobody_reads_holds_nobody_up(self) -> None:
+        for options in (["--frames", 1, "--patience", 200], ["--patience", 200]):
+            words = [
+                *options,
+                "--end",
+                "gone",
+                HERE / "calls.rec",
+                "--",
+                *PYTHON,
+                HERE / "reader.py",
+                64,
+                "held",
+            ]
+            done = self.run_tool(words)
+            self.assertEqual((0, 6), (done.returncode, len(done.stdout.splitlines())), done.stderr)
 
     def test_several_processes_have_one_device(self) -> None:
         done = self.run_tool(["--frames", 1, HERE / "keys.rec", "--", *PYTHON, HERE / "processes.py"])

@@ -14,6 +14,9 @@ from inputtools.umockdev import umockdev_text
 RUNNER, DESCRIPTION = "umockdev-run", "devices.umockdev"
 MISSING = f"{RUNNER} is not there (Debian: umockdev), so a program that looks into /sys finds no device"
 
+# (umockdev-run ends in the number of a signal that ended its program; a shell's status tells both apart)
+AS_A_SHELL = ["sh", "-c", '"$@"; exit $?', "sh"]
+
 
 def with_system_files(program: List[str], record: str, folder: str, first: int) -> List[str]:
     """The words by which a program is started so that it finds what the system would have of the record's
@@ -31,4 +34,4 @@ def with_system_files(program: List[str], record: str, folder: str, first: int) 
             file.write(text)
     except OSError as fault:
         raise Wrong(f"{path}: {fault.strerror}") from None
-    return [RUNNER, "-d", path, "--", *program]
+    return [RUNNER, "-d", path, "--", *AS_A_SHELL, *program]
