@@ -486,6 +486,7 @@ class Filters(StuckCase):
 
     def test_what_is_left_is_what_the_program_leaves(self):
         """Of random frames and filters: a tap beside no grab reads just what the filters here do not eat."""
+        needs_program(self)
         for seed in range(12):
             with self.subTest(seed):
                 text = random_filtered(random.Random(seed))
