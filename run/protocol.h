@@ -10,6 +10,7 @@
 #define INPUTPLAY_RUN_PROTOCOL_H
 
 #include <linux/input.h>
+#include <linux/uinput.h>
 #include <stdbool.h>
 #include <stdint.h>
 #include <sys/ioctl.h>
@@ -36,8 +37,8 @@ enum request_kind {
     ASK_OPEN = 1,  /**< node, flags: those of open(). */
     ASK_READ = 2,  /**< room: how many bytes are wanted. */
     ASK_WRITE = 3, /**< The payload is what is written. */
-    ASK_IOCTL = 4, /**< number; flags: 1 where its argument is a value and not 0; payload: what the kernel
-                      would read. */
+    ASK_IOCTL = 4, /**< number; flags: 1 where its argument is a value and not 0; value: that value; payload:
+                      what the kernel would read. */
     ASK_WAIT = 5   /**< The program is going to wait; with a descriptor where it waits for one. */
 };
 
@@ -49,7 +50,7 @@ struct request {
     uint32_t number;
     uint32_t length; /**< Of the payload. */
     uint32_t room;
-    uint32_t reserved;
+    uint32_t value;
 };
 
 struct answer {
@@ -80,18 +81,32 @@ static inline int device_of_node(int32_t node) {
     return node % DEVICES;
 }
 
-/** Whether an ioctl's argument is a value, and no place. */
-static inline bool is_by_value(uint32_t number) {
-    return number == (uint32_t)EVIOCRMFF || number == (uint32_t)EVIOCGRAB || number == (uint32_t)EVIOCREVOKE;
+/** The node by which programs make devices; there is one of a run. */
+static inline int32_t maker_node(void) {
+    return node_number(NODE_UINPUT, 0);
 }
 
-/** How many bytes an ioctl reads where its argument points to. (The number of EVIOCGMTSLOTS does not say.) */
+/** Whether an ioctl sets a bit of a device that is made (UI_SET_EVBIT and on). */
+static inline bool is_bit_request(uint32_t number) {
+    bool has_form = (number & ~(uint32_t)_IOC_NRMASK) == (UI_SET_EVBIT & ~(uint32_t)_IOC_NRMASK);
+    return has_form && _IOC_NR(number) >= _IOC_NR(UI_SET_EVBIT) && _IOC_NR(number) <= _IOC_NR(UI_SET_PROPBIT);
+}
+
+/** Whether an ioctl's argument is a value, and no place. */
+static inline bool is_by_value(uint32_t number) {
+    return number == (uint32_t)EVIOCRMFF || number == (uint32_t)EVIOCGRAB ||
+           number == (uint32_t)EVIOCREVOKE || is_bit_request(number);
+}
+
+/** How many bytes an ioctl reads where its argument points to. (The number of EVIOCGMTSLOTS does not say, and
+ * UI_SET_PHYS reads a text.) */
 static inline uint32_t bytes_sent(uint32_t number) {
     if (_IOC_TYPE(number) == 'E' && _IOC_NR(number) == _IOC_NR(EVIOCGMTSLOTS(0)) &&
         _IOC_DIR(number) == _IOC_READ)
         return sizeof(uint32_t);
     bool is_read = _IOC_DIR(number) & _IOC_WRITE || number == (uint32_t)EVIOCGMASK;
-    return is_read && !is_by_value(number) ? _IOC_SIZE(number) : 0;
+    bool is_text = number == (uint32_t)UI_SET_PHYS;
+    return is_read && !is_text && !is_by_value(number) ? _IOC_SIZE(number) : 0;
 }
 
 /** How many bytes the kernel keeps of a client's mask of a type, or of the mask of types (EV_SYN); 0: there

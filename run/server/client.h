@@ -18,6 +18,7 @@ struct client;
 struct ioctl_call {
     uint32_t number;
     bool is_set;       /**< Of an argument that is a value: it is not 0. */
+    uint32_t value;    /**< That value. */
     uint8_t *bytes;    /**< What the argument points to; the answer's bytes replace it. There is room for
                           PAYLOAD_MAX. */
     uint32_t given;    /**< How many bytes the program gave. */
@@ -33,13 +34,13 @@ struct node_calls {
     void (*close)(struct client *client);
 };
 
-extern const struct node_calls evdev_calls, joydev_calls;
+extern const struct node_calls evdev_calls, joydev_calls, uinput_calls;
 
 struct client {
     bool is_open; /**< The place is free where it is not. */
     enum node_kind kind;
     const struct node_calls *calls;
-    struct device *device;
+    struct device *device; /**< NULL where it is of /dev/uinput and has none. */
     uint32_t number; /**< Of the library's client. */
     ino_t inode;     /**< Of the program's end: what a descriptor is known by. */
     pid_t owner;     /**< The process that asked last. */
@@ -71,6 +72,10 @@ void client_show(struct client *client, bool has_events);
 
 /** Looks at all clients of a device: which have something to read, and which have lost the device. */
 void clients_refresh(struct device *device);
+
+/** Looks for what waits for the owner of a device, which is asked for anew where it may have come.
+ * (uinput.c) */
+void owner_refresh(struct client *client);
 
 /** Closes the clients whose last descriptor has gone. */
 void clients_reap(void);

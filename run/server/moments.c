@@ -14,6 +14,11 @@ uint64_t now_us(void) {
     return clock_us(CLOCK_MONOTONIC);
 }
 
+uint64_t clock_ahead(clockid_t clock) {
+    uint64_t time = clock_us(clock), monotonic = now_us();
+    return time > monotonic ? time - monotonic : 0;
+}
+
 uint64_t step_moment(void) {
     return settings.is_record_clock ? line_moment : now_us();
 }

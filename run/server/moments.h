@@ -8,6 +8,9 @@
 /** The time of a clock, in microseconds. */
 uint64_t clock_us(clockid_t clock);
 
+/** How far a clock is ahead of the monotonic one, whose moments the steps have. */
+uint64_t clock_ahead(clockid_t clock);
+
 /** The monotonic clock, in microseconds. */
 uint64_t now_us(void);
 

@@ -41,7 +41,7 @@ bool is_all_read(void) {
     for (int i = 0; i < CLIENTS; i++) {
         if (clients[i].is_open && clients[i].has_byte)
             return false;
-        any |= clients[i].is_open;
+        any |= clients[i].is_open && clients[i].kind != NODE_UINPUT;
     }
     return any;
 }

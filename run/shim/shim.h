@@ -48,12 +48,12 @@ extern atomic_bool may_have_nodes;
 /** The node that a path below /dev names, or -1. (paths.c) */
 int node_of_dev_path(const char *path);
 
-/** Where a path below /dev or /run stands in truth. (paths.c) */
+/** Where a path below /dev, /run or /sys stands in truth. (paths.c) */
 const char *true_dev_path(const char *path, char *room, size_t size);
 
 /** Whether a path begins as those do that the shim may have to do with. Most do not. */
 static inline bool may_be_mapped(const char *path) {
-    return path && path[0] == '/' && (path[1] == 'd' || path[1] == 'r');
+    return path && path[0] == '/' && (path[1] == 'd' || path[1] == 'r' || path[1] == 's');
 }
 
 /** The node that a path names, or -1. */
@@ -66,7 +66,8 @@ static inline const char *true_path(const char *path, char *room, size_t size) {
     return may_be_mapped(path) ? true_dev_path(path, room, size) : path;
 }
 
-/** The minor number of a node. (paths.c) */
+/** The major and the minor number of a node. (paths.c) */
+unsigned major_of_node(int node);
 unsigned minor_of_node(int node);
 
 /** The node that a socket's other end is named for, or -1. (descriptors.c) */
@@ -107,6 +108,10 @@ bool tell_wait(int descriptor);
 
 /** Copies from the program's memory: false where it is not there. (memory.c) */
 bool copy_from_program(void *to, const void *from, size_t length);
+
+/** Copies a text with its NUL from the program's memory: its length with the NUL, or -EFAULT, or -EINVAL where
+ * there is no room for it. (memory.c) */
+long copy_text_from_program(char *to, const char *from, size_t room);
 
 /** A system call's result: what it gives, or -1 and errno. */
 long with_errno(long result);
