@@ -49,6 +49,7 @@ struct client {
     bool has_byte;
     bool can_read, can_write;
     bool found_nothing; /**< Its last call was a read that found nothing. */
+    bool has_read;      /**< It has read events at least once. */
     uint64_t masks[EV_CNT][MASK_WORDS];
 };
 

@@ -36,10 +36,27 @@ static bool waits(pid_t id) {
            has_ended(id);
 }
 
+static bool is_owned_by(const struct device *device, pid_t process) {
+    for (int i = 0; i < CLIENTS; i++) {
+        const struct client *client = &clients[i];
+        if (client->is_open && client->kind == NODE_UINPUT && client->device == device &&
+            client->owner == process)
+            return true;
+    }
+    return false;
+}
+
+/* Whether there is something that is going to be read. Who makes a device may open its node too, to ask for
+ * what it has, and read nothing (python3-evdev does). */
+static bool is_unread(const struct client *client) {
+    return client->has_byte && (client->has_read || !client->device || !client->device->is_made ||
+                                !is_owned_by(client->device, client->owner));
+}
+
 bool is_all_read(void) {
     bool any = false;
     for (int i = 0; i < CLIENTS; i++) {
-        if (clients[i].is_open && clients[i].has_byte)
+        if (clients[i].is_open && is_unread(&clients[i]))
             return false;
         any |= clients[i].is_open && clients[i].kind != NODE_UINPUT;
     }
@@ -61,7 +78,7 @@ enum possession files_of(pid_t id) {
         const struct client *client = &clients[i];
         if (!client->is_open || client->owner != id)
             continue;
-        if (client->has_byte)
+        if (is_unread(client))
             return HAS_SOMETHING_TO_READ;
         found = HAS_READ_ALL;
     }
