@@ -78,6 +78,9 @@ void clients_refresh(struct device *device);
  * (uinput.c) */
 void owner_refresh(struct client *client);
 
+/** Says where the program that opened /dev/uinput finds /sys, where that is another place. (uinput.c) */
+void owner_take_root(const struct client *client, const char *root);
+
 /** Closes the clients whose last descriptor has gone. */
 void clients_reap(void);
 

@@ -75,6 +75,15 @@ static int answer_client(struct client *client, struct exchange *exchange) {
     }
 }
 
+static int answer_open(struct exchange *exchange, pid_t process_id) {
+    const struct request *request = &exchange->request;
+    exchange->opened = client_open(request->node, request->flags, process_id);
+    bool has_root = request->length && !given.bytes[request->length - 1];
+    if (exchange->opened >= 0 && request->node == maker_node() && has_root)
+        owner_take_root(client_of(exchange->opened), (const char *)given.bytes);
+    return exchange->opened < 0 ? exchange->opened : 0;
+}
+
 static int answer_request(struct exchange *exchange, pid_t process_id) {
     const struct request *request = &exchange->request;
     struct client *client = client_of(exchange->brought_count ? exchange->brought[0] : -1);
@@ -83,10 +92,8 @@ static int answer_request(struct exchange *exchange, pid_t process_id) {
         process->asked_us = now_us();
         process->is_waiting = request->kind == ASK_WAIT;
     }
-    if (request->kind == ASK_OPEN) {
-        exchange->opened = client_open(request->node, request->flags, process_id);
-        return exchange->opened < 0 ? exchange->opened : 0;
-    }
+    if (request->kind == ASK_OPEN)
+        return answer_open(exchange, process_id);
     if (client) {
         client->owner = process_id;
         client->brought = exchange->brought[0];

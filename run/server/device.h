@@ -88,14 +88,7 @@ void nodes_make(const struct device *device);
 /** Removes them: the device has gone. (nodes.c) */
 void nodes_remove(const struct device *device);
 
-/** Makes what libraries look for in /sys of a device that a program made. (nodes.c) */
-void system_files_make(const struct device *device);
-
 /** Makes the file that stands for /dev/uinput. (nodes.c) */
 void nodes_make_maker(void);
-
-/** The name of the folder that a device has in /sys. (nodes.c) */
-enum { SYSTEM_NAME_ROOM = 16 };
-void take_system_name(const struct device *device, char *name);
 
 #endif

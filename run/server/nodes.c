@@ -1,6 +1,5 @@
 /* The files by which programs find a device, in the folder of the run: input/eventN and input/jsN stand for
- * /dev/input's, and udev/c13:M is what udev would know of the node. uinput stands for /dev/uinput. Of a device
- * that a program made sys/inputN is what libraries look at in /sys/devices/virtual/input to find its node. */
+ * /dev/input's, and udev/c13:M is what udev would know of the node. uinput stands for /dev/uinput. */
 #include "device.h"
 
 #include "failure.h"
@@ -12,7 +11,7 @@
 #include <sys/stat.h>
 #include <unistd.h>
 
-enum { PATH_ROOM = 4400, PART_ROOM = 64, FIRST_MINOR = 64, FIRST_INPUT = 90 };
+enum { PATH_ROOM = 4400, FIRST_MINOR = 64 };
 
 /** The files of a device: their names with its number, and how far ahead that is. */
 enum node_file { UDEV_FILE, JOYSTICK_FILE, EVENT_FILE, NODE_FILES };
@@ -96,47 +95,8 @@ void nodes_make_maker(void) {
     fclose(create_file(path_below("uinput", path)));
 }
 
-void take_system_name(const struct device *device, char *name) {
-    snprintf(name, SYSTEM_NAME_ROOM, "input%d", FIRST_INPUT + settings.first_number + device_index(device));
-}
-
-/** The folders of a device in /sys: of all devices, its own, and its node's. */
-enum system_folder { ALL_FOLDER, OWN_FOLDER, NODE_FOLDER, SYSTEM_FOLDERS };
-
-static const char *system_folder(const struct device *device, enum system_folder folder, char *room) {
-    char own[SYSTEM_NAME_ROOM];
-    take_system_name(device, own);
-    int number = settings.first_number + device_index(device);
-    if (folder == ALL_FOLDER)
-        return "sys";
-    snprintf(room, PART_ROOM, folder == OWN_FOLDER ? "sys/%s" : "sys/%s/event%d", own, number);
-    return room;
-}
-
-void system_files_make(const struct device *device) {
-    char name[PART_ROOM], path[PATH_ROOM], own[SYSTEM_NAME_ROOM];
-    for (int folder = 0; folder < SYSTEM_FOLDERS; folder++)
-        make_folder(system_folder(device, (enum system_folder)folder, name));
-    take_system_name(device, own);
-    snprintf(name, sizeof name, "sys/%s/name", own);
-    FILE *file = create_file(path_below(name, path));
-    fprintf(file, "%s\n", device->identity.name);
-    fclose(file);
-}
-
-static void system_files_remove(const struct device *device) {
-    char name[PART_ROOM], path[PATH_ROOM], own[SYSTEM_NAME_ROOM];
-    take_system_name(device, own);
-    snprintf(name, sizeof name, "sys/%s/name", own);
-    unlink(path_below(name, path));
-    for (int folder = SYSTEM_FOLDERS - 1; folder > ALL_FOLDER; folder--)
-        rmdir(path_below(system_folder(device, (enum system_folder)folder, name), path));
-}
-
 void nodes_remove(const struct device *device) {
     char path[PATH_ROOM];
     for (int file = 0; file < NODE_FILES; file++)
         unlink(path_of(device, (enum node_file)file, path));
-    if (device->is_made)
-        system_files_remove(device);
 }

@@ -2,10 +2,12 @@
  * injects what the device does, and reads what is sent to it. */
 #include "evdev.h"
 #include "maker.h"
+#include "system.h"
 
 #include "failure.h"
 #include "moments.h"
 #include "player.h"
+#include "settings.h"
 
 #include <errno.h>
 #include <stdio.h>
@@ -16,6 +18,7 @@ static const size_t EVENT_BYTES = sizeof(struct input_event);
 /** What a file of /dev/uinput has beside its device: what was said of it, and what waits to be read. */
 static struct owner {
     struct maker maker;
+    char root[SYSTEM_ROOT_ROOM]; /**< Where the program finds /sys. */
     struct input_event waiting[INPUTPLAY_FEEDBACK_MAX];
     size_t count;
 } owners[CLIENTS];
@@ -25,30 +28,42 @@ static struct owner *owner_of(const struct client *client) {
 }
 
 static int uinput_open(struct client *client) {
-    *owner_of(client) = (struct owner){.count = 0};
+    struct owner *owner = owner_of(client);
+    *owner = (struct owner){.count = 0};
+    snprintf(owner->root, sizeof owner->root, "%s", settings.folder);
     return 0;
+}
+
+void owner_take_root(const struct client *client, const char *root) {
+    struct owner *owner = owner_of(client);
+    if (root[0] == '/' && strlen(root) < sizeof owner->root)
+        snprintf(owner->root, sizeof owner->root, "%s", root);
 }
 
 /* The device goes, and what was said of it is forgotten: another one may be made. */
 static void destroy(struct client *client) {
     struct device *device = client->device;
-    *owner_of(client) = (struct owner){.count = 0};
+    struct owner *owner = owner_of(client);
+    owner->maker = (struct maker){.is_set_up = false};
+    owner->count = 0;
     client->device = NULL;
-    if (!device || device->is_gone)
+    if (!device)
         return;
     device->is_gone = true;
     nodes_remove(device);
+    system_files_remove(device, owner->root);
     clients_refresh(device);
 }
 
 static int create(struct client *client) {
     int error;
+    struct owner *owner = owner_of(client);
     if (client->device)
         return -EINVAL;
-    client->device = maker_make(&owner_of(client)->maker, &error);
+    client->device = maker_make(&owner->maker, &error);
     if (!client->device)
         return error;
-    system_files_make(client->device);
+    system_files_make(client->device, owner->root);
     nodes_make(client->device);
     return 0;
 }
@@ -70,7 +85,7 @@ void owner_refresh(struct client *client) {
     struct owner *owner = owner_of(client);
     inputplay_event events[INPUTPLAY_FEEDBACK_MAX];
     uint32_t at, count, is_full;
-    if (!device->may_have_sent || device->is_gone)
+    if (!device->may_have_sent)
         return;
     device->may_have_sent = false;
     inputplay_feedback(&device->handle, events, INPUTPLAY_FEEDBACK_MAX, &at, &count, &is_full);
@@ -98,7 +113,7 @@ static int uinput_read(struct client *client, void *to, size_t length) {
     if (length && length < EVENT_BYTES)
         return -EINVAL;
     for (;;) {
-        if (!client->device || client->device->is_gone)
+        if (!client->device)
             return -ENODEV;
         int done = take_waiting(client, to, length);
         if (done || !length) {
@@ -116,7 +131,7 @@ static int inject(struct client *client, const void *from, size_t length) {
     size_t done = 0;
     if (length && length < EVENT_BYTES)
         return -EINVAL;
-    for (; done + EVENT_BYTES <= length && !client->device->is_gone; done += EVENT_BYTES) {
+    for (; done + EVENT_BYTES <= length; done += EVENT_BYTES) {
         struct input_event event;
         inputplay_reply reply;
         memcpy(&event, (const char *)from + done, EVENT_BYTES);
@@ -138,7 +153,7 @@ static int uinput_write(struct client *client, const void *from, size_t length) 
     player_note_active();
     client->found_nothing = false;
     if (client->device)
-        return client->device->is_gone ? -ENODEV : inject(client, from, length);
+        return inject(client, from, length);
     if (length != sizeof told)
         return length ? -EINVAL : 0;
     memcpy(&told, from, sizeof told);
