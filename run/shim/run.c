@@ -13,10 +13,11 @@ atomic_bool may_have_nodes;
 
 static void take_environment(void) {
     const char *folder = getenv("INPUTPLAY_RUN_FOLDER"), *first = getenv("INPUTPLAY_RUN_FIRST");
-    const char *frames = getenv("INPUTPLAY_RUN_BY_FRAMES");
+    const char *frames = getenv("INPUTPLAY_RUN_BY_FRAMES"), *root = getenv("UMOCKDEV_DIR");
     if (!folder || strlen(folder) >= sizeof run.folder)
         return;
     strcpy(run.folder, folder);
+    strcpy(run.root, root && strlen(root) < sizeof run.root ? root : folder);
     run.number = run_number(folder);
     run.first_number = first ? atoi(first) : 0;
     run.is_by_frames = frames && frames[0] == '1';

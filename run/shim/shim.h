@@ -34,6 +34,7 @@ static inline void *real_function(_Atomic(void *) *found, const char *name) {
 /** What the environment says of the run. */
 struct run {
     char folder[4096]; /**< Empty where the program is in no run. */
+    char root[4096];   /**< Where the folder sys stands in truth: umockdev shows another one. */
     uint64_t number;   /**< Of the names of the run's ends. */
     int first_number;  /**< The number of the first node. */
     bool is_by_frames; /**< Frames come where programs wait, so they say when they do. */
