@@ -34,8 +34,8 @@ enum protocol_limit {
 enum node_kind { NODE_EVENT = 0, NODE_JOYSTICK = 1, NODE_UINPUT = 2, NODE_KINDS = 3 };
 
 enum request_kind {
-    ASK_OPEN = 1,  /**< node, flags: those of open(); payload, of /dev/uinput: where the folder sys of the program stands
-                      in truth. */
+    ASK_OPEN = 1,  /**< node, flags: those of open(); payload, of /dev/uinput: where the folder sys of the
+                      program stands  in truth. */
     ASK_READ = 2,  /**< room: how many bytes are wanted. */
     ASK_WRITE = 3, /**< The payload is what is written. */
     ASK_IOCTL = 4, /**< number; flags: 1 where its argument is a value and not 0; value: that value; payload:

@@ -73,8 +73,8 @@ int client_open(int32_t node, uint32_t flags, pid_t process) {
     struct device *device = node == maker_node() ? NULL : &devices[device_of_node(node)];
     enum node_kind kind = kind_of_node(node);
     const struct node_calls *calls = CALLS[kind];
-    *client = (struct client){
-        .kind = kind, .calls = calls, .device = device, .owner = process, .brought = -1};
+    *client =
+        (struct client){.kind = kind, .calls = calls, .device = device, .owner = process, .brought = -1};
     memset(client->masks, 0xff, sizeof client->masks);
     client->can_read = (flags & O_ACCMODE) != O_WRONLY;
     client->can_write = (flags & O_ACCMODE) != O_RDONLY;

@@ -41,11 +41,11 @@ struct client {
     enum node_kind kind;
     const struct node_calls *calls;
     struct device *device; /**< NULL where it is of /dev/uinput and has none. */
-    uint32_t number; /**< Of the library's client. */
-    ino_t inode;     /**< Of the program's end: what a descriptor is known by. */
-    pid_t owner;     /**< The process that asked last. */
-    int peer;        /**< Our end of the pair. A byte waits in the program's while events do. */
-    int brought;     /**< The program's end, while a request that brought it is answered; else -1. */
+    uint32_t number;       /**< Of the library's client. */
+    ino_t inode;           /**< Of the program's end: what a descriptor is known by. */
+    pid_t owner;           /**< The process that asked last. */
+    int peer;              /**< Our end of the pair. A byte waits in the program's while events do. */
+    int brought;           /**< The program's end, while a request that brought it is answered; else -1. */
     bool has_byte;
     bool can_read, can_write;
     bool found_nothing; /**< Its last call was a read that found nothing. */

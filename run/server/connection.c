@@ -45,9 +45,11 @@ int connection_count;
 
 static int answer_ioctl(struct client *client, struct exchange *exchange) {
     const struct request *request = &exchange->request;
-    struct ioctl_call call = {
-        .number = request->number, .is_set = request->flags, .value = request->value,
-        .bytes = given.bytes, .given = request->length};
+    struct ioctl_call call = {.number = request->number,
+                              .is_set = request->flags,
+                              .value = request->value,
+                              .bytes = given.bytes,
+                              .given = request->length};
     if (call.given < bytes_sent(call.number))
         return -EINVAL;
     int result = client->calls->ioctl(client, &call);

@@ -20,7 +20,9 @@ static unsigned contacts_of(const struct device *device, const struct input_absi
         return device->slots;
     if (device_has(device, EV_ABS, ABS_MT_TRACKING_ID)) {
         int64_t count = (int64_t)axes[ABS_MT_TRACKING_ID].maximum - axes[ABS_MT_TRACKING_ID].minimum + 1;
-        return count < CONTACTS_LEAST ? CONTACTS_LEAST : count > CONTACTS_MOST ? CONTACTS_MOST : (unsigned)count;
+        return count < CONTACTS_LEAST  ? CONTACTS_LEAST
+               : count > CONTACTS_MOST ? CONTACTS_MOST
+                                       : (unsigned)count;
     }
     return device_has(device, EV_ABS, ABS_MT_POSITION_X) ? CONTACTS_LEAST : 0;
 }

@@ -82,7 +82,7 @@ int maker_set_bit(struct maker *maker, uint32_t number, uint32_t bit) {
         uint32_t number, most;
         unsigned type;
     } kinds[] = {
-        {UI_SET_EVBIT, EV_MAX, EV_SYN},  {UI_SET_KEYBIT, KEY_MAX, EV_KEY}, {UI_SET_RELBIT, REL_MAX, EV_REL},
+        {UI_SET_EVBIT, EV_MAX, EV_SYN},   {UI_SET_KEYBIT, KEY_MAX, EV_KEY}, {UI_SET_RELBIT, REL_MAX, EV_REL},
         {UI_SET_ABSBIT, ABS_MAX, EV_ABS}, {UI_SET_MSCBIT, MSC_MAX, EV_MSC}, {UI_SET_LEDBIT, LED_MAX, EV_LED},
         {UI_SET_SNDBIT, SND_MAX, EV_SND}, {UI_SET_SWBIT, SW_MAX, EV_SW},
     };

@@ -83,7 +83,7 @@ static void add_description(struct reading *reading, const char *line, char **wo
     if (!strcmp(what, "log") && strtoul(words[1], NULL, 10) == USUAL_LOG)
         fprintf(reading->description, "log %d\n", LONGEST_LOG);
     else if (!strcmp(what, "clock") && !settings.is_record_clock)
-        fprintf(reading->description, "clock %s %llu\n", words[1], 
+        fprintf(reading->description, "clock %s %llu\n", words[1],
                 (unsigned long long)clock_ahead(words[1][0] == 'r' ? CLOCK_REALTIME : CLOCK_BOOTTIME));
     else
         fprintf(reading->description, "%s\n", line);

@@ -1,6 +1,6 @@
-/* The files of a device in /sys, as the kernel has them: libevdev looks there for the node of a device that it
- * made, and libudev for all that it tells. They are made where the program finds /sys: in what umockdev-run
- * shows it, or else in the folder of the run. */
+/* The files of a device in /sys, as the kernel has them: libevdev looks there for the node of a device that
+ * it made, and libudev for all that it tells. They are made where the program finds /sys: in what
+ * umockdev-run shows it, or else in the folder of the run. */
 #include "system.h"
 
 #include "failure.h"
@@ -14,7 +14,14 @@
 #include <sys/stat.h>
 #include <unistd.h>
 
-enum { PATH_ROOM = 4400, PART_ROOM = 256, BITS_ROOM = 1024, FIRST_INPUT = 90, FIRST_MINOR = 64, OPEN_MOST = 8 };
+enum {
+    PATH_ROOM = 4400,
+    PART_ROOM = 256,
+    BITS_ROOM = 1024,
+    FIRST_INPUT = 90,
+    FIRST_MINOR = 64,
+    OPEN_MOST = 8
+};
 
 /** Where a device's files are made. */
 struct place {

@@ -58,7 +58,8 @@ static int node_request(int descriptor, uint32_t number, void *argument) {
     question.request.value = (uintptr_t)argument < UINT32_MAX ? (uint32_t)(uintptr_t)argument : UINT32_MAX;
     question.sent[0] = (struct iovec){argument, bytes_sent(number)};
     question.sent_count = bytes_sent(number) > 0;
-    question.answer = (struct iovec){argument, answer_room(number)};
+    if (answer_room(number)) /* (else the argument is no place, and may be anything) */
+        question.answer = (struct iovec){argument, answer_room(number)};
     return ask(&question);
 }
 

@@ -110,8 +110,8 @@ bool tell_wait(int descriptor);
 /** Copies from the program's memory: false where it is not there. (memory.c) */
 bool copy_from_program(void *to, const void *from, size_t length);
 
-/** Copies a text with its NUL from the program's memory: its length with the NUL, or -EFAULT, or -EINVAL where
- * there is no room for it. (memory.c) */
+/** Copies a text with its NUL from the program's memory: its length with the NUL, or -EFAULT, or -EINVAL
+ * where there is no room for it. (memory.c) */
 long copy_text_from_program(char *to, const char *from, size_t room);
 
 /** A system call's result: what it gives, or -1 and errno. */
