@@ -144,6 +144,22 @@ class Calls(RunCase):
     def test_threads_that_ask_at_once(self) -> None:
         self.says_all(self.ran("threads"), r"9 checks, 0 failed")
 
+    def test_a_file_that_nobody_reads_holds_nobody_up(self) -> None:
+        for options in (["--frames", 1, "--patience", 200], ["--patience", 200]):
+            words = [
+                *options,
+                "--end",
+                "gone",
+                HERE / "calls.rec",
+                "--",
+                *PYTHON,
+                HERE / "reader.py",
+                64,
+                "held",
+            ]
+            done = self.run_tool(words)
+            self.assertEqual((0, 6), (done.returncode, len(done.stdout.splitlines())), done.stderr)
+
     def test_several_processes_have_one_device(self) -> None:
         done = self.run_tool(["--frames", 1, HERE / "keys.rec", "--", *PYTHON, HERE / "processes.py"])
         self.says_ok(done, PROCESS_CHECKS)
@@ -235,7 +251,11 @@ class Histories(RunCase):
             "KEY_LEFTCTRL: down for it, up on the device", self.tool("stuck", self.folder / "history.rec")
         )
         record.write_text("#= desktop drops 0\n" + STUCK.read_text())
-        self.assertIn("1 of 1 expectation held", self.ran("--as", "desktop", "--frames", 1, record)[1])
+        page = self.folder / "page.html"
+        self.assertIn(
+            "1 of 1 expectation held", self.ran("--as", "desktop", "--frames", 1, "--draw", page, record)[1]
+        )
+        self.assertIn("KEY_LEFTCTRL", page.read_text())
 
     def test_it_is_the_same_at_each_run(self) -> None:
         one, other = (self.ran("--frames", frames, HERE / "keys.rec")[0] for frames in (3, 3))

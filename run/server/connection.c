@@ -3,7 +3,6 @@
 #include "client.h"
 #include "ending.h"
 #include "failure.h"
-#include "moments.h"
 #include "player.h"
 #include "process.h"
 #include "settings.h"
@@ -89,11 +88,6 @@ static int answer_open(struct exchange *exchange, pid_t process_id) {
 static int answer_request(struct exchange *exchange, pid_t process_id) {
     const struct request *request = &exchange->request;
     struct client *client = client_of(exchange->brought_count ? exchange->brought[0] : -1);
-    struct process *process = process_of(process_id);
-    if (process) {
-        process->asked_us = now_us();
-        process->is_waiting = request->kind == ASK_WAIT;
-    }
     if (request->kind == ASK_OPEN)
         return answer_open(exchange, process_id);
     if (client) {
@@ -161,8 +155,11 @@ static bool send_answer(int descriptor, struct exchange *exchange) {
 static bool serve(const struct connection *connection) {
     struct exchange exchange = {.opened = -1};
     enum receipt receipt = receive(connection->descriptor, &exchange);
-    if (receipt == GOT_REQUEST)
+    if (receipt == GOT_REQUEST) {
+        process_asks(connection->process, exchange.request.kind == ASK_WAIT);
         exchange.answer.result = answer_request(&exchange, connection->process);
+        process_is_answered(connection->process);
+    }
     for (int i = 0; i < exchange.brought_count; i++)
         close(exchange.brought[i]);
     bool is_good =
@@ -170,6 +167,13 @@ static bool serve(const struct connection *connection) {
     if (exchange.opened >= 0)
         close(exchange.opened);
     return is_good;
+}
+
+bool connection_is_pending(void) {
+    struct pollfd lines[CONNECTIONS];
+    for (int i = 0; i < connection_count; i++)
+        lines[i] = (struct pollfd){.fd = connections[i].descriptor, .events = POLLIN};
+    return poll(lines, (nfds_t)connection_count, 0) > 0;
 }
 
 static void drop(int index) {

@@ -22,6 +22,9 @@ int listen_for_programs(void);
 /** Takes a new connection, and what it asks first. Where there are too many the oldest is closed. */
 void connection_accept(int listening);
 
+/** Whether a request has come that was not taken yet. */
+bool connection_is_pending(void);
+
 /** Takes a request and answers it; closes the connection at its end, or after rubbish. */
 void connection_serve(int index);
 

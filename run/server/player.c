@@ -75,8 +75,11 @@ static bool may_begin(void) {
     return player.opens >= settings.wanted_opens;
 }
 
+/* (what nobody reads is looked at again: its process may come to rest) */
 uint64_t rest_at(void) {
-    return is_all_read() && may_begin() ? player.active_us + settings.quiet_us : UINT64_MAX;
+    if (!may_begin())
+        return UINT64_MAX;
+    return is_all_read() ? player.active_us + settings.quiet_us : now_us() + LOOK_AGAIN_US;
 }
 
 static void play_frames(void) {

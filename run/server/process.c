@@ -1,14 +1,20 @@
 #include "process.h"
 
 #include "client.h"
+#include "connection.h"
 #include "moments.h"
 #include "settings.h"
 
+#include <dirent.h>
 #include <errno.h>
 #include <signal.h>
-#include <stddef.h>
+#include <stdio.h>
+#include <string.h>
+
+enum { PATH_ROOM = 64, LINE_ROOM = 256 };
 
 static struct process processes[PROCESSES];
+static pid_t asking;
 
 static bool has_ended(pid_t id) {
     return kill(id, 0) && errno == ESRCH;
@@ -29,11 +35,53 @@ struct process *process_of(pid_t id) {
     return free_one;
 }
 
-/* It says so, it has ended, or it has asked nothing for long. */
+void process_asks(pid_t id, bool is_waiting) {
+    struct process *process = process_of(id);
+    asking = id;
+    if (!process)
+        return;
+    process->asked_us = now_us();
+    process->is_waiting = is_waiting;
+}
+
+void process_is_answered(pid_t id) {
+    struct process *process = process_of(id);
+    asking = 0;
+    if (process)
+        process->asked_us = now_us();
+}
+
+/* Whether one of a process's threads runs, or would if a processor were free. */
+static bool is_running(pid_t id) {
+    char path[PATH_ROOM], line[LINE_ROOM];
+    snprintf(path, sizeof path, "/proc/%d/task", (int)id);
+    DIR *threads = opendir(path);
+    bool runs = false;
+    for (struct dirent *thread; threads && (thread = readdir(threads)) && !runs;) {
+        snprintf(path, sizeof path, "/proc/%d/task/%.16s/stat", (int)id, thread->d_name);
+        FILE *file = fopen(path, "r");
+        const char *state = file && fgets(line, sizeof line, file) ? strrchr(line, ')') : NULL;
+        runs = state && (state[2] == 'R' || state[2] == 'D');
+        if (file)
+            fclose(file);
+    }
+    if (threads)
+        closedir(threads);
+    return runs;
+}
+
+/* It has ended, or it has asked nothing for long, does not run, and waits for no answer. */
+static bool is_at_rest(pid_t id) {
+    struct process *process = process_of(id);
+    if (!process || has_ended(id))
+        return true;
+    bool is_long = now_us() >= process->asked_us + settings.patience_us;
+    return is_long && id != asking && !connection_is_pending() && !is_running(id);
+}
+
 static bool waits(pid_t id) {
     struct process *process = process_of(id);
-    return !process || process->is_waiting || now_us() >= process->asked_us + settings.patience_us ||
-           has_ended(id);
+    return (process && process->is_waiting) || is_at_rest(id);
 }
 
 static bool is_owned_by(const struct device *device, pid_t process) {
@@ -53,23 +101,29 @@ static bool is_unread(const struct client *client) {
                                 !is_owned_by(client->device, client->owner));
 }
 
+/* Whether nothing is to be done for a client: it waits and has read all, or nobody cares for what is left. */
+static bool is_idle(const struct client *client) {
+    return is_unread(client) ? is_at_rest(client->owner) : waits(client->owner);
+}
+
 bool is_all_read(void) {
     bool any = false;
     for (int i = 0; i < CLIENTS; i++) {
-        if (clients[i].is_open && is_unread(&clients[i]))
+        if (clients[i].is_open && is_unread(&clients[i]) && !is_at_rest(clients[i].owner))
             return false;
-        any |= clients[i].is_open && clients[i].kind != NODE_UINPUT;
+        any |= clients[i].is_open && clients[i].device;
     }
     return any;
 }
 
 bool all_processes_wait(void) {
-    if (!is_all_read())
-        return false;
-    for (int i = 0; i < CLIENTS; i++)
-        if (clients[i].is_open && !waits(clients[i].owner))
+    bool any = false;
+    for (int i = 0; i < CLIENTS; i++) {
+        if (clients[i].is_open && !is_idle(&clients[i]))
             return false;
-    return true;
+        any |= clients[i].is_open && clients[i].device;
+    }
+    return any;
 }
 
 enum possession files_of(pid_t id) {

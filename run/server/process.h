@@ -18,10 +18,17 @@ struct process {
 /** The place of a process, which may be a new one; NULL where none is left. */
 struct process *process_of(pid_t id);
 
-/** Whether each process that used an open file last waits, and has read all. There is such a file. */
+/** A process asks something, and then is answered. Between the two it is not at rest, however long that
+ * takes. */
+void process_asks(pid_t id, bool is_waiting);
+void process_is_answered(pid_t id);
+
+/** Whether each process that used an open file last waits, and has read all that it cares for. There is such
+ * a file. */
 bool all_processes_wait(void);
 
-/** Whether there are open files, and nothing is left to read in any of them. */
+/** Whether there are open files, and nothing is left to read in any of them that somebody cares for: a
+ * process that has asked nothing for long, and does not run, does not. */
 bool is_all_read(void);
 
 /** Whether this process used an open file last, and if so whether one of them has something to read. */

@@ -10,7 +10,7 @@
 #include <string.h>
 
 struct settings settings = {
-    .speed = 1, .quiet_us = 100000, .patience_us = 1000000, .wanted_opens = 1, .first_loss = -1};
+    .speed = 1, .quiet_us = 100000, .patience_us = 3000000, .wanted_opens = 1, .first_loss = -1};
 
 static const char USAGE[] =
     "usage: inputplay-serve --folder FOLDER [OPTIONS] RECORD\n"

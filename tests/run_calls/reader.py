@@ -1,4 +1,5 @@
-"""Reads the first device to its end, and prints each event: its time in microseconds, type, code and value."""
+"""Reads the first device to its end, so many events at once, and prints each: its time in microseconds,
+type, code and value. With `held` it has a second open file, which it does not read."""
 
 from __future__ import annotations
 
@@ -8,6 +9,7 @@ import sys
 
 from nodes import EVENT_BYTES, NODE
 
+held = [os.open(NODE, os.O_RDONLY) for word in sys.argv[2:] if word == "held"]
 node = os.open(NODE, os.O_RDONLY)
 try:
     while True:

@@ -79,7 +79,7 @@ def words() -> RunWords:
         "--patience",
         metavar="MS",
         type=count,
-        help="by frames a program that has asked nothing for so long is taken to wait (1000)",
+        help="by frames a program that has asked nothing for so long, and does not run, waits (3000)",
     )
     told.add_argument(
         "--clients", metavar="N", type=count, help="begin when nodes have been opened N times (1)"
