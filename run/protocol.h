@@ -31,7 +31,13 @@ enum protocol_limit {
 };
 
 /** What kind of file a node is. */
-enum node_kind { NODE_EVENT = 0, NODE_JOYSTICK = 1, NODE_UINPUT = 2, NODE_KINDS = 3 };
+enum node_kind {
+    NODE_EVENT = 0,
+    NODE_JOYSTICK = 1,
+    NODE_UINPUT = 2,
+    NODE_TIMER = 3, /**< No file has it: timerfd_create() opens one, where time is virtual. */
+    NODE_KINDS = 4
+};
 
 enum request_kind {
     ASK_OPEN = 1,  /**< node, flags: those of open(); payload, of /dev/uinput: where the folder sys of the
@@ -40,7 +46,10 @@ enum request_kind {
     ASK_WRITE = 3, /**< The payload is what is written. */
     ASK_IOCTL = 4, /**< number; flags: 1 where its argument is a value and not 0; value: that value; payload:
                       what the kernel would read. */
-    ASK_WAIT = 5   /**< The program is going to wait; with a descriptor where it waits for one. */
+    ASK_WAIT = 5,  /**< The program is going to wait; with a descriptor where it waits for one. Payload, where
+                      time is virtual: a uint64_t, the moment up to which it waits, UINT64_MAX: for ever. The
+                      answer comes at that moment then. */
+    ASK_CANCEL = 6 /**< It waits no longer. Both have one answer together. */
 };
 
 struct request {
@@ -60,6 +69,24 @@ struct answer {
     uint32_t length; /**< Of the payload. */
     uint32_t reserved;
 };
+
+/** The file in the folder of a run that has the virtual clock. */
+#define CLOCK_NAME "clock"
+
+/** The virtual clock, in microseconds: the monotonic one, and how far the others are ahead of it. */
+struct virtual_clock {
+    uint64_t now, realtime_ahead, boottime_ahead;
+};
+
+/** What a virtual timer is set to, in microseconds. */
+struct timer_setting {
+    uint64_t value, interval;
+    uint64_t is_absolute;
+};
+
+/** Requests of a virtual timer: it is set, and answers what it was set to before; it is asked for. */
+#define TIMER_SET _IOWR('i', 1, struct timer_setting)
+#define TIMER_GET _IOR('i', 2, struct timer_setting)
 
 /** The number of a run in the names of its ends, by its folder (FNV-1a). */
 static inline uint64_t run_number(const char *folder) {
@@ -85,6 +112,11 @@ static inline int device_of_node(int32_t node) {
 /** The node by which programs make devices; there is one of a run. */
 static inline int32_t maker_node(void) {
     return node_number(NODE_UINPUT, 0);
+}
+
+/** The node of virtual timers of a clock. */
+static inline int32_t timer_node(int clock) {
+    return node_number(NODE_TIMER, clock);
 }
 
 /** Whether an ioctl sets a bit of a device that is made (UI_SET_EVBIT and on). */

@@ -16,8 +16,10 @@
 
 struct client clients[CLIENTS];
 
-static const struct node_calls *const CALLS[NODE_KINDS] = {
-    [NODE_EVENT] = &evdev_calls, [NODE_JOYSTICK] = &joydev_calls, [NODE_UINPUT] = &uinput_calls};
+static const struct node_calls *const CALLS[NODE_KINDS] = {[NODE_EVENT] = &evdev_calls,
+                                                           [NODE_JOYSTICK] = &joydev_calls,
+                                                           [NODE_UINPUT] = &uinput_calls,
+                                                           [NODE_TIMER] = &timer_calls};
 
 /* Names our end of a pair, so that the shim of any process knows the other one by getpeername. */
 static int name_peer(int peer, int32_t node) {
@@ -62,20 +64,24 @@ static bool is_node(int32_t node) {
     if (node < 0 || node / DEVICES >= NODE_KINDS)
         return false;
     int device = device_of_node(node);
-    return node == maker_node() ||
-           (kind_of_node(node) != NODE_UINPUT && device < device_count && !devices[device].is_gone);
+    switch (kind_of_node(node)) {
+    case NODE_UINPUT: return node == maker_node();
+    case NODE_TIMER: return settings.is_virtual;
+    default: return device < device_count && !devices[device].is_gone;
+    }
 }
 
 int client_open(int32_t node, uint32_t flags, pid_t process) {
     struct client *client = free_place();
     if (!is_node(node) || !client)
         return client ? -ENOENT : -EMFILE;
-    struct device *device = node == maker_node() ? NULL : &devices[device_of_node(node)];
     enum node_kind kind = kind_of_node(node);
+    struct device *device = kind >= NODE_UINPUT ? NULL : &devices[device_of_node(node)];
     const struct node_calls *calls = CALLS[kind];
     *client =
         (struct client){.kind = kind, .calls = calls, .device = device, .owner = process, .brought = -1};
     memset(client->masks, 0xff, sizeof client->masks);
+    client->number = (uint32_t)device_of_node(node); /* (a timer's clock; a node's open says another) */
     client->can_read = (flags & O_ACCMODE) != O_WRONLY;
     client->can_write = (flags & O_ACCMODE) != O_RDONLY;
     int end = make_pair(client, node, (int)flags & O_NONBLOCK);

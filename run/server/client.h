@@ -34,7 +34,7 @@ struct node_calls {
     void (*close)(struct client *client);
 };
 
-extern const struct node_calls evdev_calls, joydev_calls, uinput_calls;
+extern const struct node_calls evdev_calls, joydev_calls, uinput_calls, timer_calls;
 
 struct client {
     bool is_open; /**< The place is free where it is not. */

@@ -108,7 +108,7 @@ static int answer_request(struct exchange *exchange, pid_t process_id) {
 
 static bool is_request(const struct request *request, ssize_t length, int brought, int flags) {
     return length >= (ssize_t)sizeof *request && request->magic == PROTOCOL_MAGIC &&
-           request->kind >= ASK_OPEN && request->kind <= ASK_WAIT &&
+           request->kind >= ASK_OPEN && request->kind <= ASK_CANCEL &&
            (size_t)length == sizeof *request + request->length && brought <= 1 &&
            !(flags & (MSG_TRUNC | MSG_CTRUNC));
 }
@@ -150,11 +150,34 @@ static bool send_answer(int descriptor, struct exchange *exchange) {
     return sendmsg(descriptor, &message, MSG_DONTWAIT | MSG_NOSIGNAL) >= 0;
 }
 
+/* Where time is virtual a wait is answered later: at its moment, or where the program waits no longer. */
+static bool is_virtual_wait(const struct request *request) {
+    return settings.is_virtual && (request->kind == ASK_CANCEL ||
+                                   (request->kind == ASK_WAIT && request->length == sizeof(uint64_t)));
+}
+
+static void serve_wait(struct connection *connection, bool is_cancelled) {
+    if (is_cancelled) {
+        if (connection->is_waiting) /* (else the answer is under way) */
+            connection_wake(connection);
+        return;
+    }
+    memcpy(&connection->until, given.bytes, sizeof connection->until);
+    connection->is_waiting = true;
+    process_asks(connection->process, true);
+    process_is_answered(connection->process);
+    player_wait(0);
+}
+
 /* False where the connection is to be closed. What was brought is closed before the answer: the program may
  * close its own then, and that is to be seen. */
-static bool serve(const struct connection *connection) {
+static bool serve(struct connection *connection) {
     struct exchange exchange = {.opened = -1};
     enum receipt receipt = receive(connection->descriptor, &exchange);
+    if (receipt == GOT_REQUEST && !exchange.brought_count && is_virtual_wait(&exchange.request)) {
+        serve_wait(connection, exchange.request.kind == ASK_CANCEL);
+        return true;
+    }
     if (receipt == GOT_REQUEST) {
         process_asks(connection->process, exchange.request.kind == ASK_WAIT);
         exchange.answer.result = answer_request(&exchange, connection->process);
@@ -167,6 +190,14 @@ static bool serve(const struct connection *connection) {
     if (exchange.opened >= 0)
         close(exchange.opened);
     return is_good;
+}
+
+void connection_wake(struct connection *connection) {
+    struct answer answer = {.result = 0};
+    process_asks(connection->process, false);
+    process_is_answered(connection->process);
+    connection->is_waiting = false;
+    send(connection->descriptor, &answer, sizeof answer, MSG_DONTWAIT | MSG_NOSIGNAL);
 }
 
 bool connection_is_pending(void) {
@@ -211,5 +242,5 @@ void connection_accept(int listening) {
     getsockopt(descriptor, SOL_SOCKET, SO_PEERCRED, &who, &length);
     if (connection_count == CONNECTIONS)
         drop(0);
-    connections[connection_count++] = (struct connection){descriptor, who.pid};
+    connections[connection_count++] = (struct connection){.descriptor = descriptor, .process = who.pid};
 }

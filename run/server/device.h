@@ -32,6 +32,7 @@ struct device {
     uint8_t bits[EV_CNT][KEY_CNT / 8];     /**< Of types in [0], of their codes in the others. */
     struct input_absinfo lacking[ABS_CNT]; /**< What EVIOCSABS said of axes that the device lacks. */
     uint32_t slots;
+    uint64_t ahead[2];       /**< How far its clocks are ahead in the record: realtime, and boottime. */
     int32_t repeat[REP_CNT]; /**< Delay and period, in milliseconds. */
     uint64_t repeats_at_us;  /**< When a tick may be due, or 0. */
     uint32_t steps;          /**< The length of its history. */

@@ -97,8 +97,9 @@ static bool is_owned_by(const struct device *device, pid_t process) {
 /* Whether there is something that is going to be read. Who makes a device may open its node too, to ask for
  * what it has, and read nothing (python3-evdev does). */
 static bool is_unread(const struct client *client) {
-    return client->has_byte && (client->has_read || !client->device || !client->device->is_made ||
-                                !is_owned_by(client->device, client->owner));
+    return client->kind != NODE_TIMER && client->has_byte &&
+           (client->has_read || !client->device || !client->device->is_made ||
+            !is_owned_by(client->device, client->owner));
 }
 
 /* Whether nothing is to be done for a client: it waits and has read all, or nobody cares for what is left. */
@@ -116,6 +117,14 @@ bool is_all_read(void) {
     return any;
 }
 
+/* (Where time is virtual a program without a node waits too, as for a while to be over.) */
+static bool all_connections_wait(void) {
+    for (int i = 0; i < connection_count; i++)
+        if (!connections[i].is_waiting && !waits(connections[i].process))
+            return false;
+    return true;
+}
+
 bool all_processes_wait(void) {
     bool any = false;
     for (int i = 0; i < CLIENTS; i++) {
@@ -123,7 +132,7 @@ bool all_processes_wait(void) {
             return false;
         any |= clients[i].is_open && clients[i].device;
     }
-    return any;
+    return settings.is_virtual ? all_connections_wait() : any;
 }
 
 enum possession files_of(pid_t id) {

@@ -78,6 +78,8 @@ static void add_description(struct reading *reading, const char *line, char **wo
         device_set(device, EV_SYN, EV_ABS);
         device_set(device, EV_ABS, code_of_word(words[1]));
     }
+    if (!strcmp(what, "clock"))
+        device->ahead[words[1][0] == 'b'] = strtoull(words[2], NULL, 10);
     if (!strcmp(what, "slots"))
         device->slots = (uint32_t)strtoul(words[1], NULL, 10);
     if (!strcmp(what, "log") && strtoul(words[1], NULL, 10) == USUAL_LOG)

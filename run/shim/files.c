@@ -12,7 +12,7 @@
 #include <sys/syscall.h>
 #include <unistd.h>
 
-static int open_node(int node, int flags) {
+int open_node(int node, int flags) {
     struct question question = {.request = {.kind = ASK_OPEN, .node = node, .flags = (uint32_t)flags},
                                 .brings = -1};
     const char *root = shim_run()->root;

@@ -9,11 +9,16 @@
 #include "protocol.h"
 
 #include <dlfcn.h>
+#include <poll.h>
+#include <signal.h>
 #include <stdatomic.h>
 #include <stdbool.h>
 #include <stddef.h>
 #include <stdint.h>
 #include <sys/uio.h>
+#include <time.h>
+
+enum { PATH_ROOM = 4096 };
 
 #define EXPORT __attribute__((visibility("default")))
 
@@ -33,11 +38,11 @@ static inline void *real_function(_Atomic(void *) *found, const char *name) {
 
 /** What the environment says of the run. */
 struct run {
-    char folder[4096]; /**< Empty where the program is in no run. */
-    char root[4096];   /**< Where the folder sys stands in truth: umockdev shows another one. */
-    uint64_t number;   /**< Of the names of the run's ends. */
-    int first_number;  /**< The number of the first node. */
-    bool is_by_frames; /**< Frames come where programs wait, so they say when they do. */
+    char folder[PATH_ROOM]; /**< Empty where the program is in no run. */
+    char root[PATH_ROOM];   /**< Where the folder sys stands in truth: umockdev shows another one. */
+    uint64_t number;        /**< Of the names of the run's ends. */
+    int first_number;       /**< The number of the first node. */
+    bool is_by_frames;      /**< Frames come where programs wait, so they say when they do. */
 };
 
 /** The run, which is read from the environment once. (run.c) */
@@ -113,6 +118,24 @@ bool copy_from_program(void *to, const void *from, size_t length);
 /** Copies a text with its NUL from the program's memory: its length with the NUL, or -EFAULT, or -EINVAL
  * where there is no room for it. (memory.c) */
 long copy_text_from_program(char *to, const char *from, size_t room);
+
+/** Opens a node: its descriptor, or -1 and errno. (files.c) */
+int open_node(int node, int flags);
+
+/** Where time is virtual, shows its clock. (time.c) */
+void show_virtual_clock(const char *folder);
+
+/** Whether time is virtual, and how late it is then, in microseconds of the monotonic clock. (time.c) */
+bool is_virtual(void);
+uint64_t virtual_now(void);
+
+/** A time in microseconds, rounded up; and the virtual moment in that time, for NULL the last one there is.
+ * (virtual.c) */
+uint64_t microseconds_of(const struct timespec *time);
+uint64_t moment_in(const struct timespec *time);
+
+/** Waits for files up to a virtual moment, as ppoll() does. (virtual.c) */
+int wait_virtually(struct pollfd *files, nfds_t count, uint64_t until, const sigset_t *mask);
 
 /** A system call's result: what it gives, or -1 and errno. */
 long with_errno(long result);
