@@ -3,9 +3,10 @@
  *
  * Standard input has lines `device NUMBER LENGTH`, with so many bytes of a record's text behind it, lines `step NUMBER` with
  * the step's fields, the reply's, and the events and values that were read, and lines `feedback NUMBER` with an owner's call and
- * what came of it. A line `record LENGTH STREAMS REPORT` has a record's text behind it, so many lines `stream LINE LENGTH` with a
- * stream's bytes, and a line `report` with the text that is to come, of REPORT bytes. It says how many were the same, or prints the
- * first that was not and ends with status 1.
+ * what came of it. The lines `start NUMBER`, `force NUMBER`, `next NUMBER` and `joyread NUMBER` are calls of a reader and of a
+ * joystick client. A line `record LENGTH STREAMS REPORT` has a record's text behind it, so many lines `stream LINE LENGTH` with a
+ * stream's bytes, and a line `report` with the text that is to come, of REPORT bytes. It says how many were the same, or prints
+ * the first that was not and ends with status 1.
  */
 #include "inputplay.h"
 
@@ -114,6 +115,49 @@ static void compare_feedback(void) {
     steps++;
 }
 
+/* The reader starts, or where the number is 1 the joystick client. */
+static void compare_start(void) {
+    inputplay_handle *device = &devices[number()];
+    int64_t which = number();
+    uint32_t client, why;
+    same("status", 0, (which ? inputplay_joy_start : inputplay_reader_start)(device, &client, &why));
+    same("why", number(), why);
+    same("client", number(), why ? 0 : client);
+    steps++;
+}
+
+static void force_reader(void) {
+    same("status", 0, inputplay_reader_force_sync(&devices[number()]));
+    steps++;
+}
+
+static void compare_next(void) {
+    inputplay_handle *device = &devices[number()];
+    uint32_t told, mode = (uint32_t)number();
+    inputplay_event event;
+    memset(&event, 0, sizeof event);
+    same("status", 0, inputplay_reader_next(device, mode, &event, &told));
+    same("told", number(), told);
+    same("type", number(), event.type);
+    same("code", number(), event.code);
+    same("value", number(), event.value);
+    same("time", number(), (int64_t)event.time);
+    same("place", number(), event.place);
+    steps++;
+}
+
+static void compare_joy_read(void) {
+    inputplay_handle *device = &devices[number()];
+    uint8_t record_out[8] = {0};
+    uint32_t told, place;
+    same("status", 0, inputplay_joy_read(device, record_out, &told, &place));
+    same("told", number(), told);
+    same("place", number(), place);
+    for (int i = 0; i < 8; i++)
+        same("record", number(), record_out[i]);
+    steps++;
+}
+
 static void load_stream(inputplay_handle *record) {
     char word[16];
     if (scanf("%15s", word) != 1 || strcmp(word, "stream"))
@@ -178,17 +222,24 @@ static void compare_step(void) {
     steps++;
 }
 
+/* What each line but `stream` and `report` begins with, and what is then done. */
+static const struct {
+    const char *word;
+    void (*make)(void);
+} lines[] = {
+    {"device", make_device},     {"step", compare_step},   {"feedback", compare_feedback}, {"start", compare_start},
+    {"force", force_reader},     {"next", compare_next},   {"joyread", compare_joy_read},  {"record", compare_report},
+};
+
 int main(void) {
     char word[16];
     while (scanf("%15s", word) == 1) {
-        if (!strcmp(word, "device"))
-            make_device();
-        else if (!strcmp(word, "feedback"))
-            compare_feedback();
-        else if (!strcmp(word, "record"))
-            compare_report();
-        else
-            compare_step();
+        size_t i = 0, count = sizeof lines / sizeof *lines;
+        while (i < count && strcmp(word, lines[i].word))
+            i++;
+        if (i == count)
+            exit(3);
+        lines[i].make();
     }
     for (int i = 0; i < DEVICES; i++)
         inputplay_free(&devices[i]);

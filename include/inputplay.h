@@ -12,8 +12,8 @@
  * - inputplay_free() gives back what a handle keeps, once for each making. A second free does nothing.
  * - malloc(), realloc() and free() are those of one allocator, and no call comes from a signal handler.
  *
- * Each call answers a status. After another one than INPUTPLAY_OK the handle is as it was, and nothing is written but what
- * the call says of it.
+ * Each call answers one of the statuses that its comment lists, and no other. After another one than INPUTPLAY_OK the handle
+ * is as it was, and nothing is written but what the call says of it.
  *
  * Moments are microseconds, at most INPUTPLAY_MOMENT_MAX. Types, codes and values are those of <linux/input-event-codes.h>.
  */
@@ -316,7 +316,7 @@ uint32_t inputplay_feedback(inputplay_handle *handle, inputplay_event *events, s
 
 /**
  * Opens a client for the device's reader and asks for its whole state (libevdev_set_fd). An older client of the reader is not
- * closed.
+ * closed. No call of the reader or of the joystick client takes what waits for the device's owner.
  *
  * @param client the reader's client then
  * @param why 0, or why a call was refused. Where that was the open the reader is as before; else it has the new client, and

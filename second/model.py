@@ -81,6 +81,8 @@ class Actor:
         self.sight, self.accepted, self.stop = [], 0, "finished"
         self.reader, self.view, self.client = Reader(device.caps), View(device.caps), NO_CLIENT
         self.joystick = Joystick(device.caps)
+        # (how many events or records the present line has handed out)
+        self.handed = 0
 
     def see(self, step, reply):
         if reply[0] == "again":
@@ -95,6 +97,21 @@ class Actor:
     def see_taken(self, item):
         event, time, place = item
         self.sight.append(f"took {place} {time} {event_text(event)}")
+
+    def see_handed(self, what, values):
+        """Sees what the reader handed out."""
+        if what == "took":
+            self.see_taken(values[0])
+        elif what == "made":
+            self.sight.append(f"made {event_text(values[0])}")
+
+    def see_record(self, answer):
+        """Sees what a joystick's read answers."""
+        if answer not in ("frame", "more"):
+            self.sight.append("js " + " ".join(map(str, answer)))
+
+    def see_feedback(self, at, events):
+        self.sight += [f"feedback {at} {len(events)}"] + [f"fed {event_text(event)}" for event in events]
 
     def do(self, words, streams):
         if self.stop == "finished":
@@ -166,20 +183,17 @@ class Actor:
             self.see(step, reply)
 
     def hand_out(self, command, bound):
-        handed = 0
-        while bound is None or handed < bound:
+        while bound is None or self.handed < bound:
             in_sync_mode = command != "skip" and self.reader.phase != "plain"
             what, *values = self.reader.next(self.device, in_sync_mode)
             if command == "follow" and what == "end" and self.waits_on(self.reader.calls[-1][1]):
                 continue
             self.see_calls(self.reader.calls)
             if what == "end":
-                return
-            if what == "took":
-                self.see_taken(values[0])
-            elif what == "made":
-                self.sight.append(f"made {event_text(values[0])}")
-            handed += what != "synced"
+                break
+            self.handed += what != "synced"
+            self.see_handed(what, values)
+        self.handed = 0
 
     def do_joy(self, words, _):
         step = self.single_step(self.joystick.reader.client, words)
@@ -193,22 +207,21 @@ class Actor:
             self.read_records(number(words[1]))
 
     def read_records(self, bound):
-        handed = 0
-        while handed < bound:
+        while self.handed < bound:
             answer = self.joystick.read(self.device)
             self.see_calls(self.joystick.calls)
             if answer == "end":
-                return
-            if answer not in ("frame", "more"):
-                self.sight.append("js " + " ".join(map(str, answer)))
-                handed += 1
+                break
+            self.handed += answer not in ("frame", "more")
+            self.see_record(answer)
+        self.handed = 0
 
     def do_owner(self, words, _):
         at, events = self.device.feedback(number(words[1]))
         if events is None:
             self.stop = f"full {at}"
         else:
-            self.sight += [f"feedback {at} {len(events)}"] + [f"fed {event_text(event)}" for event in events]
+            self.see_feedback(at, events)
 
     def waits_on(self, reply):
         """Whether a follow goes on behind its last call's reply. On one thread it never does."""

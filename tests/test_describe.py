@@ -42,14 +42,17 @@ Testing ... (interrupt to exit)
 """
 
 GAMEPAD_LINES = """\
-# "Pad of "quotes" (X-Box 360)", described by evtest
-# left out: INPUT_PROP_DIRECT 40
+# described by evtest
+# left out: properties 40
 # left out: EV_KEY 0
 # left out: EV_FF (force feedback) 80 96
 # left out: EV_PWR
 # fuzz 4 is written as 0 (a kernel has applied it to a capture already): 62
 # fuzz 16 is written as 0 (a kernel has applied it to a capture already): ABS_X
 device pad-of-quotes-x-box-360
+# name: Pad of "quotes" (X-Box 360)
+# id: 0003 045e 028e 0114
+# properties: INPUT_PROP_DIRECT
 hint 11
 cap EV_KEY BTN_SOUTH
 cap EV_KEY 656

@@ -130,7 +130,7 @@ class Raw(DeskCase):
 
     def test_wrong_words(self):
         record = EXAMPLES / "stuck_key.rec"
-        self.refused("export", record, because="one of the arguments --evemu --raw is required")
+        self.refused("export", record, because="one of the arguments --evemu --umockdev --raw is required")
         self.refused("export", record, "--raw", "usb", because="no client or tap is named usb; there are desktop, remapper")
         self.refused("export", record, "--evemu", "--16", because="--16 goes with --raw")
         self.refused("export", record, "--raw", "desktop", "--device", "1", because="--device goes with --evemu")

@@ -37,6 +37,7 @@ RUNS = [
     ("it fails", TEST + "self.assertEqual('this', 'that')\n", 1, "0 passed, 1 failed"),
     ("it dies", TEST + "1 / 0\n", 1, "0 passed, 1 failed"),
     ("it is skipped", TEST + "self.skipTest('no compiler')\n", 0, "0 passed, 0 failed (1 left out: 1 no compiler)"),
+    ("two of its cases are skipped", CASES + "i and self.skipTest('why')\n", 0, "1 passed, 0 failed (2 left out: 2 why)"),
     ("its cases pass", CASES + "pass\n", 0, "3 passed, 0 failed"),
     ("one of its cases fails", CASES + "self.assertLess(i, 2)\n", 1, "2 passed, 1 failed"),
     ("it dies behind its cases", CASES + "pass\n        1 / 0\n", 1, "3 passed, 1 failed"),

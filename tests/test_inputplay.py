@@ -174,6 +174,10 @@ class Inputplay(TreeCase):
 
 
 class Install(TreeCase):
+    def setUp(self):
+        super().setUp()
+        shutil.copytree(TOP / "second", self.tree / "second", ignore=shutil.ignore_patterns("__pycache__"))
+
     def install(self, *words, **more):
         return self.run_tree("tools/install", *words, **more)
 
@@ -200,7 +204,8 @@ class Install(TreeCase):
         record = self.file("x.rec", "inputrecord 1\n#= status 0\ndevice d\n")
         env = {key: value for key, value in os.environ.items() if key != "INPUTPLAY"}
         for words, wanted in ((["inputplay", record], "device d steps 0\n"), (["inputplay-play", record], "device d steps 0\n"),
-                              (["inputplay-check", record], "1 of 1 expectation held, in 1 record\n")):
+                              (["inputplay-check", record], "1 of 1 expectation held, in 1 record\n"),
+                              (["inputplay-explore", "--fail", record], "")):
             with self.subTest(words[0]):
                 done = subprocess.run([moved / "bin" / words[0], *words[1:]], env=env, cwd="/", capture_output=True, text=True)
                 self.assertEqual((0, wanted), (done.returncode, done.stdout), done.stderr)

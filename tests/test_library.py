@@ -95,6 +95,9 @@ class C(Library):
         program = self.built(HERE / "calls.c", "gcc", "-std=c99")
         self.says("", [program])
 
+    def test_a_reader_and_a_joystick_take_nothing_from_the_owner(self):
+        self.says("", [self.built(HERE / "owner.c", "gcc", "-std=c99")])
+
     def test_a_naive_reader_keeps_a_key_down_and_a_right_one_does_not(self):
         self.says(STUCK_KEY, [self.built(EXAMPLES / "c" / "stuck_key.c", "gcc", "-std=c99")])
 
@@ -116,7 +119,7 @@ class Valgrind(Library):
 
     def test_no_byte_is_lost_or_read_wrongly(self):
         checks = ["valgrind", "-q", "--leak-check=full", "--error-exitcode=9"]
-        for source in (HERE / "calls.c", EXAMPLES / "c" / "stuck_key.c"):
+        for source in (HERE / "calls.c", HERE / "owner.c", EXAMPLES / "c" / "stuck_key.c"):
             with self.subTest(source.name):
                 done = run([*checks, self.built(source, "gcc", "-std=c99", "-g")])
                 self.assertEqual((0, ""), (done.returncode, done.stderr))

@@ -325,7 +325,7 @@ class Events(DeskCase):
                 "E: 1332.000100 0003 0000 50\nE: 1332.000100 0000 0000 0\n")
         record = self.written("record", self.file("old.evemu", text))
         # The value before the first event is not told: it is one beside that of the event.
-        self.assertIn("device old-touchpad\nhint 9\ncap EV_KEY 94\naxis ABS_X 49 0 100 0 0 0\n", record)
+        self.assertIn("# id: 0011 0002 0007 0000\nhint 9\ncap EV_KEY 94\naxis ABS_X 49 0 100 0 0 0\n", record)
         self.assertEqual([(0, 1, 94, 1), (0, 3, 0, 50), (0, 0, 0, 0)], taken(self.play(record)))
 
     def test_old_words_of_evtest(self):

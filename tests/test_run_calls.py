@@ -105,7 +105,7 @@ class RunCase(FolderCase):
     ) -> subprocess.CompletedProcess[str]:
         variables = {**variables_to_play(), BUILT_VARIABLE: str(programs or self.built)}
         return subprocess.run(
-            [RUN, *map(str, words)],
+            [RUN, "--sys", "none", *map(str, words)],
             env=variables,
             stdout=subprocess.PIPE,
             stderr=subprocess.PIPE,

@@ -93,5 +93,6 @@ class Parts(DeskCase):
     def test_shorter(self):
         for wanted in ([], [0], [5, 6], [0, 7, 19]):
             with self.subTest(wanted):
-                came = shorter([[str(n)] for n in range(20)], lambda text: set(map(str, wanted)) <= set(text.split()), lambda count: None)
-                self.assertEqual([[str(n)] for n in wanted], came)
+                parts = [str(n) for n in range(20)]
+                came = shorter(parts, lambda kept: set(map(str, wanted)) <= set(kept), lambda count: None)
+                self.assertEqual([str(n) for n in wanted], came)

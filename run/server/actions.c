@@ -135,7 +135,13 @@ static void take_words(struct action *action, enum words_form form, char **words
 
 void actions_take(struct actor *actor, char **words, int count) {
     const char *name = words[2];
-    if (actor->is_program || count < 3)
+    if (count < 3)
+        return;
+    if (actor->is_program && !strcmp(name, "open") && !record.is_opened) {
+        record.is_opened = true;
+        record.before_open = record.action_count;
+    }
+    if (actor->is_program)
         return;
     if (!strcmp(name, "stream") || !strcmp(name, "stream16")) {
         add_stream(actor, words[3], name[6] ? 4 : 8);

@@ -87,6 +87,7 @@ int main(int count, char **words) {
         fail("the library has another interface");
     record_read();
     player_begin_time();
+    player_begin();
     int listening = listen_for_programs();
     puts("ready");
     fclose(stdout);

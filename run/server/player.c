@@ -46,8 +46,8 @@ static uint64_t moment_from(size_t at) {
 
 /* Where time is virtual and programs took some before the first line, all lines are as much later. */
 static void take_delay(void) {
-    uint64_t first = moment_from(0), now = step_moment();
-    if (settings.is_virtual && player.next == 0)
+    uint64_t first = moment_from(player.next), now = step_moment();
+    if (settings.is_virtual && player.next == record.before_open)
         player.delay = now > first ? now - first : 0;
 }
 
@@ -82,6 +82,11 @@ static bool play_frame(void) {
             break;
     }
     return player.next > from;
+}
+
+void player_begin(void) {
+    while (player.next < record.before_open)
+        play(&record.actions[player.next++]);
 }
 
 static void refresh_all(void) {

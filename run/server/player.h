@@ -8,6 +8,9 @@
 #include <stdint.h>
 #include <sys/types.h>
 
+/** Plays the lines that stand before the program's first open: its devices are as the record has them then. */
+void player_begin(void);
+
 /** Plays what is due. Gives the time at which it is to be called again (of now_us()), UINT64_MAX where only
  * requests matter. */
 uint64_t player_turn(void);

@@ -29,6 +29,8 @@ struct record {
     size_t actor_count;
     struct action *actions;
     size_t action_count;
+    bool is_opened;     /**< A line opens the client that the program is. */
+    size_t before_open; /**< So many actions stand before that line. */
 };
 
 extern struct record record;

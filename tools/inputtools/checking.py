@@ -169,16 +169,26 @@ def of_view(played, expectation, part):
         what = " ".join(expectation.line)
         raise wrong_expectation(played, expectation, f"its view has no line {what}, since the device has no such thing")
     words, wanted = line.words[len(expectation.line) :], expectation.wanted
-    exactly = expectation.line[0] in FLAG_KINDS or expectation.role == "joy" or expectation.line[0] == "current"
-    if exactly:
-        is_held = sorted(words) == sorted(wanted) if expectation.line[0] in (*FLAG_KINDS, "buttons") else words == wanted
-    else:
-        is_held = set(wanted) <= set(words)
-        words = [pair for pair in words if pair.split("=")[0] in {pair.split("=")[0] for pair in wanted}]
-    if is_held:
+    if is_line_held(expectation, words):
         return Outcome(expectation)
+    if not is_exact(expectation):
+        words = [pair for pair in words if pair.split("=")[0] in {pair.split("=")[0] for pair in wanted}]
     came = " ".join(words) or "nothing"
     return Outcome(expectation, *played.end(part), f"{came} came{told_text(played, part, words, wanted)}")
+
+
+def is_exact(expectation):
+    """Is a line of a view to have nothing else than what is wanted?"""
+    return expectation.line[0] in FLAG_KINDS or expectation.role == "joy" or expectation.line[0] == "current"
+
+
+def is_line_held(expectation, words):
+    """Are these words of a view's line as they are wanted?"""
+    if not is_exact(expectation):
+        return set(expectation.wanted) <= set(words)
+    if expectation.line[0] in (*FLAG_KINDS, "buttons"):
+        return sorted(words) == sorted(expectation.wanted)
+    return words == expectation.wanted
 
 
 def told_text(played, part, words, wanted):

@@ -3,11 +3,12 @@
 import re
 
 from inputtools.command import Wrong
+from inputtools.identity import Identity, is_property_named
 from inputtools.names import (
     ABS, GREATEST, KEY, LED, NOT_IN_A_RECORD, REL, REP, SLOT, SW, TRACKING_ID, code_text, is_in_a_record,
-    is_slot_value, kernel_kind_text, kind_text, property_text,
+    is_slot_value, kernel_kind_text, kind_text,
 )
-from inputtools.recording import Axis
+from inputtools.recording import Axis, Device
 
 LEAST_HINT, GREATEST_HINT, GREATEST_SLOTS, GREATEST_FUZZ = 2, 512, 256, 1 << 30
 # How many slots a record of version 1 may have.
@@ -90,9 +91,16 @@ def is_brought_by_slots(device, code, axis):
     return code == SLOT or (code == TRACKING_ID and axis in (Axis(axis.value, 0, 65535), Axis(None)))
 
 
+def identity_of(device: Device) -> Identity:
+    """Who the device is, as its description tells. (The name in a record is one that the record made.)"""
+    told = device.identity
+    name = told.name if device.form == "a record" else device.name
+    return Identity(name, told.phys, told.uniq, told.ids, device.properties)
+
+
 def description_lines(device, name, is_raw=False):
-    """`device`, `hint`, `slots`, and what the device has."""
-    lines = [f"device {name}", f"hint {hint_of(device)}"] + device.other_lines
+    """`device`, who it is, `hint`, `slots`, and what the device has."""
+    lines = [f"device {name}", *identity_of(device).lines(), f"hint {hint_of(device)}"] + device.other_lines
     if slots_of(device):
         lines.append(f"slots {slots_of(device)}")
     for kind in sorted(device.codes):
@@ -123,7 +131,7 @@ def state_lines(device):
 
 def comments(device, is_raw=False):
     """What the description does not tell."""
-    said = [f'"{device.name}", described by {device.form}'] if device.name else []
+    said = [f"described by {device.form}"] if device.name else []
     if not device.has_ranges:
         said += what_procfs_lacks(device)
     said += left_out(device) + limits(device)
@@ -141,9 +149,9 @@ def what_procfs_lacks(device):
 
 def left_out(device):
     said = []
-    if device.properties:
-        names = [property_text(number) for number in sorted(set(device.properties))]
-        said.append(" ".join(["left out:"] + names))
+    unnamed = sorted(number for number in set(device.properties) if not is_property_named(number))
+    if unnamed:
+        said.append(" ".join(["left out: properties"] + [str(number) for number in unnamed]))
     for kind in sorted(device.codes):
         codes = sorted(code for code in device.codes[kind] if not is_in_a_record(kind, code))
         if codes or kind in NOT_IN_A_RECORD:

@@ -8,6 +8,7 @@ same and means nothing. Values of axes stand in comments alone.
 import re
 
 from inputtools.command import Wrong, at_line, number
+from inputtools.identity import ids_of
 from inputtools.listing import Listing, complete
 from inputtools.names import LED, SW
 from inputtools.recording import GREATEST, LEAST, Axis, Device, Event, Recording
@@ -42,7 +43,7 @@ class Parser:
         letter, _, rest = line.partition(":")
         rest = rest if letter == "N" else rest.partition("#")[0]
         takes = {"N": self.take_name, "P": self.take_properties, "B": self.take_bits, "A": self.take_axis,
-                 "L": self.take_state, "S": self.take_state, "I": self.take_nothing}.get(letter)
+                 "L": self.take_state, "S": self.take_state, "I": self.take_ids}.get(letter)
         try:
             if letter == "E":
                 self.take_event(line)
@@ -56,8 +57,8 @@ class Parser:
                 raise at_line(index, f"{wrong}: {line.strip()[:60]}") from None
             self.recording.ends_in_a_line = True
 
-    def take_nothing(self, _rest, _letter):
-        pass
+    def take_ids(self, rest, _letter):
+        self.device.identity.ids = ids_of(rest)
 
     def take_name(self, rest, _letter):
         self.device.name = rest

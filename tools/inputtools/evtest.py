@@ -8,6 +8,7 @@ description, or what a terminal shows when the program is stopped, mean nothing.
 import re
 
 from inputtools.command import at_line, number
+from inputtools.identity import ids_of
 from inputtools.listing import Listing, forget_values_of_slots
 from inputtools.names import MSC, SYN
 from inputtools.recording import (
@@ -16,6 +17,7 @@ from inputtools.recording import (
 
 START = "Input driver version is"
 NAME = re.compile(r'Input device name: "(.*)"')
+IDS = re.compile(r"Input device ID: bus 0x(\w+) vendor 0x(\w+) product 0x(\w+) version 0x(\w+)")
 EVENT = re.compile(r"Event: time (\d+)\.(\d{6}), (.*)")
 PLAIN = re.compile(r"type (\d+) .*code (\d+) .*value (-?[0-9a-fA-F]+)\s*$")
 HEXADECIMAL = {(MSC, 3), (MSC, 4)}
@@ -65,9 +67,11 @@ def take_line(listing, recording, line, index, is_last):
             raise at_line(index, f"no event as evtest prints it: {line.strip()[:60]}")
         return
     recording.was_grabbed = recording.was_grabbed or GRABBED in line
-    name = NAME.search(line)
+    name, ids = NAME.search(line), IDS.search(line)
     if name:
         listing.device.name = name[1]
+    elif ids:
+        listing.device.identity.ids = ids_of(" ".join(ids.groups()))
     elif END_OF_LISTING.match(line):
         listing.kind = None
     else:

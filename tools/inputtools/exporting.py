@@ -6,12 +6,14 @@ The record need not be one that the program takes: what is wrong in the lines th
 
 import os
 import struct
+from typing import List
 
 from inputtools import raw
 from inputtools.command import Wrong, at_line
 from inputtools.files import read_bytes
+from inputtools.identity import Ids
 from inputtools.names import ABS, KEY, LED, SW, SYN, TYPES, code_text, kind_text, number_of_code, number_of_kind
-from inputtools.recording import GREATEST, LEAST, Event
+from inputtools.recording import GREATEST, LEAST, Device, Event
 from inputtools.recordfile import RECORD_SIZES, words_of
 from inputtools.recordlines import DEVICE_WORDS, parse
 
@@ -133,7 +135,7 @@ def evemu_text(source):
     """The device and its events as evemu-record writes them."""
     device = source.device
     lines = ["# EVEMU 1.3", f"# {device.name}, of a record of inputplay", *value_comments(device)]
-    lines += [f"N: {device.name}", f"I: {BUS_VIRTUAL:04x} 0000 0000 0000", f"P:{8 * ' 00'}"]
+    lines += identity_lines(device)
     for kind in KINDS_WRITTEN:
         lines += bit_lines(kind, codes_of(device, kind))
     lines += [axis_line(code, axis) for code, axis in sorted(device.axes.items())]
@@ -142,6 +144,18 @@ def evemu_text(source):
     lines.append("################################")
     lines += [event_line(event) for event in source.events]
     return "".join(line + "\n" for line in lines)
+
+
+def identity_lines(device: Device) -> List[str]:
+    """The name, the ids and the properties, those of a virtual device where the record does not tell them."""
+    identity = device.identity
+    ids = identity.ids or Ids(BUS_VIRTUAL, 0, 0, 0)
+    octets = [sum(1 << bit for bit in range(8) if 8 * index + bit in identity.properties) for index in range(8)]
+    return [
+        f"N: {identity.name or device.name}",
+        f"I: {' '.join(f'{number:04x}' for number in ids)}",
+        f"P: {' '.join(f'{octet:02x}' for octet in octets)}",
+    ]
 
 
 def codes_of(device, kind):

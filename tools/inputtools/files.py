@@ -2,7 +2,7 @@
 
 import re
 
-from inputtools import evemu, evtest, kinds, libinput, procfs, raw, recordlines, source
+from inputtools import evemu, evtest, kinds, libinput, procfs, raw, recordlines, source, udevadm
 from inputtools.command import Wrong
 from inputtools.progress import progress
 
@@ -11,10 +11,11 @@ FORMS = [
     (evemu.is_evemu, evemu.parse),
     (libinput.is_libinput, libinput.parse),
     (procfs.is_procfs, procfs.parse),
+    (udevadm.is_udevadm, udevadm.parse),
     (recordlines.is_record, recordlines.parse),
     (evtest.is_evtest, evtest.parse),
 ]
-KNOWN = "evtest's output, an evemu file, a recording of libinput, /proc/bus/input/devices, a record's lines"
+KNOWN = "evtest's output, an evemu file, a recording of libinput, /proc/bus/input/devices, udevadm info, a record's lines"
 GREATEST_SIZE = 1 << 28
 
 

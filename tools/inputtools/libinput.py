@@ -8,6 +8,7 @@ were obfuscated.
 import re
 
 from inputtools.command import Wrong, at_line, number
+from inputtools.identity import Ids
 from inputtools.listing import Listing, complete
 from inputtools.names import KEY, MSC
 from inputtools.recording import GREATEST, LEAST, Axis, Device, Event, Recording
@@ -60,6 +61,9 @@ class Parser:
         if name == "name":
             rest = rest.strip()
             self.device.name = re.sub(r"\\(.)", r"\1", rest[1:-1]) if rest.startswith('"') else rest
+        elif name == "id":
+            numbers = [int(word) for word in re.findall(r"\d+", rest.partition("#")[0])]
+            self.device.identity.ids = Ids(*numbers) if len(numbers) == 4 else None
         elif name == "properties" and rest.startswith("["):
             self.device.properties = [int(word) for word in re.findall(r"\d+", rest.partition("#")[0])]
 

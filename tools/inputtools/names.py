@@ -96,10 +96,6 @@ def is_in_a_record(kind, code):
     return kind in GREATEST and code <= GREATEST[kind] and (kind, code) != (KEY, 0)
 
 
-def property_text(number):
-    return f"INPUT_PROP_{PROPERTIES[number]}" if number < len(PROPERTIES) else str(number)
-
-
 def kernel_kind_text(kind):
     """The name of a type, also of one that a record does not have."""
     return NOT_IN_A_RECORD.get(kind, kind_text(kind))

@@ -5,12 +5,16 @@ Ranges and values of axes and the number of slots are not told.
 """
 
 import re
+from typing import List
 
 from inputtools.command import Wrong, at_line
+from inputtools.identity import Identity, ids_of
 from inputtools.names import ABS, KEY, LED, MSC, REL, REP, SND, SW
 from inputtools.recording import Axis, Device, Recording
 
 KINDS = {"KEY": KEY, "REL": REL, "ABS": ABS, "MSC": MSC, "LED": LED, "SND": SND, "SW": SW, "FF": 0x15}
+IDS = re.compile(r"I: Bus=(\w+) Vendor=(\w+) Product=(\w+) Version=(\w+)")
+PLACE = re.compile(r"(P: Phys|U: Uniq)=(.*)$")
 BITS = re.compile(r"B: (\w+)=\s*([0-9a-fA-F ]*)$")
 MOST_KEYS = 0x300
 
@@ -21,7 +25,11 @@ def is_procfs(text):
 
 def word_bits(text):
     """The size of a word: 64 where one has more than 8 digits, 32 where keys take more words than with 64."""
-    words = [found[2].split() for found in map(BITS.match, text.split("\n")) if found]
+    return word_size([found[2].split() for found in map(BITS.match, text.split("\n")) if found])
+
+
+def word_size(words: List[List[str]]) -> int:
+    """The size of the words of which these are."""
     if any(len(word) > 8 for line in words for word in line):
         return 64
     return 32 if any(len(line) > MOST_KEYS // 64 for line in words) else 64
@@ -40,6 +48,7 @@ def parse(text):
     for index, line in enumerate(lines):
         if line.startswith("I: Bus="):
             recordings.append(Recording(Device("/proc/bus/input/devices", has_ranges=False)))
+            take_identity(recordings[-1].device.identity, line)
         elif recordings and line.strip():
             take_line(recordings[-1].device, line, index, size)
     for recording in recordings:
@@ -57,8 +66,20 @@ def take_line(device, line, index, size):
         if any(len(word) > size // 4 for word in words) or len(words) > 64:
             raise at_line(index, f"bits of more than {size // 4} digits a word")
         take_bits(device, bits[1], codes_of(words, size))
-    elif not re.match(r"[A-Z]: ", line):
+    elif not take_identity(device.identity, line) and not re.match(r"[A-Z]: ", line):
         raise at_line(index, f"no line of /proc/bus/input/devices: {line.strip()[:60]}")
+
+
+def take_identity(identity: Identity, line: str) -> bool:
+    """Takes a line of ids, or of where the device is plugged in or its serial number; False for another line."""
+    ids, place = IDS.match(line), PLACE.match(line)
+    if ids:
+        identity.ids = ids_of(" ".join(ids.groups()))
+    elif place and place[1].startswith("P"):
+        identity.phys = place[2]
+    elif place:
+        identity.uniq = place[2]
+    return bool(ids or place)
 
 
 def take_bits(device, name, codes):

@@ -3,6 +3,7 @@
 from collections import namedtuple
 from dataclasses import dataclass, field
 
+from inputtools.identity import Identity
 from inputtools.names import KEY, LED, REP, SLOT, SW, SYN
 
 LEAST, GREATEST = -(2**31), 2**31 - 1
@@ -36,6 +37,7 @@ class Device:
     on: dict = field(default_factory=lambda: {KEY: set(), SW: set(), LED: set()})
     repeat: dict = field(default_factory=dict)  # the settings of EV_REP, in milliseconds
     properties: list = field(default_factory=list)
+    identity: Identity = field(default_factory=Identity)
     has_ranges: bool = True
     # Told by the lines of a record alone.
     hint: int = None

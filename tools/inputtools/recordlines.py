@@ -5,8 +5,10 @@ when the device was described, the slot that was announced, and settings of the 
 """
 
 import re
+from typing import List
 
 from inputtools.command import Wrong, at_line, number
+from inputtools.identity import Identity, identities_of
 from inputtools.names import ABS, KEY, LED, REP, SLOT, SW, is_in_a_record, number_of_code, number_of_kind
 from inputtools.recording import GREATEST, LEAST, Axis, Device, Recording
 
@@ -130,4 +132,11 @@ def parse(text):
                 parsers[-1].take(words)
         except Wrong as wrong:
             raise at_line(index, f"{wrong}: {line.strip()[:60]}") from None
+    give_identities([parser.device for parser in parsers], identities_of(text))
     return [parser.finished() for parser in parsers]
+
+
+def give_identities(devices: List[Device], identities: List[Identity]) -> None:
+    """Tells each device who it is. (Lines before the first line `device` are of a device without one.)"""
+    for device, identity in zip(devices[len(devices) - len(identities) :], identities):
+        device.identity, device.properties = identity, identity.properties

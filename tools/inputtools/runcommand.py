@@ -126,7 +126,11 @@ def seconds(text: str) -> float:
     return value
 
 
-def server_words(asked: argparse.Namespace, record: Given, history: str) -> List[str]:
+def wants_history(asked: argparse.Namespace) -> bool:
+    return bool(asked.history or asked.draw or asked.actor)
+
+
+def server_words(asked: argparse.Namespace, record: Given, history: Optional[str]) -> List[str]:
     """The words of the server."""
     named = {
         "--as": asked.actor,
@@ -163,7 +167,7 @@ def run_program(run: Run, asked: argparse.Namespace, program: List[str], record:
 
 def finish(asked: argparse.Namespace, record: Given, path: str, status: int) -> int:
     """Keeps, draws and judges the history; the status of the whole."""
-    if not (asked.history or asked.draw or asked.actor):
+    if not wants_history(asked):
         return status
     # (most runs want none of this, and begin sooner without it)
     from inputtools.runjudging import History
@@ -185,7 +189,10 @@ def run_alone(asked: argparse.Namespace, program: List[str]) -> int:
     history = os.path.join(folder, running.HISTORY)
     try:
         run = running.start_server(
-            folder, settings_of(asked), server_words(asked, record, history), is_kept=False
+            folder,
+            settings_of(asked),
+            server_words(asked, record, history if wants_history(asked) else None),
+            is_kept=False,
         )
         assert run.server is not None
         try:

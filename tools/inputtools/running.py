@@ -20,7 +20,8 @@ from inputtools.runbuild import SERVER, SHIM, TOP
 
 BUILT_VARIABLE = "INPUTPLAY_RUN_DIR"
 SETTINGS, HISTORY, LOG, ENVIRONMENT = "settings.json", "history.rec", "log", "environment"
-SECONDS_TO_END = 10
+# (a long history takes a while to be written)
+SECONDS_TO_END = 120
 
 # What is run's own, apart from the statuses of a program.
 NOT_HELD, FAILED, NOT_STARTED, TIME_OUT = 125, 126, 127, 128

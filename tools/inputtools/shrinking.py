@@ -114,14 +114,14 @@ def text_of(parts):
 
 
 def shorter(parts, keeps, tell):
-    """The parts without which the status would be another one."""
+    """The parts that are left once no one can be left out alone, as long as what is kept stays."""
     count = 2
     while parts:
         size = -(-len(parts) // count)
         begin, is_shorter = 0, False
         while begin < len(parts):
             rest = parts[:begin] + parts[begin + size :]
-            if keeps(text_of(rest)):
+            if keeps(rest):
                 parts, is_shorter = rest, True
                 tell(len(parts))
             else:
@@ -156,7 +156,8 @@ def shrink(given, text, words, seconds, says=None):
             return text, status, command.runs
         lines = lines_of_streams(given, lines, keeps)
         for what, parts_of in (("frames", frames_of), ("lines", lambda lines: [[line] for line in lines])):
-            parts = shorter(parts_of(lines), keeps, lambda count: tell(what, count, command.runs))
+            keeps_parts = lambda parts: keeps(text_of(parts))  # noqa: E731  (it is told to one call)
+            parts = shorter(parts_of(lines), keeps_parts, lambda count: tell(what, count, command.runs))
             lines = [line for part in parts for line in part]
         return text_of([lines]), status, command.runs
 

@@ -1,6 +1,7 @@
 -- Devices and records that are made of a text, and what C is told of a text that is no device and no record.
-use Rattle.std.specs.Prelude.{◌≡◌, ◌≢◌, ◌<◌, ◌≤◌, ℕ, false, List, [], length, replicate, slice_get, Option, Some, None, Result, Ok, Err}
+use Rattle.std.specs.Prelude.{◌≡◌, ◌≢◌, ◌⊎◌, ◌<◌, ◌≤◌, ℕ, false, List, [], length, replicate, slice_get, Option, Some, None, Result, Ok, Err}
 use Rattle.inp_edge.specs.declared.input.TheConstants.{INPUT_LIMIT}
+use Rattle.inp_model.specs.Description.{Description}
 use Rattle.inp_actors.specs.Record.{RecordView}
 use Rattle.inp_actors.specs.declared.device_text.DeviceText.{DeviceText}
 use Rattle.inp_record.specs.declared.refused.Refused.{Refused}
@@ -9,7 +10,7 @@ use Rattle.inp_c.specs.declared.kept.Kept.{Kept}
 use Rattle.inp_c.specs.declared.kept.Kept.TheVariants.{Device, Record}
 use Rattle.inp_c.specs.declared.kept_device.KeptDevice.{KeptDevice}
 use Rattle.inp_c.specs.declared.kept_record.KeptRecord.{KeptRecord}
-use Rattle.inp_c.specs.declared.status.TheConstants.{OK, REFUSED, BAD_ARGUMENT, TOO_LONG, IN_USE}
+use Rattle.inp_c.specs.declared.status.TheConstants.{OK, REFUSED, BAD_ARGUMENT, NO_MEMORY, TOO_LONG, IN_USE}
 use Rattle.inp_c.specs.Cause.{cause_number}
 use Rattle.inp_c.specs.Fresh.{fresh_udev, IsFreshReader, IsFreshJoy}
 
@@ -23,9 +24,7 @@ pub record IsRefusedText (text : List ℕ) (line cause : ℕ) : Type 0 where
 -- What a status other than OK says of a text, and what is told of a line. The two numbers after are those
 -- before.
 pub record IsNoText (text : List ℕ) (old_line old_cause status line cause : ℕ) : Type 0 where
-  pub not_ok : status ≢ OK
-  pub not_number : status ≢ BAD_ARGUMENT
-  pub not_in_use : status ≢ IN_USE
+  pub one_of : (status ≡ REFUSED) ⊎ ((status ≡ TOO_LONG) ⊎ (status ≡ NO_MEMORY))
   pub refused : status ≡ REFUSED → IsRefusedText text line cause
   pub too_long : status ≡ TOO_LONG → INPUT_LIMIT < length text
   pub fits : status ≢ TOO_LONG → length text ≤ INPUT_LIMIT
@@ -39,8 +38,9 @@ IsTextRead text old_line old_cause (Err status) line cause = IsNoText text old_l
 
 -- What a call that makes something of a text answers. The handle is in use exactly where it keeps something,
 -- else the text is too long exactly where it is. The call says refused only of a text that is to be refused.
--- It tells a line and a cause where the text is refused, else zeros.
+-- It tells a line and a cause where the text is refused, else zeros. There is no other status.
 pub record IsMakingAnswer (before : Option Kept) (text : List ℕ) (status line cause : ℕ) : Type 0 where
+  pub one_of : (status ≡ OK) ⊎ ((status ≡ REFUSED) ⊎ ((status ≡ BAD_ARGUMENT) ⊎ ((status ≡ TOO_LONG) ⊎ ((status ≡ IN_USE) ⊎ (status ≡ NO_MEMORY)))))
   pub in_use : status ≡ IN_USE → before ≢ None
   pub was_free : status ≢ IN_USE → before ≡ None
   pub refused : status ≡ REFUSED → IsRefusedText text line cause
@@ -48,6 +48,15 @@ pub record IsMakingAnswer (before : Option Kept) (text : List ℕ) (status line 
   pub fits : status ≢ IN_USE → status ≢ TOO_LONG → length text ≤ INPUT_LIMIT
   pub no_line : status ≢ REFUSED → line ≡ 0
   pub no_cause : status ≢ REFUSED → cause ≡ 0
+
+-- what is kept is a device of this description, with a history that is empty, and a reader and a joystick client
+-- that have not started
+pub record IsFreshKept (d : Description) (kept : Kept) : Type 0 where
+  pub device : KeptDevice
+  pub is : kept ≡ Device device
+  pub udev : device.udev ≡ fresh_udev d
+  pub reader : IsFreshReader d device.reader
+  pub joy : IsFreshJoy d device.joy
 
 -- what is kept is the device of this number of a record, with a history that is empty, and a reader and a
 -- joystick client that have not started

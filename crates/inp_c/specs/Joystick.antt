@@ -1,5 +1,6 @@
 -- What a call of a device's joystick client leaves, and what C is told of it.
 use Rattle.std.specs.Prelude.{◌≡◌, ℕ, List, [], Option, Some}
+use Rattle.inp_uinput.specs.UdevView.{owned_view}
 use Rattle.inp_reader.specs.declared.started.Started.{Started}
 use Rattle.inp_reader.specs.Says.{Says}
 use Rattle.inp_reader.specs.LeftEvdev.{LeavesMade}
@@ -13,20 +14,22 @@ use Rattle.inp_c.specs.declared.kept.Kept.{Kept}
 use Rattle.inp_c.specs.declared.kept.Kept.TheVariants.{Device}
 use Rattle.inp_c.specs.declared.kept_device.KeptDevice.{KeptDevice}
 use Rattle.inp_c.specs.declared.c_picture.CPicture.{CPicture}
-use Rattle.inp_c.specs.ReaderCalls.{seen_by_reader, start_refusal}
+use Rattle.inp_c.specs.ReaderCalls.{start_refusal}
 
--- The joystick client started: its calls on the device are those of a start, and this is its answer.
+-- The joystick client started: its calls on the device are those of a start, and this is its answer. What the device's
+-- owner has is as before (`IsKeptStart`).
 pub record IsKeptJoyStart (old new : KeptDevice) (answer : Started) : Type 0 where
-  pub says : Says (seen_by_reader old.udev) (seen_by_reader new.udev) [] new.joy.made (joy_start old.joy.description old.joy.joying) (answer, new.joy.joying)
-  pub left : LeavesMade (seen_by_reader old.udev) (seen_by_reader new.udev) new.joy.made
+  pub says : Says (owned_view old.udev) (owned_view new.udev) [] new.joy.made (joy_start old.joy.description old.joy.joying) (answer, new.joy.joying)
+  pub left : LeavesMade (owned_view old.udev) (owned_view new.udev) new.joy.made
   pub agains : new.udev.agains ≡ old.udev.agains
   pub description : new.udev.description ≡ old.udev.description
   pub reader : new.reader ≡ old.reader
 
 -- The joystick client read: its calls on the device are those of a read, and this is its answer, with the eight bytes.
+-- What the owner has is as before.
 pub record IsKeptJoyRead (old new : KeptDevice) (answer : JoyRead) (out new_out : List ℕ) : Type 0 where
-  pub reads : IsJoyRead (seen_by_reader old.udev) (seen_by_reader new.udev) old.joy.description old.joy.joying new.joy.joying new.joy.made answer out new_out
-  pub left : LeavesMade (seen_by_reader old.udev) (seen_by_reader new.udev) new.joy.made
+  pub reads : IsJoyRead (owned_view old.udev) (owned_view new.udev) old.joy.description old.joy.joying new.joy.joying new.joy.made answer out new_out
+  pub left : LeavesMade (owned_view old.udev) (owned_view new.udev) new.joy.made
   pub agains : new.udev.agains ≡ agains_after_read answer old.udev.agains
   pub description : new.udev.description ≡ old.udev.description
   pub reader : new.reader ≡ old.reader

@@ -1,11 +1,11 @@
 -- The streams of a record that a handle keeps.
-use Rattle.std.specs.Prelude.{◌≡◌, ◌≢◌, ℕ, true, List, slice_set, Option, Some, None}
+use Rattle.std.specs.Prelude.{◌≡◌, ◌≢◌, ◌⊎◌, ℕ, true, List, slice_set, Option, Some, None}
 use Rattle.inp_model.specs.declared.stamped.Stamped.{Stamped}
 use Rattle.inp_record.specs.Stream.{stream_at, events_at, with_stream}
 use Rattle.inp_c.specs.declared.kept.Kept.{Kept}
 use Rattle.inp_c.specs.declared.kept.Kept.TheVariants.{Record}
 use Rattle.inp_c.specs.declared.kept_record.KeptRecord.{KeptRecord}
-use Rattle.inp_c.specs.declared.status.TheConstants.{BAD_ARGUMENT, BAD_STREAM, BAD_HANDLE}
+use Rattle.inp_c.specs.declared.status.TheConstants.{OK, BAD_ARGUMENT, BAD_STREAM, NO_MEMORY, BAD_HANDLE}
 
 -- the record that is kept, if one is
 abbrev pub kept_record : Option Kept → Option KeptRecord
@@ -22,9 +22,10 @@ abbrev pub LacksEvents : Option Kept → ℕ → List ℕ → Type 0
 LacksEvents (Some (Record kept)) line bytes = events_at kept.recorded line bytes ≡ None
 LacksEvents _ line bytes = ⊥
 
--- What the call that gives a line its bytes answers: each status comes only so. That memory ran out may be
--- said anywhere.
+-- What the call that gives a line its bytes answers: each status comes only so, and there is no other. That memory ran
+-- out may be said wherever a record is kept.
 pub record IsLoadStatus (before : Option Kept) (line : ℕ) (bytes : List ℕ) (status : ℕ) : Type 0 where
+  pub one_of : (status ≡ OK) ⊎ ((status ≡ BAD_HANDLE) ⊎ ((status ≡ BAD_ARGUMENT) ⊎ ((status ≡ BAD_STREAM) ⊎ (status ≡ NO_MEMORY))))
   pub no_record : status ≡ BAD_HANDLE → kept_record before ≡ None
   pub record_there : status ≢ BAD_HANDLE → kept_record before ≢ None
   pub no_stream : status ≡ BAD_ARGUMENT → LacksStream before line

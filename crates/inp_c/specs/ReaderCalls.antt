@@ -1,9 +1,7 @@
 -- What a call of a device's reader leaves, and what C is told of it.
 use Rattle.std.specs.Prelude.{◌≡◌, ℕ, nat_eq, if◌then◌else◌, [], Option, Some, None, is_some}
 use Rattle.inp_model.specs.declared.taken.Taken.{Taken}
-use Rattle.inp_model.specs.DeviceView.{evdev_view}
-use Rattle.inp_uinput.specs.UdevView.{UdevView, device_of}
-use Rattle.inp_model.specs.Evdev.{EvdevView}
+use Rattle.inp_uinput.specs.UdevView.{owned_view}
 use Rattle.inp_reader.specs.declared.mode.Mode.{Mode}
 use Rattle.inp_reader.specs.declared.mode.Mode.TheVariants.{Normal, Sync as SyncMode}
 use Rattle.inp_reader.specs.declared.next.Next.{Next}
@@ -20,22 +18,20 @@ use Rattle.inp_c.specs.declared.status.TheConstants.{BAD_HANDLE}
 use Rattle.inp_c.specs.Status.{argument_status}
 use Rattle.inp_c.specs.Told.{told_untimed, refusal_number}
 
--- what the reader is told of the device
-abbrev pub seen_by_reader : UdevView → EvdevView
-seen_by_reader udev = evdev_view (device_of udev)
-
--- The reader started: its calls on the device are those of a start, and this is its answer.
+-- The reader started: its calls on the device are those of a start, and this is its answer. What the device's owner took
+-- and what waits for it are as before, since the calls keep the tie of `owned_view`.
 pub record IsKeptStart (old new : KeptDevice) (answer : Started) : Type 0 where
-  pub says : Says (seen_by_reader old.udev) (seen_by_reader new.udev) [] new.reader.made (start_talk old.reader.description old.reader.reading) (answer, new.reader.reading)
-  pub left : LeavesMade (seen_by_reader old.udev) (seen_by_reader new.udev) new.reader.made
+  pub says : Says (owned_view old.udev) (owned_view new.udev) [] new.reader.made (start_talk old.reader.description old.reader.reading) (answer, new.reader.reading)
+  pub left : LeavesMade (owned_view old.udev) (owned_view new.udev) new.reader.made
   pub agains : new.udev.agains ≡ old.udev.agains
   pub description : new.udev.description ≡ old.udev.description
   pub joy : new.joy ≡ old.joy
 
--- The reader went on: its calls on the device are those of its next event, and this is its answer.
+-- The reader went on: its calls on the device are those of its next event, and this is its answer. What the owner has is
+-- as before.
 pub record IsKeptNext (old new : KeptDevice) (mode : Mode) (answer : Next) : Type 0 where
-  pub says : Says (seen_by_reader old.udev) (seen_by_reader new.udev) [] new.reader.made (next_talk old.reader.description mode old.reader.reading) (answer, new.reader.reading)
-  pub left : LeavesMade (seen_by_reader old.udev) (seen_by_reader new.udev) new.reader.made
+  pub says : Says (owned_view old.udev) (owned_view new.udev) [] new.reader.made (next_talk old.reader.description mode old.reader.reading) (answer, new.reader.reading)
+  pub left : LeavesMade (owned_view old.udev) (owned_view new.udev) new.reader.made
   pub agains : new.udev.agains ≡ agains_after_next answer old.udev.agains
   pub description : new.udev.description ≡ old.udev.description
   pub joy : new.joy ≡ old.joy

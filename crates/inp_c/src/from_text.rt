@@ -1,7 +1,7 @@
 //! Devices and records made of a text, for C.
-ghost use Rattle.std.specs.Prelude.{◌≡◌, ◌≢◌, ◌⊎◌, ◌≤◌, length};
+ghost use Rattle.std.specs.Prelude.{◌≡◌, ◌≢◌, ◌⊎◌, ◌≤◌, length, IfOk, Some};
 ghost use Rattle.inp_c.specs.Contents.{contents};
-ghost use Rattle.inp_c.specs.FromText.{IsMakingAnswer, IsDeviceMade, IsDeviceKept, LacksDevice, IsRecordMade, IsRecordKept};
+ghost use Rattle.inp_c.specs.FromText.{IsMakingAnswer, IsDeviceMade, IsDeviceKept, IsFreshKept, LacksDevice, IsRecordMade, IsRecordKept};
 
 use crate::handle::Handle;
 use crate::kept::Kept;
@@ -9,6 +9,8 @@ use crate::kept_device::KeptDevice;
 use crate::kept_record::KeptRecord;
 use crate::record_text::read_text;
 use crate::status::{BAD_ARGUMENT, IN_USE, NO_MEMORY, OK};
+use inp_caps::Caps;
+use inp_model::NoMemory;
 use inp_record::Record;
 use std::alloc::Global;
 
@@ -48,16 +50,30 @@ fn keep_device(alloc: Global, recorded: &Record, number: u32, handle: &mut Handl
     if number as usize >= recorded.devices().len() {
         return BAD_ARGUMENT;
     }
-    let caps = recorded.devices().get(number as usize).caps.copy();
-    let Ok(device) = KeptDevice::new(alloc, caps) else {
-        return NO_MEMORY;
-    };
-    match Box::new(alloc, Kept::Device(device)) {
+    match boxed_device(alloc, &recorded.devices().get(number as usize).caps) {
         Ok(kept) => {
             *handle = Handle::of(kept);
             OK
         }
-        Err(_) => NO_MEMORY,
+        Err(NoMemory) => NO_MEMORY,
+    }
+}
+
+/// A device of this description, in a box.
+fn boxed_device(alloc: Global, caps: &Caps) -> Result<Box<Kept>, NoMemory>
+    ensures { IfOk result (λ kept. IsFreshKept caps.now kept.value) }
+{
+    let device = KeptDevice::new(alloc, caps)?;
+    boxed(alloc, Kept::Device(device))
+}
+
+/// What is to be kept, in a box.
+fn boxed(alloc: Global, kept: Kept) -> Result<Box<Kept>, NoMemory>
+    ensures { IfOk result (λ boxed. boxed.value ≡ kept) }
+{
+    match Box::new(alloc, kept) {
+        Ok(boxed) => Ok(boxed),
+        Err(_) => Err(NoMemory),
     }
 }
 
@@ -92,20 +108,25 @@ fn keep_record(alloc: Global, recorded: Record, handle: &mut Handle) -> u32
     ensures made { result ≡ OK → IsRecordKept recorded (contents handle.new) }
     ensures not_made { result ≢ OK → contents handle.new ≡ contents handle.old }
 {
-    let Ok(loaded) = vec![in alloc; false; recorded.stream_count()] else {
-        return NO_MEMORY;
-    };
+    match boxed_record(alloc, recorded) {
+        Ok(kept) => {
+            *handle = Handle::of(kept);
+            OK
+        }
+        Err(NoMemory) => NO_MEMORY,
+    }
+}
+
+/// A record none of whose streams has its bytes, and of which no text was made, in a box.
+fn boxed_record(alloc: Global, recorded: Record) -> Result<Box<Kept>, NoMemory>
+    ensures { IfOk result (λ kept. IsRecordKept recorded (Some kept.value)) }
+{
+    let loaded = vec![in alloc; false; recorded.stream_count()]?;
     let text = Vec::new(alloc);
     let record = KeptRecord {
         recorded,
         loaded,
         text,
     };
-    match Box::new(alloc, Kept::Record(record)) {
-        Ok(kept) => {
-            *handle = Handle::of(kept);
-            OK
-        }
-        Err(_) => NO_MEMORY,
-    }
+    boxed(alloc, Kept::Record(record))
 }

@@ -48,7 +48,7 @@ fn history_in(kept: &Kept, from: usize, steps: &mut [CStep], left: &mut usize) -
     let Kept::Device(device) = kept else {
         return BAD_HANDLE;
     };
-    let history = device.udev.history();
+    let history = device.history();
     if from > history.len() {
         return BAD_ARGUMENT;
     }

@@ -7,14 +7,14 @@ use inp_caps::Caps;
 use inp_joy::{Joy, JoyRead};
 use inp_model::{Injected, NoMemory, Reply, Stamped, Step, Taken};
 use inp_reader::{Mode, Next, Reader, Started};
-use inp_uinput::Udev;
+use inp_uinput::Owned;
 use std::alloc::Global;
 
 /// A device with its reader and its joystick client.
 #[derive(Drop)]
 pub struct KeptDevice {
-    /// The device.
-    pub udev: Udev,
+    /// The device with its owner. The calls of the reader and of the joystick client leave what the owner has.
+    pub udev: Owned,
     /// The reader, which is of the device's description.
     pub reader: Reader,
     /// The joystick client, which is of the device's description.
@@ -27,20 +27,35 @@ impl KeptDevice {
     ghost use Rattle.inp_model.specs.Reply.{HasRoom};
     ghost use Rattle.inp_c.specs.Steps.{IsKeptStep};
     ghost use Rattle.inp_c.specs.ReaderCalls.{IsKeptStart, IsKeptNext};
+    ghost use Rattle.inp_c.specs.History.{history_of};
     ghost use Rattle.inp_c.specs.Fresh.{fresh_udev, IsFreshReader, IsFreshJoy};
     ghost use Rattle.inp_c.specs.Injection.{are_timely, IsKeptInjectAll};
     ghost use Rattle.inp_c.specs.Joystick.{IsKeptJoyStart, IsKeptJoyRead};
 
     /// A device of this description that keeps nothing yet, with a reader that has not started.
-    pub(crate) fn new(alloc: Global, caps: Caps) -> Result<KeptDevice, NoMemory>
-        ensures udev { IfOk result (λ kept. kept.udev ≡ fresh_udev caps) }
-        ensures reader { IfOk result (λ kept. IsFreshReader caps kept.reader) }
-        ensures joy { IfOk result (λ kept. IsFreshJoy caps kept.joy) }
+    pub(crate) fn new(alloc: Global, caps: &Caps) -> Result<KeptDevice, NoMemory>
+        ensures udev { IfOk result (λ kept. kept.udev ≡ fresh_udev caps.now) }
+        ensures reader { IfOk result (λ kept. IsFreshReader caps.now kept.reader) }
+        ensures joy { IfOk result (λ kept. IsFreshJoy caps.now kept.joy) }
     {
-        let reader = Reader::new(alloc, &caps)?;
-        let joy = Joy::new(alloc, &caps)?;
-        let udev = Udev::new(alloc, caps)?;
+        let reader = Reader::new(alloc, caps)?;
+        let joy = Joy::new(alloc, caps)?;
+        let udev = Owned::new(alloc, caps.copy())?;
         Ok(KeptDevice { udev, reader, joy })
+    }
+
+    /// The device's description.
+    pub(crate) fn caps(&self) -> &Caps
+        ensures description { result.now ≡ self.now.udev.description }
+    {
+        self.udev.udev.caps()
+    }
+
+    /// The steps that the device accepted, oldest first.
+    pub(crate) fn history(&self) -> &[Step]
+        ensures history { result.now ≡ history_of self.now }
+    {
+        self.udev.udev.history()
     }
 
     /// Makes a step. What it reads stands at the front of the arrays.
@@ -50,7 +65,7 @@ impl KeptDevice {
         ensures { IsKeptStep self.old self.new step result
             events.old events.new cells.old cells.new }
     {
-        self.udev.step(step, events, cells)
+        self.udev.udev.step(step, events, cells)
     }
 
     /// Injects an event. It is fewer instructions than a step `Inject`, whose reply has room for that of any step.
@@ -58,7 +73,7 @@ impl KeptDevice {
         requires moment { stamped.now ≤ MOMENT_MAX }
         ensures { IsKeptInjectAll self.old self.new (stamped ∷ []) result }
     {
-        self.udev.inject_all(&[stamped])
+        self.udev.udev.inject_all(&[stamped])
     }
 
     /// Injects events, each at its own moment.
@@ -66,7 +81,7 @@ impl KeptDevice {
         requires timely { are_timely events.now ≡ true }
         ensures { IsKeptInjectAll self.old self.new events.now result }
     {
-        self.udev.inject_all(events)
+        self.udev.udev.inject_all(events)
     }
 
     /// Starts the reader.

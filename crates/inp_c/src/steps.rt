@@ -69,7 +69,7 @@ fn step_in(
     let Some(step) = step_of(step) else {
         return BAD_ARGUMENT;
     };
-    if !has_room(device.udev.caps(), step, events.len(), cells.len()) {
+    if !has_room(device.caps(), step, events.len(), cells.len()) {
         return BAD_ARGUMENT;
     }
     step_device(device, step, reply, events, cells);

@@ -1,6 +1,6 @@
 -- How many cells a store has, by the numbers that name them.
-use Rattle.std.proofs.Common.{◌≡◌, ◌≤◌, ◌<◌, ℕ, zero, suc, ◌+◌, ◌*◌, cond, if◌then◌else◌, nat_lt, List, [], ◌∷◌, length, map, get_or, Option, Some, None, is_some, IsSome, refl, sym, ap, subst, inl, inr, arith}
-use Rattle.std.specs.Prelude.{count_by, sum_by, All}
+use Rattle.std.proofs.Common.{◌≡◌, ◌≤◌, ◌<◌, ℕ, zero, suc, ◌+◌, ◌*◌, cond, if◌then◌else◌, nat_lt, List, [], ◌∷◌, length, map, ◌++◌, get_or, Option, Some, None, is_some, IsSome, refl, sym, ap, subst, inl, inr, arith}
+use Rattle.std.specs.Prelude.{count_by, sum_by, flat_map, All}
 use Rattle.std.proofs.lemmas.Bool.{cases_eq, cases_lt, lt-ltb, le-ltb}
 use Rattle.std.proofs.lemmas.List.{get_or_past, length-append, length-map}
 use Rattle.std.proofs.lemmas.List.Sums.{sum_by-cons}
@@ -10,7 +10,8 @@ use Rattle.inp_ring.specs.Store.{StoreView, held_under, cell_count, HasCell}
 use Rattle.inp_ring.specs.Ring.{times, AreDifferent, IsRing}
 use Rattle.inp_ring.proofs.Times.{once, once_same, once_other, times_first, times-append}
 use Rattle.inp_client.specs.Clients.{distinct}
-use Rattle.inp_client.specs.Member.{Member, ring_of, numbers_in, times_in, wanted}
+use Rattle.inp_client.specs.Member.{Member, ring_of, clients_view_in, numbers_in, times_in, wanted}
+use Rattle.inp_client.specs.Numbers.{held_numbers}
 
 -- the sum of f over so many numbers from k on
 abbrev upto : (ℕ → ℕ) → ℕ → ℕ → ℕ
@@ -241,3 +242,15 @@ wanted_few [] rings = omega arith
 wanted_few (m ∷ ms) rings =
     let first = All-head (λ m. IsRing (ring_of m)) m ms rings in
     omega (arith, first.most, sum_by-cons (λ (m : Member). m.ring.places + 1) m ms, wanted_few ms (All-tail (λ m. IsRing (ring_of m)) m ms rings))
+
+-- The numbers of all rings
+
+abbrev pub rings_of : List Member → List (List ℕ)
+rings_of ms = map (λ (m : Member). m.ring.events) ms
+
+pub held_numbers-rings : (ms : List Member) → flat_map (λ (q : List ℕ). q) (rings_of ms) ≡ numbers_in ms
+held_numbers-rings [] = refl
+held_numbers-rings (m ∷ ms) = ap (λ (q : List ℕ). m.ring.events ++ q) (held_numbers-rings ms)
+
+pub times-clients_view_in : (n : ℕ) (s : StoreView) (ms : List Member) → times n (held_numbers (clients_view_in s ms)) ≡ times_in n ms
+times-clients_view_in n s ms = omega (arith, ap (times n) (held_numbers-rings ms), times-numbers_in n ms)

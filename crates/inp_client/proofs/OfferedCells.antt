@@ -9,20 +9,20 @@ use Rattle.slab.specs.Slab.{Slab, get, with_value}
 use Rattle.inp_model.specs.declared.stamped.TheConstants.{MOMENT_MAX}
 use Rattle.inp_ring.specs.declared.cell.Cell.{Cell}
 use Rattle.inp_ring.specs.declared.cell.Held.{Held}
-use Rattle.inp_ring.specs.Store.{StoreView, held_under, cell_in, held_cell, holders_of, held_by, dropped_cell, HasCell, IsIdle}
+use Rattle.inp_ring.specs.Store.{StoreView, held_under, cell_in, held_cell, holders, holders_of, held_by, event_of_cell, dropped_cell, HasCell, IsIdle}
 use Rattle.inp_ring.specs.Ring.{times, cell_at, some_cell, AreFit, AreHeld, IsRing, IsMoved, IsPutAtEnd}
 use Rattle.inp_ring.proofs.Times.{at_each, once, times_push, once_same, once_other}
 use Rattle.inp_client.specs.declared.location.Location.{Location}
-use Rattle.inp_client.specs.Masks.{MaskView}
 use Rattle.inp_client.specs.Client.{ClientView, new_client}
 use Rattle.inp_client.specs.Member.{Member, ring_of, client_in, cells_in, times_in, wanted, after_event, AreStored}
 use Rattle.inp_client.specs.Locations.{client_at, clients_in, AreLocated}
-use Rattle.inp_client.specs.Numbers.{loses_event, admitted_number, IsPutBehind}
-use Rattle.inp_client.specs.Offered.{AreShared, IsEnteredTo, IsEventOffered, owing, member_at, seen_at, ring_at}
+use Rattle.inp_client.specs.Numbers.{loses_event, ring_after, event_under, client_of_index, ring_of_index, IsRingStored}
+use Rattle.inp_client.specs.Offered.{AreShared, IsEnteredTo, IsEventOffered, owing, member_at, seen_at, ring_at, clients_view_of}
 use Rattle.inp_client.proofs.Lists.{flag_other, map_over}
 use Rattle.inp_client.proofs.Locations.{located_after_write, members_after_write, member_written, member_kept, members_long, member_in_location, member_found}
-use Rattle.inp_client.proofs.Numbers.{after_event-cases}
-use Rattle.inp_client.proofs.OtherClients.{held_known, member_held, member_timed, member_ring, spare_some, others_stay, stored_after_write}
+use Rattle.inp_client.proofs.CellCounts.{times-clients_view_in}
+use Rattle.inp_client.proofs.Numbers.{after_event-cases, put_cases, lost_ring, ring_after-same, told_in}
+use Rattle.inp_client.proofs.OtherClients.{two_sum, held_known, member_held, member_timed, member_ring, spare_some, others_stay, stored_after_write}
 
 -- what is owed, said in another way
 pub stored_owed : {s : StoreView} {ms : List Member} {f : ℕ → ℕ} (g : ℕ → ℕ) → AreStored s ms f → ((n : ℕ) → f n ≡ g n) → AreStored s ms g
@@ -50,7 +50,7 @@ owing_more number a b =
 pub timed_after_event : (cell : Cell) (holder : Option ℕ) (c : ClientView Cell) → cell.now ≤ MOMENT_MAX → AreFit c.ring.events → AreFit (after_event cell holder c).ring.events
 timed_after_event cell holder c now fit =
     let Fits : Cell → Type 0 = λ x. x.now ≤ MOMENT_MAX in
-    after_event-cases (λ x. AreFit x.ring.events) cell holder c fit (All-push Fits c.ring.events cell fit now)
+    after_event-cases (λ x b. AreFit x.ring.events) cell holder c fit (All-push Fits c.ring.events cell fit now)
     (λ _. All-cons Fits (dropped_cell cell) (cell ∷ []) now (All-cons Fits cell [] now (All-nil Fits)))
 
 module _ {cell : Cell} {holder : Option ℕ} {number : ℕ} {locations : List Location} {before slab : Slab Member} {first store : StoreView} {i taken : ℕ} (to : IsEnteredTo i cell holder number locations before slab first store taken) (in_i : i < length locations) where
@@ -81,7 +81,7 @@ module _ {cell : Cell} {holder : Option ℕ} {number : ℕ} {locations : List Lo
 
     -- it was put into its ring, or not
     module _ (new : Member) (after : StoreView) (is_in : Bool) (entered : IsPutAtEnd store after old.ring.events new.ring.events number is_in) (numbered : new.number ≡ old.number) (places : new.ring.places ≡ old.ring.places)
-        (sound : IsRing (ring_of old) → IsRing (ring_of new)) (put : IsPutBehind (admitted_number old.masks cell.event number) (nat_lt (length new.ring.events) (length old.ring.events)) old.ring.events new.ring.events) (offered : client_in after new ≡ after_event (cell_at store number) holder (client_in store old)) (now : cell.now ≤ MOMENT_MAX) where
+        (sound : IsRing (ring_of old) → IsRing (ring_of new)) (stored : IsRingStored number holder store after old new) (offered : client_in after new ≡ after_event (cell_at store number) holder (client_in store old)) (now : cell.now ≤ MOMENT_MAX) where
       abbrev gained : ℕ
       gained = if is_in then 1 else 0
 
@@ -159,30 +159,139 @@ module _ {cell : Cell} {holder : Option ℕ} {number : ℕ} {locations : List Lo
       was_ring : ring_at locations before i ≡ old.ring.events
       was_ring = sym (to.rest i (omega arith) in_i) ∙ ap (λ (m : Member). m.ring.events) old_is
 
-      -- its queue is shorter where it was lost
-      lost_here : nat_lt (length new.ring.events) (length old.ring.events) ≡ loses_event cell holder (seen_at first locations before i)
-      lost_here =
-          ap (λ (k : ℕ). nat_lt k (length old.ring.events)) (sym (length-map new.ring.events (cell_at after)) ∙ ap (λ (c : ClientView Cell). length c.ring.events) (offered ∙ ap (λ (x : Cell). after_event x holder (client_in store old)) same_cell))
-          ∙ ap (λ (k : ℕ). nat_lt (length (after_event cell holder (client_in store old)).ring.events) k) (sym (length-map old.ring.events (cell_at store)))
-          ∙ ap (loses_event cell holder) was_seen
+      -- the rings that the first clients have
+      told : (j : ℕ) → map (event_under first) (ring_at locations before j) ≡ map event_of_cell (seen_at first locations before j).ring.events
+      told j = told_in first (ring_at locations before j)
 
-      put_here : IsPutBehind (admitted_number (seen_at first locations before i).masks cell.event number) (loses_event cell holder (seen_at first locations before i)) (ring_at locations before i) new.ring.events
+      same_first : event_under first number ≡ cell.event
+      same_first = ap (λ (x : Cell). x.event) to.begun
+
+      abbrev losses_next : ℕ → ℕ
+      losses_next j = if nat_eq j i then stored.loss else to.losses j
+
+      loss_here : losses_next i ≡ stored.loss
+      loss_here = cond-true (nat_eq i i) stored.loss (to.losses i) (eq-eqb i i refl)
+
+      loss_other : (j : ℕ) → j ≢ i → losses_next j ≡ to.losses j
+      loss_other j d = cond-false (nat_eq j i) stored.loss (to.losses j) (ne_eqb j i d)
+
+      -- what was offered to this one, as it was first
+      told_here : map (event_under store) (ring_at locations before i) ≡ map (event_under first) (ring_at locations before i)
+      told_here =
+          told_in store (ring_at locations before i)
+          ∙ ap (λ (q : List ℕ). map event_of_cell (map (cell_at store) q)) was_ring
+          ∙ ap (λ (c : ClientView Cell). map event_of_cell c.ring.events) was_seen
+          ∙ sym (told i)
+
+      put_here : new.ring.events ≡ ring_after (event_under first) cell holder number stored.loss (seen_at first locations before i) (ring_at locations before i)
       put_here =
-          let P : MaskView → Bool → List ℕ → Type 0 = λ m b q. IsPutBehind (admitted_number m cell.event number) b q new.ring.events in
-          subst (λ (m : MaskView). P m (loses_event cell holder (seen_at first locations before i)) (ring_at locations before i)) (ap (λ (c : ClientView Cell). c.masks) was_seen)
-          (subst (λ (b : Bool). P old.masks b (ring_at locations before i)) lost_here (subst (λ (q : List ℕ). P old.masks (nat_lt (length new.ring.events) (length old.ring.events)) q) (sym was_ring) put))
+          stored.ring
+          ∙ ap (λ (x : Cell). ring_after (event_under store) x holder number stored.loss (client_in store old) old.ring.events) same_cell
+          ∙ ap (λ (c : ClientView Cell). ring_after (event_under store) cell holder number stored.loss c old.ring.events) was_seen
+          ∙ ap (λ (q : List ℕ). ring_after (event_under store) cell holder number stored.loss (seen_at first locations before i) q) (sym was_ring)
+          ∙ ring_after-same (event_under store) (event_under first) cell holder number stored.loss (seen_at first locations before i) (ring_at locations before i) told_here
+          (ap (λ (x : Cell). x.event) same_cell ∙ sym same_first)
 
-      next_numbered : (j : ℕ) → j < i + 1 → j < length locations → IsPutBehind (admitted_number (seen_at first locations before j).masks cell.event number) (loses_event cell holder (seen_at first locations before j)) (ring_at locations before j) (ring_at locations next_slab j)
+      next_numbered : (j : ℕ) → j < i + 1 → j < length locations
+          → ring_at locations next_slab j ≡ ring_after (event_under first) cell holder number (losses_next j) (seen_at first locations before j) (ring_at locations before j)
       next_numbered =
           at_each _ i
-          (λ below in_j. let P : List ℕ → Type 0 = λ q. IsPutBehind
-          (admitted_number (seen_at first locations before i).masks cell.event number)
-          (loses_event cell holder (seen_at first locations before i)) (ring_at locations before i) q in
-          subst P (sym (ap (λ (m : Member). m.ring.events) member_here)) put_here)
-          (λ j d below in_j. let P : List ℕ → Type 0 = λ q. IsPutBehind
-          (admitted_number (seen_at first locations before j).masks cell.event number)
-          (loses_event cell holder (seen_at first locations before j)) (ring_at locations before j) q in
-          subst P (sym (ap (λ (m : Member). m.ring.events) (member_other j d))) (to.numbered j (omega (arith, d)) in_j))
+          (λ below in_j. ap (λ (m : Member). m.ring.events) member_here ∙ put_here
+          ∙ ap (λ (l : ℕ). ring_after (event_under first) cell holder number l (seen_at first locations before i) (ring_at locations before i)) (sym loss_here))
+          (λ j d below in_j. ap (λ (m : Member). m.ring.events) (member_other j d) ∙ to.numbered j (omega (arith, d)) in_j
+          ∙ ap (λ (l : ℕ). ring_after (event_under first) cell holder number l (seen_at first locations before j) (ring_at locations before j)) (sym (loss_other j d)))
+
+      -- The number of a loss stands in the one ring.
+
+      abbrev is_lost : ℕ → Type 0
+      is_lost j = loses_event cell holder (seen_at first locations before j) ≡ true
+
+      lost_here : is_lost i → (new.ring.events ≡ stored.loss ∷ number ∷ []) × (holders after stored.loss ≡ 1)
+      lost_here h = (
+        put_here ∙ lost_ring (event_under first) cell holder number stored.loss (seen_at first locations before i) (ring_at locations before i) (told i) same_first h,
+        stored.alone (ap (λ (x : Cell). loses_event x holder (client_in store old)) same_cell ∙ ap (loses_event cell holder) was_seen ∙ h),
+      )
+
+      alone_here : is_lost i → times_in stored.loss (clients_in locations next_slab) ≡ 1
+      alone_here h =
+          let ring = (lost_here h).0 in
+          let apart : stored.loss ≢ number = λ e. omega (arith, ring_sound.different stored.loss, ap (times stored.loss) ring, once_same stored.loss, ap (λ (n : ℕ). once stored.loss n) e) in
+          omega (arith, stored_next.held stored.loss, (lost_here h).1, owing_other number (taken + gained) stored.loss apart)
+
+      lost_before : (j : ℕ) → j < i → is_lost j → ring_at locations slab j ≡ to.losses j ∷ number ∷ []
+      lost_before j below h =
+          to.numbered j below (omega (arith, below))
+          ∙ lost_ring (event_under first) cell holder number (to.losses j) (seen_at first locations before j) (ring_at locations before j) (told j) same_first h
+
+      sums : (n : ℕ) → times_in n (clients_in locations next_slab) + times n old.ring.events ≡ times_in n (clients_in locations slab) + times n new.ring.events
+      sums n =
+          omega (
+            arith,
+            ap (times_in n) members_next,
+            sum_by-set (λ (m : Member). times n m.ring.events) (clients_in locations slab) i new (new_client 0 0) long_i,
+            ap (λ (m : Member). times n m.ring.events) old_is,
+          )
+
+      module _ (j : ℕ) (below : j < i) (h : is_lost j) where
+        loss : ℕ
+        loss = to.losses j
+
+        in_j : j < length (clients_in locations slab)
+        in_j = omega (arith, below, long_i)
+
+        total : times_in (to.losses j) (clients_in locations slab) ≡ 1
+        total = to.alone j below (omega (arith, below)) h
+
+        has_it : times (to.losses j) (ring_at locations slab j) ≡ 1 + once (to.losses j) number
+        has_it = omega (arith, ap (times (to.losses j)) (lost_before j below h), once_same (to.losses j))
+
+        not_number : once (to.losses j) number ≡ 0
+        not_number = omega (arith, has_it, total, get_or-le-sum_by (λ (m : Member). times (to.losses j) m.ring.events) (clients_in locations slab) j (new_client 0 0) in_j)
+
+        not_old : times (to.losses j) old.ring.events ≡ 0
+        not_old =
+            omega (
+              arith,
+              has_it,
+              total,
+              two_sum (λ (m : Member). times (to.losses j) m.ring.events) (clients_in locations slab) i j (new_client 0 0) long_i in_j (λ e. omega (arith, below, e)),
+              ap (λ (m : Member). times (to.losses j) m.ring.events) old_is,
+            )
+
+        not_loss : is_lost i → once (to.losses j) stored.loss ≡ 0
+        not_loss lost = once_other (to.losses j) stored.loss (λ e.
+            omega (
+              arith,
+              ap (λ (n : ℕ). times_in n (clients_in locations next_slab)) e,
+              alone_here lost,
+              sums (to.losses j),
+              total,
+              not_old,
+              ap (times (to.losses j)) (lost_here lost).0,
+              ap (λ (n : ℕ). once (to.losses j) n) e,
+              once_same (to.losses j),
+            ))
+
+        not_new : times (to.losses j) new.ring.events ≡ 0
+        not_new =
+            let P : ClientView Cell → Bool → List ℕ → Type 0 = λ x b q. (b ≡ true → once (to.losses j) stored.loss ≡ 0) → times (to.losses j) q ≡ 0 in
+            let was : times (to.losses j) (ring_at locations before i) ≡ 0 = ap (times (to.losses j)) was_ring ∙ not_old in
+            ap (times (to.losses j)) put_here
+            ∙ put_cases P (event_under first) cell holder number stored.loss (seen_at first locations before i) (ring_at locations before i) (told i) same_first
+            (λ g. was)
+            (λ g. omega (arith, was, times_push (to.losses j) number (ring_at locations before i), not_number))
+            (λ _ g. omega (arith, g refl, not_number))
+            not_loss
+
+        alone_still : times_in (to.losses j) (clients_in locations next_slab) ≡ 1
+        alone_still = omega (arith, sums (to.losses j), total, not_old, not_new)
+
+      next_alone : (j : ℕ) → j < i + 1 → j < length locations → loses_event cell holder (seen_at first locations before j) ≡ true → times_in (losses_next j) (clients_in locations next_slab) ≡ 1
+      next_alone =
+          at_each _ i
+          (λ below in_j h. ap (λ (n : ℕ). times_in n (clients_in locations next_slab)) loss_here ∙ alone_here h)
+          (λ j d below in_j h. ap (λ (n : ℕ). times_in n (clients_in locations next_slab)) (loss_other j d)
+          ∙ alone_still j (omega (arith, d, below)) h)
 
       next_few : taken + gained ≤ i + 1
       next_few = omega (arith, to.few, cond_both is_in 1 0 (λ n. n ≤ 1) (λ _. omega arith) (λ _. omega arith))
@@ -192,11 +301,14 @@ module _ {cell : Cell} {holder : Option ℕ} {number : ℕ} {locations : List Lo
         located = located_after_write to.located i (record { number = 0; key = 0 }) key old new in_i at found numbered;
         stored = stored_next;
         idle = λ n h. to.idle n (entered.moved.idle n h);
+        begun = to.begun;
         same = entered.same ∙ to.same;
         changed = next_changed;
         absent = λ j le in_j. ap (λ (m : Member). times number m.ring.events) (member_other j (λ e. omega (arith, e))) ∙ to.absent j (omega arith) in_j;
         few = next_few;
+        losses = losses_next;
         numbered = next_numbered;
+        alone = next_alone;
         rest = λ j le in_j. ap (λ (m : Member). m.ring.events) (member_other j (λ e. omega (arith, e))) ∙ to.rest j (omega arith) in_j;
         wanted = ap wanted members_next ∙ omega (arith, places_kept, sum_by-set (λ (m : Member). m.ring.places + 1) (clients_in locations slab) i new (new_client 0 0) long_i) ∙ to.wanted;
         capacity = to.capacity;
@@ -209,11 +321,14 @@ entered_none cell holder number locations slab store located stored idle same = 
   located = located;
   stored = stored_owed (owing number 0) stored (λ n. sym (owing_none number n));
   idle = idle;
+  begun = ap (λ (o : Option Held). some_cell (held_cell o)) same;
   same = same;
   changed = λ j in_j. sym (cond-false (nat_lt j 0) _ _ (le-ltb j 0 (omega arith)));
   absent = λ j le in_j. omega (arith, stored.held number, ap holders_of same, get_or-le-sum_by (λ (m : Member). times number m.ring.events) (clients_in locations slab) j (new_client 0 0) (omega (arith, in_j, members_long located)));
   few = omega arith;
+  losses = λ j. 0;
   numbered = λ j below in_j. absurd (omega arith);
+  alone = λ j below in_j h. absurd (omega arith);
   rest = λ j le in_j. refl;
   wanted = refl;
   capacity = refl;
@@ -240,29 +355,63 @@ seen_is s locations slab j in_j =
     get_or-map (client_in s) (clients_in locations slab) j (new_client 0 0) (new_client 0 0)
     (omega (arith, in_j, length-map locations (λ at. client_at slab at.key)))
 
+-- the ring of a client among those
+pub ring_is : (s : StoreView) (locations : List Location) (slab : Slab Member) (j : ℕ) → j < length locations → ring_of_index (clients_view_of s locations slab) j ≡ ring_at locations slab j
+ring_is s locations slab j in_j =
+    get_or-map (λ (m : Member). m.ring.events) (clients_in locations slab) j (new_client 0 0) [] (omega (arith, in_j, length-map locations (λ at. client_at slab at.key)))
+
+pub long_list : (s : StoreView) (locations : List Location) (slab : Slab Member) → length (clients_view_of s locations slab).list ≡ length locations
+long_list s locations slab = length-map (clients_in locations slab) (client_in s) ∙ length-map locations (λ at. client_at slab at.key)
+
+pub long_rings : (s : StoreView) (locations : List Location) (slab : Slab Member) → length (clients_view_of s locations slab).rings ≡ length locations
+long_rings s locations slab = length-map (clients_in locations slab) (λ (m : Member). m.ring.events) ∙ length-map locations (λ at. client_at slab at.key)
+
 -- The event was offered, also as seen from a store that had no cell of it yet.
 pub event_offered : {cell : Cell} {holder : Option ℕ} {number : ℕ} {locations : List Location} {before slab : Slab Member}
     {first store : StoreView} {count taken : ℕ} → IsEnteredTo count cell holder number locations before slab first store taken
     → length locations ≤ count → (s after : StoreView)
     → cells_in first (clients_in locations before) ≡ cells_in s (clients_in locations before)
     → cells_in after (clients_in locations slab) ≡ cells_in store (clients_in locations slab)
+    → times_in number (clients_in locations before) ≡ 0
     → AreShared locations slab after → IsEventOffered cell holder locations before slab s after
-event_offered {cell} {holder} {number} {locations} {before} {slab} {first} {store} {count} {taken} to past s after same stay shared = record {
+event_offered {cell} {holder} {number} {locations} {before} {slab} {first} {store} {count} {taken} to past s after same stay absent shared = record {
   shared = shared;
-  clients = stay ∙ entered_all to past ∙ ap (map (after_event cell holder)) same;
-  number = number;
-  each = λ j in_j.
-      let P : ClientView Cell → Type 0 = λ c. IsPutBehind (admitted_number c.masks cell.event number) (loses_event cell holder c) (ring_at locations before j) (ring_at locations slab j) in
-      subst P (seen_same j in_j) (to.numbered j (omega arith) in_j);
+  clients = clients_are;
+  once = record {
+    clients = clients_are;
+    rings = (long_rings s locations before ∙ sym (long_list s locations before), long_rings after locations slab ∙ sym (long_list after locations slab));
+    event = event_under first;
+    told = λ j in_j.
+        let within : j < length locations = omega (arith, in_j, long_list s locations before) in
+        ap (map (event_under first)) (ring_is s locations before j within)
+        ∙ told_in first (ring_at locations before j)
+        ∙ ap (λ (c : ClientView Cell). map event_of_cell c.ring.events) (seen_same j within);
+    number = number;
+    same = ap (λ (x : Cell). x.event) to.begun;
+    fresh = times-clients_view_in number s (clients_in locations before) ∙ absent;
+    losses = to.losses;
+    alone = λ j in_j h.
+        let within : j < length locations = omega (arith, in_j, long_list s locations before) in
+        times-clients_view_in (to.losses j) after (clients_in locations slab)
+        ∙ to.alone j (omega (arith, within)) within (ap (loses_event cell holder) (seen_same j within) ∙ h);
+    each = λ j in_j.
+        let within : j < length locations = omega (arith, in_j, long_list s locations before) in
+        ring_is after locations slab j within
+        ∙ to.numbered j (omega (arith, within)) within
+        ∙ ap (λ (c : ClientView Cell). ring_after (event_under first) cell holder number (to.losses j) c (ring_at locations before j)) (seen_same j within)
+        ∙ ap (λ (q : List ℕ). ring_after (event_under first) cell holder number (to.losses j) (client_of_index (clients_view_of s locations before) j) q) (sym (ring_is s locations before j within));
+  };
   wanted = to.wanted;
   capacity = to.capacity;
 }
   where
-    seen_same : (j : ℕ) → j < length locations → seen_at first locations before j ≡ seen_at s locations before j
+    clients_are : cells_in after (clients_in locations slab) ≡ map (after_event cell holder) (cells_in s (clients_in locations before))
+    clients_are = stay ∙ entered_all to past ∙ ap (map (after_event cell holder)) same
+
+    seen_same : (j : ℕ) → j < length locations → seen_at first locations before j ≡ client_of_index (clients_view_of s locations before) j
     seen_same j in_j =
         sym (seen_is first locations before j in_j)
         ∙ ap (λ (cs : List (ClientView Cell)). get_or cs j (new_client 0 0)) same
-        ∙ seen_is s locations before j in_j
 
 -- a flag counts one where it is set
 pub flag_counts : (b : Bool) → bool_byte b ≡ (if b then 1 else 0)

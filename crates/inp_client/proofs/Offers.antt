@@ -1,8 +1,8 @@
 -- A frame is offered event by event.
-use Rattle.std.proofs.Common.{◌≡◌, ◌≤◌, ◌<◌, ℕ, ◌+◌, Bool, true, false, ◌&&◌, if◌then◌else◌, List, [], ◌∷◌, ◌++◌, length, map, drop, get_or, Option, Some, None, refl, sym, ap, ◌∙◌, subst, arith}
+use Rattle.std.proofs.Common.{◌≡◌, ◌≤◌, ◌<◌, ℕ, ◌+◌, Bool, true, false, ◌&&◌, if◌then◌else◌, List, [], ◌∷◌, length, map, drop, get_or, Option, Some, None, refl, sym, ap, ◌∙◌, subst, arith}
 use Rattle.std.specs.Prelude.{filter}
 use Rattle.std.proofs.lemmas.Bool.{cond-true, cond-false, cond_both}
-use Rattle.std.proofs.lemmas.List.{drop_more, drop_all, append-nil, append_assoc, length_push, length-map, get_or-map, map-id}
+use Rattle.std.proofs.lemmas.List.{drop_more, drop_all, map-id}
 use Rattle.slab.specs.Slab.{Slab}
 use Rattle.inp_model.specs.declared.event.Event.{Event}
 use Rattle.inp_model.specs.Queue.{put, put_all}
@@ -12,22 +12,22 @@ use Rattle.inp_ring.specs.Store.{StoreView, held_under, cell_in, held_cell, hold
 use Rattle.inp_ring.proofs.Times.{at_each}
 use Rattle.inp_client.specs.declared.frame.Frame.{Frame}
 use Rattle.inp_client.specs.declared.location.Location.{Location}
-use Rattle.inp_client.specs.Masks.{MaskView, admits_of}
-use Rattle.inp_client.specs.Client.{ClientView, new_client, with_events, is_offered_to, cell_of_event, after_offer}
-use Rattle.inp_client.specs.Member.{Member, client_in, cells_in, times_in, wanted, after_event, AreStored}
-use Rattle.inp_client.specs.Locations.{client_at, clients_in}
-use Rattle.inp_client.specs.Numbers.{loses_event, loses, admitted_numbers, IsPutBehind}
-use Rattle.inp_client.specs.Offered.{AreShared, IsEnteredTo, IsEventOffered, IsOffered, after_frame, seen_at, ring_at}
+use Rattle.inp_client.specs.Masks.{admits_of}
+use Rattle.inp_client.specs.Client.{ClientView, with_events, is_offered_to, cell_of_event, after_offer}
+use Rattle.inp_client.specs.Member.{Member, cells_in, times_in, wanted, after_event, AreStored}
+use Rattle.inp_client.specs.Locations.{clients_in}
+use Rattle.inp_client.specs.Clients.{ClientsView}
+use Rattle.inp_client.specs.Numbers.{IsStoredOnce}
+use Rattle.inp_client.specs.Offered.{AreShared, IsEnteredTo, IsEventOffered, IsOffered, after_frame, clients_view_of}
 use Rattle.inp_client.proofs.Lists.{map_over, map_same}
 use Rattle.inp_client.proofs.OtherClients.{stored_stays, cells_stay, spare_some}
 use Rattle.inp_client.proofs.OneClient.{kept_known}
 use Rattle.inp_client.proofs.Locations.{members_long}
-use Rattle.inp_client.proofs.Numbers.{after_event-cases, put_none, put_then}
-use Rattle.inp_client.proofs.OfferedCells.{owing_same, owing_other, seen_is}
+use Rattle.inp_client.proofs.OfferedCells.{owing_same, owing_other, long_list, long_rings}
 
 -- A new cell is in no ring.
 module _ {locations : List Location} {slab : Slab Member} {s after : StoreView} (shared : AreShared locations slab s) (number : ℕ) (cell : Cell) (new : held_under s number ≡ None) (put : IsPut s after number (held_by 0 cell)) where
-  in_none : times_in number (clients_in locations slab) ≡ 0
+  pub in_none : times_in number (clients_in locations slab) ≡ 0
   in_none = omega (arith, shared.stored.held number, ap holders_of new)
 
   added_stay : (n : ℕ) → 1 ≤ times_in n (clients_in locations slab) → cell_in after n ≡ cell_in s n
@@ -121,13 +121,9 @@ after_one f e c = after_event (cell_of_event f.moment f.place e) f.holder c
 abbrev after_some : Frame → List Event → ClientView Cell → ClientView Cell
 after_some f events c = after_offer events f.moment f.place f.holder c
 
--- what a client's ring had, and has once these events of a frame were offered, which have these numbers
-abbrev IsNumbered : Frame → List Event → List ℕ → ClientView Cell → List ℕ → List ℕ → Type 0
-IsNumbered f events given c old new =
-    IsPutBehind (admitted_numbers c.masks events given) (loses events f.moment f.place f.holder c) old new
-
-masks_stay : (cell : Cell) (holder : Option ℕ) (c : ClientView Cell) → (after_event cell holder c).masks ≡ c.masks
-masks_stay cell holder c = after_event-cases (λ x. x.masks ≡ c.masks) cell holder c refl refl (λ _. refl)
+-- these events of a frame were offered, and are stored once
+abbrev AreStoredOnce : Frame → List Event → ClientsView → ClientsView → Type 0
+AreStoredOnce f events old new = IsStoredOnce events f.moment f.place f.holder old new
 
 -- so many events of a frame were offered
 pub record IsOfferedTo (f : Frame) (locations : List Location) (before slab : Slab Member) (first store : StoreView) (i : ℕ) : Type 0 where
@@ -136,13 +132,8 @@ pub record IsOfferedTo (f : Frame) (locations : List Location) (before slab : Sl
       ≡ map (after_frame f) (cells_in first (clients_in locations before))
   pub wanted : wanted (clients_in locations slab) ≡ wanted (clients_in locations before)
   pub capacity : slab.capacity ≡ before.capacity
-  -- the numbers of these events; each event of the others has one too, whatever they are
-  pub within : i ≤ length f.events.now
-  pub given : List ℕ
-  pub long : length given ≡ i
-  pub numbered : (j : ℕ) → j < length locations → (more new : List ℕ)
-      → IsNumbered f (drop i f.events.now) more (seen_at store locations slab j) (ring_at locations slab j) new
-      → IsNumbered f f.events.now (given ++ more) (seen_at first locations before j) (ring_at locations before j) new
+  -- where the others are stored once after them, all are
+  pub once : (new : ClientsView) → AreStoredOnce f (drop i f.events.now) (clients_view_of store locations slab) new → AreStoredOnce f f.events.now (clients_view_of first locations before) new
 
 module _ {f : Frame} {locations : List Location} {before slab : Slab Member} {first store : StoreView} {i : ℕ}
     (to : IsOfferedTo f locations before slab first store i) where
@@ -159,14 +150,9 @@ module _ {f : Frame} {locations : List Location} {before slab : Slab Member} {fi
         ∙ to.rest;
     wanted = has.wanted ∙ to.wanted;
     capacity = has.capacity ∙ to.capacity;
-    within = omega arith;
-    given = to.given ++ has.number ∷ [];
-    long = omega (arith, to.long, length_push to.given has.number);
-    numbered = λ j in_j more new put.
-        let Q : List ℕ → Type 0 = λ ns. IsNumbered f f.events.now ns (seen_at first locations before j) (ring_at locations before j) new in
-        let D : List Event → Type 0 = λ es. IsNumbered f es (has.number ∷ more) (seen_at store locations slab j) (ring_at locations slab j) new in
-        subst Q (sym (append_assoc to.given (has.number ∷ []) more))
-        (to.numbered j in_j (has.number ∷ more) new (subst D (sym (drop_more f.events.now i d in_i)) (put_both j in_j more new put)));
+    once = λ new more.
+        let D : List Event → Type 0 = λ es. AreStoredOnce f es (clients_view_of store locations slab) new in
+        to.once new (subst D (sym (drop_more f.events.now i d in_i)) (clients_view_of after locations next, has.once, more));
   }
     where
       e : Event
@@ -178,26 +164,6 @@ module _ {f : Frame} {locations : List Location} {before slab : Slab Member} {fi
       clients : List (ClientView Cell)
       clients = cells_in store (clients_in locations slab)
 
-      next_seen : (j : ℕ) → j < length locations → seen_at after locations next j ≡ after_one f e (seen_at store locations slab j)
-      next_seen j in_j =
-          sym (seen_is after locations next j in_j)
-          ∙ ap (λ (cs : List (ClientView Cell)). get_or cs j (new_client 0 0)) has.clients
-          ∙ get_or-map (after_one f e) clients j (new_client 0 0) (new_client 0 0)
-          (omega (arith, in_j, length-map (clients_in locations slab) (client_in store), length-map locations (λ at. client_at slab at.key)))
-          ∙ ap (after_one f e) (seen_is store locations slab j in_j)
-
-      put_both : (j : ℕ) → j < length locations → (more new : List ℕ)
-          → IsNumbered f rest more (seen_at after locations next j) (ring_at locations next j) new
-          → IsNumbered f (e ∷ rest) (has.number ∷ more) (seen_at store locations slab j) (ring_at locations slab j) new
-      put_both j in_j more new put =
-          let c = seen_at store locations slab j in
-          let P : MaskView → ClientView Cell → Type 0 = λ m x.
-          IsPutBehind (admitted_numbers m rest more) (loses rest f.moment f.place f.holder x) (ring_at locations next j) new in
-          let masks : (seen_at after locations next j).masks ≡ c.masks =
-          ap (λ (x : ClientView Cell). x.masks) (next_seen j in_j) ∙ masks_stay (cell_of_event f.moment f.place e) f.holder c in
-          put_then (loses_event (cell_of_event f.moment f.place e) f.holder c) (loses rest f.moment f.place f.holder (after_one f e c)) (has.each j in_j)
-          (subst (λ (x : ClientView Cell). P c.masks x) (next_seen j in_j) (subst (λ (m : MaskView). P m (seen_at after locations next j)) masks put))
-
   -- all events were
   pub all_offered : length f.events.now ≤ i → IsOffered f locations before slab first store
   all_offered past = record {
@@ -207,13 +173,9 @@ module _ {f : Frame} {locations : List Location} {before slab : Slab Member} {fi
         ∙ map_same (λ c. c) (after_some f []) (cells_in store (clients_in locations slab)) (λ j d in_j. sym (after_offer-nil f.moment f.place f.holder _))
         ∙ ap (λ (es : List Event). map (after_some f es) (cells_in store (clients_in locations slab))) (sym (drop_all i f.events.now past))
         ∙ to.rest;
-    given = to.given;
-    long = omega (arith, to.long, to.within);
-    each = λ j in_j.
-        let ring : List ℕ = ring_at locations slab j in
-        let Q : List ℕ → Type 0 = λ ns. IsNumbered f f.events.now ns (seen_at first locations before j) (ring_at locations before j) ring in
-        let D : List Event → Type 0 = λ es. IsNumbered f es [] (seen_at store locations slab j) ring ring in
-        subst Q (append-nil to.given) (to.numbered j in_j [] ring (subst D (sym (drop_all i f.events.now past)) (put_none [] ring)));
+    once =
+        let D : List Event → Type 0 = λ es. AreStoredOnce f es (clients_view_of store locations slab) (clients_view_of store locations slab) in
+        to.once (clients_view_of store locations slab) (subst D (sym (drop_all i f.events.now past)) (long_rings store locations slab ∙ sym (long_list store locations slab), refl));
     wanted = to.wanted;
     capacity = to.capacity;
   }

@@ -1,8 +1,10 @@
 -- What a call on one client leaves of all that is kept.
-use Rattle.std.proofs.Common.{◌≡◌, ◌≢◌, ◌≤◌, ◌<◌, ℕ, ◌+◌, Bool, true, false, ◌⊎◌, List, [], ◌∷◌, length, map, get_or, set, Contains, Some, refl, sym, ap, ◌∙◌, subst, inl, inr, arith}
-use Rattle.std.specs.Prelude.{flat_map}
+use Rattle.std.proofs.Common.{◌≡◌, ◌≢◌, ◌≤◌, ◌<◌, ℕ, ◌+◌, Bool, true, false, ◌&&◌, not, if◌then◌else◌, List, [], ◌∷◌, length, map, get_or, set, Contains, Some, refl, sym, ap, ◌∙◌, subst, arith}
+use Rattle.std.specs.Prelude.{count_by}
 use Rattle.std.specs.Option.{option_map_or, option_map}
 use Rattle.std.proofs.Math.Seq.{map-set_same}
+use Rattle.std.proofs.lemmas.Bool.{false≢true, cond-true, cond-false, eq-eqb, ne_eqb}
+use Rattle.std.proofs.lemmas.List.{length-map, length-set, get_or-map, get_or-set_same, get_or-set_other}
 use Rattle.std.proofs.lemmas.List.Sums.{sum_by-set}
 use Rattle.std.proofs.lemmas.List.Elements.{All-drop, All-cons, All-nil}
 use Rattle.slab.specs.Slab.{get, with_value}
@@ -12,25 +14,28 @@ use Rattle.inp_model.specs.declared.clock.Clock.{Clock}
 use Rattle.inp_model.specs.Description.{Description, offset}
 use Rattle.inp_model.specs.Event.{syn_dropped}
 use Rattle.inp_model.specs.Step.{Query, is_part_of}
-use Rattle.inp_model.specs.Queue.{is_same_clock, clock_changed}
+use Rattle.inp_model.specs.Queue.{is_empty, flush, is_same_clock, clock_changed}
 use Rattle.inp_model.proofs.Removal.{flush-all}
 use Rattle.inp_ring.specs.declared.cell.Cell.{Cell}
 use Rattle.inp_ring.specs.Store.{StoreView, event_of_cell, cell_taken, HasCell, IsIdle}
 use Rattle.inp_ring.specs.Ring.{times, cell_at, AreFit, AreHeld, IsRing}
+use Rattle.inp_ring.proofs.Times.{at_each}
 use Rattle.inp_ring.proofs.Moves.{moved_none}
 use Rattle.inp_client.specs.declared.clients.Clients.TheInside.{Inside}
 use Rattle.inp_client.specs.Client.{ClientView, new_client, cell_of_event, after_take, after_flush, after_mask, after_clock, after_revoke}
-use Rattle.inp_client.specs.Clients.{has_number, ClientsView, distinct, has_client, client_named, events_of, has_revoked_client, map_client}
+use Rattle.inp_client.specs.Clients.{has_number, ClientsView, has_client, client_named, events_of, has_revoked_client, map_client}
 use Rattle.inp_client.specs.Read.{client_on, clients_on}
-use Rattle.inp_client.specs.Member.{Member, ring_of, client_in, cells_in, numbers_in, times_in, wanted, AreStored, HasFewer, IsMemberChanged}
-use Rattle.inp_client.specs.Numbers.{stored_of, HoldNoneNew}
+use Rattle.inp_client.specs.Member.{Member, ring_of, client_in, cells_in, times_in, wanted, AreStored, IsMemberChanged}
+use Rattle.inp_client.specs.Numbers.{held_numbers, stored_of, client_of_index, ring_of_index, loses_to_clock, is_lost_to_clock, event_under, IsClockStored, IsRingOnClock, IsRingChanged, IsRingFlushed}
 use Rattle.inp_client.specs.Locations.{client_at, clients_in}
 use Rattle.inp_client.specs.Kept.{kept_view, AreKept}
 use Rattle.inp_client.proofs.Lists.{list_any-map}
 use Rattle.inp_client.proofs.Locations.{client_at_found, located_after_write, members_after_write, members_long, member_in_location, member_number, members_apart}
 use Rattle.inp_client.proofs.OtherClients.{held_known, member_held, member_timed, member_ring, spare_some, others_stay, stored_after_write, cells_after_write, client_named-cells_in}
 use Rattle.inp_client.proofs.OnClock.{client_named-on}
-use Rattle.inp_client.proofs.RingsLeft.{rings_of, held_numbers-rings, fewer_set, stored_set}
+use Rattle.inp_client.proofs.CellCounts.{rings_of, times-clients_view_in}
+use Rattle.inp_client.proofs.Numbers.{stored_clock, told_in}
+use Rattle.inp_client.proofs.RingsLeft.{rings_in, long_in}
 
 -- a client is open whatever its cells are
 pub has_client-cells_in : (s : StoreView) (ms : List Member) (number : ℕ) → has_client number (cells_in s ms) ≡ has_client number ms
@@ -156,21 +161,111 @@ module _ (k : Inside) (kept : AreKept k) (number key : ℕ) (location : Contains
     rings_after_call same =
         ap rings_of members_next ∙ map-set_same (λ (m : Member). m.ring.events) members location.0 new (new_client 0 0) (same ∙ sym (ap (λ (m : Member). m.ring.events) here))
 
-    pub fewer_after_call : HasFewer old new → HoldNoneNew (kept_view k) (kept_view next)
-    fewer_after_call fewer client n =
-        omega (
-          arith,
-          ap (λ (ms : List Member). times n (get_or (rings_of ms) client [])) members_next,
-          fewer_set members location.0 new (new_client 0 0) client n in_members (λ j. omega (arith, fewer j, ap (λ (m : Member). times j m.ring.events) here)),
-        )
+    -- The rings that there are then, and those that there were
 
-    pub stored_after_call : (new.ring.events ≡ old.ring.events) ⊎ (length new.ring.events ≤ 1) → stored_of (kept_view next) ≤ stored_of (kept_view k) + 1
-    stored_after_call (inl same) = omega (arith, ap (λ (rings : List (List ℕ)). length (distinct (flat_map (λ (q : List ℕ). q) rings))) (rings_after_call same))
-    stored_after_call (inr one) =
-        omega (
-          arith,
-          ap (λ (q : List ℕ). length (distinct q)) (held_numbers-rings (clients_in k.locations.items (with_value k.slab key new))),
-          ap (λ (ms : List Member). length (distinct (numbers_in ms))) members_next,
-          stored_set members location.0 new (new_client 0 0) in_members one,
-          ap (λ (q : List ℕ). length (distinct q)) (held_numbers-rings members),
-        )
+    ring_next : (i : ℕ) → i < length members → ring_of_index (kept_view next) i ≡ (get_or (set members location.0 new) i (new_client 0 0)).ring.events
+    ring_next i in_i =
+        ap (λ (ms : List Member). get_or (rings_of ms) i []) members_next
+        ∙ get_or-map (λ (m : Member). m.ring.events) (set members location.0 new) i (new_client 0 0) [] (omega (arith, in_i, length-set members location.0 new))
+
+    ring_was : (i : ℕ) → i < length members → ring_of_index (kept_view k) i ≡ (get_or members i (new_client 0 0)).ring.events
+    ring_was i in_i = get_or-map (λ (m : Member). m.ring.events) members i (new_client 0 0) [] in_i
+
+    client_was : (i : ℕ) → i < length members → client_of_index (kept_view k) i ≡ client_in k.store (get_or members i (new_client 0 0))
+    client_was i in_i = get_or-map (client_in k.store) members i (new_client 0 0) (new_client 0 0) in_i
+
+    -- the client of the number is the one that was named
+    is_here : has_number number (client_in k.store (get_or members location.0 (new_client 0 0))) ≡ true
+    is_here = eq-eqb _ _ numbered
+
+    is_other : (i : ℕ) → i ≢ location.0 → i < length members → has_number number (client_in k.store (get_or members i (new_client 0 0))) ≡ false
+    is_other i d in_i = ne_eqb _ _ (λ e. apart i in_i d (e ∙ sym numbered))
+
+    told_was : (i : ℕ) → i < length (kept_view k).list → map (event_under k.store) (ring_of_index (kept_view k) i) ≡ map event_of_cell (client_of_index (kept_view k) i).ring.events
+    told_was i in_i =
+        let within : i < length members = omega (arith, in_i, length-map members (client_in k.store)) in
+        ap (map (event_under k.store)) (ring_was i within)
+        ∙ told_in k.store (get_or members i (new_client 0 0)).ring.events
+        ∙ ap (λ (c : ClientView Cell). map event_of_cell c.ring.events) (sym (client_was i within))
+
+    -- What a call leaves of the numbers that a ring has, where it makes this of it.
+    module _ (makes : List ℕ → List ℕ) (left : new.ring.events ≡ makes old.ring.events) where
+      made_at : (i : ℕ) → i < length members
+          → (get_or (set members location.0 new) i (new_client 0 0)).ring.events
+          ≡ (if has_number number (client_in k.store (get_or members i (new_client 0 0))) then makes (get_or members i (new_client 0 0)).ring.events else (get_or members i (new_client 0 0)).ring.events)
+      made_at =
+          at_each _ location.0
+          (λ in_i. ap (λ (m : Member). m.ring.events) (get_or-set_same members location.0 new (new_client 0 0) in_members)
+          ∙ left
+          ∙ ap (λ (m : Member). makes m.ring.events) (sym here)
+          ∙ sym (cond-true (has_number number (client_in k.store (get_or members location.0 (new_client 0 0)))) _ _ is_here))
+          (λ i d in_i. ap (λ (m : Member). m.ring.events) (get_or-set_other members location.0 i new (new_client 0 0) d)
+          ∙ sym (cond-false (has_number number (client_in k.store (get_or members i (new_client 0 0)))) _ _ (is_other i d in_i)))
+
+      pub ring_after_call : IsRingChanged number makes (kept_view k) (kept_view next)
+      ring_after_call = record {
+        rings = (
+          rings_in k.store members,
+          length-map (clients_in k.locations.items (with_value k.slab key new)) (λ (m : Member). m.ring.events)
+              ∙ ap (λ (ms : List Member). length ms) members_next ∙ length-set members location.0 new ∙ sym (length-map members (λ (m : Member). m.ring.events)),
+        );
+        each = λ i in_i.
+            let within : i < length members = omega (arith, in_i, length-map members (client_in k.store)) in
+            ring_next i within ∙ made_at i within
+            ∙ ap (λ (c : ClientView Cell). if has_number number c then makes (get_or members i (new_client 0 0)).ring.events else (get_or members i (new_client 0 0)).ring.events) (sym (client_was i within))
+            ∙ ap (λ (q : List ℕ). if has_number number (client_of_index (kept_view k) i) then makes q else q) (sym (ring_was i within));
+      }
+
+    pub flushed_after_call : (query : Query) → new.ring.events ≡ flush (event_under k.store) (is_part_of query) old.ring.events → IsRingFlushed number query (kept_view k) (kept_view next)
+    flushed_after_call query left = record { event = event_under k.store; told = told_was; flushed = ring_after_call (flush (event_under k.store) (is_part_of query)) left }
+
+    -- What a choice of a clock leaves of all numbers.
+    module _ (clock : Clock) (ring : IsRingOnClock (is_same_clock old.clock clock) after old.ring.events new.ring.events) where
+      each_at : (i : ℕ) → i < length members
+          → (get_or (set members location.0 new) i (new_client 0 0)).ring.events
+          ≡ (let c = client_in k.store (get_or members i (new_client 0 0)) in
+          if has_number number c then clock_changed (is_same_clock c.clock clock) ring.loss (get_or members i (new_client 0 0)).ring.events else (get_or members i (new_client 0 0)).ring.events)
+      each_at =
+          at_each _ location.0
+          (λ in_i. ap (λ (m : Member). m.ring.events) (get_or-set_same members location.0 new (new_client 0 0) in_members)
+          ∙ ring.ring
+          ∙ ap (λ (m : Member). clock_changed (is_same_clock m.clock clock) ring.loss m.ring.events) (sym here)
+          ∙ sym (cond-true (has_number number (client_in k.store (get_or members location.0 (new_client 0 0)))) _ _ is_here))
+          (λ i d in_i. ap (λ (m : Member). m.ring.events) (get_or-set_other members location.0 i new (new_client 0 0) d)
+          ∙ sym (cond-false (has_number number (client_in k.store (get_or members i (new_client 0 0)))) _ _ (is_other i d in_i)))
+
+      alone_at : (i : ℕ) → i < length members → is_lost_to_clock number clock (client_in k.store (get_or members i (new_client 0 0))) ≡ true → times ring.loss (held_numbers (kept_view next)) ≡ 1
+      alone_at =
+          at_each _ location.0
+          (λ in_i h. let lost : (not (is_same_clock old.clock clock) && not (is_empty (map (cell_at k.store) old.ring.events))) ≡ true =
+          ap (λ (m : Member). not (is_same_clock m.clock clock) && not (is_empty (map (cell_at k.store) m.ring.events))) (sym here)
+          ∙ sym (ap (λ (b : Bool). b && loses_to_clock clock (client_in k.store (get_or members location.0 (new_client 0 0)))) is_here) ∙ h in
+          omega (
+            arith,
+            times-clients_view_in ring.loss after (clients_in k.locations.items (with_value k.slab key new)),
+            ap (times_in ring.loss) members_next,
+            stored_next.held ring.loss,
+            ring.alone (ap (λ (b : Bool). not (is_same_clock old.clock clock) && not b) (empty_cells old.ring.events) ∙ lost),
+          ))
+          (λ i d in_i h. absurd (false≢true (sym (ap (λ (b : Bool). b && loses_to_clock clock (client_in k.store (get_or members i (new_client 0 0)))) (is_other i d in_i)) ∙ h)))
+        where
+          empty_cells : (q : List ℕ) → is_empty q ≡ is_empty (map (cell_at k.store) q)
+          empty_cells [] = refl
+          empty_cells (n ∷ q) = refl
+
+      pub clock_after_call : IsClockStored number clock (kept_view k) (kept_view next)
+      clock_after_call = record {
+        rings = (rings_in k.store members, rings_in after (clients_in k.locations.items (with_value k.slab key new)));
+        loss = ring.loss;
+        alone = λ i in_i h.
+            let within : i < length members = omega (arith, in_i, length-map members (client_in k.store)) in
+            alone_at i within (ap (is_lost_to_clock number clock) (sym (client_was i within)) ∙ h);
+        each = λ i in_i.
+            let within : i < length members = omega (arith, in_i, length-map members (client_in k.store)) in
+            ring_next i within ∙ each_at i within
+            ∙ ap (λ (c : ClientView Cell). if has_number number c then clock_changed (is_same_clock c.clock clock) ring.loss (get_or members i (new_client 0 0)).ring.events else (get_or members i (new_client 0 0)).ring.events) (sym (client_was i within))
+            ∙ ap (λ (q : List ℕ). if has_number number (client_of_index (kept_view k) i) then clock_changed (is_same_clock (client_of_index (kept_view k) i).clock clock) ring.loss q else q) (sym (ring_was i within));
+      }
+
+      pub stored_on_clock : stored_of (kept_view next) ≤ stored_of (kept_view k) + count_by (is_lost_to_clock number clock) (kept_view k).list
+      stored_on_clock = stored_clock (kept_view k) (kept_view next) (ap length list_after_call ∙ length-map (kept_view k).list (λ c. if has_number number c then change c else c)) (long_in k.store members) clock_after_call

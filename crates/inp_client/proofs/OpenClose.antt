@@ -1,22 +1,25 @@
 -- What an open and a close leave of all that is kept.
-use Rattle.std.proofs.Common.{◌≡◌, ◌≢◌, ◌≤◌, ◌<◌, ℕ, ◌+◌, ◌-◌, ◌*◌, List, [], length, get_or, Some, None, refl, sym, ap, ◌∙◌, subst, arith}
+use Rattle.std.proofs.Common.{◌≡◌, ◌≢◌, ◌≤◌, ◌<◌, ℕ, ◌+◌, ◌-◌, ◌*◌, true, List, [], length, get_or, Some, None, refl, sym, ap, ◌∙◌, subst, arith}
 use Rattle.std.specs.Prelude.{flat_map}
 use Rattle.std.specs.List.{remove, insert}
 use Rattle.std.proofs.lemmas.List.Sums.{sum_by-remove, sum_by-insert, get_or-le-sum_by}
+use Rattle.std.proofs.lemmas.Bool.{eq-eqb}
+use Rattle.std.proofs.lemmas.List.{length-map, get_or-map}
+use Rattle.inp_ring.specs.declared.cell.Cell.{Cell}
 use Rattle.slab.specs.Slab.{Slab, get, Updates}
 use Rattle.inp_model.specs.declared.limits.TheConstants.{CLIENTS_MAX}
 use Rattle.inp_ring.specs.Store.{StoreView, cell_count, IsIdle}
 use Rattle.inp_ring.specs.Ring.{times, AreHeld, IsRing}
 use Rattle.inp_client.specs.declared.clients.Clients.TheInside.{Inside}
 use Rattle.inp_client.specs.declared.location.Location.{Location}
-use Rattle.inp_client.specs.Client.{new_client, with_events}
-use Rattle.inp_client.specs.Clients.{without_client, with_client}
+use Rattle.inp_client.specs.Client.{ClientView, new_client, with_events}
+use Rattle.inp_client.specs.Clients.{has_number, without_client, with_client}
 use Rattle.inp_client.specs.Member.{Member, ring_of, client_in, cells_in, numbers_in, wanted, AreStored, IsMemberChanged}
-use Rattle.inp_client.specs.Numbers.{held_numbers}
+use Rattle.inp_client.specs.Numbers.{held_numbers, client_of_index}
 use Rattle.inp_client.specs.Locations.{client_at, clients_in, IsPlaceFor}
 use Rattle.inp_client.specs.Kept.{kept_view, AreKept}
-use Rattle.inp_client.proofs.CellCounts.{wanted_few}
-use Rattle.inp_client.proofs.RingsLeft.{rings_of, held_numbers-rings, fewer_remove, numbers_in-insert}
+use Rattle.inp_client.proofs.CellCounts.{wanted_few, rings_of, held_numbers-rings}
+use Rattle.inp_client.proofs.RingsLeft.{rings_of-remove, numbers_in-insert}
 use Rattle.inp_client.proofs.Locations.{client_at_found, members_long, member_in_location, member_number, members_apart, members_after_removal, members_after_insert, place_of_member}
 use Rattle.inp_client.proofs.OtherClients.{member_held, others_stay, stored_after_removal, cells_after_removal, stored_after_insert, cells_after_insert, cells_same}
 
@@ -73,9 +76,17 @@ module _ (k : Inside) (kept : AreKept k) (i : ℕ) (in_i : i < length k.location
         ∙ cells_after_removal k.store after members i (new_client 0 0) in_members (others_stay kept.stored (new_client 0 0) i in_members after new.ring.events moved.moved (λ n some. absurd (omega (arith, some)))) apart
         ∙ ap (λ (n : ℕ). without_client n (cells_in k.store members)) (member_number kept.located i d (new_client 0 0) in_i)
 
-    pub fewer_close : (n : ℕ) → times n (flat_map (λ (q : List ℕ). q) (rings_of (clients_in (remove k.locations.items i) slab))) ≤ times n (held_numbers (kept_view k))
-    fewer_close n =
-        omega (arith, ap (times n) (held_numbers-rings (clients_in (remove k.locations.items i) slab)), ap (λ (ms : List Member). times n (numbers_in ms)) members_left, fewer_remove members i (new_client 0 0) n in_members, ap (times n) (held_numbers-rings members))
+    -- its ring goes with it
+    pub rings_close : rings_of (clients_in (remove k.locations.items i) slab) ≡ remove (kept_view k).rings i
+    rings_close = ap rings_of members_left ∙ rings_of-remove members i
+
+  pub named_close : (number : ℕ) → (get_or k.locations.items i d).number ≡ number → has_number number (client_of_index (kept_view k) i) ≡ true
+  named_close number named =
+      eq-eqb _ _ (ap (λ (c : ClientView Cell). c.number) (get_or-map (client_in k.store) members i (new_client 0 0) (new_client 0 0) in_members)
+      ∙ member_number kept.located i d (new_client 0 0) in_i ∙ named)
+
+  pub within_close : i < length (kept_view k).list
+  within_close = omega (arith, in_members, length-map members (client_in k.store))
 
 -- A client comes in, for which the store has grown.
 module _ (k : Inside) (kept : AreKept k) (key : ℕ) (new : Member) (slab : Slab Member) (i : ℕ) (vacant : get k.slab key ≡ None) (inserted : Updates k.slab slab key (Some new)) (place : IsPlaceFor k.locations.items new.number i) (after : StoreView) (same : after.slots ≡ k.store.slots) where

@@ -1,63 +1,57 @@
 -- What a call leaves of the numbers of all rings.
-use Rattle.std.proofs.Common.{◌≡◌, ◌≤◌, ◌<◌, ℕ, zero, suc, ◌+◌, List, [], ◌∷◌, ◌++◌, length, map, get_or, set, Option, refl, sym, ap, ◌∙◌, subst, inl, inr, arith}
+use Rattle.std.proofs.Common.{◌≡◌, ◌≤◌, ◌<◌, ℕ, zero, suc, ◌+◌, Bool, true, false, if◌then◌else◌, List, [], ◌∷◌, ◌++◌, length, get_or, Option, refl, sym, ap, ◌∙◌, subst, inl, inr, arith}
 use Rattle.std.specs.Prelude.{flat_map, count_by}
 use Rattle.std.specs.List.{remove, insert}
+use Rattle.std.proofs.lemmas.List.{length-map, get_or-map, get_or_past, nil_from_length}
 use Rattle.std.proofs.lemmas.Bool.{cases_lt}
-use Rattle.std.proofs.lemmas.List.{length-map, get_or-map, length-append}
-use Rattle.std.proofs.lemmas.List.Sums.{sum_by-set, sum_by-remove}
+use Rattle.inp_client.specs.Clients.{ClientsView, has_number}
 use Rattle.inp_model.specs.declared.event.Event.{Event}
 use Rattle.inp_ring.specs.declared.cell.Cell.{Cell}
 use Rattle.inp_ring.specs.Store.{StoreView}
-use Rattle.inp_ring.specs.Ring.{times}
+use Rattle.inp_ring.specs.Ring.{times, cell_at}
 use Rattle.inp_ring.proofs.Times.{times-append}
 use Rattle.inp_client.specs.declared.clients.Clients.TheInside.{Inside}
 use Rattle.inp_client.specs.declared.frame.Frame.{Frame}
 use Rattle.inp_client.specs.Client.{ClientView, new_client}
-use Rattle.inp_client.specs.Clients.{distinct}
-use Rattle.inp_client.specs.Member.{Member, client_in, numbers_in, HasFewer}
+use Rattle.inp_client.specs.Member.{Member, client_in, clients_view_in, numbers_in}
 use Rattle.inp_client.specs.Locations.{client_at, clients_in}
 use Rattle.inp_client.specs.Kept.{kept_view}
-use Rattle.inp_client.specs.Numbers.{stored_of, loses, admitted_numbers, IsPutBehind, IsStoredOnce}
-use Rattle.inp_client.specs.Offered.{IsOffered, seen_at, ring_at}
-use Rattle.inp_client.proofs.CellCounts.{distinct_few, distinct_there, times-numbers_in}
+use Rattle.inp_client.specs.Numbers.{held_numbers, stored_of, loses, client_of_index, ring_of_index, HaveRings, IsStoredOnce, IsRingChanged, IsRingClosed}
+use Rattle.inp_client.specs.Offered.{IsOffered}
+use Rattle.inp_client.proofs.CellCounts.{rings_of}
 use Rattle.inp_client.proofs.Numbers.{stored_few}
-use Rattle.inp_client.proofs.OfferedCells.{seen_is}
 use Rattle.slab.specs.Slab.{Slab}
 
-abbrev pub rings_of : List Member → List (List ℕ)
-rings_of ms = map (λ (m : Member). m.ring.events) ms
-
--- the numbers of all rings
-pub held_numbers-rings : (ms : List Member) → flat_map (λ (q : List ℕ). q) (rings_of ms) ≡ numbers_in ms
-held_numbers-rings [] = refl
-held_numbers-rings (m ∷ ms) = ap (λ (q : List ℕ). m.ring.events ++ q) (held_numbers-rings ms)
-
 -- A ring of which only numbers are taken has none that it did not have, and the others stay.
-pub fewer_set : (ms : List Member) (i : ℕ) (new d : Member) (client n : ℕ) → i < length ms → HasFewer (get_or ms i d) new → times n (get_or (rings_of (set ms i new)) client []) ≤ times n (get_or (rings_of ms) client [])
-fewer_set [] i new d client n in_i fewer = absurd (omega (arith, in_i))
-fewer_set (m ∷ ms) zero new d zero n in_i fewer = fewer n
-fewer_set (m ∷ ms) zero new d (suc client) n in_i fewer = omega arith
-fewer_set (m ∷ ms) (suc i) new d zero n in_i fewer = omega arith
-fewer_set (m ∷ ms) (suc i) new d (suc client) n in_i fewer = fewer_set ms i new d client n (omega (arith, in_i)) fewer
-
--- At most the numbers of one ring come.
-pub stored_set : (ms : List Member) (i : ℕ) (new d : Member) → i < length ms → length new.ring.events ≤ 1 → length (distinct (numbers_in (set ms i new))) ≤ length (distinct (numbers_in ms)) + 1
-stored_set ms i new d in_i one =
-    omega (arith, distinct_few (numbers_in (set ms i new)) (distinct (numbers_in ms) ++ new.ring.events) (λ n there. among n there), length-append (distinct (numbers_in ms)) new.ring.events, one)
+pub fewer_in : (number : ℕ) (change : List ℕ → List ℕ) (old new : ClientsView) → ((n : ℕ) (q : List ℕ) → times n (change q) ≤ times n q) → IsRingChanged number change old new
+    → (i n : ℕ) → times n (ring_of_index new i) ≤ times n (ring_of_index old i)
+fewer_in number change old new fewer is i n = elim (cases_lt i (length old.list)) [
+  | inl in_i ↦ omega (arith, ap (times n) (is.each i in_i), one (has_number number (client_of_index old i)))
+  | inr past ↦ omega (arith, ap (times n) (get_or_past new.rings i [] (omega (arith, past, is.rings.0, is.rings.1))))
+]
   where
-    among : (n : ℕ) → 1 ≤ times n (numbers_in (set ms i new)) → 1 ≤ times n (distinct (numbers_in ms) ++ new.ring.events)
-    among n there =
-        let sum : times n (numbers_in (set ms i new)) + times n (get_or ms i d).ring.events ≡ times n (numbers_in ms) + times n new.ring.events =
-        omega (arith, times-numbers_in n (set ms i new), times-numbers_in n ms, sum_by-set (λ (m : Member). times n m.ring.events) ms i new d in_i) in
-        let parts = times-append n (distinct (numbers_in ms)) new.ring.events in
-        elim (cases_lt 0 (times n (numbers_in ms))) [
-          | inl had ↦ omega (arith, parts, distinct_there n (numbers_in ms) (omega (arith, had)))
-          | inr had_not ↦ omega (arith, parts, had_not, sum, there)
-        ]
+    one : (b : Bool) → times n (if b then change (ring_of_index old i) else ring_of_index old i) ≤ times n (ring_of_index old i)
+    one true = fewer n (ring_of_index old i)
+    one false = omega arith
 
 -- a ring that goes takes its numbers along
-pub fewer_remove : (ms : List Member) (i : ℕ) (d : Member) (n : ℕ) → i < length ms → times n (numbers_in (remove ms i)) ≤ times n (numbers_in ms)
-fewer_remove ms i d n in_i = omega (arith, times-numbers_in n (remove ms i), times-numbers_in n ms, sum_by-remove (λ (m : Member). times n m.ring.events) ms i d in_i)
+pub rings_of-remove : (ms : List Member) (i : ℕ) → rings_of (remove ms i) ≡ remove (rings_of ms) i
+rings_of-remove [] zero = refl
+rings_of-remove [] (suc i) = refl
+rings_of-remove (m ∷ ms) zero = refl
+rings_of-remove (m ∷ ms) (suc i) = ap (λ (rings : List (List ℕ)). m.ring.events ∷ rings) (rings_of-remove ms i)
+
+abbrev all_of : List (List ℕ) → List ℕ
+all_of rings = flat_map (λ q. q) rings
+
+fewer_remove : (rings : List (List ℕ)) (i n : ℕ) → times n (all_of (remove rings i)) ≤ times n (all_of rings)
+fewer_remove [] zero n = omega arith
+fewer_remove [] (suc i) n = omega arith
+fewer_remove (q ∷ rings) zero n = omega (arith, times-append n q (all_of rings))
+fewer_remove (q ∷ rings) (suc i) n = omega (arith, fewer_remove rings i n, times-append n q (all_of rings), times-append n q (all_of (remove rings i)))
+
+pub fewer_closed : (number : ℕ) (old new : ClientsView) → IsRingClosed number old new → (n : ℕ) → times n (held_numbers new) ≤ times n (held_numbers old)
+fewer_closed number old new is n = omega (arith, ap (λ (rings : List (List ℕ)). times n (all_of rings)) is.rings, fewer_remove old.rings is.index n)
 
 -- an empty ring has none
 pub numbers_in-insert : (ms : List Member) (i : ℕ) (new : Member) → i ≤ length ms → new.ring.events ≡ [] → numbers_in (insert ms i new) ≡ numbers_in ms
@@ -65,47 +59,45 @@ numbers_in-insert ms zero new within none = ap (λ (q : List ℕ). q ++ numbers_
 numbers_in-insert [] (suc i) new within none = absurd (omega (arith, within))
 numbers_in-insert (m ∷ ms) (suc i) new within none = ap (λ (q : List ℕ). m.ring.events ++ q) (numbers_in-insert ms i new (omega (arith, within)) none)
 
+-- each client has its ring
+pub rings_in : (s : StoreView) (ms : List Member) → HaveRings (clients_view_in s ms)
+rings_in s ms = length-map ms (λ (m : Member). m.ring.events) ∙ sym (length-map ms (client_in s))
+
+-- with as many numbers as its queue has events
+pub long_in : (s : StoreView) (ms : List Member) (i : ℕ) → i < length (clients_view_in s ms).list → length (ring_of_index (clients_view_in s ms) i) ≡ length (client_of_index (clients_view_in s ms) i).ring.events
+long_in s ms i in_i =
+    let in_ms : i < length ms = omega (arith, in_i, length-map ms (client_in s)) in
+    ap length (get_or-map (λ (m : Member). m.ring.events) ms i (new_client 0 0) [] in_ms)
+    ∙ sym (length-map (get_or ms i (new_client 0 0)).ring.events (cell_at s))
+    ∙ ap (λ (c : ClientView Cell). length c.ring.events) (sym (get_or-map (client_in s) ms i (new_client 0 0) (new_client 0 0) in_ms))
+
 -- A frame was offered.
-module _ {f : Frame} (k : Inside) (slab : Slab Member) (store : StoreView) (is : IsOffered f k.locations.items k.slab slab k.store store) where
-  abbrev next : Inside
-  next = record k { slab = slab; store = store }
-
-  long_rings : (s : Slab Member) → length (rings_of (clients_in k.locations.items s)) ≡ length k.locations.items
-  long_rings s = length-map (clients_in k.locations.items s) (λ (m : Member). m.ring.events) ∙ length-map k.locations.items (λ at. client_at s at.key)
-
-  long_list : length (kept_view k).list ≡ length k.locations.items
-  long_list = length-map (clients_in k.locations.items k.slab) (client_in k.store) ∙ length-map k.locations.items (λ at. client_at k.slab at.key)
-
-  ring_is : (s : Slab Member) (i : ℕ) → i < length k.locations.items → get_or (rings_of (clients_in k.locations.items s)) i [] ≡ ring_at k.locations.items s i
-  ring_is s i in_i = get_or-map (λ (m : Member). m.ring.events) (clients_in k.locations.items s) i (new_client 0 0) [] (omega (arith, in_i, length-map k.locations.items (λ at. client_at s at.key)))
-
-  client_is : (i : ℕ) → i < length k.locations.items → get_or (kept_view k).list i (new_client 0 0) ≡ seen_at k.store k.locations.items k.slab i
-  client_is i in_i = seen_is k.store k.locations.items k.slab i in_i
-
-  pub once_after_offer : IsStoredOnce f.events.now f.moment f.place f.holder (kept_view k) (kept_view next)
-  once_after_offer = record {
-    given = is.given;
-    long = is.long;
-    rings = (long_rings k.slab ∙ sym long_list, long_rings slab ∙ sym long_list);
-    each = λ i in_i.
-        let within : i < length k.locations.items = omega (arith, in_i, long_list) in
-        let P : ClientView Cell → List ℕ → List ℕ → Type 0 = λ c old new. IsPutBehind (admitted_numbers c.masks f.events.now is.given) (loses f.events.now f.moment f.place f.holder c) old new in
-        subst (λ (c : ClientView Cell). P c (get_or (kept_view k).rings i []) (get_or (kept_view next).rings i [])) (sym (client_is i within))
-        (subst (λ (q : List ℕ). P (seen_at k.store k.locations.items k.slab i) q (get_or (kept_view next).rings i [])) (sym (ring_is k.slab i within))
-        (subst (λ (q : List ℕ). P (seen_at k.store k.locations.items k.slab i) (ring_at k.locations.items k.slab i) q) (sym (ring_is slab i within)) (is.each i within)));
-  }
-
-  pub stored_after_offer : stored_of (kept_view next) ≤ stored_of (kept_view k) + length f.events.now + count_by (loses f.events.now f.moment f.place f.holder) (kept_view k).list
-  stored_after_offer = stored_few (kept_view k) (kept_view next) once_after_offer
+pub stored_after_offer : {f : Frame} (k : Inside) (slab : Slab Member) (store : StoreView) (is : IsOffered f k.locations.items k.slab slab k.store store)
+    → stored_of (kept_view (record k { slab = slab; store = store })) ≤ stored_of (kept_view k) + length f.events.now + count_by (loses f.events.now f.moment f.place f.holder) (kept_view k).list
+stored_after_offer {f} k slab store is = stored_few f.events.now f.moment f.place f.holder (kept_view k) (kept_view (record k { slab = slab; store = store })) is.once
 
 -- where no client is open nothing is put
+none_stored : (frame : List Event) (now place : ℕ) (holder : Option ℕ) → IsStoredOnce frame now place holder (record { list = []; rings = [] }) (record { list = []; rings = [] })
+none_stored [] now place holder = (refl, refl)
+none_stored (e ∷ frame) now place holder = (
+  record { list = []; rings = [] },
+  record {
+    clients = refl;
+    rings = (refl, refl);
+    event = λ n. e;
+    told = λ i in_i. absurd (omega (arith, in_i));
+    number = 0;
+    same = refl;
+    fresh = refl;
+    losses = λ i. 0;
+    alone = λ i in_i h. absurd (omega (arith, in_i));
+    each = λ i in_i. absurd (omega (arith, in_i));
+  },
+  none_stored frame now place holder,
+)
+
 pub once_none : (frame : List Event) (now place : ℕ) (holder : Option ℕ) (k : Inside) → length k.locations.items ≡ 0 → IsStoredOnce frame now place holder (kept_view k) (kept_view k)
-once_none frame now place holder k none = record {
-  given = map (λ (e : Event). 0) frame;
-  long = length-map frame (λ (e : Event). 0);
-  rings = (of_members, of_members);
-  each = λ i in_i. absurd (omega (arith, in_i, none, length-map (clients_in k.locations.items k.slab) (client_in k.store), length-map k.locations.items (λ at. client_at k.slab at.key)));
-}
-  where
-    of_members : length (kept_view k).rings ≡ length (kept_view k).list
-    of_members = length-map (clients_in k.locations.items k.slab) (λ (m : Member). m.ring.events) ∙ sym (length-map (clients_in k.locations.items k.slab) (client_in k.store))
+once_none frame now place holder k none =
+    let P : List Member → Type 0 = λ ms. IsStoredOnce frame now place holder (clients_view_in k.store ms) (clients_view_in k.store ms) in
+    let empty : clients_in k.locations.items k.slab ≡ [] = nil_from_length (clients_in k.locations.items k.slab) (length-map k.locations.items (λ at. client_at k.slab at.key) ∙ none) in
+    subst P (sym empty) (none_stored frame now place holder)

@@ -1,8 +1,8 @@
 -- A frame is put in one run into the rings of all clients that it is offered to.
-use Rattle.std.proofs.Common.{◌≡◌, ◌≢◌, ◌≤◌, ◌<◌, ℕ, suc, ◌+◌, Bool, true, false, ◌&&◌, ◌||◌, not, if◌then◌else◌, nat_lt, List, [], ◌∷◌, ◌++◌, length, map, take, get_or, Option, Some, None, refl, sym, ap, ◌∙◌, subst, inl, inr, arith}
+use Rattle.std.proofs.Common.{◌≡◌, ◌≢◌, ◌≤◌, ◌<◌, ℕ, suc, ◌+◌, Bool, true, false, ◌&&◌, ◌||◌, not, if◌then◌else◌, nat_lt, List, [], ◌∷◌, ◌++◌, length, map, take, drop, get_or, Option, Some, None, refl, sym, ap, ◌∙◌, subst, inl, inr, arith}
 use Rattle.std.specs.Prelude.{filter, sum_by, All}
 use Rattle.std.proofs.lemmas.Bool.{false≢true, cond_both, cases_lt, cond-true, cond-false, lt-ltb, le-ltb}
-use Rattle.std.proofs.lemmas.List.{take_more, take_all, length-map, length_push, length-append, get_or-map, append_assoc, append-nil, map_push, map-append}
+use Rattle.std.proofs.lemmas.List.{take_more, take_all, length-map, length_push, length-append, get_or-map, append_assoc, append-nil, map_push, map-append, map-id}
 use Rattle.std.proofs.lemmas.List.Sums.{sum_by-cons, sum_by-le, get_or-le-sum_by, count_by_more_no, count_by_more_yes}
 use Rattle.std.proofs.lemmas.List.Elements.{All-map, All-from_get_or, All-get_or, All-append, All-push}
 use Rattle.slab.specs.Slab.{Slab, get, with_value}
@@ -14,20 +14,22 @@ use Rattle.inp_ring.specs.declared.cell.Cell.{Cell}
 use Rattle.inp_ring.specs.declared.cell.Held.{Held}
 use Rattle.inp_ring.specs.Store.{StoreView, held_under, held_cell, holders, holders_of, cell_count, held_by, event_of_cell, dropped_cell, IsIdleSlot, IsPut}
 use Rattle.inp_ring.specs.Ring.{times, cell_at, some_cell, queue_in, AreFit, AreDifferent, IsRing}
-use Rattle.inp_ring.proofs.Times.{at_each, times-append, times_push, once_same, once_other, AreDifferent_push}
+use Rattle.inp_ring.proofs.Times.{at_each, times-append, times_push, times_first, once, once_same, once_other, AreDifferent_push}
 use Rattle.inp_ring.proofs.Moves.{idle_none}
-use Rattle.inp_ring.proofs.Rings.{queue_stays}
+use Rattle.inp_ring.proofs.Rings.{queue_stays, ends_map}
 use Rattle.inp_client.specs.declared.frame.Frame.{Frame}
 use Rattle.inp_client.specs.declared.location.Location.{Location}
 use Rattle.inp_client.specs.Masks.{MaskView, admits_of, full_masks}
 use Rattle.inp_client.specs.Client.{ClientView, new_client, with_events, is_offered_to, cell_of_event, after_offer}
-use Rattle.inp_client.specs.Member.{Member, ring_of, client_in, cells_in, times_in, wanted, after_event, AreStored}
-use Rattle.inp_client.specs.Numbers.{loses, admitted_numbers, IsPutBehind}
+use Rattle.inp_client.specs.Member.{Member, ring_of, client_in, cells_in, clients_view_in, times_in, wanted, after_event, AreStored}
+use Rattle.inp_client.specs.Numbers.{takes_event, loses_event, ring_after, event_under, client_of_index, ring_of_index, IsStoredOnce}
 use Rattle.inp_client.specs.Locations.{client_at, clients_in, AreLocated}
-use Rattle.inp_client.specs.Offered.{AreShared, FitsInOneRun, IsOffered, TakesFrame, takers_in, with_run, are_reports_apart, member_at, seen_at, ring_at}
+use Rattle.inp_client.specs.Offered.{AreShared, FitsInOneRun, IsOffered, TakesFrame, takers_in, with_run, are_reports_apart, member_at}
 use Rattle.inp_client.proofs.MaskBits.{admits_of-full_masks}
-use Rattle.inp_client.proofs.Lists.{flag_other, map_over}
-use Rattle.inp_client.proofs.Numbers.{after_event-cases, put_behind, put_same, admitted_all}
+use Rattle.inp_client.proofs.Lists.{flag_other, map_over, map_same}
+use Rattle.inp_client.proofs.CellCounts.{rings_of, times-clients_view_in}
+use Rattle.inp_client.proofs.Numbers.{told_in}
+use Rattle.inp_client.proofs.RingsLeft.{rings_in}
 use Rattle.inp_client.proofs.Locations.{located_after_write, member_written, member_kept, members_long, member_in_location, member_found}
 
 -- A frame whose reports are apart
@@ -87,31 +89,15 @@ taken_whole frame now place holder c is_to full apart room =
     ∙ ap (λ (q : List Cell). with_events q c) (put_apart c.ring.places c.ring.events frame now place (apart_any frame (ends c.ring.events) apart) room)
 
 -- It loses nothing.
-
-long_after : (cell : Cell) (holder : Option ℕ) (c : ClientView Cell) → suc (length c.ring.events) < c.ring.places
-    → (length c.ring.events ≤ length (after_event cell holder c).ring.events) × (length (after_event cell holder c).ring.events ≤ suc (length c.ring.events)) × ((after_event cell holder c).ring.places ≡ c.ring.places)
-long_after cell holder c room =
-    after_event-cases (λ x. (length c.ring.events ≤ length x.ring.events) × (length x.ring.events ≤ suc (length c.ring.events)) × (x.ring.places ≡ c.ring.places)) cell holder c
-    (omega arith, omega arith, refl)
-    (omega (arith, length_push c.ring.events cell), omega (arith, length_push c.ring.events cell), refl)
-    (λ h. absurd (false≢true (sym h ∙ lt-ltb (suc (length c.ring.events)) c.ring.places room)))
-
-fits_whole : (frame : List Event) (now place : ℕ) (holder : Option ℕ) (c : ClientView Cell) → length c.ring.events + length frame < c.ring.places → loses frame now place holder c ≡ false
-fits_whole [] now place holder c room = refl
-fits_whole (e ∷ frame) now place holder c room =
-    let cell = cell_of_event now place e in
-    let long = long_after cell holder c (omega (arith, room)) in
-    ap (λ (b : Bool). b || loses frame now place holder (after_event cell holder c)) (le-ltb (length (after_event cell holder c).ring.events) (length c.ring.events) long.0)
-    ∙ fits_whole frame now place holder (after_event cell holder c) (omega (arith, room, long.1, long.2))
-
-loses_none : (frame : List Event) (now place : ℕ) (holder : Option ℕ) (c : ClientView Cell) → is_offered_to holder c ≡ false → loses frame now place holder c ≡ false
-loses_none [] now place holder c not_to = refl
-loses_none (e ∷ frame) now place holder c not_to =
-    let cell = cell_of_event now place e in
-    let same : after_event cell holder c ≡ c = ap (λ (b : Bool). if b && admits_of c.masks cell.event then with_events (put event_of_cell dropped_cell c.ring.places c.ring.events cell) c else c) not_to in
-    ap (λ (x : ClientView Cell). nat_lt (length x.ring.events) (length c.ring.events) || loses frame now place holder x) same
-    ∙ ap (λ (b : Bool). b || loses frame now place holder c) (le-ltb (length c.ring.events) (length c.ring.events) (omega arith))
-    ∙ loses_none frame now place holder c not_to
+keeps_queue : (cell : Cell) (holder : Option ℕ) (c : ClientView Cell) → suc (length c.ring.events) < c.ring.places → loses_event cell holder c ≡ false
+keeps_queue cell holder c room =
+    by (takes_event cell holder c) (is_report cell.event && ends c.ring.events) (nat_lt (suc (length c.ring.events)) c.ring.places) (lt-ltb (suc (length c.ring.events)) c.ring.places room)
+  where
+    by : (o a b : Bool) → b ≡ true → (o && not a && not b) ≡ false
+    by false a b h = refl
+    by true true b h = refl
+    by true false true h = refl
+    by true false false h = sym h
 
 -- Cells that are added one by one
 
@@ -281,6 +267,164 @@ module _ (holder : Option ℕ) (numbers : List ℕ) where
   wanted_same : (ms : List Member) → wanted (map (with_run holder numbers) ms) ≡ wanted ms
   wanted_same ms = sum_same (λ x. x.ring.places + 1) (λ m. omega (arith, same_places m)) ms
 
+-- A client that is offered a frame admits all of it and has room for it, and no report is left out.
+abbrev FitsRun : StoreView → List Event → Option ℕ → Member → Type 0
+FitsRun store frame holder m =
+    is_offered_to holder m ≡ true → (m.masks ≡ full_masks) × (length m.ring.events + length frame < m.ring.places) × (are_reports_apart (ends (map (cell_at store) m.ring.events)) frame ≡ true)
+
+module _ (store : StoreView) (now place : ℕ) (holder : Option ℕ) where
+  module _ (e : Event) (frame : List Event) (x : ℕ) (m : Member) (there : cell_at store x ≡ cell_of_event now place e) (fits : FitsRun store (e ∷ frame) holder m) where
+    abbrev Q : List Cell
+    Q = map (cell_at store) m.ring.events
+
+    abbrev cell : Cell
+    cell = cell_of_event now place e
+
+    takes_one : is_offered_to holder m ≡ true → takes_event cell holder (client_in store m) ≡ true
+    takes_one h =
+        ap (λ (b : Bool). b && admits_of m.masks e) h
+        ∙ ap (λ (masks : MaskView). admits_of masks e) (fits h).0 ∙ admits_of-full_masks e
+
+    takes_not : is_offered_to holder m ≡ false → takes_event cell holder (client_in store m) ≡ false
+    takes_not h = ap (λ (b : Bool). b && admits_of m.masks e) h
+
+    apart_here : is_offered_to holder m ≡ true → (is_report e && ends Q) ≡ false
+    apart_here h = apart_first (is_report e && ends Q) (are_reports_apart (is_report e) frame) (fits h).2
+
+    apart_after : is_offered_to holder m ≡ true → are_reports_apart (is_report e) frame ≡ true
+    apart_after h = apart_rest (is_report e && ends Q) (are_reports_apart (is_report e) frame) (fits h).2
+
+    room_here : is_offered_to holder m ≡ true → nat_lt (suc (length m.ring.events)) m.ring.places ≡ true
+    room_here h = lt-ltb (suc (length m.ring.events)) m.ring.places (omega (arith, (fits h).1))
+
+    -- its queue and its ring have one more
+    one_seen : client_in store (with_run holder (x ∷ []) m) ≡ after_event cell holder (client_in store m)
+    one_seen =
+        cond_both (is_offered_to holder m) _ _ (λ (n : Member). client_in store n ≡ after_event cell holder (client_in store m))
+        (λ h. ap (λ (q : List Cell). with_events q (client_in store m)) (map_push (cell_at store) m.ring.events x ∙ ap (λ (c : Cell). Q ++ c ∷ []) there)
+        ∙ sym (cond-true (takes_event cell holder (client_in store m)) (with_events (put event_of_cell dropped_cell m.ring.places Q cell) (client_in store m)) (client_in store m) (takes_one h)
+        ∙ ap (λ (q : List Cell). with_events q (client_in store m))
+        (cond-false (is_report e && ends Q) Q (if nat_lt (suc (length Q)) m.ring.places then Q ++ cell ∷ [] else dropped_cell cell ∷ cell ∷ []) (apart_here h)
+        ∙ ap (λ (k : ℕ). if nat_lt (suc k) m.ring.places then Q ++ cell ∷ [] else dropped_cell cell ∷ cell ∷ []) (length-map m.ring.events (cell_at store))
+        ∙ cond-true (nat_lt (suc (length m.ring.events)) m.ring.places) (Q ++ cell ∷ []) (dropped_cell cell ∷ cell ∷ []) (room_here h))))
+        (λ h. sym (cond-false (takes_event cell holder (client_in store m)) (with_events (put event_of_cell dropped_cell m.ring.places Q cell) (client_in store m)) (client_in store m) (takes_not h)))
+
+    one_ring : (with_run holder (x ∷ []) m).ring.events ≡ ring_after (event_under store) cell holder x 0 (client_in store m) m.ring.events
+    one_ring =
+        let q : List ℕ = m.ring.events in
+        cond_both (is_offered_to holder m) _ _ (λ (n : Member). n.ring.events ≡ ring_after (event_under store) cell holder x 0 (client_in store m) q)
+        (λ h. sym (cond-true (takes_event cell holder (client_in store m)) (put (event_under store) (λ n. 0) m.ring.places q x) q (takes_one h)
+        ∙ cond-false (is_report (event_under store x) && (is_empty q || ends_in_report (event_under store) q)) q (if nat_lt (suc (length q)) m.ring.places then q ++ x ∷ [] else 0 ∷ x ∷ [])
+        (ap (λ (c : Cell). is_report c.event && (is_empty q || ends_in_report (event_under store) q)) there ∙ ap (λ (b : Bool). is_report e && b) (sym (ends_map store q)) ∙ apart_here h)
+        ∙ cond-true (nat_lt (suc (length q)) m.ring.places) (q ++ x ∷ []) (0 ∷ x ∷ []) (room_here h)))
+        (λ h. sym (cond-false (takes_event cell holder (client_in store m)) (put (event_under store) (λ n. 0) m.ring.places q x) q (takes_not h)))
+
+    one_keeps : loses_event cell holder (client_in store m) ≡ false
+    one_keeps =
+        by (is_offered_to holder m) refl
+      where
+        by : (b : Bool) → is_offered_to holder m ≡ b → loses_event cell holder (client_in store m) ≡ false
+        by true h = keeps_queue cell holder (client_in store m) (omega (arith, (fits h).1, length-map m.ring.events (cell_at store)))
+        by false h = ap (λ (o : Bool). o && not (is_report e && ends Q) && not (nat_lt (suc (length Q)) m.ring.places)) (takes_not h)
+
+    fits_rest : FitsRun store frame holder (with_run holder (x ∷ []) m)
+    fits_rest = cond_both (is_offered_to holder m) _ _ (λ (n : Member). FitsRun store frame holder n)
+        (λ h g. ((fits h).0, omega (arith, (fits h).1, length_push m.ring.events x), ends_now h))
+        (λ h g. absurd (false≢true (sym h ∙ g)))
+      where
+        ends_now : is_offered_to holder m ≡ true → are_reports_apart (ends (map (cell_at store) (m.ring.events ++ x ∷ []))) frame ≡ true
+        ends_now h =
+            ap (λ (q : List Cell). are_reports_apart (ends q) frame) (map_push (cell_at store) m.ring.events x)
+            ∙ ap (λ (b : Bool). are_reports_apart b frame) (ends_push Q (cell_at store x))
+            ∙ ap (λ (c : Cell). are_reports_apart (is_report c.event) frame) there
+            ∙ apart_after h
+
+  run_more : (x : ℕ) (numbers : List ℕ) (m : Member) → with_run holder numbers (with_run holder (x ∷ []) m) ≡ with_run holder (x ∷ numbers) m
+  run_more x numbers m = by (is_offered_to holder m) refl
+    where
+      by : (b : Bool) → is_offered_to holder m ≡ b → with_run holder numbers (if b then with_events (m.ring.events ++ x ∷ []) m else m) ≡ (if b then with_events (m.ring.events ++ x ∷ numbers) m else m)
+      by true h = cond-true (is_offered_to holder m) _ _ h ∙ ap (λ (q : List ℕ). with_events q m) (append_assoc m.ring.events (x ∷ []) numbers)
+      by false h = cond-false (is_offered_to holder m) _ _ h
+
+  run_none : (m : Member) → with_run holder [] m ≡ m
+  run_none m = cond_both (is_offered_to holder m) _ _ (λ (n : Member). n ≡ m) (λ _. ap (λ (q : List ℕ). with_events q m) (append-nil m.ring.events)) (λ _. refl)
+
+  -- the numbers of a frame's cells came into all rings in one run
+  run_stored : (frame : List Event) (numbers : List ℕ) (ms : List Member) → length numbers ≡ length frame → map (cell_at store) numbers ≡ map (cell_of_event now place) frame → AreDifferent numbers
+      → ((n : ℕ) → 1 ≤ times n numbers → times_in n ms ≡ 0) → ((j : ℕ) → j < length ms → FitsRun store frame holder (get_or ms j (new_client 0 0)))
+      → IsStoredOnce frame now place holder (clients_view_in store ms) (clients_view_in store (map (with_run holder numbers) ms))
+  run_stored [] [] ms long there different absent fits = (
+    rings_in store ms,
+    ap (clients_view_in store) (map_same (with_run holder []) (λ m. m) ms (λ j d in_j. run_none (get_or ms j d)) ∙ map-id ms),
+  )
+  run_stored [] (x ∷ numbers) ms long there different absent fits = absurd (omega (arith, long))
+  run_stored (e ∷ frame) [] ms long there different absent fits = absurd (omega (arith, long))
+  run_stored (e ∷ frame) (x ∷ numbers) ms long there different absent fits = (
+    clients_view_in store mid,
+    record {
+      clients =
+          sym (map_over (λ m. client_in store (with_run holder (x ∷ []) m)) (with_run holder (x ∷ [])) (client_in store) ms (λ j d in_j. refl))
+          ∙ map_over (λ m. client_in store (with_run holder (x ∷ []) m)) (client_in store) (after_event (cell_of_event now place e) holder) ms
+          (All-from_get_or (λ m. client_in store (with_run holder (x ∷ []) m) ≡ after_event (cell_of_event now place e) holder (client_in store m)) ms (new_client 0 0)
+          (λ j in_j. one_seen e frame x (get_or ms j (new_client 0 0)) first (fits j in_j)));
+      rings = (rings_in store ms, rings_in store mid);
+      event = event_under store;
+      told = λ j in_j.
+          let within : j < length ms = omega (arith, in_j, length-map ms (client_in store)) in
+          ap (map (event_under store)) (ring_was ms j within)
+          ∙ told_in store (get_or ms j (new_client 0 0)).ring.events
+          ∙ ap (λ (c : ClientView Cell). map event_of_cell c.ring.events) (sym (client_was j within));
+      number = x;
+      same = ap (λ (c : Cell). c.event) first;
+      fresh = times-clients_view_in x store ms ∙ absent x (times_first x numbers);
+      losses = λ j. 0;
+      alone = λ j in_j h.
+          let within : j < length ms = omega (arith, in_j, length-map ms (client_in store)) in
+          absurd (false≢true (sym (one_keeps e frame x (get_or ms j (new_client 0 0)) first (fits j within)) ∙ ap (loses_event (cell_of_event now place e) holder) (sym (client_was j within)) ∙ h));
+      each = λ j in_j.
+          let within : j < length ms = omega (arith, in_j, length-map ms (client_in store)) in
+          ring_was mid j (omega (arith, within, length-map ms (with_run holder (x ∷ []))))
+          ∙ ap (λ (m : Member). m.ring.events) (mid_is j within)
+          ∙ one_ring e frame x (get_or ms j (new_client 0 0)) first (fits j within)
+          ∙ ap (λ (c : ClientView Cell). ring_after (event_under store) (cell_of_event now place e) holder x 0 c (get_or ms j (new_client 0 0)).ring.events) (sym (client_was j within))
+          ∙ ap (λ (q : List ℕ). ring_after (event_under store) (cell_of_event now place e) holder x 0 (client_of_index (clients_view_in store ms) j) q) (sym (ring_was ms j within));
+    },
+    subst (λ (next : List Member). IsStoredOnce frame now place holder (clients_view_in store mid) (clients_view_in store next)) run_whole
+        (run_stored frame numbers mid (omega (arith, long)) (ap (drop 1) there) different_rest absent_rest fits_mid),
+  )
+    where
+      mid : List Member
+      mid = map (with_run holder (x ∷ [])) ms
+
+      first : cell_at store x ≡ cell_of_event now place e
+      first = ap (λ (q : List Cell). get_or q 0 (cell_of_event now place e)) there
+
+      ring_was : (l : List Member) (j : ℕ) → j < length l → ring_of_index (clients_view_in store l) j ≡ (get_or l j (new_client 0 0)).ring.events
+      ring_was l j in_j = get_or-map (λ (m : Member). m.ring.events) l j (new_client 0 0) [] in_j
+
+      client_was : (j : ℕ) → j < length ms → client_of_index (clients_view_in store ms) j ≡ client_in store (get_or ms j (new_client 0 0))
+      client_was j in_j = get_or-map (client_in store) ms j (new_client 0 0) (new_client 0 0) in_j
+
+      mid_is : (j : ℕ) → j < length ms → get_or mid j (new_client 0 0) ≡ with_run holder (x ∷ []) (get_or ms j (new_client 0 0))
+      mid_is j in_j = get_or-map (with_run holder (x ∷ [])) ms j (new_client 0 0) (new_client 0 0) in_j
+
+      run_whole : map (with_run holder numbers) mid ≡ map (with_run holder (x ∷ numbers)) ms
+      run_whole = sym (map_over (with_run holder (x ∷ numbers)) (with_run holder (x ∷ [])) (with_run holder numbers) ms (λ j d in_j. sym (run_more x numbers (get_or ms j d))))
+
+      different_rest : AreDifferent numbers
+      different_rest n = omega (arith, different n)
+
+      not_first : (n : ℕ) → 1 ≤ times n numbers → once n x ≡ 0
+      not_first n has = omega (arith, has, different n)
+
+      absent_rest : (n : ℕ) → 1 ≤ times n numbers → times_in n mid ≡ 0
+      absent_rest n has = times_out holder (x ∷ []) n ms (omega (arith, not_first n has)) ∙ absent n (omega (arith, has))
+
+      fits_mid : (j : ℕ) → j < length mid → FitsRun store frame holder (get_or mid j (new_client 0 0))
+      fits_mid j in_j =
+          let within : j < length ms = omega (arith, in_j, length-map ms (with_run holder (x ∷ []))) in
+          subst (λ (m : Member). FitsRun store frame holder m) (sym (mid_is j within)) (fits_rest e frame x (get_or ms j (new_client 0 0)) first (fits j within))
+
 module _ {locations : List Location} {before : Slab Member} {first store : StoreView} {f : Frame} {takers : ℕ} {numbers : List ℕ}
     (shared : AreShared locations before first) (run : FitsInOneRun locations before first f takers) (added : AreAdded first store (cells_of f) takers numbers) where
   abbrev frame : List Event
@@ -366,14 +510,6 @@ module _ {locations : List Location} {before : Slab Member} {first store : Store
         ∙ sym (taken_whole frame now place holder (client_in first m) h (takes h).0 run.apart (room_with h)))
         (λ h. ap (λ (q : List Cell). with_events q (client_in first m)) stays ∙ sym (cond-false (is_offered_to holder (client_in first m)) _ _ h))
 
-    put_at : IsPutBehind (admitted_numbers m.masks frame numbers) (loses frame now place holder (client_in first m)) m.ring.events (with_run holder numbers m).ring.events
-    put_at =
-        let P : List ℕ → List ℕ → Type 0 = λ given new. IsPutBehind given (loses frame now place holder (client_in first m)) m.ring.events new in
-        cond_both (is_offered_to holder m) _ _ (λ (x : Member). P (admitted_numbers m.masks frame numbers) x.ring.events)
-        (λ h. subst (λ (given : List ℕ). P given (m.ring.events ++ numbers)) (sym (admitted_all m.masks frame numbers (takes h).0 count_is))
-        (put_behind numbers m.ring.events (m.ring.events ++ numbers) _ (fits_whole frame now place holder (client_in first m) (room_with h)) refl))
-        (λ h. put_same (admitted_numbers m.masks frame numbers) m.ring.events m.ring.events _ (loses_none frame now place holder (client_in first m) h) refl)
-
   module _ {slab : Slab Member} (located : AreLocated locations slab) (members : clients_in locations slab ≡ map (with_run holder numbers) ms) (capacity : slab.capacity ≡ before.capacity) (fits : now ≤ MOMENT_MAX) where
     next_at : (j : ℕ) → j < length ms → get_or (map (with_run holder numbers) ms) j (new_client 0 0) ≡ with_run holder numbers (get_or ms j (new_client 0 0))
     next_at j in_j = get_or-map (with_run holder numbers) ms j (new_client 0 0) (new_client 0 0) in_j
@@ -416,17 +552,24 @@ module _ {locations : List Location} {before : Slab Member} {first store : Store
         ∙ map_over seen (client_in first) (after_offer frame now place holder) ms
         (All-from_get_or (λ m. seen m ≡ after_offer frame now place holder (client_in first m)) ms (new_client 0 0) (λ j in_j. seen_with j in_j))
 
+    seen_first : All (λ m. client_in store m ≡ client_in first m) ms
+    seen_first = All-from_get_or (λ m. client_in store m ≡ client_in first m) ms (new_client 0 0)
+        (λ j in_j. ap (λ (q : List Cell). with_events q (client_in first (get_or ms j (new_client 0 0)))) (stays j in_j))
+
+    fits_each : (j : ℕ) → j < length ms → FitsRun store frame holder (get_or ms j (new_client 0 0))
+    fits_each j in_j h = ((takes j in_j h).0, (takes j in_j h).1, apart_any frame (ends (map (cell_at store) (get_or ms j (new_client 0 0)).ring.events)) run.apart)
+
     -- each event has the number of its cell
     pub offered_with : IsOffered f locations before slab first store
     offered_with = record {
       shared = shared_with;
       clients = clients_with;
-      given = numbers;
-      long = count_is;
-      each = λ j in_j.
-          let P : List ℕ → Type 0 = λ q. IsPutBehind (admitted_numbers (seen_at first locations before j).masks frame numbers) (loses frame now place holder (seen_at first locations before j)) (ring_at locations before j) q in
-          let in_ms : j < length ms = omega (arith, in_j, length-map locations (λ at. client_at before at.key)) in
-          subst P (sym (ap (λ (l : List Member). (get_or l j (new_client 0 0)).ring.events) members ∙ ap (λ (m : Member). m.ring.events) (next_at j in_ms))) (put_at j in_ms);
+      once =
+          let P : List (ClientView Cell) → List Member → Type 0 = λ l next. IsStoredOnce frame now place holder (record { list = l; rings = rings_of ms }) (clients_view_in store next) in
+          subst (P (cells_in first ms)) (sym members)
+          (subst (λ (l : List (ClientView Cell)). P l (map (with_run holder numbers) ms))
+          (map_same (client_in store) (client_in first) ms seen_first)
+          (run_stored store now place holder frame numbers ms count_is added.there added.different in_none fits_each));
       wanted = ap wanted members ∙ wanted_same holder numbers ms;
       capacity = capacity;
     }

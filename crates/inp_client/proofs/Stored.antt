@@ -15,12 +15,11 @@ use Rattle.inp_client.specs.Numbers.{stored_of, held_places}
 use Rattle.inp_client.specs.Member.{Member, ring_of, client_in, cells_in, times_in, numbers_in}
 use Rattle.inp_client.specs.Locations.{clients_in}
 use Rattle.inp_client.specs.Kept.{kept_view, AreKept}
-use Rattle.inp_client.proofs.CellCounts.{cells_few, cells_many, cells_exactly, distinct-map, times-numbers_in, length-numbers_in}
+use Rattle.inp_client.proofs.CellCounts.{cells_few, cells_many, cells_exactly, distinct-map, times-numbers_in, length-numbers_in, held_numbers-rings}
 use Rattle.std.proofs.Math.Path.{fun_ext}
 use Rattle.std.proofs.lemmas.Simd.{map-map}
 use Rattle.inp_client.proofs.Lists.{sum_by-map}
 use Rattle.inp_client.proofs.OneClient.{kept_known}
-use Rattle.inp_client.proofs.RingsLeft.{held_numbers-rings}
 
 module _ (k : Inside) (kept : AreKept k) where
   abbrev members : List Member

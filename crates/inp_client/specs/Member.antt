@@ -5,6 +5,7 @@ use Rattle.inp_ring.specs.declared.cell.Cell.{Cell}
 use Rattle.inp_ring.specs.Store.{StoreView, holders, cell_count, event_of_cell, dropped_cell}
 use Rattle.inp_ring.specs.Ring.{RingView, times, cell_at, AreFit, IsRing, IsMoved}
 use Rattle.inp_client.specs.Masks.{admits_of}
+use Rattle.inp_client.specs.Clients.{ClientsView}
 use Rattle.inp_client.specs.Client.{Queued, ClientView, with_events, is_offered_to, map_events}
 
 -- a client whose events are numbers of cells
@@ -26,6 +27,10 @@ client_in s m = map_events (cell_at s) m
 abbrev pub cells_in : StoreView → List Member → List (ClientView Cell)
 cells_in s ms = map (client_in s) ms
 
+-- the same with the numbers of their rings
+abbrev pub clients_view_in : StoreView → List Member → ClientsView
+clients_view_in s ms = record { list = cells_in s ms; rings = map (λ m. m.ring.events) ms }
+
 -- the numbers of all their rings
 abbrev pub numbers_in : List Member → List ℕ
 numbers_in ms = flat_map (λ m. m.ring.events) ms
@@ -45,10 +50,6 @@ pub record AreStored (s : StoreView) (ms : List Member) (owed : ℕ → ℕ) : T
   pub rings : All (λ m. IsRing (ring_of m)) ms
   pub timed : All (λ m. AreFit (map (cell_at s) m.ring.events)) ms
   pub room : wanted ms ≤ cell_count s + s.spare
-
--- no number came into its ring
-abbrev pub HasFewer : Member → Member → Type 0
-HasFewer old new = (n : ℕ) → times n new.ring.events ≤ times n old.ring.events
 
 -- A call on one client left this of it and of the store.
 pub record IsMemberChanged (s after : StoreView) (old new : Member) (change : ClientView Cell → ClientView Cell) : Type 0 where

@@ -5,15 +5,16 @@ use Rattle.std.specs.Prelude.{◌≡◌, ◌≤◌, ◌<◌, ◌+◌, ◌&&◌, 
 use Rattle.slab.specs.Slab.{Slab}
 use Rattle.inp_ring.specs.declared.cell.Cell.{Cell}
 use Rattle.inp_ring.specs.Store.{StoreView, held_under, held_by, IsIdle}
-use Rattle.inp_ring.specs.Ring.{times}
+use Rattle.inp_ring.specs.Ring.{times, cell_at}
 use Rattle.inp_client.specs.declared.frame.Frame.{Frame}
 use Rattle.inp_client.specs.declared.location.Location.{Location}
 use Rattle.inp_model.specs.declared.event.Event.{Event}
 use Rattle.inp_model.specs.Event.{is_report}
 use Rattle.inp_client.specs.Masks.{full_masks}
 use Rattle.inp_client.specs.Client.{ClientView, new_client, with_events, is_offered_to, after_offer}
-use Rattle.inp_client.specs.Member.{Member, client_in, cells_in, wanted, after_event, AreStored}
-use Rattle.inp_client.specs.Numbers.{loses_event, loses, admitted_number, admitted_numbers, IsPutBehind}
+use Rattle.inp_client.specs.Member.{Member, client_in, cells_in, clients_view_in, times_in, wanted, after_event, AreStored}
+use Rattle.inp_client.specs.Clients.{ClientsView}
+use Rattle.inp_client.specs.Numbers.{loses_event, ring_after, event_under, IsEventStored, IsStoredOnce}
 use Rattle.inp_client.specs.Locations.{clients_in, AreLocated}
 
 -- a client that was offered it
@@ -69,19 +70,28 @@ seen_at s locations slab i = client_in s (member_at locations slab i)
 abbrev pub ring_at : List Location → Slab Member → ℕ → List ℕ
 ring_at locations slab i = (member_at locations slab i).ring.events
 
+-- the clients in their locations, with the cells of a store, and the numbers of their rings
+abbrev pub clients_view_of : StoreView → List Location → Slab Member → ClientsView
+clients_view_of s locations slab = clients_view_in s (clients_in locations slab)
+
 -- The number of a cell was put into the rings of the first `count` clients, so far as they take it. `taken`
 -- of them have it, and it is owed as many holders. The others are as before.
 pub record IsEnteredTo (count : ℕ) (cell : Cell) (holder : Option ℕ) (number : ℕ) (locations : List Location) (before slab : Slab Member) (first store : StoreView) (taken : ℕ) : Type 0 where
   pub located : AreLocated locations slab
   pub stored : AreStored store (clients_in locations slab) (owing number taken)
   pub idle : (n : ℕ) → IsIdle store n → n ≡ number
+  pub begun : cell_at first number ≡ cell
   pub same : held_under store number ≡ held_by 0 cell
   pub changed : (j : ℕ) → j < length locations → client_in store (member_at locations slab j)
       ≡ (if nat_lt j count then after_event cell holder (client_in first (member_at locations before j)) else client_in first (member_at locations before j))
   pub absent : (j : ℕ) → count ≤ j → j < length locations → times number (member_at locations slab j).ring.events ≡ 0
   pub few : taken ≤ count
-  pub numbered : (j : ℕ) → j < count → j < length locations → IsPutBehind (admitted_number (seen_at first locations before j).masks cell.event number)
-      (loses_event cell holder (seen_at first locations before j)) (ring_at locations before j) (ring_at locations slab j)
+  -- the numbers of their rings, and those of SYN_DROPPED, each of which stands in one ring
+  pub losses : ℕ → ℕ
+  pub numbered : (j : ℕ) → j < count → j < length locations
+      → ring_at locations slab j ≡ ring_after (event_under first) cell holder number (losses j) (seen_at first locations before j) (ring_at locations before j)
+  pub alone : (j : ℕ) → j < count → j < length locations → loses_event cell holder (seen_at first locations before j) ≡ true
+      → times_in (losses j) (clients_in locations slab) ≡ 1
   pub rest : (j : ℕ) → count ≤ j → j < length locations → ring_at locations slab j ≡ ring_at locations before j
   pub wanted : wanted (clients_in locations slab) ≡ wanted (clients_in locations before)
   pub capacity : slab.capacity ≡ before.capacity
@@ -90,9 +100,7 @@ pub record IsEnteredTo (count : ℕ) (cell : Cell) (holder : Option ℕ) (number
 pub record IsEventOffered (cell : Cell) (holder : Option ℕ) (locations : List Location) (before slab : Slab Member) (first store : StoreView) : Type 0 where
   pub shared : AreShared locations slab store
   pub clients : cells_in store (clients_in locations slab) ≡ map (after_event cell holder) (cells_in first (clients_in locations before))
-  pub number : ℕ
-  pub each : (j : ℕ) → j < length locations → IsPutBehind (admitted_number (seen_at first locations before j).masks cell.event number)
-      (loses_event cell holder (seen_at first locations before j)) (ring_at locations before j) (ring_at locations slab j)
+  pub once : IsEventStored cell holder (clients_view_of first locations before) (clients_view_of store locations slab)
   pub wanted : wanted (clients_in locations slab) ≡ wanted (clients_in locations before)
   pub capacity : slab.capacity ≡ before.capacity
 
@@ -100,9 +108,6 @@ pub record IsEventOffered (cell : Cell) (holder : Option ℕ) (locations : List 
 pub record IsOffered (f : Frame) (locations : List Location) (before slab : Slab Member) (first store : StoreView) : Type 0 where
   pub shared : AreShared locations slab store
   pub clients : cells_in store (clients_in locations slab) ≡ map (after_frame f) (cells_in first (clients_in locations before))
-  pub given : List ℕ
-  pub long : length given ≡ length f.events.now
-  pub each : (j : ℕ) → j < length locations → IsPutBehind (admitted_numbers (seen_at first locations before j).masks f.events.now given)
-      (loses f.events.now f.moment f.place f.holder (seen_at first locations before j)) (ring_at locations before j) (ring_at locations slab j)
+  pub once : IsStoredOnce f.events.now f.moment f.place f.holder (clients_view_of first locations before) (clients_view_of store locations slab)
   pub wanted : wanted (clients_in locations slab) ≡ wanted (clients_in locations before)
   pub capacity : slab.capacity ≡ before.capacity

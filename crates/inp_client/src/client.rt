@@ -1,20 +1,20 @@
 //! One open client.
-ghost use Rattle.std.specs.Prelude.{◌≡◌, ◌≢◌, ◌≤◌, ◌<◌, ◌+◌, ◌&&◌, ◌⊎◌, ◌++◌, ℕ, if◌then◌else◌, nat_lt, [], true, length, min, map, take, Some, IfOk};
+ghost use Rattle.std.specs.Prelude.{◌≡◌, ◌≢◌, ◌≤◌, ◌<◌, ◌+◌, ◌&&◌, ◌⊎◌, ◌++◌, ℕ, if◌then◌else◌, nat_lt, [], true, length, min, map, take, drop, Some, IfOk};
 ghost use Rattle.std.specs.Option.{option_map};
 ghost use Rattle.inp_model.specs.declared.event.TheConstants.{EV_SYN};
 ghost use Rattle.inp_model.specs.declared.stamped.TheConstants.{MOMENT_MAX};
 ghost use Rattle.inp_model.specs.Description.{offset};
 ghost use Rattle.inp_model.specs.Past.{has_mask, mask_words, is_other};
-ghost use Rattle.inp_model.specs.Queue.{visible, is_same_clock, put};
+ghost use Rattle.inp_model.specs.Queue.{visible, flush, is_same_clock, put};
 ghost use Rattle.inp_model.specs.Reply.{written};
-ghost use Rattle.inp_model.specs.Step.{Codes, Slots};
+ghost use Rattle.inp_model.specs.Step.{Codes, Slots, is_part_of};
 ghost use Rattle.inp_ring.specs.Store.{event_of_cell, dropped_cell, cell_taken, cell_in};
 ghost use Rattle.inp_ring.specs.Ring.{times, cell_at, AreFit, AreHeld, AreDifferent, IsPutAtEnd, IsRing};
 ghost use Rattle.inp_client.specs.Masks.{admits_of, full_masks};
 ghost use Rattle.inp_client.specs.Client.{new_client, with_events, is_offered_to, after_take, after_flush, after_mask, after_clock, after_revoke};
 ghost use Rattle.inp_client.specs.Offered.{with_run};
-ghost use Rattle.inp_client.specs.Member.{ring_of, client_in, after_event, HasFewer, IsMemberChanged};
-ghost use Rattle.inp_client.specs.Numbers.{admitted_number, IsPutBehind};
+ghost use Rattle.inp_client.specs.Member.{ring_of, client_in, after_event, IsMemberChanged};
+ghost use Rattle.inp_client.specs.Numbers.{event_under, IsRingStored, IsRingOnClock};
 
 use crate::masks::Masks;
 use inp_caps::Caps;
@@ -99,8 +99,8 @@ impl Client {
         requires held { AreHeld store.old self.old.ring.events }
         ensures set { IsMemberChanged store.old store.new self.old self.new
             (after_clock clock now place) }
-        ensures one { (self.new.ring.events ≡ self.old.ring.events)
-            ⊎ (length self.new.ring.events ≤ 1) }
+        ensures stored { IsRingOnClock (is_same_clock self.old.clock clock) store.new
+            self.old.ring.events self.new.ring.events }
     {
         if is_same_clock(self.clock, clock) {
             return;
@@ -129,7 +129,7 @@ impl Client {
         ensures taken { let cells = take result (map (cell_at store.old) self.old.ring.events) in
             out.new ≡ written (map (cell_taken (offset caps.now self.old.clock)) cells) out.old }
         ensures rest { IsMemberChanged store.old store.new self.old self.new (after_take result) }
-        ensures fewer { HasFewer self.old self.new }
+        ensures left { self.new.ring.events ≡ drop result self.old.ring.events }
     {
         let taken = self.ring.take(store, count, caps.offset(self.clock), out);
         self.ring.sound();
@@ -142,7 +142,7 @@ impl Client {
         ensures count { let queue = map (cell_at store.old) self.old.ring.events in
             result ≡ visible event_of_cell queue }
         ensures rest { IsMemberChanged store.old store.new self.old self.new (after_take result) }
-        ensures fewer { HasFewer self.old self.new }
+        ensures left { self.new.ring.events ≡ drop result self.old.ring.events }
     {
         let removed = self.ring.discard(store);
         self.ring.sound();
@@ -155,7 +155,8 @@ impl Client {
         requires held { AreHeld store.old self.old.ring.events }
         ensures flushed { IsMemberChanged store.old store.new self.old self.new
             (after_flush event_of_cell (Codes kind)) }
-        ensures fewer { HasFewer self.old self.new }
+        ensures left { self.new.ring.events
+            ≡ flush (event_under store.old) (is_part_of (Codes kind)) self.old.ring.events }
     {
         self.ring.flush(store, kind);
         self.ring.sound();
@@ -166,7 +167,8 @@ impl Client {
         requires held { AreHeld store.old self.old.ring.events }
         ensures flushed { IsMemberChanged store.old store.new self.old self.new
             (after_flush event_of_cell Slots) }
-        ensures fewer { HasFewer self.old self.new }
+        ensures left { self.new.ring.events
+            ≡ flush (event_under store.old) (is_part_of Slots) self.old.ring.events }
     {
         self.ring.flush_slots(store);
         self.ring.sound();
@@ -202,9 +204,7 @@ impl Client {
             self.old.ring.events self.new.ring.events number result }
         ensures offered { client_in store.new self.new
             ≡ after_event (cell_at store.old number) holder (client_in store.old self.old) }
-        ensures numbered { IsPutBehind (admitted_number self.old.masks event number)
-            (nat_lt (length self.new.ring.events) (length self.old.ring.events))
-            self.old.ring.events self.new.ring.events }
+        ensures stored { IsRingStored number holder store.old store.new self.old self.new }
     {
         if !self.is_offered_to(holder) || !self.admits(event) {
             return false;

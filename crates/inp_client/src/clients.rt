@@ -1,5 +1,5 @@
 //! The open clients of a device.
-ghost use Rattle.std.specs.Prelude.{◌≡◌, ◌≢◌, ℕ, ◌≤◌, ◌<◌, ◌+◌, ◌↔◌, [], true, false, length, min, map, take, sum_by, count_by, All, Contains, Err, IfOk, OnOk, OnErr};
+ghost use Rattle.std.specs.Prelude.{◌≡◌, ◌≢◌, ℕ, ◌≤◌, ◌<◌, ◌+◌, ◌↔◌, [], true, false, length, min, map, take, drop, sum_by, count_by, All, Contains, Err, IfOk, OnOk, OnErr};
 ghost use Rattle.slab.specs.Slab.{ContainsKey};
 ghost use Rattle.inp_model.specs.declared.event.TheConstants.{EV_SYN};
 ghost use Rattle.inp_model.specs.declared.limits.TheConstants.{CLIENTS_MAX};
@@ -13,8 +13,7 @@ ghost use Rattle.inp_client.specs.Client.{new_client, after_offer, after_take, a
 ghost use Rattle.inp_client.specs.Clients.{has_client, has_revoked_client, events_of, map_client, with_client, without_client};
 ghost use Rattle.inp_client.specs.Read.{clients_on};
 ghost use Rattle.inp_client.specs.Locations.{clients_in, AreLocated};
-ghost use Rattle.inp_ring.specs.Ring.{times};
-ghost use Rattle.inp_client.specs.Numbers.{held_numbers, stored_of, held_places, loses, HoldNoneNew, IsStoredOnce};
+ghost use Rattle.inp_client.specs.Numbers.{held_numbers, stored_of, held_places, loses, is_lost_to_clock, IsStoredOnce, IsClockStored, IsRingChanged, IsRingFlushed, IsRingClosed};
 ghost use Rattle.inp_client.specs.declared.open_refused.OpenRefused.TheVariants.{TooMany};
 
 use crate::client::Client;
@@ -102,7 +101,7 @@ impl Clients {
     pub fn close(&mut self, number: u32)
         requires open { has_client number self.old.list ≡ true }
         ensures closed { self.new.list ≡ without_client number self.old.list }
-        ensures none_new { (n : ℕ) → times n (held_numbers self.new) ≤ times n (held_numbers self.old) }
+        ensures rings { IsRingClosed number self.old self.new }
     {
         let index = index_of(&self.locations, number).unwrap();
         let location = self.locations.remove(index);
@@ -184,7 +183,11 @@ impl Clients {
         requires moment { now ≤ MOMENT_MAX }
         ensures set { self.new.list
             ≡ map_client number (after_clock clock now place) self.old.list }
-        ensures stored { stored_of self.new ≤ stored_of self.old + 1 }
+
+        // The other rings stay, and a client that loses its queue has one SYN_DROPPED.
+        ensures once { IsClockStored number clock self.old self.new }
+        ensures stored { stored_of self.new ≤ stored_of self.old
+            + count_by (is_lost_to_clock number clock) self.old.list }
     {
         let key = key_of(&self.locations, &self.slab, number);
         self.slab[key].set_clock(&mut self.store, clock, now, place);
@@ -210,7 +213,7 @@ impl Clients {
         ensures taken { let queue = events_of number (clients_on caps.now self.old.list) in
             out.new ≡ written (take result queue) out.old }
         ensures rest { self.new.list ≡ map_client number (after_take result) self.old.list }
-        ensures none_new { HoldNoneNew self.old self.new }
+        ensures rings { IsRingChanged number (drop result) self.old self.new }
     {
         let key = key_of(&self.locations, &self.slab, number);
         self.slab[key].take(&mut self.store, caps, count, out)
@@ -221,7 +224,7 @@ impl Clients {
         requires open { has_client number self.old.list ≡ true }
         ensures count { result ≡ visible event_of_cell (events_of number self.old.list) }
         ensures rest { self.new.list ≡ map_client number (after_take result) self.old.list }
-        ensures none_new { HoldNoneNew self.old self.new }
+        ensures rings { IsRingChanged number (drop result) self.old self.new }
     {
         let key = key_of(&self.locations, &self.slab, number);
         self.slab[key].discard(&mut self.store)
@@ -234,7 +237,7 @@ impl Clients {
         requires not_syn { kind ≢ EV_SYN }
         ensures flushed { self.new.list
             ≡ map_client number (after_flush event_of_cell (Codes kind)) self.old.list }
-        ensures none_new { HoldNoneNew self.old self.new }
+        ensures rings { IsRingFlushed number (Codes kind) self.old self.new }
     {
         let key = key_of(&self.locations, &self.slab, number);
         self.slab[key].flush(&mut self.store, kind);
@@ -245,7 +248,7 @@ impl Clients {
         requires open { has_client number self.old.list ≡ true }
         ensures flushed { self.new.list
             ≡ map_client number (after_flush event_of_cell Slots) self.old.list }
-        ensures none_new { HoldNoneNew self.old self.new }
+        ensures rings { IsRingFlushed number Slots self.old self.new }
     {
         let key = key_of(&self.locations, &self.slab, number);
         self.slab[key].flush_slots(&mut self.store);

@@ -13,11 +13,12 @@
 //! has a lemma for each call.
 //!
 //! That each event is kept once is said of the numbers (`specs/Numbers.antt`). [`Clients::stored`] is how many
-//! different ones there are. By [`Clients::offer`] each event of a frame has one number, whoever takes it
-//! (`IsStoredOnce`). A client that loses nothing has its old numbers, and after them some of the frame's. One that
-//! loses its queue has those of the frame after a SYN_DROPPED. So the different numbers grow by one at most for each
-//! event, and for each client that loses its queue. An open, a mask and a revocation leave all numbers as they are.
-//! Reading, a flush and a close bring none, and a change of clock brings one at most.
+//! different ones there are. By [`Clients::offer`] each event of a frame has one number, whoever takes it, which no
+//! ring has when the event comes (`IsStoredOnce`). It stands behind the old numbers of each client that takes it. A
+//! client that loses its queue has a SYN_DROPPED in the place of the old ones, whose number no other ring has. So the
+//! different numbers grow by one at most for each event, and for each client that loses its queue. An open, a mask and
+//! a revocation leave all numbers as they are. Reading, a flush and a close take numbers away and bring none. A change
+//! of clock brings one where a queue is lost. Each of them leaves the other rings as they are.
 //!
 //! [`Clients::open`] asks of its number only that no open client has it, and puts the client in its place by number. It
 //! answers `TooMany` exactly where 64 are open. [`Clients::offer`] puts into each queue what its masks admit, under the

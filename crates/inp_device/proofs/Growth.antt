@@ -1,26 +1,31 @@
 -- How many more numbers the rings of all clients have after frames that are offered.
-use Rattle.std.proofs.Common.{◌≡◌, ◌≤◌, ◌<◌, ℕ, suc, ◌+◌, Bool, true, false, ◌&&◌, ◌||◌, if◌then◌else◌, nat_eq, nat_lt, List, [], ◌∷◌, ◌++◌, length, map, get_or, Option, refl, sym, ap, ◌∙◌, subst, inl, inr, arith}
+use Rattle.std.proofs.Common.{◌≡◌, ◌≤◌, ◌<◌, ℕ, suc, ◌+◌, Bool, true, false, ◌&&◌, ◌||◌, not, if◌then◌else◌, nat_eq, nat_lt, List, [], ◌∷◌, ◌++◌, length, map, drop, get_or, Option, refl, sym, ap, ◌∙◌, subst, arith}
 use Rattle.std.specs.Prelude.{filter, flat_map, count_by}
 use Rattle.std.specs.List.{list_any}
-use Rattle.std.proofs.lemmas.Bool.{cond_both, cases_lt, eq-eqb, le-ltb}
+use Rattle.std.proofs.lemmas.Bool.{false≢true, cond_both, eq-eqb}
 use Rattle.std.proofs.lemmas.List.{length-append, length-map, get_or-map}
+use Rattle.std.proofs.lemmas.List.Sums.{sum_by-cons}
 use Rattle.std.proofs.lemmas.List.Folds.{list_any-append}
 use Rattle.inp_model.specs.declared.event.TheConstants.{EV_SYN, SYN_DROPPED}
 use Rattle.inp_model.specs.declared.event.Event.{Event}
-use Rattle.inp_model.specs.Event.{is_report}
-use Rattle.inp_model.specs.Queue.{is_empty, ends_in_report, put_all}
+use Rattle.inp_model.specs.declared.clock.Clock.{Clock}
+use Rattle.inp_model.specs.Event.{is_report, syn_dropped}
+use Rattle.inp_model.specs.Queue.{is_empty, ends_in_report, put_all, flush, is_same_clock, clock_changed}
+use Rattle.inp_model.specs.Step.{Query, is_part_of}
 use Rattle.inp_ring.specs.declared.cell.Cell.{Cell}
 use Rattle.inp_ring.specs.Store.{event_of_cell, dropped_cell}
 use Rattle.inp_ring.specs.Ring.{times}
-use Rattle.inp_ring.proofs.Times.{times-append}
+use Rattle.inp_ring.proofs.Times.{times-append, times-drop-le}
+use Rattle.inp_ring.proofs.Walks.{flush-times}
 use Rattle.inp_client.specs.Masks.{admits_of}
-use Rattle.inp_client.specs.Client.{ClientView, new_client, is_offered_to, cell_of_event, after_offer}
-use Rattle.inp_client.specs.Clients.{ClientsView, distinct}
+use Rattle.inp_client.specs.Client.{ClientView, new_client, is_offered_to, cell_of_event, after_offer, after_clock}
+use Rattle.inp_client.specs.Clients.{ClientsView, distinct, has_number, map_client}
 use Rattle.inp_client.specs.Member.{after_event}
-use Rattle.inp_client.specs.Numbers.{held_numbers, stored_of, loses_event, loses, HoldNoneNew, IsStoredOnce}
+use Rattle.inp_client.specs.Numbers.{held_numbers, stored_of, loses_event, loses, is_lost_to_clock, IsStoredOnce, IsRingChanged, IsRingFlushed, IsRingClosed}
 use Rattle.inp_client.proofs.CellCounts.{distinct_few, distinct_there}
-use Rattle.inp_client.proofs.Numbers.{IsGrown, after_event-cases, grown_put, stored_among}
+use Rattle.inp_client.proofs.Numbers.{IsGrown, AreGrownBy, after_event-cases, grown_told, grown_then, grown_by, stored_among}
 use Rattle.inp_client.proofs.Offers.{after_offer-cons}
+use Rattle.inp_client.proofs.RingsLeft.{fewer_in, fewer_closed}
 
 -- Who lost its queue at a place
 
@@ -60,11 +65,8 @@ module _ (now place : ℕ) (holder : Option ℕ) where
   told_of_event : (e : Event) (c : ClientView Cell) → loses_event (cell_of_event now place e) holder c ≡ true → is_lost place (after_event (cell_of_event now place e) holder c) ≡ true
   told_of_event e c h =
       let x : Cell = cell_of_event now place e in
-      let P : ClientView Cell → Type 0 = λ new. nat_lt (length new.ring.events) (length c.ring.events) ≡ true → is_lost place new ≡ true in
-      after_event-cases P x holder c
-      (λ g. absurd (cc (g, le-ltb (length c.ring.events) (length c.ring.events) (omega arith))))
-      (λ g. absurd (cc (g, le-ltb (length (c.ring.events ++ x ∷ [])) (length c.ring.events) (omega (arith, length-append c.ring.events (x ∷ []))))))
-      (λ _ g. dropped_tells place x (x ∷ []) refl) h
+      after_event-cases (λ new b. b ≡ true → is_lost place new ≡ true) x holder c
+      (λ g. absurd (false≢true g)) (λ g. absurd (false≢true g)) (λ _ g. dropped_tells place x (x ∷ []) refl) h
 
   told_of_frame : (frame : List Event) (c : ClientView Cell) → loses frame now place holder c ≡ true → is_lost place (after_offer frame now place holder c) ≡ true
   told_of_frame [] c h = absurd (cc h)
@@ -78,25 +80,6 @@ module _ (now place : ℕ) (holder : Option ℕ) where
           → is_lost place (after_offer frame now place holder mid) ≡ true
       by true is h rest = lost_kept frame mid (told_of_event e c is)
       by false is h rest = rest h
-
--- How the numbers of one ring grow
-
-grown_then : (first rest old mid new : List ℕ) (a b : Bool) → (a ≡ true → b ≡ true) → IsGrown first a old mid → IsGrown rest b mid new → IsGrown (first ++ rest) b old new
-grown_then first rest old mid new a b stays p q = elim q.kept_or_lost [
-  | inr lost ↦ record {
-    front = q.front;
-    kept_or_lost = inr lost;
-    among = λ n there. omega (arith, q.among n there, times-append n first rest);
-  }
-  | inl kept ↦ record {
-    front = p.front;
-    kept_or_lost = elim p.kept_or_lost [ inl same ↦ inl same | inr lost ↦ inr (stays lost.0, lost.1) ];
-    among = λ n there. elim (cases_lt 0 (times n mid)) [
-      | inl had ↦ omega (arith, p.among n (omega (arith, had)), times-append n first rest)
-      | inr had_not ↦ omega (arith, q.among n there, ap (times n) kept, had_not, times-append n first rest)
-    ];
-  }
-]
 
 -- How those of all rings grow
 
@@ -119,17 +102,20 @@ grown_more count more place old new le are = record { given = are.given; few = o
 -- by one frame
 pub grown_by_frame : (frame : List Event) (now place : ℕ) (holder : Option ℕ) (old new : ClientsView) → new.list ≡ map (after_offer frame now place holder) old.list → IsStoredOnce frame now place holder old new → AreGrown (length frame) place old new
 grown_by_frame frame now place holder old new offered once = record {
-  given = once.given;
-  few = omega (arith, once.long);
+  given = by.given;
+  few = omega (arith, by.long);
   same = ap length offered ∙ length-map old.list (after_offer frame now place holder);
-  rings = once.rings;
+  rings = by.rings;
   each = λ i in_i.
-      grown_put (get_or old.list i some_client).masks frame (is_lost place (get_or new.list i some_client))
+      grown_told (loses frame now place holder (get_or old.list i some_client)) (is_lost place (get_or new.list i some_client))
       (λ is. subst (λ (c : ClientView Cell). is_lost place c ≡ true) (sym (client_is i in_i)) (told_of_frame now place holder frame (get_or old.list i some_client) is))
-      (once.each i in_i);
+      (by.each i in_i);
   stay = λ i in_i h. subst (λ (c : ClientView Cell). is_lost place c ≡ true) (sym (client_is i in_i)) (lost_kept now place holder frame (get_or old.list i some_client) h);
 }
   where
+    by : AreGrownBy frame now place holder old new
+    by = grown_by frame now place holder old new once
+
     client_is : (i : ℕ) → i < length old.list → get_or new.list i some_client ≡ after_offer frame now place holder (get_or old.list i some_client)
     client_is i in_i = ap (λ (cs : List (ClientView Cell)). get_or cs i some_client) offered ∙ get_or-map (after_offer frame now place holder) old.list i some_client some_client in_i
 
@@ -142,7 +128,7 @@ are_grown_then first rest place old mid new p q = record {
   rings = (p.rings.0, q.rings.1 ∙ p.same);
   each = λ i in_i.
       let in_mid : i < length mid.list = omega (arith, in_i, p.same) in
-      grown_then p.given q.given (get_or old.rings i []) (get_or mid.rings i []) (get_or new.rings i []) (is_lost place (get_or mid.list i some_client)) (is_lost place (get_or new.list i some_client))
+      grown_then p.given q.given (is_lost place (get_or mid.list i some_client)) (is_lost place (get_or new.list i some_client))
       (q.stay i in_mid) (p.each i in_i) (q.each i in_mid);
   stay = λ i in_i h. q.stay i (omega (arith, in_i, p.same)) (p.stay i in_i h);
 }
@@ -161,7 +147,7 @@ stored_grown count place old new are =
 abbrev all_of : List (List ℕ) → List ℕ
 all_of rings = flat_map (λ q. q) rings
 
-pub stored_fewer : (old new : ClientsView) (more : ℕ) → ((n : ℕ) → times n (held_numbers new) ≤ times n (held_numbers old)) → stored_of new ≤ stored_of old + more
+stored_fewer : (old new : ClientsView) (more : ℕ) → ((n : ℕ) → times n (held_numbers new) ≤ times n (held_numbers old)) → stored_of new ≤ stored_of old + more
 stored_fewer old new more fewer = omega (arith, distinct_few (held_numbers new) (distinct (held_numbers old)) (λ n there. distinct_there n (held_numbers old) (omega (arith, there, fewer n))))
 
 pub stored_same : (old new : ClientsView) (more : ℕ) → held_numbers new ≡ held_numbers old → stored_of new ≤ stored_of old + more
@@ -175,12 +161,56 @@ none_come n old [] h = omega arith
 none_come n [] (q ∷ new) h = omega (arith, h 0, none_come n [] new (λ i. h (suc i)), times-append n q (all_of new))
 none_come n (o ∷ old) (q ∷ new) h = omega (arith, h 0, none_come n old new (λ i. h (suc i)), times-append n q (all_of new), times-append n o (all_of old))
 
-pub stored_none_new : (old new : ClientsView) (more : ℕ) → HoldNoneNew old new → stored_of new ≤ stored_of old + more
-stored_none_new old new more none = stored_fewer old new more (λ n. none_come n old.rings new.rings (λ i. none i n))
+-- a ring lost some of its numbers
+stored_changed : (number : ℕ) (change : List ℕ → List ℕ) (old new : ClientsView) (more : ℕ) → ((n : ℕ) (q : List ℕ) → times n (change q) ≤ times n q) → IsRingChanged number change old new → stored_of new ≤ stored_of old + more
+stored_changed number change old new more fewer is = stored_fewer old new more (λ n. none_come n old.rings new.rings (λ i. fewer_in number change old new fewer is i n))
+
+pub stored_taken : {number : ℕ} (count : ℕ) (old new : ClientsView) (more : ℕ) → IsRingChanged number (drop count) old new → stored_of new ≤ stored_of old + more
+stored_taken {number} count old new more is = stored_changed number (drop count) old new more (λ n q. times-drop-le n count q) is
+
+pub stored_flushed : {number : ℕ} {query : Query} (old new : ClientsView) (more : ℕ) → IsRingFlushed number query old new → stored_of new ≤ stored_of old + more
+stored_flushed {number} {query} old new more is = stored_changed number (flush is.event (is_part_of query)) old new more (λ n q. flush-times is.event (is_part_of query) n q) is.flushed
+
+pub stored_closed : {number : ℕ} (old new : ClientsView) (more : ℕ) → IsRingClosed number old new → stored_of new ≤ stored_of old + more
+stored_closed {number} old new more is = stored_fewer old new more (fewer_closed number old new is)
 
 pub stored_rings : (old new : ClientsView) (more : ℕ) → new.rings ≡ old.rings → stored_of new ≤ stored_of old + more
 stored_rings old new more same = stored_same old new more (ap all_of same)
 
--- one number came
-pub stored_one : (old new : ClientsView) (more : ℕ) → stored_of new ≤ stored_of old + 1 → stored_of new ≤ stored_of old + (more + 1)
-stored_one old new more one = omega (arith, one)
+-- A clock was chosen: who loses its queue by it is told so.
+
+count_less : {X : Type 0} (p q : X → Bool) (f : X → X) → ((x : X) → p x ≡ true → q (f x) ≡ true) → (xs : List X) → count_by p xs ≤ count_by q (map f xs)
+count_less p q f tells [] = omega arith
+count_less {X} p q f tells (x ∷ xs) =
+    omega (
+      arith,
+      sum_by-cons (λ (y : X). if p y then 1 else 0) x xs,
+      sum_by-cons (λ (y : X). if q y then 1 else 0) (f x) (map f xs),
+      count_less p q f tells xs,
+      one (p x) (q (f x)) (tells x),
+    )
+  where
+    one : (a b : Bool) → (a ≡ true → b ≡ true) → (if a then 1 else 0) ≤ (if b then 1 else 0)
+    one false b h = omega arith
+    one true false h = absurd (false≢true (h refl))
+    one true true h = omega arith
+
+told_of_clock : (client : ℕ) (clock : Clock) (now place : ℕ) (c : ClientView Cell) → is_lost_to_clock client clock c ≡ true → is_lost place (if has_number client c then after_clock clock now place c else c) ≡ true
+told_of_clock client clock now place c = by (has_number client c) (is_same_clock c.clock clock) c.ring.events
+  where
+    by : (named same : Bool) (q : List Cell) → (named && (not same && not (is_empty q))) ≡ true
+        → is_lost place (if named then record c { clock = clock; ring = record c.ring { events = clock_changed same (cell_of_event now place syn_dropped) q } } else c) ≡ true
+    by false same q h = absurd (false≢true h)
+    by true true q h = absurd (false≢true h)
+    by true false [] h = absurd (false≢true h)
+    by true false (x ∷ q) h = dropped_tells place (cell_of_event now place syn_dropped) [] refl
+
+pub stored_clock : (client : ℕ) (clock : Clock) (now place : ℕ) (old new : ClientsView) → new.list ≡ map_client client (after_clock clock now place) old.list
+    → stored_of new ≤ stored_of old + count_by (is_lost_to_clock client clock) old.list → stored_of new ≤ stored_of old + count_by (is_lost place) new.list
+stored_clock client clock now place old new set few =
+    omega (
+      arith,
+      few,
+      count_less (is_lost_to_clock client clock) (is_lost place) (λ c. if has_number client c then after_clock clock now place c else c) (told_of_clock client clock now place) old.list,
+      ap (count_by (is_lost place)) set,
+    )

@@ -28,7 +28,7 @@ use Rattle.inp_client.specs.Numbers.{stored_of}
 use Rattle.inp_client.specs.Read.{client_on, clients_on}
 use Rattle.inp_device.specs.declared.handler.Handler.{Handler}
 use Rattle.inp_device.specs.declared.present.Present.{Present}
-use Rattle.inp_device.specs.Device.{is_loss_at, is_lost_at, offered_count}
+use Rattle.inp_device.specs.Device.{is_loss_at, is_lost_at, offered_count, lost_count}
 use Rattle.inp_device.specs.Present.{client_after, clients_after, MasksEnd, AreFresh, HandlerStandsFor, PresentStandsFor}
 use Rattle.inp_device.proofs.Calls.{nat_eq_swap, clients_after-frames, makes_events}
 use Rattle.inp_device.proofs.Masks.{MasksEnd-mask}
@@ -188,6 +188,17 @@ count_map : {X Y : Type 0} (p : X → Bool) (q : Y → Bool) (f : X → Y) → (
 count_map {X} p q f same xs = ap (λ (t : X → Bool). count_by t xs) (fun_ext same)
     ∙ sym (sum_by-map (λ y. if q y then 1 else 0) f xs)
 
+-- those who lost their queue at the step, as they are kept, and as they follow from the past
+pub lost_told : (d : Description) (past : List Step) (x : Step) (new : Present) → PresentStandsFor d (x ∷ past) new
+    → count_by (is_lost (length past)) new.handler.clients.list ≡ lost_count d past x
+unfolding lost_count
+lost_told d past x new stands =
+    count_map (is_lost (length past)) (reads_loss (length past)) (client_on d) (λ c. sym (list_any-map (is_loss_at (length past)) (cell_taken (offset d c.clock)) c.ring.events)) new.handler.clients.list
+    ∙ ap (count_by (reads_loss (length past))) stands.handler.clients
+    ∙ sym (count_map (is_lost_at d past x) (reads_loss (length past)) (client_after d (x ∷ past))
+    (λ n. sym (list_any-map (is_loss_at (length past)) taken_of (queue d (x ∷ past) n)))
+    (open_clients (x ∷ past)))
+
 grown_stored : (count place : ℕ) (old new : ClientsView) → (new ≡ old) ⊎ AreGrown count place old new → stored_of new ≤ stored_of old + count + count_by (is_lost place) new.list
 grown_stored count place old new (inl same) = omega (arith, ap stored_of same)
 grown_stored count place old new (inr grown) = stored_grown count place old new grown
@@ -224,15 +235,11 @@ module _ (d : Description) (past : List Step) (x : Step) (old new : Present) (be
 
   pub stored_framed : PresentStandsFor d (x ∷ past) new
       → stored_of new.handler.clients ≤ stored_of old.handler.clients +
-      (offered_count d past x + count_by (is_lost_at d past x) (open_clients (x ∷ past)))
+      (offered_count d past x + lost_count d past x)
   stored_framed stands =
       omega (
         arith,
         grown_stored (offered_count d past x) (length past) begun.clients new.handler.clients passed.grown,
         ap (λ (h : Handler). stored_of h.clients) begins,
-        count_map (is_lost (length past)) (reads_loss (length past)) (client_on d) (λ c. sym (list_any-map (is_loss_at (length past)) (cell_taken (offset d c.clock)) c.ring.events)) new.handler.clients.list,
-        ap (count_by (reads_loss (length past))) stands.handler.clients,
-        count_map (is_lost_at d past x) (reads_loss (length past)) (client_after d (x ∷ past))
-            (λ n. sym (list_any-map (is_loss_at (length past)) taken_of (queue d (x ∷ past) n)))
-            (open_clients (x ∷ past)),
+        lost_told d past x new stands,
       )

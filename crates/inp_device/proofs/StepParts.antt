@@ -1,6 +1,6 @@
 -- What a step leaves, from what its parts leave.
 use Rattle.std.proofs.Common.{◌≡◌, ◌≢◌, ℕ, suc, ◌+◌, ◌<◌, ◌≤◌, min, Bool, true, false, ◌&&◌, not, if◌then◌else◌, nat_eq, List, [], ◌∷◌, ◌++◌, length, map, take, reverse, refl, sym, ap, subst, ◌∙◌, ℤ, arith, inl, inr, Option, Some, None}
-use Rattle.std.specs.Prelude.{Result, Ok, Err, IsOk, OnOk, IsNone, IsTrue, is_some, count_by}
+use Rattle.std.specs.Prelude.{Result, Ok, Err, IsOk, OnOk, IsNone, IsTrue, is_some}
 use Rattle.std.proofs.Math.Bool.{and-true}
 use Rattle.std.proofs.lemmas.Bool.{eq-eqb}
 use Rattle.std.proofs.lemmas.List.Elements.{All-map}
@@ -35,7 +35,7 @@ use Rattle.inp_client.specs.Numbers.{stored_of}
 use Rattle.inp_client.specs.Read.{taken_event, client_on, clients_on}
 use Rattle.inp_client.proofs.OnClock.{clients_on-map_client, has_client-on, has_revoked_client-on, visible-on_clock, with_client-on}
 use Rattle.inp_client.proofs.ClientLists.{AllBelow, unused_above, with_client_above}
-use Rattle.inp_device.specs.Device.{StoringView, is_lost_at, offered_count}
+use Rattle.inp_device.specs.Device.{StoringView, offered_count, lost_count}
 use Rattle.inp_device.specs.Present.{client_after, clients_after, HasBits, AsksBits, PresentStandsFor, IsReadyFor, IsAcceptedStep}
 use Rattle.inp_model.proofs.Opens.{opens-le}
 use Rattle.inp_device.proofs.Queues.{visible-map, visible-le}
@@ -184,7 +184,7 @@ pub framed : {history : List Step} {x : Step} {old new : Present} {begun : Handl
     → new.caps ≡ old.caps → new.handles.holder ≡ old.handles.holder → new.opens ≡ old.opens → new.ends ≡ old.ends
     → leaves_grab x ≡ true → is_open_step x ≡ false → is_end_step x ≡ false
     → IsAcceptedStep history x old reply [] [] [] [] new
-    × (stored_of new.handler.clients ≤ stored_of old.handler.clients + (offered_count old.caps (reverse history) x + count_by (is_lost_at old.caps (reverse history) x) (open_clients (x ∷ reverse history))))
+    × (stored_of new.handler.clients ≤ stored_of old.handler.clients + (offered_count old.caps (reverse history) x + lost_count old.caps (reverse history) x))
 framed {history} {x} {old} {new} {begun} ready makes e r begun_as held entered made caps handles opened ended grab opening ending =
     let past : List Step = reverse history in
     let begins : begun ≡ record old.handler { place = length past; holder = old.handles.holder } =

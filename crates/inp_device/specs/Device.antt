@@ -5,7 +5,7 @@ use Rattle.inp_model.specs.declared.event.TheConstants.{EV_SYN, SYN_DROPPED}
 use Rattle.inp_model.specs.declared.taken.Taken.{Taken}
 use Rattle.inp_model.specs.declared.step.Step.{Step}
 use Rattle.inp_model.specs.declared.event.Event.{Event}
-use Rattle.inp_model.specs.declared.step.Step.TheVariants.{Inject, Write, Clock as ToClock}
+use Rattle.inp_model.specs.declared.step.Step.TheVariants.{Inject, Write}
 use Rattle.inp_model.specs.Description.{Description}
 use Rattle.inp_model.specs.DeviceView.{DeviceView}
 use Rattle.inp_model.specs.Frame.{frames_of_step}
@@ -41,9 +41,8 @@ is_lost_at d past x client = list_any (λ e. is_loss_at (length past) e.taken) (
 abbrev pub offered_count : Description → List Step → Step → ℕ
 offered_count d past x = sum_by (λ f. length (left (eaten d) f)) (frames_of_step d past x)
 
--- how many clients may lose their queue at the step: the one that chooses another clock, or those that did lose it
-abbrev pub lost_count : Description → List Step → Step → ℕ
-lost_count d past (ToClock client clock now) = 1
+-- how many clients lost their queue at the step
+unfoldable pub lost_count : Description → List Step → Step → ℕ
 lost_count d past x = count_by (is_lost_at d past x) (open_clients (x ∷ past))
 
 -- How many events a step adds to those that are kept, at most. It adds each that it offers, once, whoever

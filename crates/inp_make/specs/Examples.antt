@@ -1,5 +1,5 @@
 -- What the definitions say of a few frames, worked out by hand.
-use Rattle.std.specs.Prelude.{◌≡◌, ℕ, ◌+◌, ◌*◌, ◌/◌, ◌<◌, ◌≤◌, pos, true, List, [], ◌∷◌, length, count_by, nat_eq}
+use Rattle.std.specs.Prelude.{◌≡◌, ℕ, ◌+◌, ◌*◌, ◌/◌, ◌<◌, ◌≤◌, pos, true, List, [], ◌∷◌, length, count_by, nat_eq, slice_get, Some}
 use Rattle.inp_model.specs.declared.event.Event.{Event}
 use Rattle.inp_model.specs.Description.{supports, ring}
 use Rattle.inp_actors.specs.declared.line.Line.{Line}
@@ -28,6 +28,14 @@ abbrev pub HasEvents : Type 0
 HasEvents =
     (finger_events 4090 0 1 ≡ event 3 47 1 ∷ event 3 57 1 ∷ event 3 53 8 ∷ event 3 54 12 ∷ [])
     × (finger_events 4090 1 1 ≡ event 3 47 1 ∷ event 3 53 15 ∷ event 3 54 23 ∷ [])
+
+-- In the first frame of number 7 the button goes down before all else. The first finger has its x there, and the last one its y
+-- before the report. The second frame begins with the first slot, and ends in a report.
+abbrev pub HasFrames : Type 0
+HasFrames =
+    (slice_get (frame_events 7 0) 0 ≡ Some (event 1 330 1)) × (slice_get (frame_events 7 0) 3 ≡ Some (event 3 53 8))
+    × (slice_get (frame_events 7 0) 40 ≡ Some (event 3 54 161)) × (slice_get (frame_events 7 0) 41 ≡ Some (event 0 0 0))
+    × (slice_get (frame_events 7 1) 0 ≡ Some (event 3 47 0)) × (slice_get (frame_events 7 1) 30 ≡ Some (event 0 0 0))
 
 -- `mid` reads after the tenth frame, and not after the ninth
 abbrev pub HasFollows : Type 0

@@ -257,6 +257,17 @@ handed d past r taken rest i q =
       handed = refl;
     }
 
+-- the last of several is handed out last
+pub handed-run : (d : Description) (past : List Step) (r : Reading) (front : List Taken) (last : Taken) (run rest : List Taken) (phase : Phase)
+    → run ≡ front ++ last ∷ [] → IsInStep d past r → r.queue ≡ run ++ rest
+    → IsHandedOut d past (record r { queue = rest; view = view_after_events r.view (taken_events run); phase = phase }) last
+unfolding in-step-handed in-step-on
+handed-run d past r front last run rest phase is i q = record {
+  in_step = in-step-handed d past r run rest phase i q;
+  before = i.handed ++ front;
+  handed = ap (λ (ts : List Taken). i.handed ++ ts) is ∙ sym (append_assoc i.handed front (last ∷ []));
+}
+
 -- what is known of the event that `next` answers
 abbrev pub HandsOut : Description → List Step → Next → Reading → Type 0
 HandsOut d past (Success taken) r = IsHandedOut d past r taken

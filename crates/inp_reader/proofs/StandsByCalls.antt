@@ -1,5 +1,5 @@
 -- Where a reader stands, by the calls that it made, and after a start of which a call was refused.
-use Rattle.std.proofs.Common.{◌≡◌, inl, inr, ℕ, true, List, [], ◌∷◌, reverse, refl, sym, subst, ◌∙◌, false, ◌++◌, ap, Option, None}
+use Rattle.std.proofs.Common.{◌≡◌, inl, inr, ℕ, true, List, [], ◌∷◌, reverse, refl, sym, subst, ◌∙◌, false, ◌++◌, ap, Option, None, if◌then◌else◌, length, drop, arith}
 use Rattle.std.specs.Prelude.{Result, Ok, Err, IfSome}
 use Rattle.inp_model.specs.declared.step.Step.{Step}
 use Rattle.inp_model.specs.declared.reply.Reply.{Reply}
@@ -15,11 +15,16 @@ use Rattle.inp_reader.specs.declared.mode.Mode.{Mode}
 use Rattle.inp_reader.specs.declared.next.Next.{Next}
 use Rattle.inp_reader.specs.declared.next.Next.TheVariants.{Success}
 use Rattle.inp_reader.specs.declared.started.Started.{Started}
-use Rattle.inp_reader.specs.Reader.{Reading, start_talk, next_talk, sync_talk, ask_each, queries, start_stop_of, after_open, after_queries}
+use Rattle.inp_reader.specs.Reader.{Reading, start_talk, next_talk, sync_talk, ask_each, queries, start_stop_of, after_open, after_queries, first_run, has_loss, is_plain_phase, queued_run, after_run}
 use Rattle.inp_reader.specs.Says.{Says, kept_call, calls_kept}
 use Rattle.inp_reader.specs.Spare.{IsSpare, HasSpare}
-use Rattle.inp_reader.specs.TrueView.{AnswerShows}
-use Rattle.inp_reader.specs.ReaderPlace.{StandsAt, IsAlone, has_opened}
+use Rattle.inp_reader.specs.TrueView.{ShowsTheDevice, AnswerShows}
+use Rattle.inp_model.specs.declared.taken.Taken.{Taken}
+use Rattle.inp_reader.specs.declared.phase.Phase.{Phase}
+use Rattle.inp_reader.specs.declared.phase.Phase.TheVariants.{Plain, Needed, Handing}
+use Rattle.inp_reader.proofs.Runs.{keeps-run, queue-run}
+use Rattle.std.proofs.lemmas.List.{length_push}
+use Rattle.inp_reader.specs.ReaderPlace.{StandsAt, IsAlone, has_opened, is_needed}
 use Rattle.inp_reader.specs.Talk.{LeadsTo, EndsWith, Talk, finish}
 use Rattle.inp_recon.proofs.FaithfulHistories.{faithful_by_reads}
 use Rattle.inp_recon.proofs.FaithfulReads.{reads-faithful}
@@ -29,7 +34,7 @@ use Rattle.inp_reader.proofs.NextWalk.{Renewed, NextRules, next-ends}
 use Rattle.inp_reader.proofs.TalksKeepSpare.{says-keeps_next}
 use Rattle.inp_reader.proofs.AgreedViews.{spare-made_anew}
 use Rattle.inp_reader.proofs.PastsAtCalls.{AreMet, says-met}
-use Rattle.inp_reader.proofs.StandsAfterTalks.{HandsOut, IsOpenInStep, Leaves, StoodOrOpened, stands-after-next, stands-after-start}
+use Rattle.inp_reader.proofs.StandsAfterTalks.{HandsOut, handed-run, IsOpenInStep, Leaves, StoodOrOpened, stands-after-next, stands-after-start}
 use Rattle.std.proofs.lemmas.Bool.{true≢false}
 use Rattle.inp_model.specs.declared.reply.Reply.TheVariants.{Opened, Again}
 use Rattle.inp_reader.specs.FailedStart.{opened_by, client_opened, after_refused_query}
@@ -129,6 +134,19 @@ next-shows d before after made mode r s next same is spare h stood alone =
     let kept : HasSpare d s = says-keeps_next d before after [] made mode r (next, s) same spare h in
     answer-shows d after s made next is (history-still d before after h.calls same h.are_calls stood.history) kept.view
     (next-leaves d before after made mode r s next same spare h stood alone).hands_out
+
+-- Several events that are handed out in one go: the last one shows what it does where `next` answers it.
+pub run-shows : (d : Description) (past : List Step) (most : ℕ) (r : Reading) (front : List Taken) (last : Taken) → IsDescription d → HasSpare d r → StandsAt d past r → queued_run most r ≡ front ++ last ∷ []
+    → ShowsTheDevice d past (after_run r (queued_run most r)) last
+run-shows d past most r front last described spare stood is =
+    let run : List Taken = queued_run most r in
+    shows-device (faithful_by_reads reads-faithful) d past (after_run r run) last described stood.history (keeps-run d most r spare).view
+    (handed-run d past r front last run (drop (length run) r.queue) (if has_loss run then Needed else r.phase) is (stood.in_step (at_hand r.phase is)) (sym (queue-run most r)))
+  where
+    at_hand : (p : Phase) → (if is_plain_phase p then first_run most r.queue else []) ≡ front ++ last ∷ [] → is_needed p ≡ false
+    at_hand Plain h = refl
+    at_hand Handing h = refl
+    at_hand Needed h = absurd (omega (arith, ap length h, length_push front last))
 
 -- A start of which a call was refused
 

@@ -1,5 +1,7 @@
 //! The reader.
-ghost use Rattle.std.specs.Prelude.{◌≡◌, ◌≤◌, ◌*◌, true, false, [], length, None, IfOk, IfSome};
+ghost use Rattle.std.specs.Prelude.{◌≡◌, ◌≤◌, ◌*◌, true, false, List, [], ◌∷◌, ◌++◌, length, None, IfOk, IfSome};
+ghost use Rattle.inp_model.specs.declared.taken.Taken.{Taken};
+ghost use Rattle.inp_reader.specs.declared.next.Next.TheVariants.{Success};
 ghost use Rattle.inp_model.specs.declared.multi_touch.TheConstants.{SLOT_VALUES};
 ghost use Rattle.inp_recon.specs.View.{first_view};
 ghost use Rattle.inp_reader.specs.declared.phase.Phase.TheVariants.{Plain};
@@ -199,8 +201,9 @@ impl Reader {
     /// [`next`](Reader::next) would. The view takes these events over, and a SYN_DROPPED, which can only be the last of
     /// them, makes the phase Needed.
     ///
-    /// The caller must pass no more than `queued` shows, as for the `consume` of std's `BufRead`. It makes no call. A
-    /// reader that stood at the end of a history stands there still.
+    /// The caller must pass no more than `queued` shows, as for the `consume` of std's `BufRead`. It makes no call, and
+    /// `made` is empty then, for a count of 0 too. A reader that stood at the end of a history stands there still, and
+    /// the last of the events shows what it does where `next` hands it out.
     pub fn take_queued(&mut self, count: usize)
         requires queued { length (queued_run count self.old.reading) ≡ count }
         ensures reading { self.new.reading
@@ -208,6 +211,9 @@ impl Reader {
         ensures made { self.new.made ≡ [] }
         ensures reader { self.new.description ≡ self.old.description }
         ensures stands { (told : EvdevView) → Stands told self.old → Stands told self.new }
+        ensures shows { (told : EvdevView) → Stands told self.old → (front : List Taken)
+            → (last : Taken) → queued_run count self.old.reading ≡ front ++ last ∷ []
+            → AnswerShows told self.new (Success last) }
     {
         self.session.asker.made.clear();
         self.session.take_queued(count);
@@ -251,7 +257,8 @@ impl Reader {
         self.session.phase
     }
 
-    /// The calls of the last `start` or `next`, in order, those answered Again left out. They are at most 64.
+    /// The calls of the last `start` or `next`, in order, those answered Again left out. They are at most 64, and none
+    /// after `take_queued`.
     pub fn made(&self) -> &[CallMade]
         ensures made { result.now ≡ self.now.made }
         ensures few { length result.now ≤ 64 }

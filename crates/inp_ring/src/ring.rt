@@ -32,7 +32,9 @@ const LOSS: Event = Event {
 /// 4,096 places, and holds one number less than it has places.
 ///
 /// With a [`Store`], which the ring shares with others, its queue is the list of the cells. Each call keeps that each
-/// of its numbers has a cell with a holder. The events up to the last SYN_REPORT are visible: they may be read.
+/// of its numbers has a cell with a holder, but for [`enter`](Ring::enter) and [`append_all`](Ring::append_all): their
+/// caller adds the holders of the numbers that they put. The events up to the last SYN_REPORT are visible: they may be
+/// read.
 #[derive(Drop)]
 pub struct Ring {
     numbers: HeapCircularBuffer<u32>,

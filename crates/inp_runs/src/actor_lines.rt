@@ -8,20 +8,23 @@ ghost use Rattle.inp_runs.specs.Job.{lines_by};
 
 use crate::event_lines::{NO_STAMPED, gather};
 use inp_actors::{Record, Role};
-use inp_feedback::Feeds;
+use inp_feedback::{FEEDBACK_MAX, Feeds};
 use inp_model::{Evdev, NoMemory};
 use inp_script::{Actor, Waiting};
 
-// How many lines are done together at most: a quarter of the smallest ring, so that a client that keeps up loses
-// nothing to it (this project's choice).
-const LINES_MAX: usize = 16;
+// How many lines are done together at most: as many events as may wait for an owner, so that what one turn sends pushes
+// out nothing that the same turn sent (this project's choice). It is less than a quarter of the smallest ring, so that a
+// client that keeps up loses nothing to it.
+const LINES_MAX: usize = 15;
+
+const _: () = prove!(LINES_MAX == FEEDBACK_MAX);
 
 /// Has the actor of this number do all its lines of a record, in file order, over the device that it is lent. An owner
 /// makes its feedback calls, and any other actor calls of an evdev.
 ///
-/// Lines that follow each other in `lines` and each inject an event of the actor are done together, up to 16 of them.
-/// One call of the device does them, and so they are under one turn. To the history it is the calls that the lines
-/// would make one by one.
+/// Lines that stand next to each other in the record and each inject an event of the actor are done together, up to 15
+/// of them. One call of the device does them, and so they are under one turn. To the history it is the calls that the
+/// lines would make one by one.
 ///
 /// `lines` must be the numbers of the actor's lines, from 0 over the whole record, in file order (`AreNumbersOf`). No
 /// other line is looked at. Where a [`Waiting`] is given the lines may wait, and a source that did not stop says at the
@@ -59,8 +62,8 @@ pub fn do_lines<D: Evdev + Feeds>(
     end_lines(actor, dev, rec, number, wait)
 }
 
-// Does the line that comes next, and where it injects an event, those after it too that inject one. Says how many lines
-// were done.
+// Does the line that comes next, and where it injects an event, those that stand behind it in the record and inject one
+// too. Says how many lines were done.
 fn do_some<D: Evdev + Feeds>(
     actor: &mut Actor,
     dev: &mut D,

@@ -1,8 +1,8 @@
-//! Lines that follow each other and each inject an event of one source.
+//! Lines that stand next to each other and each inject an event of one source.
 ghost use Rattle.std.specs.Prelude.{◌≡◌, ◌≢◌, ◌≤◌, ◌<◌, ℕ, IfNone, IfSome, Some, length, slice_get, take};
 ghost use Rattle.inp_model.specs.declared.stamped.Stamped.{Stamped as AStamped};
 ghost use Rattle.inp_actors.specs.Record.{IsRecord};
-ghost use Rattle.inp_runs.specs.EventLines.{AreEventLines, inject_line};
+ghost use Rattle.inp_runs.specs.EventLines.{AreAdjacent, AreEventLines, inject_line};
 
 use inp_actors::{Command, Line, Record};
 use inp_model::{Event, Stamped};
@@ -39,13 +39,14 @@ pub fn event_of(line: &Line, actor: u32) -> Option<Stamped>
     }
 }
 
-// Gathers the events of the lines of these numbers, up to the first one that is another actor's or does something else.
-// Says how many they are: no more than there is room for.
+// Gathers the events of the lines of these numbers, up to the first one that another line stands before, or that is
+// another actor's or does something else. Says how many they are: no more than there is room for.
 pub(crate) fn gather(rec: &Record, numbers: &[u32], actor: u32, events: &mut [Stamped]) -> usize
     requires numbers { (i number : ℕ) → slice_get numbers.now i ≡ Some number
         → number < length rec.now.lines }
     ensures fits { result ≤ length events.new }
     ensures within { result ≤ length numbers.now }
+    ensures adjacent { AreAdjacent result numbers.now }
     ensures gathered { AreEventLines rec.now actor (take result numbers.now)
         (take result events.new) }
     ensures record { IsRecord rec.now }
@@ -53,6 +54,9 @@ pub(crate) fn gather(rec: &Record, numbers: &[u32], actor: u32, events: &mut [St
     let lines = rec.lines();
     let most = numbers.len().min(events.len());
     for at in 0..most {
+        if numbers[at] as usize != numbers[0] as usize + at {
+            return at;
+        }
         let Some(stamped) = event_of(lines.get(numbers[at] as usize), actor) else {
             return at;
         };

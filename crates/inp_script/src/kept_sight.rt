@@ -5,6 +5,10 @@ ghost use Rattle.inp_script.specs.KeptSight.{sight_in, IsWithin};
 
 use crate::Sight;
 use inp_model::{Event, Items, Reply, Step, Taken};
+use std::mem::size_of;
+
+// One of a hundred thousand entries that a job may keep.
+const _: () = prove!(size_of::<KeptSight>() == 32);
 
 /// An entry of what a job saw, in 32 bytes. The frequent ones are all here, and the others stand whole in a second
 /// list.

@@ -19,11 +19,12 @@
 //! (`AreLinesDealt` in `specs/Lines.antt`). An actor's thread does all its lines, and gives the pass back, whatever the
 //! result (`IsWorked`), with a turn for each call that is no injection. A job passes the gate before each of its calls,
 //! an owner before each feedback call, and tells it its own number. A worker is lent any gate that knows this number
-//! (`JobGate`), so that no other one can be told. Tests look at when and how often it is told. The pass of an owner
-//! owns the places of its feedback calls alone (`HasFedLines` in `specs/Owner.antt`), any other one the places of its
-//! steps alone (`HasWorked`). The passes are joined (`AreJoined` in `specs/Joined.antt`), and the port is closed with
-//! the whole share. So each place of the history is one accepted call of one job, and all feedback calls of a device
-//! are its owner's, of which it has one at most. The devices know nothing of each other.
+//! (`JobGate`), so that it can tell no other one. Nothing binds what lends it so. Tests look at when and how often the
+//! gate is told, and that it is told of no job that there is not. The pass of an owner owns the places of its feedback
+//! calls alone (`HasFedLines` in `specs/Owner.antt`), any other one the places of its steps alone (`HasWorked`). The
+//! passes are joined (`AreJoined` in `specs/Joined.antt`), and the port is closed with the whole share. So each place
+//! of the history is one accepted call of one job, and all feedback calls of a device are its owner's, of which it has
+//! one at most. The devices know nothing of each other.
 //!
 //! Nothing says that a thread gets its turn, or who gets it first, and so nothing says that the call returns.
 #![tactic(auto)]

@@ -1,109 +1,21 @@
-//! A device with ample memory. What it answers after longer histories is told by its contract, and by the records of
-//! `tests/records`.
+//! How many events a device keeps for all its clients together, after histories worked out by hand. What each client
+//! reads there is shown by the records of `tests/records`.
 
-ghost use Rattle.inp_model.specs.Injection.{AreInTime};
-
-use inp_caps::{Caps, CapsBuilder, CapsRefused};
+use crate::common::{REPORT, X, gamepad};
 use inp_device::Device;
-use inp_model::{
-    EV_KEY, Event, Injected, MOMENT_MAX, Refusal, Reply, SLOT_VALUES, Stamped, Step, Taken,
-};
+use inp_model::{Clock, EV_ABS, EV_KEY, Event, KEY_A, MOMENT_MAX, Reply, SLOT_VALUES, Step, Taken};
 use std::process::Abort;
 use std::test::Fail;
-use tests_core::common::{A, A_DOWN, REPORT, key};
 
 /// What stands in a buffer before anything is read.
-pub const NO_EVENT: Taken = Taken {
+const NO_EVENT: Taken = Taken {
     event: REPORT,
     time: 0,
     place: 0,
 };
 
-/// A keyboard with the key A, whose history has at most so many steps.
-fn keyboard(log: u32) -> Result<Caps, CapsRefused> {
-    let mut builder = CapsBuilder::new();
-    builder.code(EV_KEY, A)?;
-    builder.log(log)?;
-    Ok(builder.build())
-}
-
-/// A keyboard with the key A, whose frames gather at most 8 events, so that rings have 64 places.
-fn small_keyboard() -> Result<Caps, CapsRefused> {
-    let mut builder = CapsBuilder::new();
-    builder.code(EV_KEY, A)?;
-    builder.hint(8)?;
-    Ok(builder.build())
-}
-
-/// Five events: a press, a report, a press, a report, a press.
-pub fn five() -> [Stamped; 5]
-    ensures in_time { AreInTime result }
-{
-    let press = Stamped {
-        event: A_DOWN,
-        now: 1,
-    };
-    let report = Stamped {
-        event: REPORT,
-        now: 2,
-    };
-    [press, report, press, report, press]
-}
-
-/// These events are injected at this moment.
-pub fn inject(rt: &impl Abort, device: &mut Device, now: u64, events: &[Event]) {
-    for event in events {
-        done(rt, device, Step::Inject { event: *event, now });
-    }
-}
-
-/// This step is done.
-pub fn done(rt: &impl Abort, device: &mut Device, step: Step) {
-    let at = length(rt, device);
-    answers(rt, device, step, Reply::Done { at });
-}
-
-/// A client opens, and has this number and so many places.
-pub fn opens(rt: &impl Abort, device: &mut Device, client: u32, ring: u32) {
-    let at = length(rt, device);
-    answers(rt, device, Step::Open, Reply::Opened { at, client, ring });
-}
-
-/// This client finds nothing to read, when so many sources are done.
-pub fn finds_nothing(rt: &impl Abort, device: &mut Device, client: u32, ends: u32) {
-    let at = length(rt, device);
-    let step = Step::Read { client, count: 0 };
-    answers(rt, device, step, Reply::Again { at, ends });
-}
-
-/// This client removes so many events unread.
-fn discards(rt: &impl Abort, device: &mut Device, client: u32, count: u32) {
-    let at = length(rt, device);
-    let step = Step::Discard { client };
-    answers(rt, device, step, Reply::Discarded { at, count });
-}
-
-/// This step is refused.
-fn refuses(rt: &impl Abort, device: &mut Device, step: Step, why: Refusal) {
-    let at = length(rt, device);
-    answers(rt, device, step, Reply::Refused { at, why });
-}
-
-/// The length of the history, which is short.
-fn length(rt: &impl Abort, device: &Device) -> u32 {
-    let length = device.history().len();
-    assert!(rt; length < 1000);
-    length as u32
-}
-
-/// This step has this reply.
-fn answers(rt: &impl Abort, device: &mut Device, step: Step, reply: Reply) {
-    let given = make(rt, device, step, &mut [], &mut []);
-    assert_eq!(rt; given, reply, "{step:?}");
-}
-
 /// Makes a step, where the caller's buffers have room for what it gives.
-pub fn make(
+fn make(
     rt: &impl Abort,
     device: &mut Device,
     step: Step,
@@ -140,67 +52,160 @@ pub fn make(
     device.step(step, out, cells)
 }
 
+/// The key A is pressed.
+const PRESS: Step = Step::Inject {
+    event: Event {
+        kind: EV_KEY,
+        code: KEY_A,
+        value: 1,
+    },
+    now: 0,
+};
+
+/// It is released.
+const RELEASE: Step = Step::Inject {
+    event: Event {
+        kind: EV_KEY,
+        code: KEY_A,
+        value: 0,
+    },
+    now: 0,
+};
+
+/// It repeats, which is passed whether it is down or not.
+const REPEAT: Step = Step::Inject {
+    event: Event {
+        kind: EV_KEY,
+        code: KEY_A,
+        value: 2,
+    },
+    now: 0,
+};
+
+/// The axis X moves.
+const MOVE: Step = Step::Inject {
+    event: Event {
+        kind: EV_ABS,
+        code: X,
+        value: 5,
+    },
+    now: 0,
+};
+
+/// The frame ends.
+const END: Step = Step::Inject {
+    event: REPORT,
+    now: 0,
+};
+
+/// A client reads all that it may.
+fn read(client: u32) -> Step {
+    Step::Read { client, count: 64 }
+}
+
+/// After each of these steps so many events are kept.
+fn keeps(rt: &impl Abort, device: &mut Device, rows: &[(Step, u32)]) {
+    for (index, (step, stored)) in rows.iter().enumerate() {
+        make(rt, device, *step, &mut [NO_EVENT; 64], &mut []);
+        assert_eq!(rt; device.stored(), *stored, "after row {index}");
+    }
+}
+
+/// So many frames of a repeat.
+fn repeats(rt: &impl Abort, device: &mut Device, frames: u32) {
+    for _ in 0..frames {
+        make(rt, device, REPEAT, &mut [], &mut []);
+        make(rt, device, END, &mut [], &mut []);
+    }
+}
+
 #[test]
-fn a_device_keeps_the_steps_that_it_accepted(rt: HostRuntime) -> Result<(), Fail> {
-    let mut device = Device::new(rt.alloc(), keyboard(5)?)?;
-    assert_eq!(rt; device.caps().log(), 5);
-    assert!(rt; device.history().is_empty());
-    let (press, report, now) = (A_DOWN, REPORT, 5);
-    let accepted = [
-        Step::Open,
-        Step::Inject { event: press, now },
-        Step::Inject { event: report, now },
-        Step::Discard { client: 0 },
-        Step::End,
+fn an_event_is_kept_once_while_a_queue_holds_it(rt: HostRuntime) -> Result<(), Fail> {
+    let mut device = Device::new(rt.alloc(), gamepad()?)?;
+    // The client 2 admits no key, and a report alone is left out of an empty queue.
+    let no_keys = Step::Mask {
+        client: 2,
+        kind: EV_KEY,
+        word: 0,
+        bits: 0,
+    };
+    let rows = [
+        (Step::Open, 0),
+        (Step::Open, 0),
+        (Step::Open, 0),
+        (no_keys, 0),
+        (PRESS, 0),
+        (END, 2),
+        (MOVE, 2),
+        (RELEASE, 2),
+        // Three more, for all three clients.
+        (END, 5),
+        // The client 1 has not read, and its query leaves it both reports and the axis.
+        (read(0), 5),
+        (Step::GetKeys { client: 1 }, 3),
+        // The client 2 has the last frame's axis and report.
+        (Step::Close { client: 1 }, 2),
+        (Step::Open, 2),
+        (PRESS, 2),
+        // It has a report at its end, so it takes no other one.
+        (END, 4),
+        (read(2), 2),
+        // Two more, for the client 3 alone.
+        (Step::Grab { client: 3 }, 2),
+        (RELEASE, 2),
+        (END, 4),
     ];
-    opens(&rt, &mut device, 0, 128);
-    finds_nothing(&rt, &mut device, 0, 0);
-    inject(&rt, &mut device, now, &[press, report]);
-    discards(&rt, &mut device, 0, 2);
-    done(&rt, &mut device, Step::End);
-    finds_nothing(&rt, &mut device, 0, 1);
-    refuses(&rt, &mut device, Step::End, Refusal::LogFull);
-    assert_eq!(rt; device.history(), accepted.as_slice());
-    assert_eq!(rt; device.into_history().as_slice(), accepted.as_slice());
+    keeps(&rt, &mut device, &rows);
     Ok(())
 }
 
 #[test]
-fn many_events_are_entered_up_to_the_limit(rt: HostRuntime) -> Result<(), Fail> {
-    let mut device = Device::new(rt.alloc(), keyboard(3)?)?;
-    let five = five();
-    let entered = device.inject_all(&five);
-    assert_eq!(rt; entered, Injected { from: 0, count: 3 });
-    let entered = device.inject_all(&five);
-    assert_eq!(rt; entered, Injected { from: 3, count: 0 });
-    let entered = device.inject_all(&[]);
-    assert_eq!(rt; entered, Injected { from: 3, count: 0 });
-    let press = Step::Inject {
-        event: A_DOWN,
-        now: 1,
-    };
-    let report = Step::Inject {
-        event: REPORT,
-        now: 2,
-    };
-    assert_eq!(rt; device.history(), [press, report, press].as_slice());
+fn a_loss_is_kept_for_each_client_that_has_it(rt: HostRuntime) -> Result<(), Fail> {
+    let mut device = Device::new(rt.alloc(), gamepad()?)?;
+    let opens = [(Step::Open, 0), (Step::Open, 0), (Step::Open, 0)];
+    keeps(&rt, &mut device, &opens);
+    // The client 0 has two frames more than the clients 1 and 2.
+    keeps(&rt, &mut device, &[(Step::Grab { client: 0 }, 0)]);
+    repeats(&rt, &mut device, 2);
+    keeps(&rt, &mut device, &[(Step::Ungrab { client: 0 }, 4)]);
+    repeats(&rt, &mut device, 29);
+    let rows = [
+        // There are 4 and 58 of the client 0. The next report would fill its ring: 60 of the others stay, and its loss.
+        (REPEAT, 62),
+        (END, 61),
+        (read(0), 60),
+        // The client 2 loses its queue with its clock: there are 60 of the client 1, and a loss.
+        (
+            Step::Clock {
+                client: 2,
+                clock: Clock::Monotonic,
+                now: 0,
+            },
+            61,
+        ),
+        (REPEAT, 61),
+        (END, 63),
+        // The client 1 loses all too: there are two frames, and two losses.
+        (REPEAT, 63),
+        (END, 6),
+        (read(1), 5),
+        // The client 0 has both frames.
+        (read(2), 4),
+        (Step::Close { client: 0 }, 0),
+    ];
+    keeps(&rt, &mut device, &rows);
     Ok(())
 }
 
 #[test]
 fn sixty_four_clients_share_the_events_that_are_kept(rt: HostRuntime) -> Result<(), Fail> {
-    let mut device = Device::new(rt.alloc(), small_keyboard()?)?;
-    for client in 0..64 {
-        opens(&rt, &mut device, client, 64);
+    let mut device = Device::new(rt.alloc(), gamepad()?)?;
+    for _ in 0..64 {
+        make(&rt, &mut device, Step::Open, &mut [], &mut []);
     }
-    assert_eq!(rt; device.stored(), 0);
-    for frame in 0..31 {
-        let value = if frame % 2 == 0 { 1 } else { 0 };
-        let press = key(A, value);
-        inject(&rt, &mut device, 0, &[press, REPORT]);
-    }
+    repeats(&rt, &mut device, 31);
     assert_eq!(rt; device.stored(), 62, "each event once");
-    inject(&rt, &mut device, 0, &[key(A, 0), REPORT]);
+    repeats(&rt, &mut device, 1);
     assert_eq!(rt; device.stored(), 65, "a loss for each, and one report");
     Ok(())
 }

@@ -3,11 +3,10 @@ ghost use Rattle.std.specs.Prelude.{◌≡◌, ◌≤◌};
 ghost use Rattle.inp_turn.specs.Pass.{view_of};
 ghost use Rattle.inp_port.specs.Port.{IsReadyAt};
 
-use crate::device::five;
-use inp_caps::{Caps, CapsBuilder, CapsRefused};
+use crate::common::{REPORT, gamepad};
 use inp_device::Device;
-use inp_model::{EV_KEY, Evdev, Injected, Refusal, Reply, Step, Taken};
-use inp_port::{Port, PortClient};
+use inp_model::{Reply, Step};
+use inp_port::Port;
 use inp_turn::Pass;
 use std::alloc::Global;
 use std::process::Abort;
@@ -15,28 +14,6 @@ use std::sync::Wait;
 use std::test::Fail;
 use std::thread;
 use std::thread::Threads;
-use tests_core::common::{A, A_DOWN, REPORT};
-
-const NO_EVENT: Taken = Taken {
-    event: REPORT,
-    time: 0,
-    place: 0,
-};
-
-/// A keyboard with the key A.
-fn keyboard() -> Result<Caps, CapsRefused> {
-    let mut builder = CapsBuilder::new();
-    builder.code(EV_KEY, A)?;
-    Ok(builder.build())
-}
-
-/// The same, with a history of at most four steps.
-fn short_keyboard() -> Result<Caps, CapsRefused> {
-    let mut builder = CapsBuilder::new();
-    builder.code(EV_KEY, A)?;
-    builder.log(4)?;
-    Ok(builder.build())
-}
 
 /// Injects a report a thousand times, each under a turn of its own, and notes the places.
 fn report_all<R: Wait + Abort>(
@@ -107,102 +84,11 @@ fn are_new_and_rise(rt: &impl Abort, places: &[u32], met: &mut [bool]) {
 
 #[test]
 fn each_step_of_two_threads_has_a_place_of_its_own(rt: HostRuntime) -> Result<(), Fail> {
-    let device = Device::new(rt.alloc(), keyboard()?)?;
+    let device = Device::new(rt.alloc(), gamepad()?)?;
     let (device, first, second) = report_by_two(&rt, rt.alloc(), device)?;
     assert_eq!(rt; device.history().len(), 2000);
     let mut met = [false; 2000];
     are_new_and_rise(&rt, &first, &mut met);
     are_new_and_rise(&rt, &second, &mut met);
-    Ok(())
-}
-
-#[test]
-fn a_client_reads_what_another_one_injects(rt: HostRuntime) -> Result<(), Fail> {
-    let device = Device::new(rt.alloc(), keyboard()?)?;
-    let Ok((port, mut pass)) = Port::new(rt.alloc(), device) else {
-        panic!(rt; "memory ran out")
-    };
-    let other = port.split(&mut pass);
-    let (port, rt) = (&port, &rt);
-    let mut a = PortClient {
-        port,
-        rt,
-        pass,
-        agains: 0,
-    };
-    let mut b = PortClient {
-        port,
-        rt,
-        pass: other,
-        agains: 0,
-    };
-    let mut out = [NO_EVENT; 16];
-    let read = Step::Read {
-        client: 0,
-        count: 16,
-    };
-    let opened = a.call(Step::Open, &mut [], &mut []);
-    assert!(rt;
-        matches!(
-            opened,
-            Reply::Opened {
-                at: 0,
-                client: 0,
-                ..
-            }
-        )
-    );
-    assert_eq!(rt;
-        a.call(read, &mut out, &mut []),
-        Reply::Again { at: 1, ends: 0 }
-    );
-    let now = 5;
-    let press = Step::Inject { event: A_DOWN, now };
-    let report = Step::Inject { event: REPORT, now };
-    assert_eq!(rt; b.call(press, &mut [], &mut []), Reply::Done { at: 1 });
-    assert_eq!(rt; b.call(report, &mut [], &mut []), Reply::Done { at: 2 });
-    assert_eq!(rt;
-        a.call(read, &mut out, &mut []),
-        Reply::Took { at: 3, count: 2 }
-    );
-    assert_eq!(rt; out[0].event, A_DOWN);
-    assert_eq!(rt; out[1].event, REPORT);
-    assert_eq!(rt; a.agains, 1);
-    Ok(())
-}
-
-#[test]
-fn events_of_two_clients_are_entered_up_to_the_limit(rt: HostRuntime) -> Result<(), Fail> {
-    let device = Device::new(rt.alloc(), short_keyboard()?)?;
-    let Ok((port, mut pass)) = Port::new(rt.alloc(), device) else {
-        panic!(rt; "memory ran out")
-    };
-    let other = port.split(&mut pass);
-    let (port, rt) = (&port, &rt);
-    let mut a = PortClient {
-        port,
-        rt,
-        pass,
-        agains: 0,
-    };
-    let mut b = PortClient {
-        port,
-        rt,
-        pass: other,
-        agains: 0,
-    };
-    assert_eq!(rt; a.call(Step::End, &mut [], &mut []), Reply::Done { at: 0 });
-    let five = five();
-    let entered = b.inject_all(&five);
-    assert_eq!(rt; entered, Injected { from: 1, count: 3 });
-    let entered = a.inject_all(&five);
-    assert_eq!(rt; entered, Injected { from: 4, count: 0 });
-    let entered = b.inject_all(&[]);
-    assert_eq!(rt; entered, Injected { from: 4, count: 0 });
-    let full = Reply::Refused {
-        at: 4,
-        why: Refusal::LogFull,
-    };
-    assert_eq!(rt; b.call(Step::End, &mut [], &mut []), full);
     Ok(())
 }

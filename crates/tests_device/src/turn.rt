@@ -95,32 +95,13 @@ fn add_by_two<R: Threads + Wait + Sync>(
     Ok(shared.close(pass))
 }
 
-fn empty_tally(alloc: Global, room: usize) -> Result<Tally, Fail> {
-    let added = Vec::with_capacity(alloc, room)?;
-    Ok(Tally { start: 7, added })
-}
-
-#[test]
-fn passes_on_one_thread_take_turns(rt: HostRuntime) -> Result<(), Fail> {
-    let Ok((shared, mut one)) = Shared::new(rt.alloc(), empty_tally(rt.alloc(), 3)?) else {
-        panic!(rt; "memory ran out")
-    };
-    let mut other = shared.split(&mut one);
-    add(&rt, &shared, &mut one, 1);
-    add(&rt, &shared, &mut other, 2);
-    add(&rt, &shared, &mut one, 3);
-    let all = shared.join(other, one);
-    let tally = shared.close(all);
-    assert_eq!(rt; tally.start, 7);
-    assert!(rt; tally.added.as_slice() == [1, 2, 3].as_slice());
-    Ok(())
-}
-
 #[test]
 fn each_of_two_threads_adds_its_own_in_order(rt: HostRuntime) -> Result<(), Fail> {
-    let Ok(tally) = add_by_two(&rt, rt.alloc(), empty_tally(rt.alloc(), 200)?) else {
+    let added = Vec::with_capacity(rt.alloc(), 200)?;
+    let Ok(tally) = add_by_two(&rt, rt.alloc(), Tally { start: 7, added }) else {
         panic!(rt; "memory ran out")
     };
+    assert_eq!(rt; tally.start, 7);
     let mut low = 0;
     let mut high = 1000;
     for number in tally.added.iter() {
@@ -134,12 +115,5 @@ fn each_of_two_threads_adds_its_own_in_order(rt: HostRuntime) -> Result<(), Fail
     }
     assert_eq!(rt; low, 100);
     assert_eq!(rt; high, 1100);
-    Ok(())
-}
-
-#[test]
-fn want_of_memory_has_a_text(rt: HostRuntime) -> Result<(), Fail> {
-    let text = format!(in rt.alloc(); "{}", NoMemory)?;
-    assert_eq!(rt; text.as_str(), "out of memory");
     Ok(())
 }

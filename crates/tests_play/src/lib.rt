@@ -1,5 +1,5 @@
-//! The tests of playing: of `inp_recon`, `inp_reader`, `inp_joy` and `inp_script`. Whole plays are shown by the records
-//! of `tests/records`.
+//! The tests of playing: of `inp_reader`, `inp_joy` and `inp_script`, of what no record of `tests/records` can show. Whole
+//! plays are shown there.
 //!
 //! A crate with tests is proved twice, once without and once with them. So the crates under test have no tests of their
 //! own. Their tests stand here, over public calls alone, in one file for each crate, and in `waiting` that of a client
@@ -12,8 +12,6 @@ mod common;
 mod joystick;
 #[cfg(test)]
 mod reader;
-#[cfg(test)]
-mod recon;
 #[cfg(test)]
 mod script;
 #[cfg(test)]

@@ -36,34 +36,9 @@ do s event 1000 EV_SYN SYN_REPORT 0
 do t read 16
 ";
 
-/// The summary of the record that is made from 7 and 20.
-pub const MADE: &str = "make 7 20
-device pad steps 674
-source finger calls 631
-client fast took 630 made 0 again 20 x 258 y 370
-client mid took 630 made 0 again 2 x 258 y 370
-client slow took 1 made 41 again 1 x 258 y 370
-";
-
 /// A stream in place of the two events.
 pub const STREAM: &str = "inputrecord 1
 device kbd
-cap EV_KEY KEY_A
-source s
-tap t
-do t open
-do s stream keys
-do t read 16
-";
-
-/// The same in version 2.
-pub const STREAM_MIGRATED: &str = "inputrecord 2
-device kbd
-hint 16
-log 1048576
-clock realtime 0
-clock boottime 0
-type EV_KEY
 cap EV_KEY KEY_A
 source s
 tap t
@@ -150,6 +125,34 @@ again 6
 keys KEY_A
 stop finished
 source t calls 2 stop finished
+";
+
+/// Two devices, each with a job of each role.
+pub const FIVE_JOBS_EACH: &str = "inputrecord 2
+udevice one
+cap EV_KEY KEY_A
+source s
+client c
+tap t
+joy j
+owner o
+udevice two
+cap EV_KEY KEY_A
+source s2
+client c2
+tap t2
+joy j2
+owner o2
+do s event 1000 EV_KEY KEY_A 1
+do c open
+do t open
+do j open
+do o feedback 1
+do s2 event 1000 EV_KEY KEY_A 1
+do c2 open
+do t2 open
+do j2 open
+do o2 feedback 1
 ";
 
 /// A bell rings, and the owner of its device asks twice.

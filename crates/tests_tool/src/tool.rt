@@ -1,11 +1,8 @@
-//! The program's one call over inputs and sinks in memory: whole runs, and each status. Longer records are played
-//! through the program itself (tests/run).
+//! The program's one call over inputs and sinks in memory: reads that fail, a gate that is not passed, and want of memory.
+//! Whole runs and each status are shown by the program itself (tests/run).
 
 use crate::common::{arguments, input_of, sink_of};
-use crate::texts::{
-    MADE, ONE_KEY, ONE_KEY_REPORT, STREAM, STREAM_AND_BAD_LINE, STREAM_MIGRATED, STREAM_TWICE,
-    STREAMS_REPORT,
-};
+use crate::texts::{ONE_KEY_REPORT, STREAM, STREAM_AND_BAD_LINE, STREAM_TWICE, STREAMS_REPORT};
 use inp_edge::{Gate, Input, MemSink, OpenGate};
 use inp_tool::{End, inputplay};
 use std::alloc::Global;
@@ -71,46 +68,6 @@ fn ends<R: Threads + Wait + Abort + Sync>(
     let (end, sink) = run(rt, alloc, texts, files, fails, &OpenGate)?;
     assert_eq!(rt; end.status, status, "{text}");
     assert_eq!(rt; sink.bytes(), text.as_bytes(), "{text}");
-    Ok(())
-}
-
-#[test]
-fn plays_whole_records(rt: HostRuntime) -> Result<(), Fail> {
-    let f = ["f"].as_slice();
-    // The words, the file, the status and the text.
-    let table = [
-        (f, ONE_KEY, 0, ONE_KEY_REPORT),
-        (f, STREAM, 0, ONE_KEY_REPORT),
-        (f, "", 1, "inputplay: line 1: bad-header\n"),
-        // No file is read where a record is made.
-        (["--make=7", "--count=20"].as_slice(), "no record", 0, MADE),
-    ];
-    for (texts, text, status, want) in table {
-        let files = [("f", text.as_bytes()), ("keys", PRESS)];
-        ends(&rt, rt.alloc(), texts, &files, NONE, status, want)?;
-    }
-    Ok(())
-}
-
-#[test]
-fn migrates_records(rt: HostRuntime) -> Result<(), Fail> {
-    // The bytes of the stream, the status and the text.
-    let table = [
-        (PRESS, 0, STREAM_MIGRATED),
-        (&PRESS[..47], 1, "inputplay: line 7: bad-stream\n"),
-    ];
-    for (keys, status, want) in table {
-        let files = [("f", STREAM.as_bytes()), ("keys", keys)];
-        ends(
-            &rt,
-            rt.alloc(),
-            &["--migrate", "f"],
-            &files,
-            NONE,
-            status,
-            want,
-        )?;
-    }
     Ok(())
 }
 

@@ -1,17 +1,17 @@
-use Rattle.std.proofs.Common.{List, ap, ◌∙◌, sym, subst, Some}
+use Rattle.std.proofs.Common.{List, ap, ◌∙◌, sym, Some}
 use Rattle.std.specs.Prelude.{slice_get}
-use Rattle.inp_model.specs.Description.{Description}
 use Rattle.inp_actors.specs.declared.device_text.DeviceText.{DeviceText}
-use Rattle.inp_c.specs.Fresh.{fresh_udev, IsFreshReader, IsFreshJoy}
 use Rattle.inp_c.proofs.from_text.keep_device.Goals as goal
 
-pub returns-in-Ok-new-clause-made : goal.returns-in-Ok-new-clause-made
-returns-in-Ok-new-clause-made c = λ _. record {
-  text = c.get.result.now;
-  device = c.in-Ok.device;
-  there = ap (λ (devices : List DeviceText). slice_get devices c.args.number) (sym c.devices-2.ensures.devices) ∙ c.get.ensures.item;
-  is = c.of.ensures ∙ ap Some c.in-Ok-new.ensures.ok;
-  udev = c.in-Ok.ensures.udev ∙ ap fresh_udev c.copy-caps.ensures.same;
-  reader = subst (λ (d : Description). IsFreshReader d c.in-Ok.device.reader) c.copy-caps.ensures.same c.in-Ok.ensures.reader;
-  joy = subst (λ (d : Description). IsFreshJoy d c.in-Ok.device.joy) c.copy-caps.ensures.same c.in-Ok.ensures.joy;
-}
+pub returns-in-Ok-clause-made : goal.returns-in-Ok-clause-made
+returns-in-Ok-clause-made c = λ _.
+    let fresh = c.in-Ok.ensures in
+    record {
+      text = c.get.result.now;
+      device = fresh.device;
+      there = ap (λ (devices : List DeviceText). slice_get devices c.args.number) (sym c.devices-2.ensures.devices) ∙ c.get.ensures.item;
+      is = c.of.ensures ∙ ap Some fresh.is;
+      udev = fresh.udev;
+      reader = fresh.reader;
+      joy = fresh.joy;
+    }

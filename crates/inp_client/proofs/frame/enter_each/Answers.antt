@@ -17,4 +17,4 @@ enter-requires-clause-held c = enter_held c.loop-location.invariant c.loop-locat
 pub loop-location-preserved : goal.loop-location-preserved
 loop-location-preserved c =
     rw (c.from-taken.ensures ∙ flag_counts c.enter.result)
-    (entered_more c.loop-location.invariant c.loop-location-test.true _ c.index_mut.result.now refl c.index_mut.ensures.value c.enter.new.self c.enter.new.store c.enter.result c.enter.ensures.entered c.enter.ensures.number c.enter.ensures.places c.enter.ensures.sound c.enter.ensures.numbered c.enter.ensures.offered c.requires.moment)
+    (entered_more c.loop-location.invariant c.loop-location-test.true _ c.index_mut.result.now refl c.index_mut.ensures.value c.enter.new.self c.enter.new.store c.enter.result c.enter.ensures.entered c.enter.ensures.number c.enter.ensures.places c.enter.ensures.sound c.enter.ensures.stored c.enter.ensures.offered c.requires.moment)

@@ -1,7 +1,7 @@
 use Rattle.std.proofs.Common.{arith}
 use Rattle.inp_client.specs.Client.{new_client}
 use Rattle.inp_client.proofs.OfferedCells.{event_offered}
-use Rattle.inp_client.proofs.Offers.{shared_spare, stored_add, cells_add, shared_free, cells_free, shared_hold, cells_hold}
+use Rattle.inp_client.proofs.Offers.{shared_spare, in_none, stored_add, cells_add, shared_free, cells_free, shared_hold, cells_hold}
 use Rattle.inp_client.proofs.frame.offer_cell.Goals as goal
 
 pub add-number-requires : goal.add-number-requires
@@ -16,6 +16,7 @@ returns-then-taken-eq0 c =
     event_offered c.enter_each-taken.ensures.entered (omega arith) c.args.store.now c.free.new.self
     (cells_add c.requires.before c.add-number.result c.args.cell c.add-number.ensures.new c.add-number.ensures.added)
     (cells_free c.enter_each-taken.ensures.entered c.free.new.self c.free.ensures.freed (omega arith))
+    (in_none c.requires.before c.add-number.result c.args.cell c.add-number.ensures.new c.add-number.ensures.added)
     (shared_free c.enter_each-taken.ensures.entered c.free.new.self c.free.ensures.freed (omega arith) (omega (arith, c.free.ensures.spare, c.free.ensures.count)))
 
 pub returns : goal.returns
@@ -23,4 +24,5 @@ returns c =
     event_offered c.enter_each-taken.ensures.entered (omega arith) c.args.store.now c.hold_many.new.self
     (cells_add c.requires.before c.add-number.result c.args.cell c.add-number.ensures.new c.add-number.ensures.added)
     (cells_hold c.enter_each-taken.ensures.entered c.hold_many.new.self c.hold_many.ensures.held (omega arith))
+    (in_none c.requires.before c.add-number.result c.args.cell c.add-number.ensures.new c.add-number.ensures.added)
     (shared_hold c.enter_each-taken.ensures.entered c.hold_many.new.self c.hold_many.ensures.held (omega arith) (omega (arith, c.hold_many.ensures.spare, c.hold_many.ensures.count)))

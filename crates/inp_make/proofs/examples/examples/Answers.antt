@@ -1,6 +1,6 @@
 -- Each example computes, and the counts are lemmas.
 use Rattle.std.proofs.Common.{refl}
-use Rattle.inp_make.specs.Generated.{pad, finger_events}
+use Rattle.inp_make.specs.Generated.{pad, finger_events, touches, frame_events}
 use Rattle.inp_make.proofs.Counts.{events_at_first, events_later, count-finger, count-fast, count-mid, count-slow}
 use Rattle.inp_make.proofs.examples.examples.Goals as goal
 
@@ -11,6 +11,10 @@ returns-clause-axes c = (refl, refl, refl, refl, refl, refl, refl)
 pub returns-clause-events : goal.returns-clause-events
 unfolding finger_events
 returns-clause-events c = (refl, refl)
+
+pub returns-clause-frames : goal.returns-clause-frames
+unfolding frame_events touches finger_events
+returns-clause-frames c = (refl, refl, refl, refl, refl, refl)
 
 pub returns-clause-follows : goal.returns-clause-follows
 returns-clause-follows c = (refl, refl)

@@ -4,7 +4,7 @@ use Rattle.inp_c.proofs.kept_device.KeptDevice.new.Goals as goal
 
 pub invariant_of-result : goal.invariant_of-result
 invariant_of-result c =
-    let fresh = sym (ap (λ (u : UdevView). u.description) c.in_ok-udev.ensures.fresh) in
+    let fresh = sym c.copy.ensures.same ∙ sym (ap (λ (u : UdevView). u.description) c.in_ok-udev.ensures.fresh) in
     record {
       same = c.in_ok-reader.ensures.description ∙ fresh;
       same_joy = c.in_ok-joy.ensures.description ∙ fresh;

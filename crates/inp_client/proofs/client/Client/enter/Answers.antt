@@ -1,14 +1,29 @@
-use Rattle.std.proofs.Common.{◌≡◌, ◌∷◌, [], true, if◌then◌else◌, Bool, length, nat_lt, sym, ap, ◌∙◌, subst, arith}
+use Rattle.std.proofs.Common.{◌≡◌, ◌&&◌, true, Bool, Option, Some, None, sym, ap, ◌∙◌, arith}
+use Rattle.std.specs.Option.{option_map}
+use Rattle.inp_model.specs.declared.event.Event.{Event}
+use Rattle.inp_ring.specs.declared.cell.Cell.{Cell}
+use Rattle.inp_ring.specs.Store.{cell_in, event_of_cell}
+use Rattle.inp_ring.specs.Ring.{some_cell, cell_at}
 use Rattle.inp_client.specs.Masks.{admits_of}
-use Rattle.inp_client.specs.Member.{Member}
-use Rattle.inp_client.specs.Numbers.{IsPutBehind}
-use Rattle.inp_client.proofs.Numbers.{put_number}
+use Rattle.inp_client.specs.Client.{is_offered_to}
+use Rattle.inp_client.specs.Member.{Member, client_in}
+use Rattle.inp_client.specs.Numbers.{takes_event}
+use Rattle.inp_client.proofs.Numbers.{ring_stored}
 use Rattle.inp_client.proofs.client.Client.enter.Goals as goal
 
-pub returns-clause-numbered : goal.returns-clause-numbered
-returns-clause-numbered c =
-    let k = c.self.inside in
-    let new = c.enter-is_in.new.self in
-    let admitted : admits_of k.masks c.args.event ≡ true = ap (λ (m : Member). admits_of m.masks c.args.event) c.self.view_is ∙ sym c.admits.ensures.admits ∙ c.if-not-admits.false in
-    let P : Bool → Type 0 = λ b. IsPutBehind (if b then c.args.number ∷ [] else []) (nat_lt (length new.numbers) (length k.ring.numbers)) k.ring.numbers new.numbers in
-    rw (← c.self.view_is) (subst P (sym admitted) (put_number c.args.number c.enter-is_in.new.store k.ring new (omega (arith, c.sound.ensures.sound.least, c.enter-is_in.ensures.places)) c.enter-is_in.ensures.lost))
+event_there : (o : Option Cell) (e : Event) → option_map event_of_cell o ≡ Some e → (some_cell o).event ≡ e
+event_there None e h = cc
+event_there (Some cell) e h = cc
+
+pub returns-clause-stored : goal.returns-clause-stored
+returns-clause-stored c =
+    let m : Member = c.args.self.now in
+    let s = c.args.store.now in
+    let there : (cell_at s c.args.number).event ≡ c.args.event = event_there (cell_in s c.args.number) c.args.event c.requires.event in
+    let offered : is_offered_to c.args.holder m ≡ true = sym c.is_offered_to.ensures ∙ c.if-not-is_offered_to.false in
+    let admitted : admits_of m.masks (cell_at s c.args.number).event ≡ true = ap (admits_of m.masks) there ∙ sym c.admits.ensures.admits ∙ c.if-not-admits.false in
+    let takes : takes_event (cell_at s c.args.number) c.args.holder (client_in s m) ≡ true =
+    ap (λ (b : Bool). b && admits_of m.masks (cell_at s c.args.number).event) offered ∙ admitted in
+    rw (← c.self.view_is)
+    (ring_stored c.args.number c.args.holder s c.enter-is_in.new.store _ _ (omega (arith, c.sound.ensures.sound.least, c.enter-is_in.ensures.places))
+    (ap (λ (x : Member). takes_event (cell_at s c.args.number) c.args.holder (client_in s x)) c.self.view_is ∙ takes) c.enter-is_in.ensures.put c.enter-is_in.ensures.lost)

@@ -4,7 +4,7 @@ use Rattle.inp_client.specs.Clients.{ClientsView, without_client}
 use Rattle.inp_client.specs.Kept.{kept_view}
 use Rattle.inp_client.proofs.Locations.{has_client-clients_in, key_in_slab, located_after_removal, index_is_some, index_is}
 use Rattle.inp_client.proofs.OneClient.{call_open}
-use Rattle.inp_client.proofs.OpenClose.{close_held, close_cells, stored_close, idle_close, counted_close, list_close, fewer_close}
+use Rattle.inp_client.proofs.OpenClose.{close_held, close_cells, stored_close, idle_close, counted_close, list_close, rings_close, named_close, within_close}
 use Rattle.inp_client.proofs.clients.Clients.close.Goals as goal
 
 pub unwrap-index-requires : goal.unwrap-index-requires
@@ -62,7 +62,12 @@ returns c =
           (list_close c.self.inside c.self.invariant c.unwrap-index.result index.within c.remove-location.result c.remove-location.result.key c.remove-client.result at c.remove-client.ensures.value c.remove-client.new.self c.remove-client.ensures.updates c.clear.new.self c.clear.new.store c.clear.ensures.cleared c.clear.ensures.none
           ∙ ap (λ n. without_client n (kept_view c.self.inside).list) (index.numbered c.remove-location.result)
           ∙ ap (λ (v : ClientsView). without_client c.args.number v.list) c.self.view_is);
-      none_new = λ n.
+      rings =
           rw c.remove-location.ensures.items
-          (rw (← c.self.view_is) (fewer_close c.self.inside c.self.invariant c.unwrap-index.result index.within c.remove-location.result c.remove-location.result.key c.remove-client.result at c.remove-client.ensures.value c.remove-client.new.self c.remove-client.ensures.updates c.clear.new.self c.clear.new.store c.clear.ensures.cleared c.clear.ensures.none n));
+          (rw (← c.self.view_is) (record {
+            index = c.unwrap-index.result;
+            within = within_close c.self.inside c.self.invariant c.unwrap-index.result index.within c.remove-location.result c.remove-location.result.key c.remove-client.result at c.remove-client.ensures.value;
+            named = named_close c.self.inside c.self.invariant c.unwrap-index.result index.within c.remove-location.result c.remove-location.result.key c.remove-client.result at c.remove-client.ensures.value c.args.number (index.numbered c.remove-location.result);
+            rings = rings_close c.self.inside c.self.invariant c.unwrap-index.result index.within c.remove-location.result c.remove-location.result.key c.remove-client.result at c.remove-client.ensures.value c.remove-client.new.self c.remove-client.ensures.updates c.clear.new.self c.clear.new.store c.clear.ensures.cleared c.clear.ensures.none;
+          }));
     }

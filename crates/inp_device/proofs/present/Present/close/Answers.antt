@@ -6,7 +6,7 @@ use Rattle.inp_client.proofs.OnClock.{without_client-on}
 use Rattle.inp_device.proofs.Calls.{clients_after-close}
 use Rattle.inp_device.proofs.StandsAfterStep.{holder-close}
 use Rattle.inp_device.proofs.StepParts.{made_call, called, named_there}
-use Rattle.inp_device.proofs.Growth.{stored_fewer}
+use Rattle.inp_device.proofs.Growth.{stored_closed}
 use Rattle.inp_device.proofs.present.Present.close.Goals as goal
 
 pub close-requires : goal.close-requires
@@ -24,5 +24,5 @@ returns c =
           ∙ sym (clients_after-close old.caps (reverse c.args.history.now) c.args.client))
           (ap (λ (h : HandleState). h.holder) c.release.ensures.holder ∙ ap (holder_without c.args.client) ready.stands.holder
           ∙ holder-close (reverse c.args.history.now) c.args.client));
-      stored = stored_fewer old.handler.clients c.close.new.self _ c.close.ensures.none_new;
+      stored = stored_closed old.handler.clients c.close.new.self _ c.close.ensures.rings;
     }

@@ -3,7 +3,7 @@ use Rattle.inp_model.specs.declared.reply.Reply.TheVariants.{Discarded}
 use Rattle.inp_client.proofs.OnClock.{on_take}
 use Rattle.inp_device.proofs.Calls.{clients_after-discard}
 use Rattle.inp_device.proofs.StepParts.{at_place, clients_called, named_there, named_visible, made_alone, called, holder_same}
-use Rattle.inp_device.proofs.Growth.{stored_none_new}
+use Rattle.inp_device.proofs.Growth.{stored_taken}
 use Rattle.inp_device.proofs.present.Present.discard.Goals as goal
 
 pub discard-removed-requires : goal.discard-removed-requires
@@ -20,5 +20,5 @@ returns c =
           (on_take c.args.self.now.caps c.discard-removed.result) c.discard-removed.ensures.rest
           (clients_after-discard _ _ c.args.client c.discard-removed.result count))
           (holder_same ready refl));
-      stored = stored_none_new c.args.self.now.handler.clients c.discard-removed.new.self _ c.discard-removed.ensures.none_new;
+      stored = stored_taken c.discard-removed.result c.args.self.now.handler.clients c.discard-removed.new.self _ c.discard-removed.ensures.rings;
     }

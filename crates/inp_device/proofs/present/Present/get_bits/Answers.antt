@@ -4,7 +4,7 @@ use Rattle.inp_model.specs.Step.{Codes}
 use Rattle.inp_client.proofs.OnClock.{on_flush}
 use Rattle.inp_device.proofs.Calls.{clients_after-query}
 use Rattle.inp_device.proofs.StepParts.{at_place, clients_called, IsQuery, query, kind_has_bits, kind_not_syn, named_there, made_alone, called, accepted-bits, holder_same}
-use Rattle.inp_device.proofs.Growth.{stored_none_new}
+use Rattle.inp_device.proofs.Growth.{stored_flushed}
 use Rattle.inp_device.proofs.present.Present.get_bits.Goals as goal
 
 pub bits-words-requires : goal.bits-words-requires
@@ -30,5 +30,5 @@ returns c =
           (clients_after-query d past c.args.step c.args.client
           (Codes c.args.kind) c.requires.asks.named c.requires.asks.whole))
           (holder_same ready asks.grab));
-      stored = stored_none_new c.args.self.now.handler.clients c.flush.new.self _ c.flush.ensures.none_new;
+      stored = stored_flushed c.args.self.now.handler.clients c.flush.new.self _ c.flush.ensures.rings;
     }

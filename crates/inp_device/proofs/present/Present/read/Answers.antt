@@ -2,7 +2,7 @@ use Rattle.std.proofs.Common.{min, refl, ap, ◌∙◌}
 use Rattle.inp_client.proofs.OnClock.{on_take}
 use Rattle.inp_device.proofs.Calls.{clients_after-read}
 use Rattle.inp_device.proofs.StepParts.{clients_called, named_there, named_visible, made_written, called, accepted-read, holder_same}
-use Rattle.inp_device.proofs.Growth.{stored_none_new}
+use Rattle.inp_device.proofs.Growth.{stored_taken}
 use Rattle.inp_device.proofs.present.Present.read.Goals as goal
 
 pub take-taken-requires-clause-open : goal.take-taken-requires-clause-open
@@ -20,5 +20,5 @@ returns c =
           (clients_after-read _ _ c.args.client c.args.count took
           (c.take-taken.ensures.count ∙ ap (min c.args.count) (named_visible ready refl))))
           (holder_same ready refl));
-      stored = stored_none_new c.args.self.now.handler.clients c.take-taken.new.self _ c.take-taken.ensures.none_new;
+      stored = stored_taken c.take-taken.result c.args.self.now.handler.clients c.take-taken.new.self _ c.take-taken.ensures.rings;
     }

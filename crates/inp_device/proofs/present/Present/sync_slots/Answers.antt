@@ -6,7 +6,7 @@ use Rattle.inp_model.specs.Step.{Slots}
 use Rattle.inp_client.proofs.OnClock.{on_flush}
 use Rattle.inp_device.proofs.Calls.{clients_after-query}
 use Rattle.inp_device.proofs.StepParts.{clients_called, named_there, called, cells_at, slots_kept, holder_same}
-use Rattle.inp_device.proofs.Growth.{stored_none_new}
+use Rattle.inp_device.proofs.Growth.{stored_flushed}
 use Rattle.inp_device.proofs.present.Present.sync_slots.Goals as goal
 
 pub flush_slots-requires : goal.flush_slots-requires
@@ -34,5 +34,5 @@ returns c =
             (clients_after-query d _ _ c.args.client Slots refl refl))
             (holder_same ready refl);
       };
-      stored = stored_none_new c.args.self.now.handler.clients c.flush_slots.new.self _ c.flush_slots.ensures.none_new;
+      stored = stored_flushed c.args.self.now.handler.clients c.flush_slots.new.self _ c.flush_slots.ensures.rings;
     }

@@ -1,7 +1,9 @@
 use Rattle.std.proofs.Common.{◌∙◌, List, sym, ap, subst, length, reverse, arith}
 use Rattle.inp_model.specs.declared.step.Step.{Step}
 use Rattle.inp_reader.specs.declared.asker.Asker.{Asker}
-use Rattle.inp_reader.specs.Reader.{Reading, ReaderView}
+use Rattle.inp_reader.specs.Reader.{Reading, ReaderView, queued_run}
+use Rattle.inp_reader.specs.TrueView.{ShowsTheDevice}
+use Rattle.inp_reader.proofs.StandsByCalls.{run-shows}
 use Rattle.inp_reader.specs.Session.{reading_of}
 use Rattle.inp_reader.specs.Spare.{HasSpare}
 use Rattle.inp_reader.specs.ReaderPlace.{StandsAt}
@@ -26,3 +28,11 @@ returns-clause-stands c = λ told stood.
     let before : StandsAt c.self.inside.caps past (reading_of c.self.inside.session) = subst (λ (v : ReaderView). StandsAt v.description past v.reading) (sym c.self.view_is) stood in
     subst (λ (r : Reading). StandsAt c.self.inside.caps past r) (sym c.take_queued.ensures.reading)
     (stands-run c.self.inside.caps past c.args.count (reading_of c.self.inside.session) before)
+
+pub returns-clause-shows : goal.returns-clause-shows
+returns-clause-shows c = λ told stood front last is.
+    let past : List Step = reverse told.seen in
+    let before : StandsAt c.self.inside.caps past (reading_of c.self.inside.session) = subst (λ (v : ReaderView). StandsAt v.description past v.reading) (sym c.self.view_is) stood in
+    subst (λ (r : Reading). ShowsTheDevice c.self.inside.caps past r last) (sym c.take_queued.ensures.reading)
+    (run-shows c.self.inside.caps past c.args.count (reading_of c.self.inside.session) front last c.self.invariant.described c.self.invariant.spare before
+    (ap (λ (v : ReaderView). queued_run c.args.count v.reading) c.self.view_is ∙ is))
