@@ -26,6 +26,7 @@ static struct player {
 
 enum {
     LOOK_AGAIN_US = 50000,
+    FIRST_TIME_US = 1000000, /**< Virtual time begins no earlier. */
     TIME_BEHIND_US = 1000000 /**< So long virtual time goes on behind the last line. */
 };
 
@@ -117,9 +118,11 @@ static void play_frames(void) {
     refresh_all();
 }
 
+/* (To some programs a time of 0 is none.) */
 void player_begin_time(void) {
+    uint64_t first = moment_from(0);
     if (settings.is_virtual)
-        virtual_begin(moment_from(0), devices[0].ahead[0], devices[0].ahead[1]);
+        virtual_begin(first > FIRST_TIME_US ? first : FIRST_TIME_US, devices[0].ahead[0], devices[0].ahead[1]);
 }
 
 /* The moment up to which time may go on before something else comes: the next line, or behind the last one

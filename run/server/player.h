@@ -42,7 +42,7 @@ bool has_client_lost(void);
  * False where none does. (wakes.c) */
 bool wake_before(uint64_t moment);
 
-/** Begins virtual time, at the first line's moment. */
+/** Begins virtual time, at the first line's moment, and at one second at least. */
 void player_begin_time(void);
 
 /** Whether the first loss that is wanted is to come now. (losses.c) */
