@@ -49,7 +49,9 @@ enum request_kind {
     ASK_WAIT = 5,  /**< The program is going to wait; with a descriptor where it waits for one. Payload, where
                       time is virtual: a uint64_t, the moment up to which it waits, UINT64_MAX: for ever. The
                       answer comes at that moment then. */
-    ASK_CANCEL = 6 /**< It waits no longer. Both have one answer together. */
+    ASK_CANCEL = 6, /**< It waits no longer. Both have one answer together. */
+    ASK_BEGIN = 7 /**< value: a process that begins, where time is virtual; 0: the one that asks. There is no
+                     answer. */
 };
 
 struct request {

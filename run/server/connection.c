@@ -108,7 +108,7 @@ static int answer_request(struct exchange *exchange, pid_t process_id) {
 
 static bool is_request(const struct request *request, ssize_t length, int brought, int flags) {
     return length >= (ssize_t)sizeof *request && request->magic == PROTOCOL_MAGIC &&
-           request->kind >= ASK_OPEN && request->kind <= ASK_CANCEL &&
+           request->kind >= ASK_OPEN && request->kind <= ASK_BEGIN &&
            (size_t)length == sizeof *request + request->length && brought <= 1 &&
            !(flags & (MSG_TRUNC | MSG_CTRUNC));
 }
@@ -152,8 +152,13 @@ static bool send_answer(int descriptor, struct exchange *exchange) {
 
 /* Where time is virtual a wait is answered later: at its moment, or where the program waits no longer. */
 static bool is_virtual_wait(const struct request *request) {
-    return settings.is_virtual && (request->kind == ASK_CANCEL ||
+    return settings.is_virtual && (request->kind >= ASK_CANCEL ||
                                    (request->kind == ASK_WAIT && request->length == sizeof(uint64_t)));
+}
+
+static void process_begins(pid_t id) {
+    process_asks(id, false);
+    process_is_answered(id);
 }
 
 static void serve_wait(struct connection *connection, bool is_cancelled) {
@@ -175,7 +180,10 @@ static bool serve(struct connection *connection) {
     struct exchange exchange = {.opened = -1};
     enum receipt receipt = receive(connection->descriptor, &exchange);
     if (receipt == GOT_REQUEST && !exchange.brought_count && is_virtual_wait(&exchange.request)) {
-        serve_wait(connection, exchange.request.kind == ASK_CANCEL);
+        if (exchange.request.kind == ASK_BEGIN)
+            process_begins(exchange.request.value ? (pid_t)exchange.request.value : connection->process);
+        else
+            serve_wait(connection, exchange.request.kind == ASK_CANCEL);
         return true;
     }
     if (receipt == GOT_REQUEST) {

@@ -19,6 +19,7 @@ static struct player {
     uint64_t started_us;
     uint64_t active_us; /**< When a program did something last. */
     int opens;
+    bool is_held_up;      /**< Where time is virtual: it goes on where no process runs any more. */
     uint64_t delay;       /**< Where time is virtual: how much later than in the record lines come. */
     bool has_lost;        /**< The first loss that was wanted has come. */
     uint64_t last_moment; /**< Where time is virtual: of the last line, once that was played. */
@@ -26,6 +27,7 @@ static struct player {
 
 enum {
     LOOK_AGAIN_US = 50000,
+    LOOK_SOON_US = 100,
     FIRST_TIME_US = 1000000, /**< Virtual time begins no earlier. */
     TIME_BEHIND_US = 1000000 /**< So long virtual time goes on behind the last line. */
 };
@@ -122,7 +124,8 @@ static void play_frames(void) {
 void player_begin_time(void) {
     uint64_t first = moment_from(0);
     if (settings.is_virtual)
-        virtual_begin(first > FIRST_TIME_US ? first : FIRST_TIME_US, devices[0].ahead[0], devices[0].ahead[1]);
+        virtual_begin(first > FIRST_TIME_US ? first : FIRST_TIME_US, devices[0].ahead[0],
+                      devices[0].ahead[1]);
 }
 
 /* The moment up to which time may go on before something else comes: the next line, or behind the last one
@@ -141,6 +144,9 @@ static uint64_t next_moment(void) {
 
 /* What comes next where all wait: a moment that a program waits for, or frames. False where nothing does. */
 static bool go_on(void) {
+    player.is_held_up = settings.is_virtual && is_any_running();
+    if (player.is_held_up)
+        return false;
     if (settings.is_virtual && wake_before(next_moment()))
         return true;
     bool has_frames = may_begin() && player.next < record.action_count;
@@ -152,9 +158,10 @@ static bool go_on(void) {
 bool player_wait(pid_t process) {
     if (!is_by_frames())
         return false;
+    player.is_held_up = false;
     while (all_processes_wait() && go_on())
         ;
-    if (may_begin() && all_processes_wait())
+    if (may_begin() && !player.is_held_up && all_processes_wait())
         ending_begin();
     return process && ending_ends(process);
 }
@@ -203,7 +210,9 @@ static uint64_t play_due(void) {
 static uint64_t turn_by_frames(void) {
     player_wait(0);
     uint64_t next = ending_signal_all();
-    bool has_more = player.opens && !ending_has_begun();
+    bool has_more = settings.is_virtual || (player.opens && !ending_has_begun());
+    if (player.is_held_up)
+        return earlier(next, now_us() + LOOK_SOON_US);
     return has_more ? earlier(next, now_us() + LOOK_AGAIN_US) : next;
 }
 

@@ -35,6 +35,8 @@ const struct run *shim_run(void) {
 
 __attribute__((constructor)) static void begin(void) {
     shim_run();
+    if (is_virtual())
+        tell_begin(0);
 }
 
 long with_errno(long result) {

@@ -137,6 +137,13 @@ uint64_t moment_in(const struct timespec *time);
 /** Waits for files up to a virtual moment, as ppoll() does. (virtual.c) */
 int wait_virtually(struct pollfd *files, nfds_t count, uint64_t until, const sigset_t *mask);
 
+/** A wait for what is no file, with no end: false where it was not told. And its end. (virtual.c) */
+bool begin_wait(struct line *line);
+void end_wait(struct line line);
+
+/** Tells the server of a process that begins; 0: this one. (virtual.c) */
+void tell_begin(pid_t process);
+
 /** A system call's result: what it gives, or -1 and errno. */
 long with_errno(long result);
 

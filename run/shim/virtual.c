@@ -28,6 +28,11 @@ static int poll_now(struct pollfd *files, nfds_t count, const struct timespec *t
     return result < 0 ? -errno : (int)result;
 }
 
+static bool send_begin(int line, pid_t process) {
+    struct request request = {.magic = PROTOCOL_MAGIC, .kind = ASK_BEGIN, .value = (uint32_t)process};
+    return syscall(SYS_sendto, line, &request, sizeof request, MSG_NOSIGNAL, NULL, 0) == (long)sizeof request;
+}
+
 static bool send_wait(int line, uint32_t kind, uint64_t until) {
     struct {
         struct request request;
@@ -88,4 +93,23 @@ int wait_virtually(struct pollfd *files, nfds_t count, uint64_t until, const sig
     }
     errno = result < 0 ? -result : before;
     return result < 0 ? -1 : result;
+}
+
+bool begin_wait(struct line *line) {
+    *line = line_begin();
+    bool is_good = line->descriptor >= 0 && send_wait(line->descriptor, ASK_WAIT, UINT64_MAX);
+    if (!is_good)
+        line_end(*line, false);
+    return is_good;
+}
+
+void end_wait(struct line line) {
+    line_end(line, send_wait(line.descriptor, ASK_CANCEL, 0) && take_wait(line.descriptor));
+}
+
+void tell_begin(pid_t process) {
+    int before = errno;
+    struct line line = line_begin();
+    line_end(line, line.descriptor >= 0 && send_begin(line.descriptor, process));
+    errno = before;
 }
