@@ -117,7 +117,7 @@ class Programs(RunCase):
         script = f"""(until [ -e {self.folder}/go ]; do sleep 0.1; done; echo; sleep 2) |
             {PYTHON} {REPLAY} {HERE / 'keys.libinput.yml'} > {self.folder}/said 2>&1 &
             {HAS_MADE}; (sleep 2; touch {self.folder}/go) & timeout 8 evtest /dev/input/event1"""
-        done = self.run_tool(["--quiet", 60000, KEYBOARD, "--", "bash", "-c", script])
+        done = self.run_tool(["--sys", "auto", "--quiet", 60000, KEYBOARD, "--", "bash", "-c", script])
         said = (self.folder / "said").read_text()
         self.assertEqual(presses(KEY_A), events_of(done.stdout), done.stderr + said)
         self.assertIn('Input device name: "recorded keyboard"', done.stdout)
