@@ -10,6 +10,7 @@
 #define INPUTPLAY_RUN_PROTOCOL_H
 
 #include <linux/input.h>
+#include <linux/uinput.h>
 #include <stdbool.h>
 #include <stdint.h>
 #include <sys/ioctl.h>
@@ -30,15 +31,27 @@ enum protocol_limit {
 };
 
 /** What kind of file a node is. */
-enum node_kind { NODE_EVENT = 0, NODE_JOYSTICK = 1, NODE_UINPUT = 2, NODE_KINDS = 3 };
+enum node_kind {
+    NODE_EVENT = 0,
+    NODE_JOYSTICK = 1,
+    NODE_UINPUT = 2,
+    NODE_TIMER = 3, /**< No file has it: timerfd_create() opens one, where time is virtual. */
+    NODE_KINDS = 4
+};
 
 enum request_kind {
-    ASK_OPEN = 1,  /**< node, flags: those of open(). */
+    ASK_OPEN = 1,  /**< node, flags: those of open(); payload, of /dev/uinput: where the folder sys of the
+                      program stands  in truth. */
     ASK_READ = 2,  /**< room: how many bytes are wanted. */
     ASK_WRITE = 3, /**< The payload is what is written. */
-    ASK_IOCTL = 4, /**< number; flags: 1 where its argument is a value and not 0; payload: what the kernel
-                      would read. */
-    ASK_WAIT = 5   /**< The program is going to wait; with a descriptor where it waits for one. */
+    ASK_IOCTL = 4, /**< number; flags: 1 where its argument is a value and not 0; value: that value; payload:
+                      what the kernel would read. */
+    ASK_WAIT = 5,  /**< The program is going to wait; with a descriptor where it waits for one. Payload, where
+                      time is virtual: a uint64_t, the moment up to which it waits, UINT64_MAX: for ever. The
+                      answer comes at that moment then. */
+    ASK_CANCEL = 6, /**< It waits no longer. Both have one answer together. */
+    ASK_BEGIN = 7 /**< value: a process that begins, where time is virtual; 0: the one that asks. There is no
+                     answer. */
 };
 
 struct request {
@@ -49,7 +62,7 @@ struct request {
     uint32_t number;
     uint32_t length; /**< Of the payload. */
     uint32_t room;
-    uint32_t reserved;
+    uint32_t value;
 };
 
 struct answer {
@@ -58,6 +71,24 @@ struct answer {
     uint32_t length; /**< Of the payload. */
     uint32_t reserved;
 };
+
+/** The file in the folder of a run that has the virtual clock. */
+#define CLOCK_NAME "clock"
+
+/** The virtual clock, in microseconds: the monotonic one, and how far the others are ahead of it. */
+struct virtual_clock {
+    uint64_t now, realtime_ahead, boottime_ahead;
+};
+
+/** What a virtual timer is set to, in microseconds. */
+struct timer_setting {
+    uint64_t value, interval;
+    uint64_t is_absolute;
+};
+
+/** Requests of a virtual timer: it is set, and answers what it was set to before; it is asked for. */
+#define TIMER_SET _IOWR('i', 1, struct timer_setting)
+#define TIMER_GET _IOR('i', 2, struct timer_setting)
 
 /** The number of a run in the names of its ends, by its folder (FNV-1a). */
 static inline uint64_t run_number(const char *folder) {
@@ -80,18 +111,37 @@ static inline int device_of_node(int32_t node) {
     return node % DEVICES;
 }
 
-/** Whether an ioctl's argument is a value, and no place. */
-static inline bool is_by_value(uint32_t number) {
-    return number == (uint32_t)EVIOCRMFF || number == (uint32_t)EVIOCGRAB || number == (uint32_t)EVIOCREVOKE;
+/** The node by which programs make devices; there is one of a run. */
+static inline int32_t maker_node(void) {
+    return node_number(NODE_UINPUT, 0);
 }
 
-/** How many bytes an ioctl reads where its argument points to. (The number of EVIOCGMTSLOTS does not say.) */
+/** The node of virtual timers of a clock. */
+static inline int32_t timer_node(int clock) {
+    return node_number(NODE_TIMER, clock);
+}
+
+/** Whether an ioctl sets a bit of a device that is made (UI_SET_EVBIT and on). */
+static inline bool is_bit_request(uint32_t number) {
+    bool has_form = (number & ~(uint32_t)_IOC_NRMASK) == (UI_SET_EVBIT & ~(uint32_t)_IOC_NRMASK);
+    return has_form && _IOC_NR(number) >= _IOC_NR(UI_SET_EVBIT) && _IOC_NR(number) <= _IOC_NR(UI_SET_PROPBIT);
+}
+
+/** Whether an ioctl's argument is a value, and no place. */
+static inline bool is_by_value(uint32_t number) {
+    return number == (uint32_t)EVIOCRMFF || number == (uint32_t)EVIOCGRAB ||
+           number == (uint32_t)EVIOCREVOKE || is_bit_request(number);
+}
+
+/** How many bytes an ioctl reads where its argument points to. (The number of EVIOCGMTSLOTS does not say, and
+ * UI_SET_PHYS reads a text.) */
 static inline uint32_t bytes_sent(uint32_t number) {
     if (_IOC_TYPE(number) == 'E' && _IOC_NR(number) == _IOC_NR(EVIOCGMTSLOTS(0)) &&
         _IOC_DIR(number) == _IOC_READ)
         return sizeof(uint32_t);
     bool is_read = _IOC_DIR(number) & _IOC_WRITE || number == (uint32_t)EVIOCGMASK;
-    return is_read && !is_by_value(number) ? _IOC_SIZE(number) : 0;
+    bool is_text = number == (uint32_t)UI_SET_PHYS;
+    return is_read && !is_text && !is_by_value(number) ? _IOC_SIZE(number) : 0;
 }
 
 /** How many bytes the kernel keeps of a client's mask of a type, or of the mask of types (EV_SYN); 0: there

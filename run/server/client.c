@@ -16,8 +16,10 @@
 
 struct client clients[CLIENTS];
 
-static const struct node_calls *const CALLS[NODE_KINDS] = {
-    [NODE_EVENT] = &evdev_calls, [NODE_JOYSTICK] = &joydev_calls};
+static const struct node_calls *const CALLS[NODE_KINDS] = {[NODE_EVENT] = &evdev_calls,
+                                                           [NODE_JOYSTICK] = &joydev_calls,
+                                                           [NODE_UINPUT] = &uinput_calls,
+                                                           [NODE_TIMER] = &timer_calls};
 
 /* Names our end of a pair, so that the shim of any process knows the other one by getpeername. */
 static int name_peer(int peer, int32_t node) {
@@ -57,18 +59,29 @@ static struct client *free_place(void) {
     return NULL;
 }
 
+/* Whether there is such a node. */
+static bool is_node(int32_t node) {
+    if (node < 0 || node / DEVICES >= NODE_KINDS)
+        return false;
+    int device = device_of_node(node);
+    switch (kind_of_node(node)) {
+    case NODE_UINPUT: return node == maker_node();
+    case NODE_TIMER: return settings.is_virtual;
+    default: return device < device_count && !devices[device].is_gone;
+    }
+}
+
 int client_open(int32_t node, uint32_t flags, pid_t process) {
-    const struct node_calls *calls =
-        node >= 0 && node / DEVICES < NODE_KINDS ? CALLS[kind_of_node(node)] : NULL;
-    if (!calls || device_of_node(node) >= device_count)
-        return -ENOENT;
-    struct device *device = &devices[device_of_node(node)];
     struct client *client = free_place();
-    if (device->is_gone || !client)
-        return device->is_gone ? -ENOENT : -EMFILE;
-    *client = (struct client){
-        .kind = kind_of_node(node), .calls = calls, .device = device, .owner = process, .brought = -1};
+    if (!is_node(node) || !client)
+        return client ? -ENOENT : -EMFILE;
+    enum node_kind kind = kind_of_node(node);
+    struct device *device = kind >= NODE_UINPUT ? NULL : &devices[device_of_node(node)];
+    const struct node_calls *calls = CALLS[kind];
+    *client =
+        (struct client){.kind = kind, .calls = calls, .device = device, .owner = process, .brought = -1};
     memset(client->masks, 0xff, sizeof client->masks);
+    client->number = (uint32_t)device_of_node(node); /* (a timer's clock; a node's open says another) */
     client->can_read = (flags & O_ACCMODE) != O_WRONLY;
     client->can_write = (flags & O_ACCMODE) != O_RDONLY;
     int end = make_pair(client, node, (int)flags & O_NONBLOCK);
@@ -81,8 +94,10 @@ int client_open(int32_t node, uint32_t flags, pid_t process) {
         return error;
     }
     client->is_open = true;
-    history_note_open(device, client->number, process);
-    player_note_open();
+    if (device) {
+        history_note_open(device, client->number, process);
+        player_note_open();
+    }
     return end;
 }
 
@@ -91,8 +106,7 @@ void client_close(struct client *client) {
         return;
     client->is_open = false;
     close(client->peer);
-    if (!client->device->is_gone)
-        client->calls->close(client);
+    client->calls->close(client);
 }
 
 struct client *client_of(int descriptor) {
@@ -123,6 +137,10 @@ void client_show(struct client *client, bool has_events) {
 
 /* Who can read already, and does not ask now, is not looked at: others take nothing away from it. */
 static void refresh(struct client *client) {
+    if (client->kind == NODE_UINPUT) {
+        owner_refresh(client);
+        return;
+    }
     if (client->has_byte && client->brought < 0 && !client->device->is_gone)
         return;
     enum sight sight = device_sight(client->device, client->number);

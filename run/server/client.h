@@ -18,6 +18,7 @@ struct client;
 struct ioctl_call {
     uint32_t number;
     bool is_set;       /**< Of an argument that is a value: it is not 0. */
+    uint32_t value;    /**< That value. */
     uint8_t *bytes;    /**< What the argument points to; the answer's bytes replace it. There is room for
                           PAYLOAD_MAX. */
     uint32_t given;    /**< How many bytes the program gave. */
@@ -33,21 +34,22 @@ struct node_calls {
     void (*close)(struct client *client);
 };
 
-extern const struct node_calls evdev_calls, joydev_calls;
+extern const struct node_calls evdev_calls, joydev_calls, uinput_calls, timer_calls;
 
 struct client {
     bool is_open; /**< The place is free where it is not. */
     enum node_kind kind;
     const struct node_calls *calls;
-    struct device *device;
-    uint32_t number; /**< Of the library's client. */
-    ino_t inode;     /**< Of the program's end: what a descriptor is known by. */
-    pid_t owner;     /**< The process that asked last. */
-    int peer;        /**< Our end of the pair. A byte waits in the program's while events do. */
-    int brought;     /**< The program's end, while a request that brought it is answered; else -1. */
+    struct device *device; /**< NULL where it is of /dev/uinput and has none. */
+    uint32_t number;       /**< Of the library's client. */
+    ino_t inode;           /**< Of the program's end: what a descriptor is known by. */
+    pid_t owner;           /**< The process that asked last. */
+    int peer;              /**< Our end of the pair. A byte waits in the program's while events do. */
+    int brought;           /**< The program's end, while a request that brought it is answered; else -1. */
     bool has_byte;
     bool can_read, can_write;
     bool found_nothing; /**< Its last call was a read that found nothing. */
+    bool has_read;      /**< It has read events at least once. */
     uint64_t masks[EV_CNT][MASK_WORDS];
 };
 
@@ -71,6 +73,13 @@ void client_show(struct client *client, bool has_events);
 
 /** Looks at all clients of a device: which have something to read, and which have lost the device. */
 void clients_refresh(struct device *device);
+
+/** Looks for what waits for the owner of a device, which is asked for anew where it may have come.
+ * (uinput.c) */
+void owner_refresh(struct client *client);
+
+/** Says where the program that opened /dev/uinput finds /sys, where that is another place. (uinput.c) */
+void owner_take_root(const struct client *client, const char *root);
 
 /** Closes the clients whose last descriptor has gone. */
 void clients_reap(void);

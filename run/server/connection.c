@@ -44,8 +44,11 @@ int connection_count;
 
 static int answer_ioctl(struct client *client, struct exchange *exchange) {
     const struct request *request = &exchange->request;
-    struct ioctl_call call = {
-        .number = request->number, .is_set = request->flags, .bytes = given.bytes, .given = request->length};
+    struct ioctl_call call = {.number = request->number,
+                              .is_set = request->flags,
+                              .value = request->value,
+                              .bytes = given.bytes,
+                              .given = request->length};
     if (call.given < bytes_sent(call.number))
         return -EINVAL;
     int result = client->calls->ioctl(client, &call);
@@ -73,13 +76,20 @@ static int answer_client(struct client *client, struct exchange *exchange) {
     }
 }
 
+static int answer_open(struct exchange *exchange, pid_t process_id) {
+    const struct request *request = &exchange->request;
+    exchange->opened = client_open(request->node, request->flags, process_id);
+    bool has_root = request->length && !given.bytes[request->length - 1];
+    if (exchange->opened >= 0 && request->node == maker_node() && has_root)
+        owner_take_root(client_of(exchange->opened), (const char *)given.bytes);
+    return exchange->opened < 0 ? exchange->opened : 0;
+}
+
 static int answer_request(struct exchange *exchange, pid_t process_id) {
     const struct request *request = &exchange->request;
     struct client *client = client_of(exchange->brought_count ? exchange->brought[0] : -1);
-    if (request->kind == ASK_OPEN) {
-        exchange->opened = client_open(request->node, request->flags, process_id);
-        return exchange->opened < 0 ? exchange->opened : 0;
-    }
+    if (request->kind == ASK_OPEN)
+        return answer_open(exchange, process_id);
     if (client) {
         client->owner = process_id;
         client->brought = exchange->brought[0];
@@ -98,7 +108,7 @@ static int answer_request(struct exchange *exchange, pid_t process_id) {
 
 static bool is_request(const struct request *request, ssize_t length, int brought, int flags) {
     return length >= (ssize_t)sizeof *request && request->magic == PROTOCOL_MAGIC &&
-           request->kind >= ASK_OPEN && request->kind <= ASK_WAIT &&
+           request->kind >= ASK_OPEN && request->kind <= ASK_BEGIN &&
            (size_t)length == sizeof *request + request->length && brought <= 1 &&
            !(flags & (MSG_TRUNC | MSG_CTRUNC));
 }
@@ -140,11 +150,42 @@ static bool send_answer(int descriptor, struct exchange *exchange) {
     return sendmsg(descriptor, &message, MSG_DONTWAIT | MSG_NOSIGNAL) >= 0;
 }
 
+/* Where time is virtual a wait is answered later: at its moment, or where the program waits no longer. */
+static bool is_virtual_wait(const struct request *request) {
+    return settings.is_virtual && (request->kind >= ASK_CANCEL ||
+                                   (request->kind == ASK_WAIT && request->length == sizeof(uint64_t)));
+}
+
+static void process_begins(pid_t id) {
+    process_asks(id, false);
+    process_is_answered(id);
+}
+
+static void serve_wait(struct connection *connection, bool is_cancelled) {
+    if (is_cancelled) {
+        if (connection->is_waiting) /* (else the answer is under way) */
+            connection_wake(connection);
+        return;
+    }
+    memcpy(&connection->until, given.bytes, sizeof connection->until);
+    connection->is_waiting = true;
+    process_asks(connection->process, true);
+    process_is_answered(connection->process);
+    player_wait(0);
+}
+
 /* False where the connection is to be closed. What was brought is closed before the answer: the program may
  * close its own then, and that is to be seen. */
-static bool serve(const struct connection *connection) {
+static bool serve(struct connection *connection) {
     struct exchange exchange = {.opened = -1};
     enum receipt receipt = receive(connection->descriptor, &exchange);
+    if (receipt == GOT_REQUEST && !exchange.brought_count && is_virtual_wait(&exchange.request)) {
+        if (exchange.request.kind == ASK_BEGIN)
+            process_begins(exchange.request.value ? (pid_t)exchange.request.value : connection->process);
+        else
+            serve_wait(connection, exchange.request.kind == ASK_CANCEL);
+        return true;
+    }
     if (receipt == GOT_REQUEST) {
         process_asks(connection->process, exchange.request.kind == ASK_WAIT);
         exchange.answer.result = answer_request(&exchange, connection->process);
@@ -157,6 +198,14 @@ static bool serve(const struct connection *connection) {
     if (exchange.opened >= 0)
         close(exchange.opened);
     return is_good;
+}
+
+void connection_wake(struct connection *connection) {
+    struct answer answer = {.result = 0};
+    process_asks(connection->process, false);
+    process_is_answered(connection->process);
+    connection->is_waiting = false;
+    send(connection->descriptor, &answer, sizeof answer, MSG_DONTWAIT | MSG_NOSIGNAL);
 }
 
 bool connection_is_pending(void) {
@@ -201,5 +250,5 @@ void connection_accept(int listening) {
     getsockopt(descriptor, SOL_SOCKET, SO_PEERCRED, &who, &length);
     if (connection_count == CONNECTIONS)
         drop(0);
-    connections[connection_count++] = (struct connection){descriptor, who.pid};
+    connections[connection_count++] = (struct connection){.descriptor = descriptor, .process = who.pid};
 }

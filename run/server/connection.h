@@ -4,13 +4,16 @@
 
 #include <poll.h>
 #include <stdbool.h>
+#include <stdint.h>
 #include <sys/types.h>
 
 enum connection_limit { CONNECTIONS = 128 };
 
 struct connection {
     int descriptor;
-    pid_t process; /**< Who connected. */
+    pid_t process;   /**< Who connected. */
+    bool is_waiting; /**< Where time is virtual: an answer is due to it at a moment. */
+    uint64_t until;  /**< That moment, or UINT64_MAX. */
 };
 
 extern struct connection connections[CONNECTIONS];
@@ -24,6 +27,9 @@ void connection_accept(int listening);
 
 /** Whether a request has come that was not taken yet. */
 bool connection_is_pending(void);
+
+/** Answers one that waited: its moment has come. */
+void connection_wake(struct connection *connection);
 
 /** Takes a request and answers it; closes the connection at its end, or after rubbish. */
 void connection_serve(int index);

@@ -17,6 +17,7 @@ struct device *device_new(const char *name) {
     if (device_count == DEVICES)
         return NULL;
     struct device *device = &devices[device_count++];
+    *device = (struct device){.description = NULL};
     snprintf(device->record_name, sizeof device->record_name, "%s", name);
     snprintf(device->identity.name, sizeof device->identity.name, "%s", name);
     device->repeat[REP_DELAY] = USUAL_DELAY;
@@ -25,16 +26,18 @@ struct device *device_new(const char *name) {
     return device;
 }
 
-void device_make(struct device *device, const char *description) {
+bool device_make(struct device *device, const char *description) {
     uint32_t line, cause;
     device->description = strdup(description);
     if (!device->description)
         fail("memory ran out");
     uint32_t status = inputplay_device_new((const uint8_t *)description, strlen(description), 0,
                                            &device->handle, &line, &cause);
-    if (status != INPUTPLAY_OK)
-        fail("the device %s was not made: status %u, line %u, cause %u", device->record_name, status, line,
-             cause);
+    if (status != INPUTPLAY_OK && status != INPUTPLAY_REFUSED)
+        fail("the device %s was not made: status %u", device->record_name, status);
+    if (status == INPUTPLAY_REFUSED)
+        free(device->description);
+    return status == INPUTPLAY_OK;
 }
 
 int device_index(const struct device *device) {
@@ -54,9 +57,10 @@ size_t code_bytes(unsigned type) {
     return type == EV_KEY ? KEY_CNT / 8 : type == EV_FF ? FF_CNT / 8 : 8;
 }
 
-/* What the library does not tell of a device, and its events say: the settings of its autorepeat, and when a
- * tick is due. */
+/* What the library does not tell of a device, and its events say: the settings of its autorepeat, when a
+ * tick is due, and that something may wait for its owner. */
 static void note_event(struct device *device, const inputplay_step_t *step) {
+    device->may_have_sent |= step->type >= EV_MSC || (step->type == EV_SYN && step->code == SYN_CONFIG);
     if (step->type == EV_REP && step->code < REP_CNT && step->value >= 0 &&
         device_has(device, EV_SYN, EV_REP))
         device->repeat[step->code] = step->value;

@@ -10,7 +10,12 @@
 #include <stddef.h>
 #include <stdint.h>
 
-enum device_limit { TEXT_ROOM = 128, NAME_ROOM = 33, PROPERTY_BYTES = 8 };
+enum device_limit {
+    TEXT_ROOM = 128,
+    NAME_ROOM = 33,
+    PROPERTY_BYTES = 8,
+    LONGEST_LOG = 8388608 /**< The most steps that a history may have. */
+};
 
 /** Who a device is, beside what it has: EVIOCGNAME, EVIOCGPHYS, EVIOCGUNIQ, EVIOCGID and EVIOCGPROP. */
 struct identity {
@@ -27,13 +32,16 @@ struct device {
     uint8_t bits[EV_CNT][KEY_CNT / 8];     /**< Of types in [0], of their codes in the others. */
     struct input_absinfo lacking[ABS_CNT]; /**< What EVIOCSABS said of axes that the device lacks. */
     uint32_t slots;
+    uint64_t ahead[2];       /**< How far its clocks are ahead in the record: realtime, and boottime. */
     int32_t repeat[REP_CNT]; /**< Delay and period, in milliseconds. */
     uint64_t repeats_at_us;  /**< When a tick may be due, or 0. */
     uint32_t steps;          /**< The length of its history. */
     uint32_t looks;          /**< How many of them are the server's own reads of nothing. */
     char *description;       /**< The text of which the library made it. */
     inputplay_handle handle;
-    bool is_gone; /**< It was unplugged. */
+    bool is_made;       /**< By a program, and not of the record. */
+    bool is_gone;       /**< It was unplugged, or destroyed by its owner. */
+    bool may_have_sent; /**< Something may wait for its owner, which was not looked for yet. */
 };
 
 extern struct device devices[DEVICES];
@@ -42,8 +50,8 @@ extern int device_count;
 /** A new device of this name, without anything yet. */
 struct device *device_new(const char *name);
 
-/** Has the library make a device of the text of its description. */
-void device_make(struct device *device, const char *description);
+/** Has the library make a device of the text of its description; false where it refuses the text. */
+bool device_make(struct device *device, const char *description);
 
 int device_index(const struct device *device);
 
@@ -80,5 +88,8 @@ void nodes_make(const struct device *device);
 
 /** Removes them: the device has gone. (nodes.c) */
 void nodes_remove(const struct device *device);
+
+/** Makes the file that stands for /dev/uinput. (nodes.c) */
+void nodes_make_maker(void);
 
 #endif

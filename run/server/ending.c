@@ -26,6 +26,8 @@ void ending_begin(void) {
     has_begun = true;
     history_write(); /* (a signal may end the programs, and the server with them) */
     for (int i = 0; settings.end == END_GONE && i < device_count; i++) {
+        if (devices[i].is_made)
+            continue; /* (its owner destroys it) */
         devices[i].is_gone = true;
         nodes_remove(&devices[i]);
         clients_refresh(&devices[i]);

@@ -53,6 +53,7 @@ static int take_events(struct client *client, void *to, size_t room) {
     }
     copy_events(to, events, count);
     client->found_nothing = false; /* (a read that finds nothing is how some programs wait) */
+    client->has_read = true;
     player_note_active();
     bool is_full = (size_t)count == room;
     client_show(client, is_full && device_sight(client->device, client->number) == SEES_EVENTS);

@@ -86,6 +86,7 @@ int main(int count, char **words) {
     if (inputplay_abi() != INPUTPLAY_ABI)
         fail("the library has another interface");
     record_read();
+    player_begin_time();
     player_begin();
     int listening = listen_for_programs();
     puts("ready");

@@ -1,5 +1,5 @@
 /* The files by which programs find a device, in the folder of the run: input/eventN and input/jsN stand for
- * /dev/input's, and udev/c13:M is what udev would know of the node. */
+ * /dev/input's, and udev/c13:M is what udev would know of the node. uinput stands for /dev/uinput. */
 #include "device.h"
 
 #include "failure.h"
@@ -23,17 +23,26 @@ static const char *path_of(const struct device *device, enum node_file file, cha
     return room;
 }
 
-static FILE *create(const struct device *device, enum node_file which) {
-    char path[PATH_ROOM];
-    FILE *file = fopen(path_of(device, which, path), "w");
+static const char *path_below(const char *name, char *room) {
+    snprintf(room, PATH_ROOM, "%s/%s", settings.folder, name);
+    return room;
+}
+
+static FILE *create_file(const char *path) {
+    FILE *file = fopen(path, "w");
     if (!file)
         fail("%s: %s", path, strerror(errno));
     return file;
 }
 
+static FILE *create(const struct device *device, enum node_file which) {
+    char path[PATH_ROOM];
+    return create_file(path_of(device, which, path));
+}
+
 static void make_folder(const char *name) {
     char path[PATH_ROOM];
-    snprintf(path, sizeof path, "%s/%s", settings.folder, name);
+    path_below(name, path);
     if (mkdir(path, 0755) && errno != EEXIST)
         fail("%s: %s", path, strerror(errno));
 }
@@ -79,6 +88,11 @@ void nodes_make(const struct device *device) {
     if (settings.has_joysticks)
         fclose(create(device, JOYSTICK_FILE));
     fclose(create(device, EVENT_FILE));
+}
+
+void nodes_make_maker(void) {
+    char path[PATH_ROOM];
+    fclose(create_file(path_below("uinput", path)));
 }
 
 void nodes_remove(const struct device *device) {

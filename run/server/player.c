@@ -19,10 +19,18 @@ static struct player {
     uint64_t started_us;
     uint64_t active_us; /**< When a program did something last. */
     int opens;
-    bool has_lost; /**< The first loss that was wanted has come. */
+    bool is_held_up;      /**< Where time is virtual: it goes on where no process runs any more. */
+    uint64_t delay;       /**< Where time is virtual: how much later than in the record lines come. */
+    bool has_lost;        /**< The first loss that was wanted has come. */
+    uint64_t last_moment; /**< Where time is virtual: of the last line, once that was played. */
 } player;
 
-enum { LOOK_AGAIN_US = 50000 };
+enum {
+    LOOK_AGAIN_US = 50000,
+    LOOK_SOON_US = 100,
+    FIRST_TIME_US = 1000000, /**< Virtual time begins no earlier. */
+    TIME_BEHIND_US = 1000000 /**< So long virtual time goes on behind the last line. */
+};
 
 void player_note_open(void) {
     player.opens++;
@@ -33,12 +41,25 @@ void player_note_active(void) {
     player.active_us = now_us();
 }
 
+static uint64_t moment_from(size_t at) {
+    while (at < record.action_count && !record.actions[at].is_timed)
+        at++;
+    return at < record.action_count ? record.actions[at].step.now : step_moment();
+}
+
+/* Where time is virtual and programs took some before the first line, all lines are as much later. */
+static void take_delay(void) {
+    uint64_t first = moment_from(player.next), now = step_moment();
+    if (settings.is_virtual && player.next == record.before_open)
+        player.delay = now > first ? now - first : 0;
+}
+
 static void play(const struct action *action) {
     struct actor *actor = action->actor;
     inputplay_step_t step = action->step;
     inputplay_reply reply;
     if (action->is_timed)
-        set_line_moment(step.now);
+        set_line_moment(step.now + player.delay);
     step.now = step_moment();
     step.client = actor->client;
     if (actor->device->is_gone)
@@ -99,12 +120,48 @@ static void play_frames(void) {
     refresh_all();
 }
 
+/* (To some programs a time of 0 is none.) */
+void player_begin_time(void) {
+    uint64_t first = moment_from(0);
+    if (settings.is_virtual)
+        virtual_begin(first > FIRST_TIME_US ? first : FIRST_TIME_US, devices[0].ahead[0],
+                      devices[0].ahead[1]);
+}
+
+/* The moment up to which time may go on before something else comes: the next line, or behind the last one
+ * the end. */
+static uint64_t next_moment(void) {
+    bool has_lines = player.next < record.action_count;
+    if (ending_has_begun() || (has_lines && !may_begin()))
+        return UINT64_MAX - 1;
+    take_delay();
+    if (has_lines)
+        return moment_from(player.next) + player.delay;
+    if (!player.last_moment)
+        player.last_moment = step_moment();
+    return player.last_moment + TIME_BEHIND_US;
+}
+
+/* What comes next where all wait: a moment that a program waits for, or frames. False where nothing does. */
+static bool go_on(void) {
+    player.is_held_up = settings.is_virtual && is_any_running();
+    if (player.is_held_up)
+        return false;
+    if (settings.is_virtual && wake_before(next_moment()))
+        return true;
+    bool has_frames = may_begin() && player.next < record.action_count;
+    if (has_frames)
+        play_frames();
+    return has_frames;
+}
+
 bool player_wait(pid_t process) {
     if (!is_by_frames())
         return false;
-    while (may_begin() && player.next < record.action_count && all_processes_wait())
-        play_frames();
-    if (may_begin() && all_processes_wait())
+    player.is_held_up = false;
+    while (all_processes_wait() && go_on())
+        ;
+    if (may_begin() && !player.is_held_up && all_processes_wait())
         ending_begin();
     return process && ending_ends(process);
 }
@@ -121,13 +178,6 @@ int player_wait_in_read(struct client *client) {
     return blocks && client->has_byte ? 0 : -EAGAIN;
 }
 
-static uint64_t first_moment(void) {
-    size_t at = 0;
-    while (at < record.action_count && !record.actions[at].is_timed)
-        at++;
-    return at < record.action_count ? record.actions[at].step.now : 0;
-}
-
 /* When the next line is due. One without a moment comes with the line behind it. */
 static uint64_t due_at(void) {
     size_t at = player.next;
@@ -135,7 +185,7 @@ static uint64_t due_at(void) {
         at++;
     if (at == record.action_count)
         return now_us();
-    uint64_t first = first_moment(), moment = record.actions[at].step.now;
+    uint64_t first = moment_from(0), moment = record.actions[at].step.now;
     return player.started_us + (uint64_t)((double)(moment > first ? moment - first : 0) / settings.speed);
 }
 
@@ -160,7 +210,9 @@ static uint64_t play_due(void) {
 static uint64_t turn_by_frames(void) {
     player_wait(0);
     uint64_t next = ending_signal_all();
-    bool has_more = player.opens && !ending_has_begun();
+    bool has_more = settings.is_virtual || (player.opens && !ending_has_begun());
+    if (player.is_held_up)
+        return earlier(next, now_us() + LOOK_SOON_US);
     return has_more ? earlier(next, now_us() + LOOK_AGAIN_US) : next;
 }
 

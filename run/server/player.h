@@ -38,6 +38,13 @@ uint64_t repeats_play(void);
 /** Plays frames until a program's client has lost events, or no line is left. (losses.c) */
 bool has_client_lost(void);
 
+/** Where time is virtual: has it go on to where a program waits up to, if that comes before this moment.
+ * False where none does. (wakes.c) */
+bool wake_before(uint64_t moment);
+
+/** Begins virtual time, at the first line's moment, and at one second at least. */
+void player_begin_time(void);
+
 /** Whether the first loss that is wanted is to come now. (losses.c) */
 bool is_loss_due(void);
 

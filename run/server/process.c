@@ -16,8 +16,25 @@ enum { PATH_ROOM = 64, LINE_ROOM = 256 };
 static struct process processes[PROCESSES];
 static pid_t asking;
 
+/* The state of a process or a thread, by its file of /proc; 0 where there is none. */
+static char state_in(const char *path) {
+    char line[LINE_ROOM];
+    FILE *file = fopen(path, "r");
+    const char *behind = file && fgets(line, sizeof line, file) ? strrchr(line, ')') : NULL;
+    char state = behind && behind[1] ? behind[2] : 0;
+    if (file)
+        fclose(file);
+    return state;
+}
+
+/* (One that nobody has waited for yet is ended too.) */
 static bool has_ended(pid_t id) {
-    return kill(id, 0) && errno == ESRCH;
+    char path[PATH_ROOM];
+    if (kill(id, 0) && errno == ESRCH)
+        return true;
+    snprintf(path, sizeof path, "/proc/%d/stat", (int)id);
+    char state = state_in(path);
+    return state == 'Z' || state == 'X';
 }
 
 /* (A process of a namespace that is not seen from here has the number 0.) */
@@ -53,17 +70,14 @@ void process_is_answered(pid_t id) {
 
 /* Whether one of a process's threads runs, or would if a processor were free. */
 static bool is_running(pid_t id) {
-    char path[PATH_ROOM], line[LINE_ROOM];
+    char path[PATH_ROOM];
     snprintf(path, sizeof path, "/proc/%d/task", (int)id);
     DIR *threads = opendir(path);
     bool runs = false;
     for (struct dirent *thread; threads && (thread = readdir(threads)) && !runs;) {
         snprintf(path, sizeof path, "/proc/%d/task/%.16s/stat", (int)id, thread->d_name);
-        FILE *file = fopen(path, "r");
-        const char *state = file && fgets(line, sizeof line, file) ? strrchr(line, ')') : NULL;
-        runs = state && (state[2] == 'R' || state[2] == 'D');
-        if (file)
-            fclose(file);
+        char state = state_in(path);
+        runs = state == 'R' || state == 'D';
     }
     if (threads)
         closedir(threads);
@@ -84,19 +98,53 @@ static bool waits(pid_t id) {
     return (process && process->is_waiting) || is_at_rest(id);
 }
 
+static bool is_owned_by(const struct device *device, pid_t process) {
+    for (int i = 0; i < CLIENTS; i++) {
+        const struct client *client = &clients[i];
+        if (client->is_open && client->kind == NODE_UINPUT && client->device == device &&
+            client->owner == process)
+            return true;
+    }
+    return false;
+}
+
+/* Whether there is something that is going to be read. Who makes a device may open its node too, to ask for
+ * what it has, and read nothing (python3-evdev does). */
+static bool is_unread(const struct client *client) {
+    return client->kind != NODE_TIMER && client->has_byte &&
+           (client->has_read || !client->device || !client->device->is_made ||
+            !is_owned_by(client->device, client->owner));
+}
+
 /* Whether nothing is to be done for a client: it waits and has read all, or nobody cares for what is left. */
 static bool is_idle(const struct client *client) {
-    return client->has_byte ? is_at_rest(client->owner) : waits(client->owner);
+    return is_unread(client) ? is_at_rest(client->owner) : waits(client->owner);
 }
 
 bool is_all_read(void) {
     bool any = false;
     for (int i = 0; i < CLIENTS; i++) {
-        if (clients[i].is_open && clients[i].has_byte && !is_at_rest(clients[i].owner))
+        if (clients[i].is_open && is_unread(&clients[i]) && !is_at_rest(clients[i].owner))
             return false;
-        any |= clients[i].is_open;
+        any |= clients[i].is_open && clients[i].device;
     }
     return any;
+}
+
+/* (Where time is virtual a process without a node waits too, as for a while to be over. Each says when it
+ * begins.) */
+static bool all_known_wait(void) {
+    for (int i = 0; i < PROCESSES; i++)
+        if (processes[i].id && !waits(processes[i].id))
+            return false;
+    return true;
+}
+
+bool is_any_running(void) {
+    for (int i = 0; i < PROCESSES; i++)
+        if (processes[i].id && is_running(processes[i].id))
+            return true;
+    return false;
 }
 
 bool all_processes_wait(void) {
@@ -104,9 +152,9 @@ bool all_processes_wait(void) {
     for (int i = 0; i < CLIENTS; i++) {
         if (clients[i].is_open && !is_idle(&clients[i]))
             return false;
-        any |= clients[i].is_open;
+        any |= clients[i].is_open && clients[i].device;
     }
-    return any;
+    return settings.is_virtual ? all_known_wait() : any;
 }
 
 enum possession files_of(pid_t id) {
@@ -115,7 +163,7 @@ enum possession files_of(pid_t id) {
         const struct client *client = &clients[i];
         if (!client->is_open || client->owner != id)
             continue;
-        if (client->has_byte)
+        if (is_unread(client))
             return HAS_SOMETHING_TO_READ;
         found = HAS_READ_ALL;
     }

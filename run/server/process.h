@@ -27,6 +27,9 @@ void process_is_answered(pid_t id);
  * a file. */
 bool all_processes_wait(void);
 
+/** Whether a process runs that has asked something: one that waits may just go on, since something else came. */
+bool is_any_running(void);
+
 /** Whether there are open files, and nothing is left to read in any of them that somebody cares for: a
  * process that has asked nothing for long, and does not run, does not. */
 bool is_all_read(void);

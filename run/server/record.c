@@ -11,7 +11,7 @@
 
 struct record record;
 
-enum { WORDS = 12, ACTORS = 2048, LINE_ROOM = 8192, USUAL_LOG = 1048576, LONGEST_LOG = 8388608 };
+enum { WORDS = 12, ACTORS = 2048, LINE_ROOM = 8192, USUAL_LOG = 1048576 };
 
 static const char *const CAUSES[] = {
     "no cause",    "not-text", "bad-header", "bad-line",   "out-of-place", "no-actor",
@@ -41,7 +41,8 @@ static void end_description(struct reading *reading) {
     if (!reading->description)
         return;
     fclose(reading->description);
-    device_make(reading->device, reading->text);
+    if (!device_make(reading->device, reading->text))
+        fail("the device %s was refused", reading->device->record_name);
     free(reading->text);
     reading->description = NULL;
 }
@@ -64,12 +65,6 @@ static void add_actor(const struct reading *reading, const char *role, const cha
     actor->is_program = program && !actor->is_source && (!strcmp(program, "*") || !strcmp(program, name));
 }
 
-/* How far a clock is ahead of the monotonic one, whose moments the steps have. */
-static uint64_t clock_ahead(const char *name) {
-    uint64_t time = clock_us(name[0] == 'r' ? CLOCK_REALTIME : CLOCK_BOOTTIME), monotonic = now_us();
-    return time > monotonic ? time - monotonic : 0;
-}
-
 /* A line of a description goes to the library as it stands, but for two things: clocks are those of this
  * machine, and a history is as long as it may be where the record does not say. */
 static void add_description(struct reading *reading, const char *line, char **words) {
@@ -83,12 +78,15 @@ static void add_description(struct reading *reading, const char *line, char **wo
         device_set(device, EV_SYN, EV_ABS);
         device_set(device, EV_ABS, code_of_word(words[1]));
     }
+    if (!strcmp(what, "clock"))
+        device->ahead[words[1][0] == 'b'] = strtoull(words[2], NULL, 10);
     if (!strcmp(what, "slots"))
         device->slots = (uint32_t)strtoul(words[1], NULL, 10);
     if (!strcmp(what, "log") && strtoul(words[1], NULL, 10) == USUAL_LOG)
         fprintf(reading->description, "log %d\n", LONGEST_LOG);
     else if (!strcmp(what, "clock") && !settings.is_record_clock)
-        fprintf(reading->description, "clock %s %llu\n", words[1], (unsigned long long)clock_ahead(words[1]));
+        fprintf(reading->description, "clock %s %llu\n", words[1],
+                (unsigned long long)clock_ahead(words[1][0] == 'r' ? CLOCK_REALTIME : CLOCK_BOOTTIME));
     else
         fprintf(reading->description, "%s\n", line);
 }
@@ -176,6 +174,7 @@ void record_read(void) {
         fail("%s has no device", settings.record);
     check_program();
     identities_take((const char *)bytes, length);
+    nodes_make_maker();
     for (int i = 0; i < device_count; i++)
         nodes_make(&devices[i]);
     free(bytes);

@@ -34,6 +34,7 @@ enum {
     FIRST,
     CLIENTS,
     FIRST_LOSS,
+    VIRTUAL,
     KEEP,
     HELP
 };
@@ -53,6 +54,7 @@ static const struct option OPTIONS[] = {
     {"first", required_argument, NULL, FIRST},
     {"clients", required_argument, NULL, CLIENTS},
     {"first-loss", required_argument, NULL, FIRST_LOSS},
+    {"virtual", no_argument, NULL, VIRTUAL},
     {"keep", no_argument, NULL, KEEP},
     {"help", no_argument, NULL, HELP},
     {NULL, 0, NULL, 0},
@@ -111,6 +113,7 @@ static void take(int option, const char *name, const char *text) {
     case CLOCK: settings.is_record_clock = is_record_clock(text); break;
     case JOYSTICKS: settings.has_joysticks = true; break;
     case REPEATS: settings.has_repeats = true; break;
+    case VIRTUAL: settings.is_virtual = true; break;
     case KEEP: settings.is_kept = true; break;
     case HELP: fputs(USAGE, stdout); exit(0);
     default: take_number(option, name, text); break;
@@ -127,6 +130,7 @@ void settings_take(int count, char **words) {
     if (optind + 1 != count || !settings.folder)
         fail("one RECORD and --folder are wanted; see inputplay-serve --help");
     settings.record = words[optind];
-    if (settings.first_loss >= 0 && !is_by_frames())
+    settings.is_record_clock |= settings.is_virtual;
+    if ((settings.first_loss >= 0 || settings.is_virtual) && !is_by_frames())
         settings.frames = 1;
 }

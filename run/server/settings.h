@@ -18,6 +18,7 @@ struct settings {
     double speed;
     enum ending end;
     bool is_record_clock; /**< Events have the record's times, and not the clock's. */
+    bool is_virtual;      /**< The record's moments are the time that programs see. */
     bool is_kept;         /**< It outlives the program that started it. */
     bool has_joysticks;
     bool has_repeats;

@@ -12,9 +12,12 @@
 #include <sys/syscall.h>
 #include <unistd.h>
 
-static int open_node(int node, int flags) {
+int open_node(int node, int flags) {
     struct question question = {.request = {.kind = ASK_OPEN, .node = node, .flags = (uint32_t)flags},
                                 .brings = -1};
+    const char *root = shim_run()->root;
+    question.sent[0] = (struct iovec){(void *)(uintptr_t)root, strlen(root) + 1};
+    question.sent_count = node == maker_node();
     int result = ask(&question);
     if (result >= 0)
         atomic_store_explicit(&may_have_nodes, true, memory_order_relaxed);

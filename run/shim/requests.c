@@ -7,6 +7,8 @@
 #include <linux/joystick.h>
 #include <stdarg.h>
 
+enum { TEXT_MOST = 1024 };
+
 /* How many bytes an answer may have. (What JSIOCGCORR and EVIOCGMTSLOTS write is not in their numbers.) */
 static size_t answer_room(uint32_t number) {
     if (number == JSIOCGCORR)
@@ -32,16 +34,32 @@ static int mask_request(int descriptor, uint32_t number, const void *argument) {
     return ask(&question);
 }
 
+/* UI_SET_PHYS: a text, and no struct. */
+static int text_request(int descriptor, uint32_t number, const char *argument) {
+    char text[TEXT_MOST];
+    long length = copy_text_from_program(text, argument, sizeof text);
+    if (length < 0)
+        return (int)length;
+    struct question question = {
+        .request = {.kind = ASK_IOCTL, .number = number}, .brings = descriptor, .sent_count = 1};
+    question.sent[0] = (struct iovec){text, (size_t)length};
+    return ask(&question);
+}
+
 static int node_request(int descriptor, uint32_t number, void *argument) {
     if (number == (uint32_t)EVIOCGMASK || number == (uint32_t)EVIOCSMASK)
         return mask_request(descriptor, number, argument);
+    if (number == (uint32_t)UI_SET_PHYS)
+        return text_request(descriptor, number, argument);
     if (number == TCGETS)
         return -EINVAL; /* (asked by who wants to know whether it is a terminal) */
     struct question question = {.request = {.kind = ASK_IOCTL, .number = number}, .brings = descriptor};
     question.request.flags = is_by_value(number) && argument;
+    question.request.value = (uintptr_t)argument < UINT32_MAX ? (uint32_t)(uintptr_t)argument : UINT32_MAX;
     question.sent[0] = (struct iovec){argument, bytes_sent(number)};
     question.sent_count = bytes_sent(number) > 0;
-    question.answer = (struct iovec){argument, answer_room(number)};
+    if (answer_room(number)) /* (else the argument is no place, and may be anything) */
+        question.answer = (struct iovec){argument, answer_room(number)};
     return ask(&question);
 }
 

@@ -9,11 +9,16 @@
 #include "protocol.h"
 
 #include <dlfcn.h>
+#include <poll.h>
+#include <signal.h>
 #include <stdatomic.h>
 #include <stdbool.h>
 #include <stddef.h>
 #include <stdint.h>
 #include <sys/uio.h>
+#include <time.h>
+
+enum { PATH_ROOM = 4096 };
 
 #define EXPORT __attribute__((visibility("default")))
 
@@ -33,10 +38,11 @@ static inline void *real_function(_Atomic(void *) *found, const char *name) {
 
 /** What the environment says of the run. */
 struct run {
-    char folder[4096]; /**< Empty where the program is in no run. */
-    uint64_t number;   /**< Of the names of the run's ends. */
-    int first_number;  /**< The number of the first node. */
-    bool is_by_frames; /**< Frames come where programs wait, so they say when they do. */
+    char folder[PATH_ROOM]; /**< Empty where the program is in no run. */
+    char root[PATH_ROOM];   /**< Where the folder sys stands in truth: umockdev shows another one. */
+    uint64_t number;        /**< Of the names of the run's ends. */
+    int first_number;       /**< The number of the first node. */
+    bool is_by_frames;      /**< Frames come where programs wait, so they say when they do. */
 };
 
 /** The run, which is read from the environment once. (run.c) */
@@ -48,12 +54,12 @@ extern atomic_bool may_have_nodes;
 /** The node that a path below /dev names, or -1. (paths.c) */
 int node_of_dev_path(const char *path);
 
-/** Where a path below /dev or /run stands in truth. (paths.c) */
+/** Where a path below /dev, /run or /sys stands in truth. (paths.c) */
 const char *true_dev_path(const char *path, char *room, size_t size);
 
 /** Whether a path begins as those do that the shim may have to do with. Most do not. */
 static inline bool may_be_mapped(const char *path) {
-    return path && path[0] == '/' && (path[1] == 'd' || path[1] == 'r');
+    return path && path[0] == '/' && (path[1] == 'd' || path[1] == 'r' || path[1] == 's');
 }
 
 /** The node that a path names, or -1. */
@@ -66,7 +72,8 @@ static inline const char *true_path(const char *path, char *room, size_t size) {
     return may_be_mapped(path) ? true_dev_path(path, room, size) : path;
 }
 
-/** The minor number of a node. (paths.c) */
+/** The major and the minor number of a node. (paths.c) */
+unsigned major_of_node(int node);
 unsigned minor_of_node(int node);
 
 /** The node that a socket's other end is named for, or -1. (descriptors.c) */
@@ -107,6 +114,35 @@ bool tell_wait(int descriptor);
 
 /** Copies from the program's memory: false where it is not there. (memory.c) */
 bool copy_from_program(void *to, const void *from, size_t length);
+
+/** Copies a text with its NUL from the program's memory: its length with the NUL, or -EFAULT, or -EINVAL
+ * where there is no room for it. (memory.c) */
+long copy_text_from_program(char *to, const char *from, size_t room);
+
+/** Opens a node: its descriptor, or -1 and errno. (files.c) */
+int open_node(int node, int flags);
+
+/** Where time is virtual, shows its clock. (time.c) */
+void show_virtual_clock(const char *folder);
+
+/** Whether time is virtual, and how late it is then, in microseconds of the monotonic clock. (time.c) */
+bool is_virtual(void);
+uint64_t virtual_now(void);
+
+/** A time in microseconds, rounded up; and the virtual moment in that time, for NULL the last one there is.
+ * (virtual.c) */
+uint64_t microseconds_of(const struct timespec *time);
+uint64_t moment_in(const struct timespec *time);
+
+/** Waits for files up to a virtual moment, as ppoll() does. (virtual.c) */
+int wait_virtually(struct pollfd *files, nfds_t count, uint64_t until, const sigset_t *mask);
+
+/** A wait for what is no file, with no end: false where it was not told. And its end. (virtual.c) */
+bool begin_wait(struct line *line);
+void end_wait(struct line line);
+
+/** Tells the server of a process that begins; 0: this one. (virtual.c) */
+void tell_begin(pid_t process);
 
 /** A system call's result: what it gives, or -1 and errno. */
 long with_errno(long result);

@@ -1,16 +1,16 @@
-/* What a node is: a character device of major 13, as evdev's are. */
+/* What a node is: a character device of the numbers that the kernel's has. */
 #include "shim.h"
 
 #include <limits.h>
 #include <sys/stat.h>
 #include <sys/sysmacros.h>
 
-enum { INPUT_MAJOR = 13, NODE_MODE = S_IFCHR | 0660 };
+enum { NODE_MODE = S_IFCHR | 0660 };
 
 #define AS_NODE(result, node, status) \
-    if ((result) == 0 && (node) >= 0) { \
+    if ((result) == 0 && (node) >= 0 && kind_of_node(node) != NODE_TIMER) { \
         (status)->st_mode = NODE_MODE; \
-        (status)->st_rdev = makedev(INPUT_MAJOR, minor_of_node(node)); \
+        (status)->st_rdev = makedev(major_of_node(node), minor_of_node(node)); \
         (status)->st_size = 0; \
     }
 
@@ -77,9 +77,9 @@ EXPORT int statx(int at, const char *restrict path, int flags, unsigned mask, st
     char room[PATH_MAX];
     int node = path[0] ? node_of_path(path) : node_of_descriptor(at);
     int result = real(at, true_path(path, room, sizeof room), flags, mask, status);
-    if (result == 0 && node >= 0) {
+    if (result == 0 && node >= 0 && kind_of_node(node) != NODE_TIMER) {
         status->stx_mode = NODE_MODE;
-        status->stx_rdev_major = INPUT_MAJOR;
+        status->stx_rdev_major = major_of_node(node);
         status->stx_rdev_minor = minor_of_node(node);
     }
     return result;

@@ -70,6 +70,11 @@ def words() -> RunWords:
         help="behind the last line: nothing, an unplug, or this signal to the programs",
     )
     told.add_argument("--clock", choices=("now", "record"), default="now", help="which times events have")
+    told.add_argument(
+        "--virtual",
+        action="store_true",
+        help="programs' clocks, sleeps and timeouts go by the record's times, as fast as they can (frames: 1)",
+    )
     told.add_argument("--joysticks", action="store_true", help="each device is /dev/input/jsN too")
     told.add_argument("--repeats", action="store_true", help="keys repeat by a timer")
     told.add_argument(
@@ -141,12 +146,13 @@ def server_words(asked: argparse.Namespace, record: Given, history: Optional[str
         "--history": history,
     }
     given = [word for name, value in named.items() if value is not None for word in (name, str(value))]
-    flags = [f"--{name}" for name in ("joysticks", "repeats") if getattr(asked, name)]
+    flags = [f"--{name}" for name in ("joysticks", "repeats", "virtual") if getattr(asked, name)]
     return [*given, *flags, "--", os.path.abspath(record.path)]
 
 
 def settings_of(asked: argparse.Namespace) -> Settings:
-    return Settings(asked.first, bool(asked.frames) or asked.first_loss is not None, asked.end)
+    is_by_frames = bool(asked.frames) or asked.first_loss is not None or asked.virtual
+    return Settings(asked.first, is_by_frames, asked.end, asked.virtual)
 
 
 def run_program(run: Run, asked: argparse.Namespace, program: List[str], record: Optional[Given]) -> int:

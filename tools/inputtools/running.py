@@ -39,6 +39,7 @@ class Settings:
     first: int
     is_by_frames: bool
     end: str
+    is_virtual: bool = False
 
 
 @dataclass
@@ -68,6 +69,7 @@ def environment(run: Run) -> Dict[str, str]:
         "INPUTPLAY_RUN_FOLDER": run.folder,
         "INPUTPLAY_RUN_FIRST": str(run.settings.first),
         "INPUTPLAY_RUN_BY_FRAMES": "1" if run.settings.is_by_frames else "0",
+        "INPUTPLAY_RUN_VIRTUAL": "1" if run.settings.is_virtual else "0",
         "LD_PRELOAD": built(SHIM) + (f":{before}" if before else ""),
     }
 
@@ -130,12 +132,14 @@ class Kept:
     first: int
     is_by_frames: bool
     end: str
+    is_virtual: bool
 
 
 def keep(run: Run) -> None:
     """Writes what programs that start later have to know: for this command, and for a shell."""
     assert run.server is not None
-    kept = Kept(run.server.pid, run.settings.first, run.settings.is_by_frames, run.settings.end)
+    settings = run.settings
+    kept = Kept(run.server.pid, settings.first, settings.is_by_frames, settings.end, settings.is_virtual)
     with open(run.path(SETTINGS), "w", encoding="utf-8") as file:
         json.dump(asdict(kept), file)
     with open(run.path(ENVIRONMENT), "w", encoding="utf-8") as file:
@@ -156,7 +160,7 @@ def join(folder: str) -> Run:
     kept = kept_in(folder)
     if not is_alive(kept.server):
         raise Wrong(f"{folder}: its server has ended; {said_by(folder) or 'remove the folder'}")
-    return Run(folder, Settings(kept.first, kept.is_by_frames, kept.end))
+    return Run(folder, Settings(kept.first, kept.is_by_frames, kept.end, kept.is_virtual))
 
 
 def is_alive(process: int) -> bool:
