@@ -9,8 +9,8 @@ import subprocess
 from pathlib import Path
 from typing import List, Tuple
 
-from playing import TOP
-from test_run_calls import RunCase, compiled
+from tests.playing import TOP
+from tests.test_run_calls import RunCase, compiled
 
 from inputtools import runsystem
 

@@ -11,8 +11,8 @@ import time
 from pathlib import Path
 from typing import List
 
-from playing import TOP
-from test_run_calls import RunCase, compiled
+from tests.playing import TOP
+from tests.test_run_calls import RunCase, compiled
 
 from inputtools import runsystem
 
