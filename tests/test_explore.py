@@ -9,6 +9,7 @@ import unittest
 
 from tests.desk_cases import DeskCase, heed_stops
 from tests.explore_cases import TOP, counted_things, explored_record, things_of, whole_graph
+from inputtools.belief import Thing
 from inputtools.explored_record import units_of
 from inputtools.exploring_graph import Graph
 
@@ -453,7 +454,7 @@ class Command(DeskCase):
 
         real = ends.differences_of_bits
         self.addCleanup(setattr, ends, "differences_of_bits", real)
-        ends.differences_of_bits = lambda actor, device: [(("EV_KEY", "KEY_A"), 1, 0)]
+        ends.differences_of_bits = lambda actor, device: [(Thing("EV_KEY", "KEY_A"), 1, 0)]
         status, lines = self.explore(self.record(HEAD + OPEN))
         self.assertEqual(5, status)
         self.assertIn("BUT: played again, this order does not have it", "\n".join(lines))

@@ -1,5 +1,6 @@
 """bin/inputplay and tools/install: the program by its name, built where it is not there; in a tree of its own."""
 
+import contextlib
 import os
 import pty
 import shutil
@@ -21,6 +22,15 @@ try) echo 'device d steps 0'; echo 'run=ended status=0 runners=1 proved=no' >&2;
 esac
 """
 CRATES = "# the crates\nlow:\nmiddle: low bitflags\naside: low\ntests_other: middle\ninp_main: middle aside\nhigh: inp_main\n"
+
+
+def all_of(terminal: int) -> str:
+    """All that was written to a terminal whose other side is closed."""
+    parts = []
+    with contextlib.suppress(OSError):
+        while True:
+            parts.append(os.read(terminal, 65536))
+    return b"".join(parts).decode()
 
 
 class TreeCase(DeskCase):
@@ -91,9 +101,10 @@ class Inputplay(TreeCase):
         done = subprocess.run(words, env=env, cwd=self.folder, stdin=subprocess.DEVNULL, stdout=subprocess.PIPE, stderr=other,
                               check=False)
         os.close(other)
-        said = os.read(terminal, 65536).decode().replace("\x1b[K", "")
+        said = all_of(terminal).replace("\x1b[K", "")
         self.assertEqual((6, b"played: x.rec\n"), (done.returncode, done.stdout), said)
-        self.assertIn("\rinputplay: 0 of 4 crates are built, 0:00: low\r", said)
+        self.assertIn("\rinputplay: 0 of 4 crates are built, 0:0", said)
+        self.assertIn(": low\r", said)
         self.assertTrue(said.endswith("\r"), said)
 
     def test_a_terminal_is_asked(self):
