@@ -248,10 +248,12 @@ class Words(PlayCase):
                 self.assertIn(said, lines[1])
 
     def test_stopped_from_the_keyboard(self):
-        program = self.file("slow", "#!/bin/sh\nexec sleep 20\n")
+        begun = self.folder / "begun"
+        program = self.file("slow", f"#!/bin/sh\n: > {begun}\nexec sleep 20\n")
         program.chmod(0o755)
         for tool, words in (("play", []), ("stuck", []), ("draw", [])):
             with self.subTest(tool):
+                begun.unlink(missing_ok=True)
                 started = subprocess.Popen(
                     [TOOLS / tool, *words, EXAMPLES / "one_key.rec"],
                     env={**os.environ, "INPUTPLAY": str(program)},
@@ -261,7 +263,11 @@ class Words(PlayCase):
                     start_new_session=True,
                     preexec_fn=heed_stops,
                 )
-                time.sleep(1)
+                for _ in range(200):
+                    if begun.exists():
+                        break
+                    time.sleep(0.1)
+                time.sleep(0.2)
                 os.killpg(started.pid, signal.SIGINT)
                 text, said = started.communicate(timeout=20)
                 self.assertEqual((130, "", f"{tool}: stopped"), (started.returncode, text, said.splitlines()[-1]))
