@@ -16,7 +16,7 @@ IDLE = 1000
 
 # Of runs that tell an owner something so many are looked at. Others tell it nothing: those are made anew, but for so
 # many runs at most.
-TELLING_RUNS = 20
+TELLING_RUNS = 8
 MOST_RUNS = 400
 
 SOURCE_ALONE = b"""inputrecord 1
@@ -144,11 +144,11 @@ class Threads(FolderCase):
 
     def test_an_owner_is_told_what_was_sent_in_its_order(self):
         """Which call takes what differs by run. As long as all that is sent can wait nothing is left out."""
-        for told in self.each_telling(15, 40):
+        for told in self.each_telling(15, 400):
             self.assertEqual(list(range(1, len(told) + 1)), told)
 
     def test_an_owner_that_is_slow_is_told_nothing_twice(self):
-        for told in self.each_telling(400, 60):
+        for told in self.each_telling(1500, 1500):
             self.assertEqual(sorted(set(told)), told)
 
     def test_reports_that_depend_on_no_order(self):
