@@ -29,7 +29,9 @@ class Remapper(RunCase):
             needs(self, program, "interception-tools")
         needs(self, "caps2esc", "interception-caps2esc")
         record, node = self.records / "keyboard.rec", "/dev/input/event0"
-        words = ["--as", "reader", "--frames", "1", "--clients", "3", "--clock", "record", "--end", "term", record]
+        # (the programs behind the first one wait at a pipe, and ask for nothing)
+        words = ["--as", "reader", "--frames", "1", "--patience", "50", "--clients", "3", "--clock", "record",
+                 "--end", "term", record]
         chain = f"interception -g {node} | caps2esc | uinput -d {node} & {READER}; wait"
         done = self.ran(words, ["sh", "-c", chain])
         self.says(done, r"\(KEY_CAPSLOCK\), value", 0)
