@@ -10,7 +10,8 @@ from checks.trial import TOP, Run, run_once
 
 
 def add_words(parser: argparse.ArgumentParser) -> None:
-    parser.add_argument("--word", action="append", default=[], help="a word before the file, as --word=--history")
+    parser.add_argument("--word", action="append", default=[],
+                        help="a word before the file, as --word=--history")
 
 
 def records_of(parser: argparse.ArgumentParser, names: Sequence[str], usual: Sequence[str]) -> List[Path]:
@@ -31,7 +32,8 @@ class Failing:
         self.program, self.library, self.tell = program, Path(folder) / "failing.so", Path(folder) / "told"
         self.piece = {"FAILING_PIECE": str(piece)} if piece else {}
         source = TOP / "checks" / "failing.c"
-        command = [os.environ.get("CC", "cc"), "-shared", "-fPIC", "-O2", "-o", str(self.library), str(source)]
+        command = [os.environ.get("CC", "cc"), "-shared", "-fPIC", "-O2", "-o", str(self.library),
+                   str(source)]
         try:
             subprocess.run(command, check=True, capture_output=True, text=True)
         except OSError as error:
@@ -39,13 +41,16 @@ class Failing:
         except subprocess.CalledProcessError as error:
             parser.error(f"{source} does not compile: {error.stderr}")
         if not is_linked_dynamically(program):
-            parser.error(f"{program} is not linked dynamically, so its calls of the C library cannot be made to fail")
+            parser.error(
+                f"{program} is not linked dynamically, so its calls of the C library cannot be made to fail"
+            )
 
     def run(self, kind: str, at: int, how: str, words: Sequence[str], folder: Path, seconds: float,
             **more: Any) -> Tuple[Run, List[str]]:
         """A run in which the call fails, and the words that tell of this call; none where there were fewer calls."""
         with open(self.tell, "w+b") as tell:
-            failing = {"FAILING": kind, "FAILING_AT": str(at), "FAILING_HOW": how, "FAILING_TELL": str(tell.fileno())}
+            failing = {"FAILING": kind, "FAILING_AT": str(at), "FAILING_HOW": how,
+                       "FAILING_TELL": str(tell.fileno())}
             env = {**os.environ, **self.piece, **failing, "LD_PRELOAD": str(self.library)}
             run = run_once(self.program, words, folder, seconds, env=env, pass_fds=(tell.fileno(),), **more)
             tell.seek(0)

@@ -6,10 +6,8 @@ from typing import Iterable, Tuple
 
 def marks(script: str) -> Tuple[str, str]:
     """The lines before and after what a script writes."""
-    return (
-        f"<!-- what follows is written by {script} --write -->",
-        f"<!-- what was written by {script} ends here -->",
-    )
+    return (f"<!-- what follows is written by {script} --write -->",
+            f"<!-- what was written by {script} ends here -->")
 
 
 def write(top: Path, page: str, script: str, rows: Iterable[str]) -> None:

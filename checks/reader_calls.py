@@ -100,7 +100,8 @@ class Beside:
             same("client", reader.client, self.kept.client)
         except self.library.StepRefused as refused:
             self.kept, why = None, int(refused.why)
-        same("why", refusal_of(model.calls), why and self.library.Why(why).name.lower().replace("_", "-") or "")
+        same("why", refusal_of(model.calls),
+             why and self.library.Why(why).name.lower().replace("_", "-") or "")
         self.note("start", self.device.number, number, why, self.kept.client if self.kept else 0)
 
     def next(self, at: int) -> None:

@@ -42,7 +42,8 @@ def run_once(program: str, words: Sequence[str], folder: Union[str, Path], secon
     """A run of the program in a folder. It is killed after so many seconds, and then has no status."""
     more = {"stdout": subprocess.PIPE, "stderr": subprocess.PIPE, **more}
     try:
-        done = subprocess.run([program, *words], cwd=folder, stdin=subprocess.DEVNULL, timeout=seconds, **more)
+        done = subprocess.run([program, *words], cwd=folder, stdin=subprocess.DEVNULL, timeout=seconds,
+                              **more)
     except subprocess.TimeoutExpired as late:
         return Run(None, late.stdout or b"", late.stderr or b"")
     return Run(done.returncode, done.stdout or b"", done.stderr or b"")

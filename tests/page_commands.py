@@ -31,6 +31,6 @@ class PageCase(DeskCase):
         self.assertGreaterEqual(len(shown), least)
         for command, lines in shown:
             with self.subTest(command):
-                done = subprocess.run(["bash", "-c", command], cwd=self.folder, capture_output=True, text=True,
-                                      env={**os.environ, "INPUTPLAY": PROGRAM}, check=False)
+                done = subprocess.run(["bash", "-c", command], cwd=self.folder, capture_output=True,
+                                      text=True, env={**os.environ, "INPUTPLAY": PROGRAM}, check=False)
                 self.assertEqual((0, lines), (done.returncode, done.stdout.splitlines()), done.stderr)

@@ -18,10 +18,8 @@ RECORDS = TOP / "tests" / "records"
 EXAMPLES = TOP / "examples"
 PROGRAM = os.environ.get("INPUTPLAY") or str(TOP / "crates" / "inp_main" / "out" / "inp_main")
 
-USAGE = (
-    b"usage: inputplay [--threads] [--history] [--idle N] FILE, or inputplay --migrate FILE, "
-    b"or inputplay --make NUMBER [--count COUNT]\n"
-)
+USAGE = (b"usage: inputplay [--threads] [--history] [--idle N] FILE, or inputplay --migrate FILE, "
+         b"or inputplay --make NUMBER [--count COUNT]\n")
 
 # No run takes longer than a part of a second; one that hangs is a failure.
 SECONDS = 30
@@ -65,14 +63,8 @@ def run(words: Iterable[object], folder: Path, **more: Any) -> Run:
     """Runs the program with these words in a folder. Its text is read, unless `stdout` says where it goes."""
     needs_program()
     more = {"stdout": subprocess.PIPE, **more}
-    done = subprocess.run(
-        [PROGRAM, *map(str, words)],
-        cwd=folder,
-        stdin=subprocess.DEVNULL,
-        stderr=subprocess.PIPE,
-        timeout=SECONDS,
-        **more,
-    )
+    done = subprocess.run([PROGRAM, *map(str, words)], cwd=folder, stdin=subprocess.DEVNULL,
+                          stderr=subprocess.PIPE, timeout=SECONDS, **more)
     return Run(done.returncode, done.stdout or b"", done.stderr)
 
 

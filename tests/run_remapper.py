@@ -18,7 +18,8 @@ class Remapper(RunCase):
     def test_python(self) -> None:
         python, record = needs_module(self, "evdev", "python3-evdev"), self.records / "keyboard.rec"
         # (the remapper opens the keyboard, and looks at both devices for its own; then evtest opens that one)
-        words = ["--as", "reader", "--frames", "1", "--clients", "4", "--clock", "record", "--end", "term", record]
+        words = ["--as", "reader", "--frames", "1", "--clients", "4", "--clock", "record", "--end", "term",
+                 record]
         done = self.ran(words, ["sh", "-c", f"{python} {HERE}/remap.py & {READER}; wait"])
         keys = sent(record, " EV_KEY KEY_(A|B) [01]$")
         self.says(done, r"\(KEY_B\), value [01]$", keys)
@@ -29,7 +30,8 @@ class Remapper(RunCase):
             needs(self, program, "interception-tools")
         needs(self, "caps2esc", "interception-caps2esc")
         record, node = self.records / "keyboard.rec", "/dev/input/event0"
-        words = ["--as", "reader", "--frames", "1", "--clients", "3", "--clock", "record", "--end", "term", record]
+        words = ["--as", "reader", "--frames", "1", "--clients", "3", "--clock", "record", "--end", "term",
+                 record]
         chain = f"interception -g {node} | caps2esc | uinput -d {node} & {READER}; wait"
         done = self.ran(words, ["sh", "-c", chain])
         self.says(done, r"\(KEY_CAPSLOCK\), value", 0)

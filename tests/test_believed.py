@@ -203,12 +203,14 @@ class Believed(FolderCase):
         came = self.small("--write")
         line = "checks/believed: docs/PROMISES.md has not both marks of what is written there\n"
         self.assertEqual((2, "", line), (came.returncode, came.stdout, came.stderr))
-        marks = re.findall(r"^<!-- .* checks/believed .*-->$", (TOP / "docs" / "PROMISES.md").read_text(), re.M)
+        marks = re.findall(r"^<!-- .* checks/believed .*-->$", (TOP / "docs" / "PROMISES.md").read_text(),
+                           re.M)
         self.write("docs/PROMISES.md", "\n".join(["Page", marks[0], "old", marks[1], "end"]))
         self.assertEqual(0, self.small("--write").returncode)
         table = self.small("--page").stdout
         self.assertEqual("\n".join(["Page", marks[0], table + marks[1], "end"]), page.read_text())
-        self.assertIn("| `low` | `Kept`, `Color`, the numbers in `color.rt` | `Seen`, `Mixing` | 17 | 27 |\n", table)
+        self.assertIn("| `low` | `Kept`, `Color`, the numbers in `color.rt` | `Seen`, `Mixing` | 17 | 27 |\n",
+                      table)
         self.assertIn("| `inp_tool` | `Giver` | `Promise` | 5 | 7 |\n", table)
 
     def rename_to_top_call(self):
@@ -219,14 +221,14 @@ class Believed(FolderCase):
             self.write(path, text.replace("high", "inp_tool").replace("pub fn call<", "pub fn inputplay<"))
 
     def test_wrong_input(self):
-        for words, line in [
-            (["nix", "top.rt", "call"], f"{self.folder}/crates/nix/src/top.rt is not there"),
-            (["high", "nix.rt", "call"], f"{self.folder}/crates/high/src/nix.rt is not there"),
-            (["high", "top.rt", "nix"], "high/src/top.rt has no nix"),
-        ]:
+        for words, line in [(["nix", "top.rt", "call"], f"{self.folder}/crates/nix/src/top.rt is not there"),
+                            (["high", "nix.rt", "call"],
+                             f"{self.folder}/crates/high/src/nix.rt is not there"),
+                            (["high", "top.rt", "nix"], "high/src/top.rt has no nix")]:
             with self.subTest(line):
                 came = self.small(*words)
-                self.assertEqual((2, "", f"checks/believed: {line}\n"), (came.returncode, came.stdout, came.stderr))
+                self.assertEqual((2, "", f"checks/believed: {line}\n"),
+                                 (came.returncode, came.stdout, came.stderr))
 
     def test_help_and_options(self):
         self.assertIn("FUNCTION", self.believed("--help").stdout)
@@ -240,7 +242,8 @@ class Numbers(FolderCase):
         numbers = [key for key, item in reached.items() if item.kind == "const"]
         self.assertGreater(len(numbers), 40)
         once = {key.name for key in numbers if not self.is_proved(repository, key)}
-        paragraph = re.search(r"Beside each constant.*?\n\n", (TOP / "docs" / "PROMISES.md").read_text(), re.S)[0]
+        paragraph = re.search(r"Beside each constant.*?\n\n", (TOP / "docs" / "PROMISES.md").read_text(),
+                              re.S)[0]
         self.assertEqual(once, set(re.findall(r"`(\w+)`", paragraph)))
 
     def is_proved(self, repository, key):

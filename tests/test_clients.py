@@ -7,11 +7,9 @@ from tests.playing import TOP, FolderCase, run
 CLIENTS = TOP / "bench" / "clients"
 
 # Two taps, and eight frames of two events. The opens are steps 0 and 1; where masks are set these are 2 and 3.
-WAYS = {
-    "read": ["call read 0 64 reply took 18 16", "call read 1 64 reply took 19 16"],
-    "discard": ["call discard 0 reply discarded 18 16", "call discard 1 reply discarded 19 16"],
-    "none": ["again 20", "again 20"],
-}
+WAYS = {"read": ["call read 0 64 reply took 18 16", "call read 1 64 reply took 19 16"],
+        "discard": ["call discard 0 reply discarded 18 16", "call discard 1 reply discarded 19 16"],
+        "none": ["again 20", "again 20"]}
 
 
 class Clients(FolderCase):
@@ -27,16 +25,16 @@ class Clients(FolderCase):
                 came = run(["one"], self.folder)
                 self.assertEqual(0, came.status)
                 lines = came.text.decode().splitlines()
-                self.assertEqual(answers, [line for line in lines if line.startswith(("call read", "call discard", "again"))])
+                self.assertEqual(answers,
+                                 [line for line in lines
+                                  if line.startswith(("call read", "call discard", "again"))])
 
     def test_wrong_input(self):
         none = str(self.folder / "none")
-        for words, told in (
-            (["--clients", "65"], "65 is not 1 to 64"),
-            (["--frames", "7"], "7 is not 8 to 100000"),
-            (["--print", "all"], "invalid choice: 'all'"),
-            ([none], f"{none} is not there"),
-        ):
+        for words, told in ((["--clients", "65"], "65 is not 1 to 64"),
+                            (["--frames", "7"], "7 is not 8 to 100000"),
+                            (["--print", "all"], "invalid choice: 'all'"),
+                            ([none], f"{none} is not there")):
             with self.subTest(words=words):
                 ended = self.asked(*words)
                 self.assertEqual((2, ""), (ended.returncode, ended.stdout))

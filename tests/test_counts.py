@@ -123,7 +123,8 @@ class Counts(FolderCase):
         marks = re.findall(r"^<!-- .* -->$", (TOP / "docs" / "TESTING.md").read_text(), re.M)
         self.write("docs/TESTING.md", "\n".join(["Page", marks[0], "old", marks[1], "end"]))
         self.assertEqual(0, self.small("--write").returncode)
-        self.assertEqual("\n".join(["Page", marks[0], self.small("--page").stdout + marks[1], "end"]), page.read_text())
+        self.assertEqual("\n".join(["Page", marks[0], self.small("--page").stdout + marks[1], "end"]),
+                         page.read_text())
 
     def test_wrong_input(self):
         self.assertIn("--write", self.counts("--help").stdout)

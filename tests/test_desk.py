@@ -23,7 +23,8 @@ class Desk(FolderCase):
         self.assertTrue(found, last)
         *ends, parts, _ = came.stdout.splitlines()
         self.assertEqual(int(found[1]), sum(int(line.split()[0]) for line in ends))
-        self.assertRegex(parts, r"^of the random records \d have filters, \d have joysticks, \d have an owner$")
+        self.assertRegex(parts,
+                         r"^of the random records \d have filters, \d have joysticks, \d have an owner$")
         for tool in ("play", "stuck", "draw", "check", "compare", "export", "describe", "record"):
             self.assertRegex(came.stdout, rf"\b{tool} +status \d +\d+\.\d s\n")
 
@@ -45,10 +46,8 @@ class Desk(FolderCase):
         """A tool that does not end as it should, in a process of its own."""
         desk = loaded(SCRIPT)
         desk.TOOLS = self.folder
-        for name, text in {
-            "odd": "raise IndexError('no')", "exits": "import sys\nprint('out')\nsys.exit(3)",
-            "reads": "import sys\nprint(sys.stdin.read(), sys.argv[1:])",
-        }.items():
+        for name, text in {"odd": "raise IndexError('no')", "exits": "import sys\nprint('out')\nsys.exit(3)",
+                           "reads": "import sys\nprint(sys.stdin.read(), sys.argv[1:])"}.items():
             (self.folder / name).write_text(text)
         status, _, said = desk.run("odd", [], self.folder)
         self.assertEqual((70, True), (status, said.endswith(b"IndexError: no\n")))

@@ -79,12 +79,8 @@ class Numbers(unittest.TestCase):
 
     def test_guard(self):
         """A remapper that asks before it grabs: 19 and 18 of a hundred orders still end wrong."""
-        rows = self.has(
-            DATA / "grabs_when_no_key_is_down.rec",
-            "compositor",
-            7512,
-            {"KEY_LEFTCTRL": 1432, "KEY_ENTER": 1380},
-        )
+        rows = self.has(DATA / "grabs_when_no_key_is_down.rec", "compositor", 7512,
+                        {"KEY_LEFTCTRL": 1432, "KEY_ENTER": 1380})
         self.assertEqual(252, rows["waits", "remapper", ""])
 
     def test_barrier(self):
@@ -96,10 +92,9 @@ class Numbers(unittest.TestCase):
 
     def test_two_sources(self):
         _, rows = things_of((DATA / "two_sources_stage_slots.rec").read_text(), "c")
-        self.assertEqual(
-            {"the current slot": 16, "slot 0 ABS_MT_POSITION_X": 9, "slot 1 ABS_MT_POSITION_X": 16},
-            apart(rows),
-        )
+        self.assertEqual({"the current slot": 16, "slot 0 ABS_MT_POSITION_X": 9,
+                          "slot 1 ABS_MT_POSITION_X": 16},
+                         apart(rows))
 
     def test_bounds(self):
         path = STUCK.read_text()
@@ -122,9 +117,8 @@ class Units(unittest.TestCase):
     def test_frames(self):
         self.assertEqual([2], self.units(HEAD + PRESS))
         self.assertEqual([1, 1], self.units(HEAD + PRESS, "line"))
-        self.assertEqual(
-            [2, 1, 2, 1], self.units(HEAD + PRESS + "do s tick 5\n" + PRESS + PRESS.splitlines()[0] + "\n")
-        )
+        self.assertEqual([2, 1, 2, 1],
+                         self.units(HEAD + PRESS + "do s tick 5\n" + PRESS + PRESS.splitlines()[0] + "\n"))
 
     def test_a_barrier_ends_a_frame(self):
         first, second = PRESS.splitlines(keepends=True)
@@ -146,9 +140,8 @@ class Actors(unittest.TestCase):
         self.assertEqual((1, {}), things_of(HEAD + PRESS, "c"))
 
     def test_who_never_opens_is_not_judged(self):
-        self.assertEqual(
-            (2, {("refused", "grab", "bad-client"): 2}), things_of(HEAD + PRESS + "do c grab\n", "c")
-        )
+        self.assertEqual((2, {("refused", "grab", "bad-client"): 2}),
+                         things_of(HEAD + PRESS + "do c grab\n", "c"))
 
     def test_others_who_only_read_are_left_out(self):
         text = HEAD + "client other\n" + PRESS + OPEN + "do other open\ndo other follow\n"
@@ -157,13 +150,8 @@ class Actors(unittest.TestCase):
         self.assertEqual(["s", "c", "other"], graph.problem.names)
 
     def test_a_short_log_has_all_stay(self):
-        text = (
-            HEAD.replace("hint 8\n", "hint 8\nlog 5\n")
-            + "client other\n"
-            + PRESS
-            + OPEN
-            + "do other open\ndo other follow\n"
-        )
+        text = (HEAD.replace("hint 8\n", "hint 8\nlog 5\n") + "client other\n" + PRESS + OPEN
+                + "do other open\ndo other follow\n")
         _, rows = things_of(text, "c")
         self.assertIn(("full", "", ""), rows)
         self.assertNotEqual(things_of(text.replace("log 5\n", ""), "c"), (_, rows))
@@ -207,16 +195,10 @@ class Command(DeskCase):
 
     def test_nothing_wrong(self):
         path = self.record(HEAD + PRESS + OPEN)
-        self.assertEqual(
-            (
-                0,
-                [
-                    f"{path}: c with s: all 3 orders, 6 states",
-                    "  in none of them is anything wrong at the end",
-                ],
-            ),
-            self.explore(path, "--fail"),
-        )
+        self.assertEqual((0,
+                          [f"{path}: c with s: all 3 orders, 6 states",
+                           "  in none of them is anything wrong at the end"]),
+                         self.explore(path, "--fail"))
 
     def test_one_order(self):
         path = self.record(HEAD + OPEN)
@@ -225,43 +207,22 @@ class Command(DeskCase):
     def test_wrong_in_some(self):
         status, lines = self.explore(STUCK, "--of", "desktop")
         self.assertEqual(0, status)
-        self.assertEqual(
-            [
-                "  KEY_LEFTCTRL: down for it, up on the device, "
-                "in 147 of all 2,520 orders: 5.83 of a hundred, by chance 1.37",
-                "    why: grab of remapper from place 4 (0.001 s) on",
-                "    a short order, 3 changes of actor, 7 of 12 lines:",
-                "      usb       KEY_LEFTCTRL 1, SYN_REPORT 0",
-                "      remapper  open, grab",
-                "      desktop   open",
-                "      usb       KEY_LEFTCTRL 0, SYN_REPORT 0",
-            ],
-            lines[1:],
-        )
+        self.assertEqual(["  KEY_LEFTCTRL: down for it, up on the device, "
+                          "in 147 of all 2,520 orders: 5.83 of a hundred, by chance 1.37",
+                          "    why: grab of remapper from place 4 (0.001 s) on",
+                          "    a short order, 3 changes of actor, 7 of 12 lines:",
+                          "      usb       KEY_LEFTCTRL 1, SYN_REPORT 0", "      remapper  open, grab",
+                          "      desktop   open", "      usb       KEY_LEFTCTRL 0, SYN_REPORT 0"],
+                         lines[1:])
 
     def test_json(self):
         explored, thing = self.objects(STUCK, "--of", "desktop")
-        self.assertEqual(
-            ("explored", "desktop", ["usb", "remapper"], 2520, True),
-            tuple(explored[name] for name in ("kind", "actor", "others", "orders", "is_all")),
-        )
-        self.assertEqual(
-            ("thing", "apart", "KEY_LEFTCTRL", "down", "up", 147, 4, "grab", True),
-            tuple(
-                thing[name]
-                for name in (
-                    "kind",
-                    "what",
-                    "thing",
-                    "believed",
-                    "present",
-                    "orders",
-                    "changes",
-                    "cause",
-                    "plays",
-                )
-            ),
-        )
+        self.assertEqual(("explored", "desktop", ["usb", "remapper"], 2520, True),
+                         tuple(explored[name] for name in ("kind", "actor", "others", "orders", "is_all")))
+        self.assertEqual(("thing", "apart", "KEY_LEFTCTRL", "down", "up", 147, 4, "grab", True),
+                         tuple(thing[name]
+                               for name in ("kind", "what", "thing", "believed", "present", "orders",
+                                            "changes", "cause", "plays")))
         self.assertEqual("inputrecord 2", thing["lines"][0])
 
     def test_a_bound_is_named(self):
@@ -278,10 +239,8 @@ class Command(DeskCase):
 
     def test_what_draws_do_not_show(self):
         path = self.record(HEAD + PRESS + OPEN)
-        self.assertEqual(
-            ["  in none of them is anything wrong: at most 3 in 40 are, with 95 of a hundred"],
-            self.explore(path, "--draw", "40")[1][1:],
-        )
+        self.assertEqual(["  in none of them is anything wrong: at most 3 in 40 are, with 95 of a hundred"],
+                         self.explore(path, "--draw", "40")[1][1:])
 
     def test_too_many_states(self):
         status, lines = self.explore(STUCK, "--of", "desktop", "--states", "90", "--fail")
@@ -290,17 +249,14 @@ class Command(DeskCase):
             lines[0].endswith("all 6 orders with at most 0 changes of actor that nobody needed, 36 states")
         )
         drawn = next(line for line in lines if "drawn" in line)
-        self.assertTrue(
-            drawn.endswith("1,000 orders drawn with seed 1 (there are more than 90 states)"), drawn
-        )
+        self.assertTrue(drawn.endswith("1,000 orders drawn with seed 1 (there are more than 90 states)"),
+                        drawn)
 
     def test_moments(self):
-        things = [
-            each for each in self.objects(STUCK, "--of", "desktop", "--moments") if each["kind"] == "thing"
-        ]
-        self.assertEqual(
-            [("apart", 147), ("moment", 291)], [(each["what"], each["orders"]) for each in things]
-        )
+        things = [each for each in self.objects(STUCK, "--of", "desktop", "--moments")
+                  if each["kind"] == "thing"]
+        self.assertEqual([("apart", 147), ("moment", 291)],
+                         [(each["what"], each["orders"]) for each in things])
 
     def test_each_field_is_told(self):
         """docs/JSON.md tells each object with all of its fields."""
@@ -322,16 +278,9 @@ class Command(DeskCase):
             self.explore(record, "--out", out)
         paths = sorted(out.glob("*.rec"))
         names = [path.stem for path in paths if "lost" not in path.stem]
-        self.assertEqual(
-            [
-                "handed_over_grab-compositor-KEY_ENTER",
-                "handed_over_grab-compositor-KEY_LEFTCTRL",
-                "lid-applet-SW_LID",
-                "lid-logind-SW_LID",
-                "stuck_key-desktop-KEY_LEFTCTRL",
-            ],
-            names,
-        )
+        self.assertEqual(["handed_over_grab-compositor-KEY_ENTER", "handed_over_grab-compositor-KEY_LEFTCTRL",
+                          "lid-applet-SW_LID", "lid-logind-SW_LID", "stuck_key-desktop-KEY_LEFTCTRL"],
+                         names)
         for path in paths:
             with self.subTest(path.stem):
                 status, text, lines = self.tool("stuck", "--fail", path)
@@ -368,22 +317,15 @@ class Command(DeskCase):
     def test_expectations(self):
         path = self.record(HEAD + self.EXPECTS + PRESS + OPEN)
         things = [each for each in self.objects(path, "--expect") if each["kind"] == "thing"]
-        self.assertEqual(
-            [("missed", "c takes KEY_A 1", 1)],
-            [(each["what"], each["thing"], each["orders"]) for each in things],
-        )
+        self.assertEqual([("missed", "c takes KEY_A 1", 1)],
+                         [(each["what"], each["thing"], each["orders"]) for each in things])
         self.assertEqual(1, self.explore(path, "--expect", "--fail")[0])
         path = self.record(HEAD + self.EXPECTS.replace("takes KEY_A 1", "at-end keys KEY_A") + PRESS + OPEN)
         self.assertEqual(0, self.explore(path, "--expect", "--fail")[0])
 
     def test_drops(self):
-        lines = (
-            "do c open\n"
-            + PRESS
-            + "do c clock monotonic 5\n"
-            + PRESS.replace(" 1\n", " 0\n")
-            + "do c follow\n"
-        )
+        lines = ("do c open\n" + PRESS + "do c clock monotonic 5\n" + PRESS.replace(" 1\n", " 0\n")
+                 + "do c follow\n")
         path = self.record(HEAD + "#= c drops 0\n" + lines)
         things = [each for each in self.objects(path, "--expect") if each["kind"] == "thing"]
         self.assertEqual(["c drops 0"], [each["thing"] for each in things])
@@ -395,19 +337,17 @@ class Command(DeskCase):
 
     def test_statuses(self):
         good, bad = self.record(HEAD + PRESS + OPEN), self.record((STUCK).read_text(), "bad.rec")
-        for words, status in (
-            ((good,), 0),
-            ((good, "--fail"), 0),
-            ((bad,), 0),
-            ((bad, "--fail"), 1),
-            ((good, "--fail", "--draw", "9"), 3),
-            ((good, "--fail", "--within", "0"), 3),
-            ((good, "--fail", "--within", "9"), 0),
-            ((good, "--fail", "--preemptions", "0"), 3),
-            ((good, bad, "--fail"), 1),
-            ((self.folder, "--fail"), 1),
-            ((good, "--fail", "--states", "2"), 3),
-        ):
+        for words, status in (((good,), 0),
+                              ((good, "--fail"), 0),
+                              ((bad,), 0),
+                              ((bad, "--fail"), 1),
+                              ((good, "--fail", "--draw", "9"), 3),
+                              ((good, "--fail", "--within", "0"), 3),
+                              ((good, "--fail", "--within", "9"), 0),
+                              ((good, "--fail", "--preemptions", "0"), 3),
+                              ((good, bad, "--fail"), 1),
+                              ((self.folder, "--fail"), 1),
+                              ((good, "--fail", "--states", "2"), 3)):
             with self.subTest([str(word) for word in words]):
                 self.assertEqual(status, self.explore(*words)[0])
 
@@ -428,18 +368,15 @@ class Command(DeskCase):
         self.refused("explore", self.folder / "empty", because="the folder has no record")
 
     def test_wrong_records(self):
-        for text, because in (
-            ("inputrecord 2\ndevice d\nhint 1\n", "bad-hint"),
-            (HEAD + "#~ if a key\n" + OPEN, "is neither"),
-            (HEAD + "#~ if no key\n" + PRESS, "stands before a line of s"),
-        ):
+        for text, because in (("inputrecord 2\ndevice d\nhint 1\n", "bad-hint"),
+                              (HEAD + "#~ if a key\n" + OPEN, "is neither"),
+                              (HEAD + "#~ if no key\n" + PRESS, "stands before a line of s")):
             with self.subTest(because):
                 self.refused("explore", self.record(text), because=because)
 
     def test_others_are_explored_beside_a_wrong_one(self):
-        status, text, lines = self.tool(
-            "explore", self.record("nothing\n"), self.record(HEAD + OPEN, "other.rec")
-        )
+        status, text, lines = self.tool("explore", self.record("nothing\n"),
+                                        self.record(HEAD + OPEN, "other.rec"))
         self.assertEqual((2, 1, 2), (status, len(lines), len(text.splitlines())))
 
     def test_standard_input(self):
@@ -473,14 +410,11 @@ class Command(DeskCase):
         self.addCleanup(signal.signal, signal.SIGINT, signal.getsignal(signal.SIGINT))
         heed_stops()
         status, text, lines = self.tool("explore", STUCK, EXAMPLES / "gamepad.rec", "--states", "9999999")
-        self.assertEqual(
-            (130, ["explore: stopped: what is written is not all that was asked for"]), (status, lines)
-        )
+        self.assertEqual((130, ["explore: stopped: what is written is not all that was asked for"]),
+                         (status, lines))
         self.assertIn("KEY_LEFTCTRL: down for it, up on the device, in 147 of all 2,520 orders", text)
-        self.assertIn(
-            "overlay with xpad, game and tester: not all was explored: stopped from the keyboard",
-            text,
-        )
+        self.assertIn("overlay with xpad, game and tester: not all was explored: stopped from the keyboard",
+                      text)
 
     # Parts
 
@@ -504,24 +438,20 @@ class Command(DeskCase):
         self.assertEqual(self.written("explore", *records), self.written("explore", "-j", "3", *records))
 
     def test_parts_that_are_no_whole(self):
-        parts = [
-            self.file(f"{n}.json", self.written("explore", STUCK, "--shard", f"{n}/3")) for n in (1, 2, 3)
-        ]
+        parts = [self.file(f"{n}.json", self.written("explore", STUCK, "--shard", f"{n}/3"))
+                 for n in (1, 2, 3)]
         other = self.file("other.json", self.written("explore", STUCK, "--shard", "3/3", "--seed", "2"))
-        for paths, because in (
-            (parts[:2], "look at 3"),
-            ([*parts, parts[0]], "look at 1"),
-            ([*parts[:2], other], "a shard of another run"),
-            ([STUCK], "no JSON of tools/explore"),
-            ([self.file("none.json", "")], "it is no shard"),
-        ):
+        for paths, because in ((parts[:2], "look at 3"),
+                               ([*parts, parts[0]], "look at 1"),
+                               ([*parts[:2], other], "a shard of another run"),
+                               ([STUCK], "no JSON of tools/explore"),
+                               ([self.file("none.json", "")], "it is no shard")):
             with self.subTest(because):
                 self.refused("explore", "--join", *paths, because=because)
 
     def test_one_seed_the_same_draws(self):
-        first, again, other = (
-            self.written("explore", STUCK, "--draw", "80", "--seed", seed) for seed in "112"
-        )
+        first, again, other = (self.written("explore", STUCK, "--draw", "80", "--seed", seed)
+                               for seed in "112")
         self.assertEqual(first, again)
         self.assertNotEqual(first, other.replace("seed 2", "seed 1"))
 

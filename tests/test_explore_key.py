@@ -517,15 +517,13 @@ CASES = {
 }
 
 # The functions that make keys, by the key.
-MAKERS = {
-    "CoreKey": ((keys, "core_key"),),
-    "DeviceKey": ((exploring, "device_key"),),
-    "ViewKey": ((keys, "view_key"),),
-    "ReaderKey": ((keys, "reader_key"),),
-    "JoystickKey": ((keys, "joystick_key"),),
-    "ActorKey": ((exploring, "actor_key"), (exploring, "folded_key")),
-    "StateKey": ((Problem, "key"),),
-}
+MAKERS = {"CoreKey": ((keys, "core_key"),),
+          "DeviceKey": ((exploring, "device_key"),),
+          "ViewKey": ((keys, "view_key"),),
+          "ReaderKey": ((keys, "reader_key"),),
+          "JoystickKey": ((keys, "joystick_key"),),
+          "ActorKey": ((exploring, "actor_key"), (exploring, "folded_key")),
+          "StateKey": ((Problem, "key"),)}
 
 
 def leaving_out(maker, field):

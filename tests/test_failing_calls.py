@@ -59,35 +59,27 @@ RECORD = "inputrecord 1\n"
 
 # Programs that are wrong: the script that finds it, what is changed, and what is said.
 WRONG = {
-    "it takes memory that it was not given": (
-        "alloc",
-        ("if (!bytes)", "if (!bytes && (bytes[0] = 1))"),
-        "allocation 2 refused (calloc 1000 bytes): SIGSEGV, b''",
-    ),
+    "it takes memory that it was not given": ("alloc", ("if (!bytes)", "if (!bytes && (bytes[0] = 1))"),
+                                              "allocation 2 refused (calloc 1000 bytes): SIGSEGV, b''"),
     "it tells of its words too late": (
         "alloc",
         ("bytes = larger ? larger : bytes;", 'if (!larger) return say(2, "usage: inputplay FILE\\n");'),
-        "allocation 3 refused (realloc 2000 bytes): status 2, b'usage: inputplay FILE\\n'",
+        "allocation 3 refused (realloc 2000 bytes): status 2, b'usage: inputplay FILE\\n'"
     ),
-    "it takes a fault for an end": (
-        "faults",
-        ("bytes + size, 7)) < 0)", "bytes + size, 7)) < 0 && (more = 0))"),
-        "read 1 of f fails: WRONG: status 0, and status 3 was wanted\n",
-    ),
+    "it takes a fault for an end": ("faults",
+                                    ("bytes + size, 7)) < 0)", "bytes + size, 7)) < 0 && (more = 0))"),
+                                    "read 1 of f fails: WRONG: status 0, and status 3 was wanted\n"),
     "it takes a short read for an end": (
-        "faults",
-        ("more; size += more)", "more == 7 || more == 1; size += more)"),
-        "read 1 of f is short: WRONG: status 0, which is not as without it\n",
+        "faults", ("more; size += more)", "more == 7 || more == 1; size += more)"),
+        "read 1 of f is short: WRONG: status 0, which is not as without it\n"
     ),
     "it takes a short write for a whole one": (
-        "faults",
-        ("done += more", "done += 4"),
-        "write 1 of the output is short: WRONG: status 0, which is not as without it\n",
+        "faults", ("done += more", "done += 4"),
+        "write 1 of the output is short: WRONG: status 0, which is not as without it\n"
     ),
     "it does not look at its writes": (
-        "faults",
-        ("return 4;", "more = 4;"),
-        "write 1 of the output fails: WRONG: status 0, and status 4 was wanted\n",
+        "faults", ("return 4;", "more = 4;"),
+        "write 1 of the output fails: WRONG: status 0, and status 4 was wanted\n"
     ),
 }
 
@@ -122,18 +114,13 @@ class FailingCalls(FolderCase):
                 self.says(name, 2, "there is no C compiler: ")
             return
         self.compile(RIGHT)
-        self.says("alloc", 0, "f: 1 status 0, 1 status 2, 1 status 5\n3 runs of 1 records, none that ends otherwise\n")
+        self.says("alloc", 0,
+                  "f: 1 status 0, 1 status 2, 1 status 5\n3 runs of 1 records, none that ends otherwise\n")
         self.says("alloc", 0, "f: 1 status 0, 1 status 2, 1 status 5\n", words=["--rest"])
-        self.says(
-            "faults",
-            0,
-            "    open 1 of f fails: status 3\n",
-            "    read 3 of f fails: status 3\n",
-            "    write 3 of the output fails: status 4\n",
-            "    read 2 of f is short: status 0\n",
-            "    write 2 of the output is short: status 0\n",
-            "11 runs of 1 records, none that ends otherwise\n",
-        )
+        self.says("faults", 0, "    open 1 of f fails: status 3\n", "    read 3 of f fails: status 3\n",
+                  "    write 3 of the output fails: status 4\n", "    read 2 of f is short: status 0\n",
+                  "    write 2 of the output is short: status 0\n",
+                  "11 runs of 1 records, none that ends otherwise\n")
         self.says("faults", 0, "f\n18 runs of 1 records, none ", words=["--piece", "3", "--quiet"])
 
     def test_programs_that_are_wrong(self):
@@ -148,10 +135,9 @@ class FailingCalls(FolderCase):
     def test_a_program_whose_calls_cannot_be_made_to_fail(self):
         if not HAS_COMPILER:
             self.skipTest("there is no C compiler")
-        for text, status, said, words in (
-            ("void _start(void) {}", 2, "is not linked dynamically", ["-static", "-nostdlib"]),
-            ("int main() {}", 1, "no call could be made to fail\n", []),
-        ):
+        for text, status, said, words in (("void _start(void) {}", 2, "is not linked dynamically",
+                                           ["-static", "-nostdlib"]),
+                                          ("int main() {}", 1, "no call could be made to fail\n", [])):
             self.compile(text, *words)
             for name in ("alloc", "faults"):
                 with self.subTest(script=name, said=said):
@@ -159,14 +145,12 @@ class FailingCalls(FolderCase):
 
     def test_wrong_words(self):
         shutil.copy(sys.executable, self.program)
-        for name, words, said in (
-            ("alloc", ["--program", "none"], "is not there; 'rt ci' builds it"),
-            ("alloc", [self.folder / "g"], "is not there"),
-            ("alloc", ["--word=--threads"], "so --word=--history is wanted too"),
-            ("faults", ["--program", "none"], "is not there; 'rt ci' builds it"),
-            ("faults", [self.folder / "g"], "is not there"),
-            ("faults", ["--piece", "0"], "0 is not 1 or more"),
-        ):
+        for name, words, said in (("alloc", ["--program", "none"], "is not there; 'rt ci' builds it"),
+                                  ("alloc", [self.folder / "g"], "is not there"),
+                                  ("alloc", ["--word=--threads"], "so --word=--history is wanted too"),
+                                  ("faults", ["--program", "none"], "is not there; 'rt ci' builds it"),
+                                  ("faults", [self.folder / "g"], "is not there"),
+                                  ("faults", ["--piece", "0"], "0 is not 1 or more")):
             with self.subTest(script=name, words=words):
                 done = self.script(name, *words)
                 self.assertEqual(2, done.returncode)
@@ -178,20 +162,18 @@ class Judging(FolderCase):
 
     def test_runs_with_an_allocation_refused(self):
         whole = Run(6, b"device d steps 1\n", b"")
-        for run, is_right in (
-            (whole, True),
-            (Run(5, b"inputplay: out of memory\n", b""), True),
-            (Run(4, b"inputplay: out", b""), True),
-            (Run(4, b"inputplay: out of memory\n", b""), False),
-            (Run(4, b"device", b""), False),
-            (Run(0, whole.text, b""), False),
-            (Run(6, b"device d", b""), False),
-            (Run(5, b"device d steps 1\n", b""), False),
-            (Run(5, b"inputplay: out of memory\n", b"?"), False),
-            (Run(2, USAGE, b""), False),
-            (Run(-11, b"", b""), False),
-            (Run(None, b"", b""), False),
-        ):
+        for run, is_right in ((whole, True),
+                              (Run(5, b"inputplay: out of memory\n", b""), True),
+                              (Run(4, b"inputplay: out", b""), True),
+                              (Run(4, b"inputplay: out of memory\n", b""), False),
+                              (Run(4, b"device", b""), False),
+                              (Run(0, whole.text, b""), False),
+                              (Run(6, b"device d", b""), False),
+                              (Run(5, b"device d steps 1\n", b""), False),
+                              (Run(5, b"inputplay: out of memory\n", b"?"), False),
+                              (Run(2, USAGE, b""), False),
+                              (Run(-11, b"", b""), False),
+                              (Run(None, b"", b""), False)):
             with self.subTest(run=run):
                 judge = loaded(TOP / "checks" / "alloc").Judge(self.folder / "f", [], whole)
                 self.assertIsNone(judge.complaint(Run(2, USAGE, b"")))
@@ -202,7 +184,9 @@ class Judging(FolderCase):
         record = "inputrecord 1\ndevice d\ncap EV_KEY KEY_A\nsource s\nclient c\n"
         record += "do c open\ndo s uninhibit\ndo c follow\n"
         (self.folder / "f").write_text(record)
-        judge = loaded(TOP / "checks" / "alloc").Judge(self.folder / "f", ["--threads", "--history", "--idle", "3"], Run(0, b"", b""))
+        judge = loaded(TOP / "checks" / "alloc").Judge(self.folder / "f",
+                                                       ["--threads", "--history", "--idle", "3"],
+                                                       Run(0, b"", b""))
         for seed in range(3):
             text = "".join(line + "\n" for line in play_side_by_side(record, seed, idle=3)).encode()
             self.assertIsNone(judge.complaint(Run(0, text, b"")))

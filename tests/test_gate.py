@@ -16,18 +16,16 @@ ALL_PASS = ("some line\n12 passed, 0 failed\n", 0)
 CHECKS_PASS = ("5 passed, 0 failed\n", 0)
 
 # What `rt ci` writes and its status, the same of `tests/run`, and the result of both.
-GATES = [
-    ("all pass", ALL_PASS, CHECKS_PASS, 0, "17 passed, 0 failed"),
-    ("a remark behind it", ("12 passed, 0 failed (all)\n", 0), CHECKS_PASS, 0, "17 passed, 0 failed"),
-    ("a proof fails", ("11 passed, 1 failed\n", 1), CHECKS_PASS, 1, "16 passed, 1 failed"),
-    ("a check fails", ALL_PASS, ("3 passed, 2 failed\n", 1), 1, "15 passed, 2 failed"),
-    ("both fail", ("9 passed, 3 failed\n", 1), ("3 passed, 2 failed\n", 1), 1, "12 passed, 5 failed"),
-    ("the proofs die", ("3 passed, 0 failed\noops\n", 2), CHECKS_PASS, 1, "5 passed, 1 failed"),
-    ("the proofs say nothing", ("", 0), CHECKS_PASS, 1, "5 passed, 1 failed"),
-    ("the checks say nothing", ALL_PASS, ("", 2), 1, "12 passed, 1 failed"),
-    ("failures with status 0", ("11 passed, 1 failed\n", 0), CHECKS_PASS, 1, "16 passed, 1 failed"),
-    ("no failures with status 3", ("12 passed, 0 failed\n", 3), CHECKS_PASS, 1, "17 passed, 1 failed"),
-]
+GATES = [("all pass", ALL_PASS, CHECKS_PASS, 0, "17 passed, 0 failed"),
+         ("a remark behind it", ("12 passed, 0 failed (all)\n", 0), CHECKS_PASS, 0, "17 passed, 0 failed"),
+         ("a proof fails", ("11 passed, 1 failed\n", 1), CHECKS_PASS, 1, "16 passed, 1 failed"),
+         ("a check fails", ALL_PASS, ("3 passed, 2 failed\n", 1), 1, "15 passed, 2 failed"),
+         ("both fail", ("9 passed, 3 failed\n", 1), ("3 passed, 2 failed\n", 1), 1, "12 passed, 5 failed"),
+         ("the proofs die", ("3 passed, 0 failed\noops\n", 2), CHECKS_PASS, 1, "5 passed, 1 failed"),
+         ("the proofs say nothing", ("", 0), CHECKS_PASS, 1, "5 passed, 1 failed"),
+         ("the checks say nothing", ALL_PASS, ("", 2), 1, "12 passed, 1 failed"),
+         ("failures with status 0", ("11 passed, 1 failed\n", 0), CHECKS_PASS, 1, "16 passed, 1 failed"),
+         ("no failures with status 3", ("12 passed, 0 failed\n", 3), CHECKS_PASS, 1, "17 passed, 1 failed")]
 
 # What stands in a file of tests, and the status and last line of tests/run over it.
 TEST = "import unittest\nclass Test(unittest.TestCase):\n    def test(self):\n        "
@@ -36,8 +34,10 @@ RUNS = [
     ("it passes", TEST + "pass\n", 0, "1 passed, 0 failed"),
     ("it fails", TEST + "self.assertEqual('this', 'that')\n", 1, "0 passed, 1 failed"),
     ("it dies", TEST + "1 / 0\n", 1, "0 passed, 1 failed"),
-    ("it is skipped", TEST + "self.skipTest('no compiler')\n", 0, "0 passed, 0 failed (1 left out: 1 no compiler)"),
-    ("two of its cases are skipped", CASES + "i and self.skipTest('why')\n", 0, "1 passed, 0 failed (2 left out: 2 why)"),
+    ("it is skipped", TEST + "self.skipTest('no compiler')\n", 0,
+     "0 passed, 0 failed (1 left out: 1 no compiler)"),
+    ("two of its cases are skipped", CASES + "i and self.skipTest('why')\n", 0,
+     "1 passed, 0 failed (2 left out: 2 why)"),
     ("its cases pass", CASES + "pass\n", 0, "3 passed, 0 failed"),
     ("one of its cases fails", CASES + "self.assertLess(i, 2)\n", 1, "2 passed, 1 failed"),
     ("it dies behind its cases", CASES + "pass\n        1 / 0\n", 1, "3 passed, 1 failed"),
@@ -65,9 +65,8 @@ class Gate(unittest.TestCase):
 
     def run_of(self, script, *words, **variables):
         path = f"{self.top / 'bin'}:{os.environ['PATH']}"
-        return subprocess.run(
-            [self.top / script, *words], env={**os.environ, "PATH": path, **variables}, capture_output=True, text=True
-        )
+        return subprocess.run([self.top / script, *words], env={**os.environ, "PATH": path, **variables},
+                              capture_output=True, text=True)
 
     def test_the_gate_counts_both_parts_and_fails_where_either_does(self):
         for why, proofs, checks, status, last in GATES:

@@ -18,33 +18,25 @@ def run(*words):
 
 class GateCost(unittest.TestCase):
     def test_sums_by_crate_and_kind(self):
-        seen = {
-            "1": ("low", "proofs", 10.0),
-            "2": ("low", "tests", 5.0),
-            "3": ("high", "edits", 20.0),
-            "4": ("high", "edits", 2.0),
-        }
-        want = [
-            "crate            proofs    tests    edits      all",
-            "high                  0        0       22       22",
-            "low                  10        5        0       15",
-            "all                  10        5       22       37",
-        ]
+        seen = {"1": ("low", "proofs", 10.0),
+                "2": ("low", "tests", 5.0),
+                "3": ("high", "edits", 20.0),
+                "4": ("high", "edits", 2.0)}
+        want = ["crate            proofs    tests    edits      all",
+                "high                  0        0       22       22",
+                "low                  10        5        0       15",
+                "all                  10        5       22       37"]
         self.assertEqual(loaded(SCRIPT).table(seen), want)
 
     def test_a_page_has_the_table_and_the_machine_s_measure(self):
         tool = loaded(SCRIPT)
         told = tool.told_of(37.4, 2.0, 15.04)
-        want = [
-            "| Crate | Proofs | Tests | Edits | All |",
-            "|---|---|---|---|---|",
-            "| low | 10 | 0 | 3 | 13 |",
-            "| all | 10 | 0 | 3 | 13 |",
-            "",
-            f"37 seconds of one processor in all, 2.0 minutes on {os.cpu_count()} processors.",
-            "The toolchain's first library took 15.0 seconds in the same run.",
-        ]
-        self.assertEqual(want, tool.page_rows({"1": ("low", "proofs", 10.2), "2": ("low", "edits", 3.0)}, told))
+        want = ["| Crate | Proofs | Tests | Edits | All |", "|---|---|---|---|---|",
+                "| low | 10 | 0 | 3 | 13 |", "| all | 10 | 0 | 3 | 13 |", "",
+                f"37 seconds of one processor in all, 2.0 minutes on {os.cpu_count()} processors.",
+                "The toolchain's first library took 15.0 seconds in the same run."]
+        self.assertEqual(want,
+                         tool.page_rows({"1": ("low", "proofs", 10.2), "2": ("low", "edits", 3.0)}, told))
 
     def test_tells_what_a_process_works_at(self):
         tool = loaded(SCRIPT)
@@ -75,7 +67,8 @@ class GateCost(unittest.TestCase):
     def test_a_command_that_is_not_there(self):
         ended = run("no-such-command")
         self.assertEqual(ended.returncode, 2)
-        self.assertEqual(ended.stderr, "gate_cost: no-such-command cannot be started: No such file or directory\n")
+        self.assertEqual(ended.stderr,
+                         "gate_cost: no-such-command cannot be started: No such file or directory\n")
         self.assertEqual(ended.stdout, "")
 
 

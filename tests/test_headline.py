@@ -35,7 +35,8 @@ class Headline(FolderCase):
         specs.mkdir(parents=True)
         (specs / "History.antt").write_text("-- nothing\n")
         ended = said("--top", self.folder)
-        self.assertEqual((2, "", "checks/headline: IsHistoryWith is not there\n"), (ended.returncode, ended.stdout, ended.stderr))
+        self.assertEqual((2, "", "checks/headline: IsHistoryWith is not there\n"),
+                         (ended.returncode, ended.stdout, ended.stderr))
 
 
 if __name__ == "__main__":

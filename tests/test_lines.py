@@ -34,107 +34,50 @@ def rows(front: str, *pairs: Tuple[str, Optional[str]]) -> List[Row]:
 
 
 # Lines that were cut off or damaged.
-DAMAGED = [
-    Row("", "inputrecord", "bad-header"),
-    Row(SOURCE_1, "do s", "bad-line"),
-    Row(SOURCE_1, "do s event 1000 EV_KEY KEY_", "bad-command"),
-    Row(VERSION_1, "device k\0d\n", "not-text"),
-    Row(DEVICE_1, "hint 0x\n", "bad-word"),
-    Row(DEVICE_1, "hint 99999999999999999999\n", "bad-word"),
-    Row(DEVICE_1, "cap EV_KEY KEY_ZZZ\n", "bad-word"),
-]
+DAMAGED = [Row("", "inputrecord", "bad-header"),
+           Row(SOURCE_1, "do s", "bad-line"),
+           Row(SOURCE_1, "do s event 1000 EV_KEY KEY_", "bad-command"),
+           Row(VERSION_1, "device k\0d\n", "not-text"),
+           Row(DEVICE_1, "hint 0x\n", "bad-word"),
+           Row(DEVICE_1, "hint 99999999999999999999\n", "bad-word"),
+           Row(DEVICE_1, "cap EV_KEY KEY_ZZZ\n", "bad-word")]
 
-CODES = rows(
-    DEVICE_2,
-    ("cap EV_KEY 0", "bad-code"),
-    ("cap EV_KEY 1", None),
-    ("cap EV_KEY 0x2ff", None),
-    ("cap EV_KEY 0x300", "bad-code"),
-    ("cap EV_REL 0x0f", None),
-    ("cap EV_REL 0x10", "bad-code"),
-    ("cap EV_MSC 7", None),
-    ("cap EV_MSC 8", "bad-code"),
-    ("cap EV_SW 0x10", None),
-    ("cap EV_SW 0x11", "bad-code"),
-    ("cap EV_LED 0x0f", None),
-    ("cap EV_LED 0x10", "bad-code"),
-    ("cap EV_SND 7", None),
-    ("cap EV_SND 8", "bad-code"),
-    ("cap EV_REP 1", None),
-    ("cap EV_REP 2", "bad-code"),
-    ("cap EV_SYN 0", "bad-code"),
-    ("cap EV_ABS 0", "bad-code"),
-    ("cap 0x16 0", "bad-code"),
-    ("type EV_REP", None),
-    ("type 0x16", "bad-code"),
-)
+CODES = rows(DEVICE_2, ("cap EV_KEY 0", "bad-code"), ("cap EV_KEY 1", None), ("cap EV_KEY 0x2ff", None),
+             ("cap EV_KEY 0x300", "bad-code"), ("cap EV_REL 0x0f", None), ("cap EV_REL 0x10", "bad-code"),
+             ("cap EV_MSC 7", None), ("cap EV_MSC 8", "bad-code"), ("cap EV_SW 0x10", None),
+             ("cap EV_SW 0x11", "bad-code"), ("cap EV_LED 0x0f", None), ("cap EV_LED 0x10", "bad-code"),
+             ("cap EV_SND 7", None), ("cap EV_SND 8", "bad-code"), ("cap EV_REP 1", None),
+             ("cap EV_REP 2", "bad-code"), ("cap EV_SYN 0", "bad-code"), ("cap EV_ABS 0", "bad-code"),
+             ("cap 0x16 0", "bad-code"), ("type EV_REP", None), ("type 0x16", "bad-code"))
 
-AXES = rows(
-    DEVICE_2,
-    ("axis 0x40 0 0 9 -1 0 0", "bad-code"),
-    ("axis ABS_X 0 0 9 -1 0 0", "bad-axis"),
-    ("axis ABS_X 7 0 9 1073741824 0 0", None),
-    ("axis ABS_X 7 0 9 1073741825 0 0", "bad-axis"),
-    ("axis ABS_MT_POSITION_X 1 0 9 0 0 0", "bad-axis"),
-    ("axis ABS_MT_POSITION_X 0 0 9 4 0 0", None),
-    ("axis ABS_MT_SLOT 0 0 9 1 0 0", "bad-axis"),
-    ("axis ABS_MT_TRACKING_ID 0 0 9 1 0 0", "bad-axis"),
-)
+AXES = rows(DEVICE_2, ("axis 0x40 0 0 9 -1 0 0", "bad-code"), ("axis ABS_X 0 0 9 -1 0 0", "bad-axis"),
+            ("axis ABS_X 7 0 9 1073741824 0 0", None), ("axis ABS_X 7 0 9 1073741825 0 0", "bad-axis"),
+            ("axis ABS_MT_POSITION_X 1 0 9 0 0 0", "bad-axis"), ("axis ABS_MT_POSITION_X 0 0 9 4 0 0", None),
+            ("axis ABS_MT_SLOT 0 0 9 1 0 0", "bad-axis"), ("axis ABS_MT_TRACKING_ID 0 0 9 1 0 0", "bad-axis"))
 
-NUMBERS = rows(
-    DEVICE_2,
-    ("slots 0", "bad-slots"),
-    ("slots 1", None),
-    ("slots 2", None),
-    ("slots 256", None),
-    ("slots 257", "bad-slots"),
-    ("slots 4294967295", "bad-slots"),
-    ("slots 4294967296", "bad-word"),
-    ("hint 0", "bad-hint"),
-    ("hint 1", "bad-hint"),
-    ("hint 2", None),
-    ("hint 512", None),
-    ("hint 513", "bad-hint"),
-    ("log 0", "bad-log"),
-    ("log 1", None),
-    ("log 513", None),
-    ("log 8388608", None),
-    ("log 8388609", "bad-log"),
-    ("clock realtime 9000000000000000", None),
-    ("clock realtime 9000000000000001", "bad-offset"),
-    ("clock boottime 9000000000000000", None),
-    ("clock boottime 9000000000000001", "bad-offset"),
-)
+NUMBERS = rows(DEVICE_2, ("slots 0", "bad-slots"), ("slots 1", None), ("slots 2", None), ("slots 256", None),
+               ("slots 257", "bad-slots"), ("slots 4294967295", "bad-slots"),
+               ("slots 4294967296", "bad-word"), ("hint 0", "bad-hint"), ("hint 1", "bad-hint"),
+               ("hint 2", None), ("hint 512", None), ("hint 513", "bad-hint"), ("log 0", "bad-log"),
+               ("log 1", None), ("log 513", None), ("log 8388608", None), ("log 8388609", "bad-log"),
+               ("clock realtime 9000000000000000", None), ("clock realtime 9000000000000001", "bad-offset"),
+               ("clock boottime 9000000000000000", None), ("clock boottime 9000000000000001", "bad-offset"))
 
-FILTERS = rows(
-    DEVICE_2,
-    ("filter", "bad-line"),
-    ("filter norepeat KEY_A", "bad-line"),
-    ("filter eat EV_KEY", "bad-line"),
-    ("filter chord KEY_A KEY_B KEY_C", "bad-line"),
-    ("filter bounce KEY_A", "bad-line"),
-    ("filter other", "bad-word"),
-    ("filter other KEY_A KEY_B 1 2", "bad-word"),
-    ("filter Norepeat", "bad-word"),
-    ("filter eat KEY_A 1", "bad-word"),
-    ("filter eat EV_KEY REL_X", "bad-word"),
-    ("filter chord KEY_A REL_X", "bad-word"),
-    ("filter bounce KEY_A 0", "bad-word"),
-    ("filter bounce KEY_A 1000000", None),
-    ("filter bounce KEY_A 1000001", "bad-word"),
-    ("filter bounce KEY_A -1", "bad-word"),
-    ("filter eat EV_SYN SYN_REPORT", "bad-code"),
-    ("filter eat 7 0", "bad-code"),
-    ("filter eat EV_REL 16", "bad-code"),
-    ("filter chord KEY_A 30", "bad-code"),
-    ("filter chord KEY_A 768", "bad-code"),
-    ("filter bounce 0 1000", "bad-code"),
-) + [
-    Row(DEVICE_1, "filter norepeat\n", "bad-line"),
-    Row(VERSION_1, "filter other\n", "bad-line"),
-    Row(VERSION_2, "filter other\n", "out-of-place"),
-    Row(DEVICE_2 + "tap t\n", "filter norepeat\n", "out-of-place"),
-]
+FILTERS = (rows(DEVICE_2, ("filter", "bad-line"), ("filter norepeat KEY_A", "bad-line"),
+                ("filter eat EV_KEY", "bad-line"), ("filter chord KEY_A KEY_B KEY_C", "bad-line"),
+                ("filter bounce KEY_A", "bad-line"), ("filter other", "bad-word"),
+                ("filter other KEY_A KEY_B 1 2", "bad-word"), ("filter Norepeat", "bad-word"),
+                ("filter eat KEY_A 1", "bad-word"), ("filter eat EV_KEY REL_X", "bad-word"),
+                ("filter chord KEY_A REL_X", "bad-word"), ("filter bounce KEY_A 0", "bad-word"),
+                ("filter bounce KEY_A 1000000", None), ("filter bounce KEY_A 1000001", "bad-word"),
+                ("filter bounce KEY_A -1", "bad-word"), ("filter eat EV_SYN SYN_REPORT", "bad-code"),
+                ("filter eat 7 0", "bad-code"), ("filter eat EV_REL 16", "bad-code"),
+                ("filter chord KEY_A 30", "bad-code"), ("filter chord KEY_A 768", "bad-code"),
+                ("filter bounce 0 1000", "bad-code"))
+           + [Row(DEVICE_1, "filter norepeat\n", "bad-line"),
+              Row(VERSION_1, "filter other\n", "bad-line"),
+              Row(VERSION_2, "filter other\n", "out-of-place"),
+              Row(DEVICE_2 + "tap t\n", "filter norepeat\n", "out-of-place")])
 
 # A device with as many filters as there may be, as people may write it.
 EIGHT_FILTERS = DEVICE_2 + """filter chord KEY_A 0x30
@@ -146,112 +89,61 @@ filter eat EV_REP 1
 filter bounce KEY_A 1
 filter eat 1 BTN_LEFT
 """
-NINTH_FILTERS = rows(
-    EIGHT_FILTERS,
-    ("filter norepeat", "bad-filter"),
-    ("filter eat 7 0", "bad-code"),
-    ("filter bounce KEY_A 0", "bad-word"),
-    ("filter eat 1", "bad-line"),
-)
+NINTH_FILTERS = rows(EIGHT_FILTERS, ("filter norepeat", "bad-filter"), ("filter eat 7 0", "bad-code"),
+                     ("filter bounce KEY_A 0", "bad-word"), ("filter eat 1", "bad-line"))
 
-JOYSTICKS = rows(
-    JOYSTICK,
-    ("joy", "bad-line"),
-    ("joy k l", "bad-line"),
-    ("joy K", "bad-word"),
-    ("joy t", "twice"),
-    ("client j", "twice"),
-    ("hint 16", "out-of-place"),
-    ("do j grab", "bad-command"),
-    ("do j setaxis ABS_X 0 0 0 0 0 0", "bad-command"),
-    ("do j next 1", "bad-command"),
-    ("do j keys", "bad-command"),
-    ("do j tick 1", "bad-command"),
-    ("do j open 1", "bad-command"),
-    ("do j read", "bad-command"),
-    ("do j read 4294967295", None),
-    ("do j read 4294967296", "bad-word"),
-    ("do t read 4096", None),
-    ("do t read 4097", "bad-word"),
-    ("do c read 1", "bad-command"),
-) + [
-    Row(DEVICE_1, "joy j\n", "bad-line"),
-    Row(VERSION_1, "joy j\n", "bad-line"),
-    Row(VERSION_2, "joy j\n", "out-of-place"),
-    Row(DEVICE_2 + "tap t\ndo t open\n", "joy j\n", "out-of-place"),
-]
+JOYSTICKS = (rows(JOYSTICK, ("joy", "bad-line"), ("joy k l", "bad-line"), ("joy K", "bad-word"),
+                  ("joy t", "twice"), ("client j", "twice"), ("hint 16", "out-of-place"),
+                  ("do j grab", "bad-command"), ("do j setaxis ABS_X 0 0 0 0 0 0", "bad-command"),
+                  ("do j next 1", "bad-command"), ("do j keys", "bad-command"),
+                  ("do j tick 1", "bad-command"), ("do j open 1", "bad-command"),
+                  ("do j read", "bad-command"), ("do j read 4294967295", None),
+                  ("do j read 4294967296", "bad-word"), ("do t read 4096", None),
+                  ("do t read 4097", "bad-word"), ("do c read 1", "bad-command"))
+             + [Row(DEVICE_1, "joy j\n", "bad-line"),
+                Row(VERSION_1, "joy j\n", "bad-line"),
+                Row(VERSION_2, "joy j\n", "out-of-place"),
+                Row(DEVICE_2 + "tap t\ndo t open\n", "joy j\n", "out-of-place")])
 
 # Clients, taps and joysticks of a device are counted together: there may be 128.
 MANY_JOYSTICKS = DEVICE_2 + "".join(f"joy j{number}\n" for number in range(126))
-READERS = [
-    Row(MANY_JOYSTICKS, "tap t\nclient c\nsource s\ndo j125 open\n", None),
-    Row(MANY_JOYSTICKS, "joy t\njoy c\ndevice e\njoy e\n", None),
-    Row(MANY_JOYSTICKS, "tap t\nclient c\njoy k\n", "too-many", later=2),
-    Row(MANY_JOYSTICKS, "joy k\ntap t\nclient c\n", "too-many", later=2),
-    Row(MANY_JOYSTICKS, "tap t\nclient c\njoy t\n", "twice", later=2),
-]
+READERS = [Row(MANY_JOYSTICKS, "tap t\nclient c\nsource s\ndo j125 open\n", None),
+           Row(MANY_JOYSTICKS, "joy t\njoy c\ndevice e\njoy e\n", None),
+           Row(MANY_JOYSTICKS, "tap t\nclient c\njoy k\n", "too-many", later=2),
+           Row(MANY_JOYSTICKS, "joy k\ntap t\nclient c\n", "too-many", later=2),
+           Row(MANY_JOYSTICKS, "tap t\nclient c\njoy t\n", "twice", later=2)]
 
-OWNERS = rows(
-    OWNER,
-    ("udevice", "bad-line"),
-    ("owner", "bad-line"),
-    ("owner a b", "bad-line"),
-    ("hint 16", "out-of-place"),
-    ("owner O", "bad-word"),
-    ("owner t", "twice"),
-    ("tap o", "twice"),
-    ("udevice u", "twice"),
-    ("device u", "twice"),
-    ("owner p", "too-many"),
-    ("do o open", "bad-command"),
-    ("do o close", "bad-command"),
-    ("do o grab", "bad-command"),
-    ("do o read 1", "bad-command"),
-    ("do o feedback", "bad-command"),
-    ("do o feedback 1 1", "bad-command"),
-    ("do t feedback 1", "bad-command"),
-    ("do c feedback 1", "bad-command"),
-    ("do j feedback 1", "bad-command"),
-    ("do o feedback 0", "bad-word"),
-    ("do o feedback 1", None),
-    ("do o feedback 4096", None),
-    ("do o feedback 4097", "bad-word"),
-    ("do o feedback x", "bad-word"),
-) + [
-    Row(VERSION_1, "udevice u\n", "bad-line"),
-    Row(DEVICE_1, "owner o\n", "bad-line"),
-    Row(VERSION_2, "owner o\n", "out-of-place"),
-    Row(DEVICE_2, "owner o\n", "out-of-place"),
-    Row(UDEVICE + "device d\n", "owner o\n", "out-of-place"),
-    Row(UDEVICE + "tap t\ndo t open\n", "owner o\n", "out-of-place"),
-    Row(UDEVICE + "owner o\ndo o feedback 1\n", "udevice v\n", "out-of-place"),
-    Row(DEVICE_2, "udevice u\nowner o\n", None),
-    Row(UDEVICE, "owner o\nudevice v\ntap t\nowner p\n", None),
-    Row(UDEVICE, "tap t\ndo t open\n", None),
-]
+OWNERS = (rows(OWNER, ("udevice", "bad-line"), ("owner", "bad-line"), ("owner a b", "bad-line"),
+               ("hint 16", "out-of-place"), ("owner O", "bad-word"), ("owner t", "twice"), ("tap o", "twice"),
+               ("udevice u", "twice"), ("device u", "twice"), ("owner p", "too-many"),
+               ("do o open", "bad-command"), ("do o close", "bad-command"), ("do o grab", "bad-command"),
+               ("do o read 1", "bad-command"), ("do o feedback", "bad-command"),
+               ("do o feedback 1 1", "bad-command"), ("do t feedback 1", "bad-command"),
+               ("do c feedback 1", "bad-command"), ("do j feedback 1", "bad-command"),
+               ("do o feedback 0", "bad-word"), ("do o feedback 1", None), ("do o feedback 4096", None),
+               ("do o feedback 4097", "bad-word"), ("do o feedback x", "bad-word"))
+          + [Row(VERSION_1, "udevice u\n", "bad-line"),
+             Row(DEVICE_1, "owner o\n", "bad-line"),
+             Row(VERSION_2, "owner o\n", "out-of-place"),
+             Row(DEVICE_2, "owner o\n", "out-of-place"),
+             Row(UDEVICE + "device d\n", "owner o\n", "out-of-place"),
+             Row(UDEVICE + "tap t\ndo t open\n", "owner o\n", "out-of-place"),
+             Row(UDEVICE + "owner o\ndo o feedback 1\n", "udevice v\n", "out-of-place"),
+             Row(DEVICE_2, "udevice u\nowner o\n", None),
+             Row(UDEVICE, "owner o\nudevice v\ntap t\nowner p\n", None),
+             Row(UDEVICE, "tap t\ndo t open\n", None)])
 
 # Devices of both kinds are counted together: there may be eight.
 SEVEN = VERSION_2 + "device a\nudevice b\ndevice c\nudevice d\ndevice e\nudevice f\ndevice g\n"
-DEVICES = [
-    Row(SEVEN, "udevice h\nowner o\n", None),
-    Row(SEVEN, "udevice h\nowner o\nudevice i\n", "too-many", later=2),
-    Row(SEVEN, "udevice h\nowner o\ndevice i\n", "too-many", later=2),
-    Row(SEVEN, "udevice a\n", "twice"),
-    Row(SEVEN, "device b\n", "twice"),
-]
+DEVICES = [Row(SEVEN, "udevice h\nowner o\n", None),
+           Row(SEVEN, "udevice h\nowner o\nudevice i\n", "too-many", later=2),
+           Row(SEVEN, "udevice h\nowner o\ndevice i\n", "too-many", later=2),
+           Row(SEVEN, "udevice a\n", "twice"),
+           Row(SEVEN, "device b\n", "twice")]
 
-TABLES = {
-    "damaged": DAMAGED,
-    "codes": CODES,
-    "axes": AXES,
-    "numbers": NUMBERS,
-    "filters": FILTERS,
-    "a ninth filter": NINTH_FILTERS,
-    "joysticks": JOYSTICKS,
-    "readers": READERS,
-    "owners": OWNERS,
-    "devices": DEVICES,
-}
+TABLES = {"damaged": DAMAGED, "codes": CODES, "axes": AXES, "numbers": NUMBERS, "filters": FILTERS,
+          "a ninth filter": NINTH_FILTERS, "joysticks": JOYSTICKS, "readers": READERS, "owners": OWNERS,
+          "devices": DEVICES}
 
 HEAD = "hint 16\nlog 1048576\nclock realtime 0\nclock boottime 0\n"
 

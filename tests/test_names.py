@@ -7,7 +7,8 @@ from tests.playing import TOP
 
 from checks.definitions import Repository
 
-OTHER_PAGES = ("README.md", "CONTRIBUTING.md", "CHANGELOG.md", "bench/README.md", "checks/README.md", "bench/COST.md", "crates/README.md", "examples/README.md")
+OTHER_PAGES = ("README.md", "CONTRIBUTING.md", "CHANGELOG.md", "bench/README.md", "checks/README.md",
+               "bench/COST.md", "crates/README.md", "examples/README.md")
 PAGES = sorted(TOP.glob("docs/*.md")) + [TOP / name for name in OTHER_PAGES]
 
 # `Module.name`, or a type with a field, a variant or a ghost member; and `Module.antt`.
@@ -110,7 +111,8 @@ def facts():
     found = {}
     for kind in ("specs/**/*.antt", "proofs/**/*.antt"):
         for path in TOP.glob(f"crates/*/{kind}"):
-            found.setdefault(path.relative_to(TOP / "crates").parts[0], set()).update(PROVED.findall(path.read_text()))
+            found.setdefault(path.relative_to(TOP / "crates").parts[0],
+                             set()).update(PROVED.findall(path.read_text()))
     return found
 
 
@@ -158,23 +160,12 @@ def quoted(text):
 WALK = "inp_reader/proofs/NextWalk.antt"
 UNFOLDED = {
     "read_talk": {"inp_reader/proofs/Computation.antt", "inp_reader/proofs/SaysSessions.antt"},
-    "sync_talk": {
-        "inp_reader/proofs/Computation.antt",
-        "inp_reader/proofs/StandsAfterTalks.antt",
-        "inp_reader/proofs/session/Session/synchronise/Answers.antt",
-    },
-    "ask_each": {
-        "inp_reader/proofs/Computation.antt",
-        "inp_reader/proofs/SaysInTurn.antt",
-        "inp_reader/proofs/StandsAfterTalks.antt",
-        "inp_reader/proofs/Talks.antt",
-    },
-    "queries": {
-        "inp_reader/proofs/AgreedViews.antt",
-        "inp_reader/proofs/Computation.antt",
-        "inp_reader/proofs/asker/Asker/query_all/Answers.antt",
-        "inp_tool/proofs/MadeBounds.antt",
-    },
+    "sync_talk": {"inp_reader/proofs/Computation.antt", "inp_reader/proofs/StandsAfterTalks.antt",
+                  "inp_reader/proofs/session/Session/synchronise/Answers.antt"},
+    "ask_each": {"inp_reader/proofs/Computation.antt", "inp_reader/proofs/SaysInTurn.antt",
+                 "inp_reader/proofs/StandsAfterTalks.antt", "inp_reader/proofs/Talks.antt"},
+    "queries": {"inp_reader/proofs/AgreedViews.antt", "inp_reader/proofs/Computation.antt",
+                "inp_reader/proofs/asker/Asker/query_all/Answers.antt", "inp_tool/proofs/MadeBounds.antt"},
 }
 UNFOLDING = re.compile(r"^\s*unfolding (.*)$", re.M)
 # The code of a page that is antt, with the file that it is from.
@@ -197,33 +188,17 @@ def unindented(code):
 
 # A row of the definitions: its name, the word or how many words stand before, for whom, and what its words are.
 TERM = r"(\((?:[^()]|\([^()]*\))*\)|\[\]|\w+)\s"
-COMMAND_ROW = re.compile(rf'^command_row stream role (\w+) =\s+verb_line \(codes "(\w+)"\) (\w+) {TERM}', re.M)
+COMMAND_ROW = re.compile(rf'^command_row stream role (\w+) =\s+verb_line \(codes "(\w+)"\) (\w+) {TERM}',
+                         re.M)
 LINE_ROW = re.compile(rf'^line_row \w+ =\s+item_line \(codes "(\w+)"\) (\d) {TERM}', re.M)
 FIELDS = re.compile(r"^(\w+) = (.* ∷ \[\])$", re.M)
-GROUPS = {
-    "Sources": "source",
-    "Openers": "client, tap, joy",
-    "Callers": "client, tap",
-    "Taps": "tap",
-    "Clients": "client",
-    "Owners": "owner",
-}
+GROUPS = {"Sources": "source", "Openers": "client, tap, joy", "Callers": "client, tap", "Taps": "tap",
+          "Clients": "client", "Owners": "owner"}
 # A command that a page has in a row for each role.
 APART = {"Takers": ("tap", "joy")}
-FORMS = {
-    "any_moment": "MOMENT",
-    "Kind": "TYPE",
-    "Code": "CODE",
-    "CodeOf": "CODE",
-    "Signed": "SIGNED",
-    "count": "NUMBER",
-    "Number": "NUMBER",
-    "Positive": "NUMBER",
-    "Bits": "NUMBER",
-    "Clock": "CLOCK",
-    "Name": "NAME",
-    "File": "FILE",
-}
+FORMS = {"any_moment": "MOMENT", "Kind": "TYPE", "Code": "CODE", "CodeOf": "CODE", "Signed": "SIGNED",
+         "count": "NUMBER", "Number": "NUMBER", "Positive": "NUMBER", "Bits": "NUMBER", "Clock": "CLOCK",
+         "Name": "NAME", "File": "FILE"}
 # Lines that a page writes with the words that a field can have.
 WRITTEN = {"clock OtherClock NUMBER": {"clock realtime NUMBER", "clock boottime NUMBER"}}
 
@@ -270,7 +245,8 @@ def names_of(braces):
 
 def takers(commons, crates):
     """How many files of proofs take each name from a file of common words: (crate, name) -> how many."""
-    counts = {(crate, name): 0 for crate, text in commons.items() for braces in HANDED_ON.findall(text) for name in names_of(braces)}
+    counts = {(crate, name): 0 for crate, text in commons.items() for braces in HANDED_ON.findall(text)
+              for name in names_of(braces)}
     for text in crates:
         for crate, braces in FROM_COMMON.findall(text):
             if crate not in commons:
@@ -287,11 +263,14 @@ class CommonWords(unittest.TestCase):
         self.proofs = {path: path.read_text() for path in TOP.glob("crates/*/proofs/**/*.antt")}
 
     def test_each_is_taken_by_three_files(self):
-        commons = {path.parent.parent.name: text for path, text in self.proofs.items() if path.name == "Common.antt"}
-        self.assertEqual([], [word for word, count in takers(commons, self.proofs.values()).items() if count < 3])
+        commons = {path.parent.parent.name: text for path, text in self.proofs.items()
+                   if path.name == "Common.antt"}
+        self.assertEqual([],
+                         [word for word, count in takers(commons, self.proofs.values()).items() if count < 3])
 
     def test_nothing_else_hands_words_on(self):
-        others = [path for path, text in self.proofs.items() if path.name != "Common.antt" and HANDED_ON.search(text)]
+        others = [path for path, text in self.proofs.items()
+                  if path.name != "Common.antt" and HANDED_ON.search(text)]
         self.assertEqual([], others)
         for path, text in self.proofs.items():
             if path.name == "Common.antt":
@@ -300,7 +279,8 @@ class CommonWords(unittest.TestCase):
 
     def test_what_it_finds(self):
         common = "pub use Rattle.inp_a.specs.X.{one, two as three}\nunfoldable pub use Rattle.inp_a.specs.Y.{four}\n"
-        files = ["use Rattle.inp_b.proofs.Common.{one, three as other}\n", "use Rattle.inp_b.proofs.Common.{one}\n"]
+        files = ["use Rattle.inp_b.proofs.Common.{one, three as other}\n",
+                 "use Rattle.inp_b.proofs.Common.{one}\n"]
         counts = {("inp_b", "one"): 2, ("inp_b", "three"): 1, ("inp_b", "four"): 0}
         self.assertEqual(counts, takers({"inp_b": common}, files))
 
@@ -311,7 +291,8 @@ class Names(unittest.TestCase):
         for page in PAGES:
             for number, first, name in named(page.read_text()):
                 count += 1
-                self.assertIn(name, names.get(first, ()), f"{page.relative_to(TOP)}:{number}: `{first}.{name}`")
+                self.assertIn(name, names.get(first, ()),
+                              f"{page.relative_to(TOP)}:{number}: `{first}.{name}`")
         self.assertGreater(count, 400)
 
     def test_each_lemma_that_a_page_places_in_a_file_is_there(self):
@@ -374,34 +355,36 @@ class Names(unittest.TestCase):
 
     def test_each_fact_that_a_page_names_is_there(self):
         known = set().union(*facts().values())
-        missing = [(page.name, name) for page in PAGES for name in FACT.findall(page.read_text()) if name not in known]
+        missing = [(page.name, name) for page in PAGES for name in FACT.findall(page.read_text())
+                   if name not in known]
         self.assertEqual([], missing)
 
     def test_the_page_of_crates_has_each_in_its_group(self):
         page = (TOP / "crates" / "README.md").read_text()
-        told = [(group.lower(), re.findall(r"^\| `(\w+)` \| .+ \|$", rows, re.M)) for group, rows in SECTION_ROWS.findall(page)]
-        wanted = [(group, re.findall(r"^(\w+)[ :]", rows, re.M)) for group, rows in GROUP_ROWS.findall((TOP / "crates.txt").read_text())]
+        told = [(group.lower(), re.findall(r"^\| `(\w+)` \| .+ \|$", rows, re.M))
+                for group, rows in SECTION_ROWS.findall(page)]
+        wanted = [(group, re.findall(r"^(\w+)[ :]", rows, re.M))
+                  for group, rows in GROUP_ROWS.findall((TOP / "crates.txt").read_text())]
         self.assertEqual(wanted, told)
         self.assertEqual(set(dependencies()), {crate for _, crates in told for crate in crates})
 
     def test_no_name_is_defined_in_two_crates(self):
         repository = Repository(TOP)
-        names = [
-            (crate, name)
-            for crate in repository.crates
-            for path in repository.paths(crate, "specs", "antt")
-            if not path.endswith("Examples.antt") and "/examples/" not in path
-            for name in repository.file(crate, path).items
-        ]
+        names = [(crate, name) for crate in repository.crates
+                 for path in repository.paths(crate, "specs", "antt")
+                 if not path.endswith("Examples.antt") and "/examples/" not in path
+                 for name in repository.file(crate, path).items]
         self.assertGreater(len(names), 1_500)
         self.assertEqual({}, shared(names))
 
     def test_what_it_finds_of_promises(self):
         page = "| Crate | Proved |\n|---|---|\n| `inp_a` | `Tee::of` (`Is`), as in `inp_b`; `examples` |\n"
-        self.assertEqual([("inp_a", "Tee"), ("inp_a", "of"), ("inp_a", "Is"), ("inp_a", "examples")], list(promised(page)))
+        self.assertEqual([("inp_a", "Tee"), ("inp_a", "of"), ("inp_a", "Is"), ("inp_a", "examples")],
+                         list(promised(page)))
 
     def test_what_it_finds_of_facts(self):
-        self.assertEqual(["IsRun", "AreTold", "HasRoom"], FACT.findall("`IsRun`, `Job.AreTold`; `HasRoom`, `Is`, `IsRun.once`"))
+        self.assertEqual(["IsRun", "AreTold", "HasRoom"],
+                         FACT.findall("`IsRun`, `Job.AreTold`; `HasRoom`, `Is`, `IsRun.once`"))
         self.assertEqual({"a", "b", "c", "d"}, below("a", {"a": ["b", "d"], "b": ["c"], "c": []}))
         self.assertIn("IsRun", facts()["inp_runs"])
         self.assertNotIn("IsRun", facts()["inp_model"])
@@ -412,12 +395,10 @@ class Names(unittest.TestCase):
 
     def test_what_it_finds_of_names_in_files(self):
         text = "`a_b`, `c-d` in `proofs/C.antt`, a row in `e`\nof `specs/R.antt`, `f` (`inp_x/specs/F.antt`), `g` and `h`"
-        found = [
-            ("a_b", "", "proofs/C.antt"),
-            ("c-d", "", "proofs/C.antt"),
-            ("e", "", "specs/R.antt"),
-            ("f", "inp_x", "specs/F.antt"),
-        ]
+        found = [("a_b", "", "proofs/C.antt"),
+                 ("c-d", "", "proofs/C.antt"),
+                 ("e", "", "specs/R.antt"),
+                 ("f", "inp_x", "specs/F.antt")]
         self.assertEqual(found, list(lemmas(text)))
         files = FILE.findall("`src/a/b.rt`, `crates/inp_x/specs/C.antt`")
         self.assertEqual([("", "src/a/b.rt"), ("inp_x", "specs/C.antt")], files)
@@ -478,15 +459,19 @@ class Way(unittest.TestCase):
             names = re.findall(r"`([\w:]+)`", functions)
             self.assertEqual(int(count), len(names), functions)
             named += names
-        self.assertEqual([], [name for name in named if not any(has_function(text, name) for text in sources)])
+        self.assertEqual([],
+                         [name for name in named if not any(has_function(text, name) for text in sources)])
         self.assertEqual(len(named), len(set(named)))
         self.assertEqual([str(len(named))], re.findall(r"through (\d+) functions on one thread", page))
 
     def test_what_it_finds_of_a_function(self):
         text = "impl Frames for Handler {\n    fn pass(&mut self) {}\n}\nimpl Batch {\n    pub fn add(&mut self) {}\n}\n// fn none()\n"
-        found = [name for name in ("Handler::pass", "Batch::add", "Handler::add", "Batch::pass", "pass", "none") if has_function(text, name)]
+        found = [name
+                 for name in ("Handler::pass", "Batch::add", "Handler::add", "Batch::pass", "pass", "none")
+                 if has_function(text, name)]
         self.assertEqual(["Handler::pass", "Batch::add", "pass"], found)
-        self.assertEqual([("`a`, `B::c`", "2")], WAY_ROW.findall("| its source | `a`, `B::c` | 2 |\n| its | `a` and b | 2 |\n"))
+        self.assertEqual([("`a`, `B::c`", "2")],
+                         WAY_ROW.findall("| its source | `a`, `B::c` | 2 |\n| its | `a` and b | 2 |\n"))
 
 
 def places_of(page, link):
@@ -496,19 +481,23 @@ def places_of(page, link):
 
 class Links(unittest.TestCase):
     def test_each_page_that_a_page_names_is_there(self):
-        links = [(page, link) for page in PAGES for link in PAGE_LINK.findall(page.read_text()) + MARKDOWN_LINK.findall(page.read_text())]
-        missing = [(page.name, link) for page, link in links if not any(place.exists() for place in places_of(page, link))]
+        links = [(page, link) for page in PAGES
+                 for link in PAGE_LINK.findall(page.read_text()) + MARKDOWN_LINK.findall(page.read_text())]
+        missing = [(page.name, link) for page, link in links
+                   if not any(place.exists() for place in places_of(page, link))]
         self.assertEqual([], missing)
         self.assertGreater(len(links), 100)
 
     def test_each_page_is_named_by_another(self):
-        named = {link.rsplit("/", 1)[-1] for page in PAGES for link in PAGE_LINK.findall(page.read_text()) if link != page.name}
+        named = {link.rsplit("/", 1)[-1] for page in PAGES for link in PAGE_LINK.findall(page.read_text())
+                 if link != page.name}
         self.assertEqual(set(), {page.name for page in PAGES} - named)
 
 
 class Sections(unittest.TestCase):
     def test_each_section_that_a_crate_or_a_page_cites_is_there(self):
-        files = [path for kind in ("src/**/*.rt", "specs/**/*.antt", "proofs/**/*.antt") for path in TOP.glob(f"crates/*/{kind}")]
+        files = [path for kind in ("src/**/*.rt", "specs/**/*.antt", "proofs/**/*.antt")
+                 for path in TOP.glob(f"crates/*/{kind}")]
         there = {page.stem: sections(page) for page in sorted(TOP.glob("docs/*.md"))}
         missing, count = [], 0
         for path in files + PAGES:
@@ -538,7 +527,8 @@ class Sections(unittest.TestCase):
 
     def test_what_it_finds_in_a_comment(self):
         comment = '-- one (docs/RULES.md,\n-- "Queries" and\n-- "What a\n-- device has"); `docs/FORMATS.md`, "Words"'
-        self.assertEqual([("RULES", "Queries"), ("RULES", "What a device has"), ("FORMATS", "Words")], list(cited(comment)))
+        self.assertEqual([("RULES", "Queries"), ("RULES", "What a device has"), ("FORMATS", "Words")],
+                         list(cited(comment)))
 
 
 class Callers(unittest.TestCase):
@@ -551,7 +541,8 @@ class Callers(unittest.TestCase):
 
     def test_what_it_finds_in_a_page(self):
         page = "A caller. From\n`a.rt`, `f`:\n\n```rust\nfn f() {\n    g();\n    // ..\n}\n\nfn g() {}\n```\n"
-        self.assertEqual([("a.rt", "fn f() {\ng();"), ("a.rt", "}"), ("a.rt", "fn g() {}")], list(quoted(page)))
+        self.assertEqual([("a.rt", "fn f() {\ng();"), ("a.rt", "}"), ("a.rt", "fn g() {}")],
+                         list(quoted(page)))
 
 
 class Tables(unittest.TestCase):
@@ -562,7 +553,8 @@ class Tables(unittest.TestCase):
 
     def test_the_commands_of_the_page_are_the_rows_of_the_definition(self):
         rows = set(command_rows(self.read["Verb"], self.read["Field"]))
-        said = {(command, of) for commands, of, *_ in table(self.page, "Command") for command in re.findall("`([^`]+)`", commands)}
+        said = {(command, of) for commands, of, *_ in table(self.page, "Command")
+                for command in re.findall("`([^`]+)`", commands)}
         self.assertEqual(said, rows)
         self.assertEqual(30, len(rows))
 
@@ -579,7 +571,10 @@ command_row stream role Read =
     verb_line (codes "read") Takers (field.Number (count_max role) ∷ []) commands.Read
 command_row stream role Open = verb_line (codes "open") Openers [] commands.Open
 '''
-        found = [("event MOMENT TYPE", "source"), ("read NUMBER", "tap"), ("read NUMBER", "joy"), ("open", "client, tap, joy")]
+        found = [("event MOMENT TYPE", "source"),
+                 ("read NUMBER", "tap"),
+                 ("read NUMBER", "joy"),
+                 ("open", "client, tap, joy")]
         self.assertEqual(found, list(command_rows(verbs, "")))
         lines = '''line_row Hint = item_line (codes "hint") 1 (field.count ∷ []) items.Hint
 line_row Eat = item_line (codes "eat") 2 (field.Kind ∷ []) (λ k. k)

@@ -43,15 +43,13 @@ def stack(*names):
     return "<stack>" + "".join(frames) + "</stack>"
 
 
-DRD = (
-    "<valgrindoutput><error><unique>0x1</unique><what>Conflicting load by thread 3 at 0x1 size 8</what>"
-    + stack("step", "work")
-    + "<auxwhat>Address 0x30 is at offset 16 from 0x20.</auxwhat>"
-    + "<allocation_context>" + stack("malloc", "make", "main") + "</allocation_context></error>"
-    + "<error><unique>0x2</unique><what>Conflicting store by thread 2 at 0x2 size 8</what>" + stack("memmove", "work") + "</error>"
-    + "<errorcounts><pair><count>7</count><unique>0x1</unique></pair></errorcounts>"
-    + "<suppcounts><pair><count>9</count><name>drd-ld</name></pair></suppcounts></valgrindoutput>"
-)
+DRD = ("<valgrindoutput><error><unique>0x1</unique><what>Conflicting load by thread 3 at 0x1 size 8</what>"
+       + stack("step", "work") + "<auxwhat>Address 0x30 is at offset 16 from 0x20.</auxwhat>"
+       + "<allocation_context>" + stack("malloc", "make", "main") + "</allocation_context></error>"
+       + "<error><unique>0x2</unique><what>Conflicting store by thread 2 at 0x2 size 8</what>"
+       + stack("memmove", "work") + "</error>"
+       + "<errorcounts><pair><count>7</count><unique>0x1</unique></pair></errorcounts>"
+       + "<suppcounts><pair><count>9</count><name>drd-ld</name></pair></suppcounts></valgrindoutput>")
 
 HELGRIND = (
     "<valgrindoutput><error><unique>0x0</unique><xwhat><text>Possible data race during write of size 8 by thread #3</text></xwhat>"
@@ -99,7 +97,8 @@ class Races(unittest.TestCase):
 
     def test_a_run_without_a_read_fails(self):
         said, end = self.run_over(REPORT)
-        self.assertEqual("device kbd steps 4\ndevice pad steps 0\n2 reads were accepted\n0 places, 0 times\n", said)
+        self.assertEqual("device kbd steps 4\ndevice pad steps 0\n2 reads were accepted\n0 places, 0 times\n",
+                         said)
         self.assertEqual("", end)
         said, end = self.run_over("device kbd steps 0\n")
         self.assertIn("\n0 reads were accepted\n", said)
@@ -116,11 +115,8 @@ class Races(unittest.TestCase):
     def test_a_table(self):
         read, wrote = ("f", "reads", "g"), ("f", "writes", "-")
         found = [(read, "0x1", 8, 2), (read, "0x2", 9, 3), (read, "0x2", 9, 1), (wrote, "0x1", 0, 1)]
-        lines = [
-            "     2 places         6 times    2 blocks  f reads the memory of g",
-            "     1 places         1 times    1 blocks  f writes the memory of -",
-            "3 places, 7 times",
-        ]
+        lines = ["     2 places         6 times    2 blocks  f reads the memory of g",
+                 "     1 places         1 times    1 blocks  f writes the memory of -", "3 places, 7 times"]
         self.assertEqual(lines, list(races.table(found)))
 
 

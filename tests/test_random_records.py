@@ -55,23 +55,11 @@ class SecondProgram(FolderCase):
             with self.subTest(text=text):
                 self.assertIn(text, "".join(texts))
         reports = b"".join(report_of(text, self.folder, history=True)[0] for text in texts)
-        for text in (
-            b"EV_SYN SYN_DROPPED 0\n",
-            b"EV_SYN SYN_REPORT 1\n",
-            b"\nmade EV_",
-            b"\nagain ",
-            b" no-device\n",
-            b" bad-client\n",
-            b" bad-info\n",
-            b" busy\n",
-            b" log-full\n",
-            b"\nstop full ",
-            b"\njs 0 1 129 ",
-            b" 1 1 0\n",
-            b"\nbuttons 0 1\n",
-            b" 0\nfeedback ",
-            b" 15\nfed ",
-            *(f"\nfed {kind} ".encode() for kind in ("EV_LED", "EV_SND", "EV_MSC", "EV_REP", "EV_SYN SYN_CONFIG")),
-        ):
+        for text in (b"EV_SYN SYN_DROPPED 0\n", b"EV_SYN SYN_REPORT 1\n", b"\nmade EV_", b"\nagain ",
+                     b" no-device\n", b" bad-client\n", b" bad-info\n", b" busy\n", b" log-full\n",
+                     b"\nstop full ", b"\njs 0 1 129 ", b" 1 1 0\n", b"\nbuttons 0 1\n", b" 0\nfeedback ",
+                     b" 15\nfed ",
+                     *(f"\nfed {kind} ".encode()
+                       for kind in ("EV_LED", "EV_SND", "EV_MSC", "EV_REP", "EV_SYN SYN_CONFIG"))):
             with self.subTest(text=text):
                 self.assertIn(text, reports)

@@ -40,7 +40,8 @@ SPOILED = {
     "an event with another value": ("took 5 2 EV_KEY KEY_A 1\n", "took 5 2 EV_KEY KEY_A 0\n", "line"),
     "an event at another place": ("took 5 2 EV_KEY KEY_A 1\n", "took 4 2 EV_KEY KEY_A 1\n", "line"),
     "a key that is not down": ("\nkeys KEY_A KEY_B\n", "\nkeys KEY_A\n", "line"),
-    "a step that nobody made": ("step 1 inject 1 EV_KEY KEY_A 1", "step 1 inject 1 EV_KEY KEY_A 2", "nobody's"),
+    "a step that nobody made": ("step 1 inject 1 EV_KEY KEY_A 1", "step 1 inject 1 EV_KEY KEY_A 2",
+                                "nobody's"),
     "a step that is refused": ("step 1 inject 1 EV_KEY KEY_A 1", "step 1 read 0 64", "is answered"),
     "a step that is none": ("step 1 inject 1 EV_KEY KEY_A 1", "step 1 inject 1", "none of a report"),
     "a call at a place of another step": ("reply opened 3 ", "reply opened 5 ", "is not step"),
@@ -93,12 +94,10 @@ class Replay(FolderCase):
         record, report = self.folder / "f", self.folder / "report"
         record.write_bytes(RECORD.encode() + b"# any bytes: \xe9\xff\x85\n")
         report.write_text(self.report())
-        for words, status, said in (
-            (["--idle", IDLE, record, report], 0, ""),
-            ([record, record], 1, "second.replay: "),
-            ([record], 2, "required: report"),
-            ([record, self.folder / "none"], 2, "No such file"),
-        ):
+        for words, status, said in ((["--idle", IDLE, record, report], 0, ""),
+                                    ([record, record], 1, "second.replay: "),
+                                    ([record], 2, "required: report"),
+                                    ([record, self.folder / "none"], 2, "No such file")):
             with self.subTest(words=words[-1]):
                 script = [sys.executable, "-m", "second.replay", *map(str, words)]
                 done = subprocess.run(script, cwd=TOP, capture_output=True, text=True, timeout=30)

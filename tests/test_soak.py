@@ -26,7 +26,8 @@ STATUS = RUN.replace("SEED", "1") + "print('\\n'.join(lines))\nsys.exit(3)\n"
 
 # Of the jobs that wait for their turn the last one by name is next: a client comes when all sources and taps have ended.
 ONE_BY_ONE = SAME.replace(
-    "words = sys", "from second import side_by_side\nside_by_side.Order.next = lambda order: order.waiting and "
+    "words = sys",
+    "from second import side_by_side\nside_by_side.Order.next = lambda order: order.waiting and "
     "len(order.waiting) == order.running and order.waiting.pop(max(order.waiting)).set()\nwords = sys"
 )
 
@@ -57,16 +58,15 @@ class Soak(FolderCase):
 
     def test_a_line_for_each_run(self):
         done = self.soak(SAME, "--records", "1", "--times", "3", "--frames", "2", "--each")
-        lines = [line for line in done.stdout.splitlines() if line.startswith("record 0, --idle 1000, processors ")]
+        lines = [line for line in done.stdout.splitlines()
+                 if line.startswith("record 0, --idle 1000, processors ")]
         self.assertEqual(3, len(lines), done.stderr)
         self.assertEqual(1, len({line.split(": ")[1] for line in lines}), "one order is one run")
 
     def test_wrong_words(self):
-        for words, said in (
-            (["--records", "0"], "0 is not 1 or more"),
-            (["--times", "x"], "invalid positive value"),
-            (["--program", "none"], "is not there"),
-        ):
+        for words, said in ((["--records", "0"], "0 is not 1 or more"),
+                            (["--times", "x"], "invalid positive value"),
+                            (["--program", "none"], "is not there")):
             with self.subTest(words=words):
                 done = self.soak(SAME, *words)
                 self.assertEqual(2, done.returncode)

@@ -23,14 +23,12 @@ class Benches(FolderCase):
                 self.assertIn(f"usage: {script} ", ended.stdout)
 
     def test_what_is_refused(self):
-        for words, told in (
-            (["turn", "/none"], "/none is not there"),
-            (["turn", "--steps", "100032"], "a thread makes at most 100000 steps"),
-            (["turn", "--steps", "33"], "in turns of 32"),
-            (["turn", "--runs", "0"], "invalid number value: '0'"),
-            (["threads", "/none"], "/none is not there"),
-            (["threads", "--frames", "many"], "invalid number value: 'many'"),
-        ):
+        for words, told in ((["turn", "/none"], "/none is not there"),
+                            (["turn", "--steps", "100032"], "a thread makes at most 100000 steps"),
+                            (["turn", "--steps", "33"], "in turns of 32"),
+                            (["turn", "--runs", "0"], "invalid number value: '0'"),
+                            (["threads", "/none"], "/none is not there"),
+                            (["threads", "--frames", "many"], "invalid number value: 'many'")):
             with self.subTest(words=words):
                 ended = said(*words)
                 self.assertEqual((2, ""), (ended.returncode, ended.stdout))
@@ -52,7 +50,8 @@ class Benches(FolderCase):
         subprocess.run([COMPILER, "-O2", "-pthread", "-o", plain, BENCH / "plain_turn.c"], check=True)
         for lock in ("mutex", "spin"):
             with self.subTest(lock=lock):
-                ended = subprocess.run([plain, lock, "4", "2", "1000", "8"], capture_output=True, text=True, check=True)
+                ended = subprocess.run([plain, lock, "4", "2", "1000", "8"], capture_output=True, text=True,
+                                       check=True)
                 self.assertEqual("threads 4 devices 2 steps 1000 entered 4000\n", ended.stdout)
 
 

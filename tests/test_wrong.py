@@ -21,7 +21,8 @@ class Texts(unittest.TestCase):
 
     def test_each_text_stands_once(self):
         script = loaded(SCRIPT)
-        gate = [script.version_of(path.parents[1].name, path) for path in sorted(TOP.glob("crates/*/must-fail/*.edit"))]
+        gate = [script.version_of(path.parents[1].name, path)
+                for path in sorted(TOP.glob("crates/*/must-fail/*.edit"))]
         for version in [*gate, *script.versions_of(TOP)]:
             with self.subTest(version.name):
                 self.assertEqual([], script.stale(TOP, [version]))
@@ -31,7 +32,8 @@ class Texts(unittest.TestCase):
         by_hand = [path.relative_to(TOP) for path in TOP.glob("checks/wrong/*/*.edit")]
         self.assertLessEqual(len(gate), MOST_IN_THE_GATE)
         self.assertGreaterEqual(len(gate) + len(by_hand), LEAST_OF_ALL)
-        both = {(path.parts[1], path.name) for path in gate} & {(path.parts[2], path.name) for path in by_hand}
+        both = {(path.parts[1], path.name) for path in gate} & {(path.parts[2], path.name)
+                                                                for path in by_hand}
         self.assertEqual(set(), both, "a version is tried by the gate or by hand")
 
     def test_each_test_is_there(self):
@@ -56,7 +58,8 @@ class Ends(FolderCase):
         (self.top / "HANDLES").write_text("Handles allowed: none.\n")
         (self.top / "crates" / "low" / "src" / "lib.rt").write_text("fn answer() -> u32 {\n    42\n}\n")
         self.version("low", "answers_41", "file: src/lib.rt\nold:     42\nnew:     41\n")
-        self.version("low", "is_tested", "# fails: high lib::tests\nfile: src/lib.rt\nold:     42\nnew:     43\n")
+        self.version("low", "is_tested",
+                     "# fails: high lib::tests\nfile: src/lib.rt\nold:     42\nnew:     43\n")
         (self.folder / "rt").write_text(TOOLCHAIN)
         (self.folder / "rt").chmod(0o755)
 
@@ -87,21 +90,22 @@ class Ends(FolderCase):
         self.assertIn("neither refused nor failed: low/answers_41\n", ended.stdout)
 
     def test_tests_that_pass_or_cannot_be_run(self):
-        for said, line in (
-            ("test result: ok\n", "low/is_tested: fails nothing\n"),
-            ("test lib::others ... FAILED\ntest result: FAILED\n", "low/is_tested: fails lib::others\n"),
-            ("error: no such name\n", "low/is_tested: its tests could not be run\n"),
-        ):
+        for said, line in (("test result: ok\n", "low/is_tested: fails nothing\n"),
+                           ("test lib::others ... FAILED\ntest result: FAILED\n",
+                            "low/is_tested: fails lib::others\n"),
+                           ("error: no such name\n", "low/is_tested: its tests could not be run\n")):
             with self.subTest(said):
                 ended = self.told("--tests", said=said)
                 self.assertEqual(1, ended.returncode)
-                self.assertEqual(f"{line}neither refused nor failed: low/is_tested\n", "".join(ended.stdout.splitlines(True)[:2]))
+                self.assertEqual(f"{line}neither refused nor failed: low/is_tested\n",
+                                 "".join(ended.stdout.splitlines(True)[:2]))
 
     def test_a_text_that_is_not_there(self):
         self.version("low", "is_stale", "file: src/lib.rt\nold: 44\nnew: 45\n")
         ended = self.told("--list")
         self.assertEqual((2, ""), (ended.returncode, ended.stdout))
-        self.assertEqual("checks/try_wrong: low/is_stale: its text stands 0 times in src/lib.rt: 44\n", ended.stderr)
+        self.assertEqual("checks/try_wrong: low/is_stale: its text stands 0 times in src/lib.rt: 44\n",
+                         ended.stderr)
 
     def test_wrong_words(self):
         ended = self.told("nothing")
