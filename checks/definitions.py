@@ -1,11 +1,13 @@
 """Reads the definitions (specs/*.antt) and the declarations (src/*.rt) of the crates, item by item.
 
-Each item has its lines, the names that it gives (its own, its constructors, its fields), and the items that it uses: those
-whose names stand in it, by the file's imports. So an import that an item does not name does not count for it. A variable
-of the same name as an item of its file counts as that item, which is too much and never too little.
+Each item has its lines, the names that it gives (its own, its constructors, its fields), and the items that
+it uses: those whose names stand in it, by the file's imports. So an import that an item does not name does
+not count for it. A variable of the same name as an item of its file counts as that item, which is too much
+and never too little.
 
-Of a type that contracts see by a model (`impl Model`) what counts is of what kind the model's values are, and not how the
-type keeps them, unless a definition looks inside it. Of a function the contract counts, and not the body.
+Of a type that contracts see by a model (`impl Model`) what counts is of what kind the model's values are, and
+not how the type keeps them, unless a definition looks inside it. Of a function the contract counts, and not
+the body.
 """
 
 import re
@@ -178,7 +180,8 @@ class SourceFile:
         return True
 
     def meanings(self, dotted: str) -> List[Optional[Key]]:
-        """The keys of what a name with dots may mean; None for a variable, and for what is not the repository's."""
+        """The keys of what a name with dots may mean; None for a variable, and for what is not the
+        repository's."""
         first, *rest = dotted.split(".")
         if first in self.modules:
             module = self.modules[first]

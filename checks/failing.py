@@ -47,7 +47,7 @@ class Failing:
 
     def run(self, kind: str, at: int, how: str, words: Sequence[str], folder: Path, seconds: float,
             **more: Any) -> Tuple[Run, List[str]]:
-        """A run in which the call fails, and the words that tell of this call; none where there were fewer calls."""
+        """A run in which the call fails, and the words that tell of it; none where there were fewer calls."""
         with open(self.tell, "w+b") as tell:
             failing = {"FAILING": kind, "FAILING_AT": str(at), "FAILING_HOW": how,
                        "FAILING_TELL": str(tell.fileno())}
@@ -58,7 +58,7 @@ class Failing:
 
 
 def is_linked_dynamically(program: str) -> bool:
-    """Whether an ELF file names a loader. A script is one too where its interpreter does, which is not looked at."""
+    """Whether an ELF file names a loader. Of a script this is not looked at."""
     with open(program, "rb") as file:
         head = file.read(4096)
     if head.startswith(b"#!"):
@@ -69,7 +69,7 @@ def is_linked_dynamically(program: str) -> bool:
 
 
 def told_of_all(runs: int, wrongs: int, records: Sequence[Path]) -> Tuple[str, int]:
-    """The last line of a script, and its exit status. Where no call could be made to fail, nothing was shown."""
+    """The last line of a script, and its exit status. Where no call could fail, nothing was shown."""
     if not runs:
         return "no call could be made to fail", 1
     ends = f"{wrongs} that end otherwise" if wrongs else "none that ends otherwise"

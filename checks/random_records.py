@@ -1,6 +1,6 @@
 #!/usr/bin/env python3
-"""Writes random records, each with the report that the model gives of it and the files of its streams, into a folder
-for checks/compare.
+"""Writes random records, each with the report that the model gives of it and the files of its streams, into a
+folder for checks/compare.
 
 usage: random_records.py FOLDER COUNT SEED [--history]
 """
@@ -36,7 +36,7 @@ Actors = List[Tuple[str, str]]
 
 
 class Generator:
-    """Makes one record. Where a folder is given its sources have streams, and their files are written there."""
+    """Makes one record. Where a folder is given its sources have streams, whose files go there."""
 
     def __init__(self, seed: int, folder: Optional[str] = None) -> None:
         self.r = random.Random(seed)

@@ -1,7 +1,9 @@
-"""The calls of a reader and of a joystick client of the library, beside those of the second program over the same steps.
+"""The calls of a reader and of a joystick client of the library, beside those of the second program over the
+same steps.
 
-Each stands between an event that goes to the device's owner and the owner's call. Its answer is to be the second program's, and
-what the owner then takes too. Each is noted in numbers, for programs in other languages.
+Each stands between an event that goes to the device's owner and the owner's call. Its answer is to be the
+second program's, and what the owner then takes too. Each is noted in numbers, for programs in other
+languages.
 """
 
 from struct import pack

@@ -98,7 +98,7 @@ def devices() -> str:
 
 
 def owners() -> str:
-    """Eight owners of devices with small limits, who have room for one event and for 4096, where more are sent than can wait."""
+    """Eight owners of devices with small limits: room for 1 and for 4096, and more sent than can wait."""
     device, actions = [], []
     values = [LEAST + n for n in range(9)] + [GREATEST - n for n in range(9)]
     for i in range(8):

@@ -12,7 +12,7 @@ BUILT = TOP / "crates" / "inp_main" / "out" / "inp_main"
 
 
 class Run(NamedTuple):
-    """What a run of the program came to. The status of one that a signal ended is the signal's number, negative."""
+    """What a run of the program came to. A status below 0 is that of a signal."""
 
     status: Optional[int]
     text: bytes

@@ -1,4 +1,4 @@
-"""A remapper between a played keyboard and a reader: keys go from the record through it to a device that it makes."""
+"""A remapper between a played keyboard and a reader: keys go through it to a device that it makes."""
 
 from tests.run_cases import HERE, RunCase, needs, needs_module, sent
 

@@ -1,4 +1,4 @@
-"""What checks/believed finds in a small repository that the test writes; and that docs/PROMISES.md has its table."""
+"""What checks/believed finds in a small repository; and that docs/PROMISES.md has its table."""
 
 import re
 import subprocess
@@ -9,7 +9,8 @@ from tests.playing import TOP, FolderCase
 SCRIPT = TOP / "checks" / "believed"
 from checks.definitions import Key, Repository
 
-# A crate `low`, and a crate `high` that depends on it. What counts for `call` has `yes` in a comment beside it.
+# A crate `low`, and a crate `high` that depends on it. What counts for `call` has `yes` in a comment beside
+# it.
 FILES = {
     "crates.txt": "# crates\nhigh: low clap\nlow:\n",
     "crates/low/src/lib.rt": "mod color;\nmod kept;\n",

@@ -6,7 +6,8 @@ from tests.playing import TOP, FolderCase, run
 
 CLIENTS = TOP / "bench" / "clients"
 
-# Two taps, and eight frames of two events. The opens are steps 0 and 1; where masks are set these are 2 and 3.
+# Two taps, and eight frames of two events. The opens are steps 0 and 1; where masks are set these are 2 and
+# 3.
 WAYS = {"read": ["call read 0 64 reply took 18 16", "call read 1 64 reply took 19 16"],
         "discard": ["call discard 0 reply discarded 18 16", "call discard 1 reply discarded 19 16"],
         "none": ["again 20", "again 20"]}

@@ -1,4 +1,4 @@
-"""What checks/counts counts of a small repository that the test writes; and that docs/TESTING.md has its table."""
+"""What checks/counts counts of a small repository; and that docs/TESTING.md has its table."""
 
 import re
 import subprocess

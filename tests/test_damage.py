@@ -21,7 +21,8 @@ LATER = "inputrecord 2\ndevice d\n"
 REQUESTED = "inputrecord 2\nudevice u\n"
 OWNER = REQUESTED + "owner o\n"
 
-# Texts and the line and the cause for which they are refused. The first cause in the order of FORMATS.md counts.
+# Texts and the line and the cause for which they are refused. The first cause in the order of FORMATS.md
+# counts.
 CAUSES = [("#\n", "2: bad-header"),
           ("\r\r\n" + HEAD, "1: not-text"),
           ("\r# a carriage return before the comment\n" + HEAD, "1: not-text"),

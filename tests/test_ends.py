@@ -1,5 +1,5 @@
-"""How each tool of tools/ ends where it is stopped, where nobody takes what it writes, and where a file or the program
-is not what it is to be: by one line and a status, and never by a traceback."""
+"""How each tool of tools/ ends where it is stopped, where nobody takes what it writes, and where a file or
+the program is not what it is to be: by one line and a status, and never by a traceback."""
 
 import os
 import signal
@@ -15,8 +15,7 @@ CAPTURE = DATA / "lid.evtest"
 
 
 class EndsCase(DeskCase):
-    """`playing` has of each tool words with which it plays a record, and `all` of each those with which it writes
-    something."""
+    """Words with which each tool plays a record (`playing`), or writes something (`all`)."""
 
     def setUp(self):
         super().setUp()

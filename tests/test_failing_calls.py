@@ -1,7 +1,7 @@
 """What `checks/alloc` and `checks/faults` say of programs that are right, and of some that are not.
 
-The programs are small ones in C, which do as the real one at calls that fail. Where there is no C compiler the
-scripts must say so, and the rules by which they judge are tested alone.
+The programs are small ones in C, which do as the real one at calls that fail. Where there is no C compiler
+the scripts must say so, and the rules by which they judge are tested alone.
 """
 
 import os

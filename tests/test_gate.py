@@ -107,7 +107,7 @@ class Gate(unittest.TestCase):
         self.assertIn(str(self.top / "missing"), done.stderr)
 
     def test_a_run_without_the_program_makes_the_checks_that_need_none(self):
-        """A test that says that it needs the program is left out. One that fails is not, whatever its message names."""
+        """A test that says that it needs the program is left out. One that fails is not, whatever it says."""
         (self.top / "tests" / "__init__.py").write_text((TOP / "tests" / "__init__.py").read_text())
         shutil.copy(TOP / "tests" / "playing.py", self.top / "tests" / "playing.py")
         needs = "from tests import playing\n        playing.needs_program(self)\n"

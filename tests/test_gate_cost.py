@@ -1,4 +1,4 @@
-"""What bench/gate_cost tells of processes that a test makes up, and of commands that fail or are not there."""
+"""What bench/gate_cost tells of made-up processes, and of commands that fail or are not there."""
 
 import os
 import subprocess

@@ -1,7 +1,9 @@
-"""The library as far as no archive is needed: the header beside the crate, and each source over it beside the header.
+"""The library as far as no archive is needed: the header beside the crate, and each source over it beside the
+header.
 
-What needs the archive is in test_library.py, which is run where the library was built. `tests/library/passed.json` says over
-which sources it passed; here these are compared with those that are there.
+What needs the archive is in test_library.py, which is run where the library was built.
+`tests/library/passed.json` says over which sources it passed; here these are compared with those that are
+there.
 """
 
 import os

@@ -1,8 +1,9 @@
 """The library for C, and what is built over it: C, C++, Rust and Python programs, linked and run.
 
-`rt ci` builds no static library, so these checks are made where `tools/build --library` made one, or where they are asked
-for by name: `tests/run library` then builds it first. A check whose tool is not there is left out by its name. Where all
-pass, `tests/run library` keeps over which sources they did (`tests/library/passed.json`), which the gate compares.
+`rt ci` builds no static library, so these checks are made where `tools/build --library` made one, or where
+they are asked for by name: `tests/run library` then builds it first. A check whose tool is not there is left
+out by its name. Where all pass, `tests/run library` keeps over which sources they did
+(`tests/library/passed.json`), which the gate compares.
 """
 
 import os
@@ -198,7 +199,8 @@ def is_there(tool):
 
 
 def make_library(is_asked):
-    """Links the libraries of the archive that is there; builds it too where that is asked for. Says why they are not there, or None."""
+    """Links the libraries of the archive that is there; builds it too where that is asked for. Says why they
+    are not there, or None."""
     if not ARCHIVE.is_file() and not is_asked:
         return "the library is not built"
     words = ["--made"] if ARCHIVE.is_file() and not is_asked else []

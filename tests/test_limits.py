@@ -24,7 +24,7 @@ GRABBED = ("do t open", "do t grab")
 
 
 class Step(NamedTuple):
-    """A line whose step meets the limit, its call and reply, and the lines before it that fill the history."""
+    """A line whose step meets the limit, its call and reply, and the lines that fill the history."""
 
     line: str
     call: str

@@ -1,4 +1,4 @@
-"""What bench/load writes for small loads, that the program and plain C print the same of them, and what is no load."""
+"""What bench/load writes for small loads, what the program and plain C print of them, and no loads."""
 
 import shutil
 import subprocess

@@ -1,4 +1,4 @@
-"""What documents and crates name is there: definitions, files, and sections of pages; and a name means one thing."""
+"""What documents and crates name is there: definitions, files, sections. A name means one thing."""
 
 import re
 import unittest
@@ -68,7 +68,7 @@ def named(text):
 
 
 def lemmas(text):
-    """The names that a text says are in a file of proofs or definitions, each with the crate, if named, and the file."""
+    """The names that a text places in a file of proofs or definitions, with the crate, if named."""
     for names, crate, kind, stem in LEMMAS.findall(text):
         for name in re.findall(r"`(?!inp_)([\w-]+)`", names):
             yield name, crate, f"{kind}/{stem}.antt"
@@ -117,7 +117,7 @@ def facts():
 
 
 def said_of_crates():
-    """The texts that are about a crate, each with the crate: its comments, and its row of the page of what is proved."""
+    """The texts that are about a crate: its comments, and its row of the page of what is proved."""
     for crate, file in files_of_crates():
         if "proofs" not in file.parts:
             yield crate, comments(file)
@@ -148,15 +148,16 @@ def cited(text):
 
 
 def quoted(text):
-    """The pieces of code that a page quotes, each with its file: what stands between blank lines and lines `// ..`."""
+    """The pieces of code that a page quotes, each with its file: what stands between blank lines and lines
+    `// ..`."""
     for path, code in QUOTED_CODE.findall(text):
         for piece in re.split(r"^\s*(?:// \.\.)?$", code, flags=re.M):
             if piece.strip():
                 yield path, unindented(piece)
 
 
-# A definition of a reader's talks, and the files of proofs that may unfold it: the one that walks the talks, and those in
-# which code follows a talk, an example is computed, or queries are spoken of and no talk is.
+# A definition of a reader's talks, and the files of proofs that may unfold it: the one that walks the talks,
+# and those in which code follows a talk, an example is computed, or queries are spoken of and no talk is.
 WALK = "inp_reader/proofs/NextWalk.antt"
 UNFOLDED = {
     "read_talk": {"inp_reader/proofs/Computation.antt", "inp_reader/proofs/SaysSessions.antt"},
@@ -186,7 +187,8 @@ def unindented(code):
     return "\n".join(line.strip() for line in code.strip("\n").split("\n"))
 
 
-# A row of the definitions: its name, the word or how many words stand before, for whom, and what its words are.
+# A row of the definitions: its name, the word or how many words stand before, for whom, and what its words
+# are.
 TERM = r"(\((?:[^()]|\([^()]*\))*\)|\[\]|\w+)\s"
 COMMAND_ROW = re.compile(rf'^command_row stream role (\w+) =\s+verb_line \(codes "(\w+)"\) (\w+) {TERM}',
                          re.M)
@@ -257,7 +259,7 @@ def takers(commons, crates):
 
 
 class CommonWords(unittest.TestCase):
-    """A word has one path; only `proofs/Common.antt` of a crate hands words on, as that of the toolchain's std does."""
+    """A word has one path; only `proofs/Common.antt` of a crate hands words on, as in the toolchain."""
 
     def setUp(self):
         self.proofs = {path: path.read_text() for path in TOP.glob("crates/*/proofs/**/*.antt")}

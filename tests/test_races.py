@@ -38,7 +38,7 @@ do t read 1
 
 
 def stack(*names):
-    """A stack of these functions, the innermost first, whose instructions have the addresses 0xA, 0xB and so on."""
+    """A stack of these functions, the innermost first, at the addresses 0xA, 0xB and so on."""
     frames = (f"<frame><ip>0x{at:X}</ip><fn>{name}</fn></frame>" for at, name in enumerate(names, 10))
     return "<stack>" + "".join(frames) + "</stack>"
 

@@ -1,7 +1,8 @@
 """Random records, and ones at the bounds of what is allowed, are played by the program and by a second one.
 
-The second program (second) is in Python, was written from docs/RULES.md, docs/READER.md and docs/FORMATS.md alone,
-and shares no code with the first. Both must write the same report, byte for byte. Each run has the same records.
+The second program (second) is in Python, was written from docs/RULES.md, docs/READER.md and docs/FORMATS.md
+alone, and shares no code with the first. Both must write the same report, byte for byte. Each run has the
+same records.
 """
 
 

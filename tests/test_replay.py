@@ -72,7 +72,8 @@ class Replay(FolderCase):
         self.assertIsNone(self.complaint(self.report()))
 
     def test_how_far_the_jobs_met(self):
-        """The tap, sources, the client, sources, the tap, the client, sources; the client's read took the frame of step 5."""
+        """The tap, sources, the client, sources, the tap, the client, sources; the client's read took the
+        frame of step 5."""
         (device,) = check(RECORD, self.report().split("\n")[:-1], idle=IDLE)
         self.assertEqual((6, 1), (device.changes(), device.waits()))
 

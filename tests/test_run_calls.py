@@ -2,8 +2,8 @@
 with what finds wrong reads, writes and races.
 
 The checks want a C compiler and the library's archive (out/library, or the folder that INPUTPLAY_LIB_DIR
-names). A check that wants what is not here is left out. Those with sanitizers and valgrind take longer, and are
-made where they are asked for by name: `tests/run run_calls`.
+names). A check that wants what is not here is left out. Those with sanitizers and valgrind take longer, and
+are made where they are asked for by name: `tests/run run_calls`.
 """
 
 from __future__ import annotations

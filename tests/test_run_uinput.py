@@ -1,5 +1,5 @@
-"""Devices that programs make by /dev/uinput under tools/run: the requests one by one, and real programs, each of
-which is left out by its name where it is not installed."""
+"""Devices that programs make by /dev/uinput under tools/run: the requests one by one, and real programs, each
+of which is left out by its name where it is not installed."""
 
 from __future__ import annotations
 

@@ -24,7 +24,8 @@ OTHER = SAME.replace("read(), 1,", "read(), os.getpid(),")
 SPOILED = RUN.replace("SEED", "1") + "print('\\n'.join(lines[:-1] + ['stop full 0']))\nsys.exit(6)\n"
 STATUS = RUN.replace("SEED", "1") + "print('\\n'.join(lines))\nsys.exit(3)\n"
 
-# Of the jobs that wait for their turn the last one by name is next: a client comes when all sources and taps have ended.
+# Of the jobs that wait for their turn the last one by name is next: a client comes when all sources and taps
+# have ended.
 ONE_BY_ONE = SAME.replace(
     "words = sys",
     "from second import side_by_side\nside_by_side.Order.next = lambda order: order.waiting and "

@@ -1,4 +1,4 @@
-"""What the scripts that time threads say of wrong input, that the record of bench/threads plays alike, and plain C."""
+"""What the scripts that time threads say of wrong input, and that plain C plays the same."""
 
 import shutil
 import subprocess

@@ -1,7 +1,7 @@
 """Records are played on threads, and each run is checked by the history that it printed.
 
-The result of a record depends on the order in which the threads made their steps. So the printed history is played
-on one thread by a second program (second/replay.py), which has to give the same report, byte for byte.
+The result of a record depends on the order in which the threads made their steps. So the printed history is
+played on one thread by a second program (second/replay.py), which has to give the same report, byte for byte.
 """
 
 import unittest
@@ -14,8 +14,8 @@ from second.replay import Differs, check
 # A `follow` ends after so many reads in a row that found nothing.
 IDLE = 1000
 
-# Of runs that tell an owner something so many are looked at. Others tell it nothing: those are made anew, but for so
-# many runs at most.
+# Of runs that tell an owner something so many are looked at. Others tell it nothing: those are made anew, but
+# for so many runs at most.
 TELLING_RUNS = 8
 MOST_RUNS = 400
 

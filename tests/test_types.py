@@ -1,4 +1,4 @@
-"""Every function of the tools, the second program and the scripts in checks/ has types, and mypy finds them right."""
+"""Every function of the tools, the second program and checks/ has types, and mypy finds them right."""
 
 import shutil
 import subprocess
@@ -6,7 +6,7 @@ import subprocess
 from tests.playing import TOP, FolderCase
 
 PACKAGES = ("inputtools", "second")
-HELPERS = ("tests.playing", "tests.desk_cases", "tests.page_commands")
+HELPERS = ("tests.playing", "tests.desk_cases", "tests.test_pages")
 # The scripts have no ending by which mypy would find them; it takes each as a module of its own name.
 SCRIPTS = ("tools", "bin", "checks", "tests")
 

@@ -1,4 +1,5 @@
-"""The wrong versions that the gate and checks/try_wrong try stand where they say, each once; and what the script says of an end."""
+"""The wrong versions that the gate and checks/try_wrong try stand where they say, each once; and what the
+script says of an end."""
 
 import os
 import subprocess

@@ -10,7 +10,8 @@ STRUCTS = {"inputplay_info": "inp_model/src/axis_info.rt", "inputplay_step_t": "
            "inputplay_reply": "inp_c/src/c_reply.rt", "inputplay_event": "inp_model/src/taken.rt",
            "inputplay_stamped": "inp_model/src/stamped.rt", "inputplay_picture": "inp_c/src/c_picture.rt"}
 
-# Fields that are spelled otherwise, since `type` is a word of the crate's language, and `now` one of its contracts.
+# Fields that are spelled otherwise, since `type` is a word of the crate's language, and `now` one of its
+# contracts.
 SPELLED = {"kind": "type", "moment": "now"}
 
 # What a number of the header is called, and the file and form in which the crate has it.

@@ -1,7 +1,7 @@
 """What `tests/run library` last passed over: the sums of all sources that it depends on, and its counts.
 
-The gate builds no archive, so it cannot run these checks itself. It compares the sums, and fails where a source has changed
-since. The code of the crates is summed; proofs and definitions make no code.
+The gate builds no archive, so it cannot run these checks itself. It compares the sums, and fails where a
+source has changed since. The code of the crates is summed; proofs and definitions make no code.
 """
 
 import hashlib
