@@ -9,7 +9,8 @@ import os
 import random
 import struct
 import sys
-from typing import Callable, Dict, List, Optional, Set, Tuple
+from pathlib import Path
+from typing import Callable, Dict, Iterable, List, Optional, Set, Tuple
 
 if not __package__:
     import repository_path  # noqa: F401  (run as a script: the packages of this repository)
@@ -257,15 +258,19 @@ class Generator:
         return ["close"] if x < 0.98 else ["revoke"]
 
 
+def write_all(folder: str, texts: Iterable[Tuple[str, str]], history: bool = False) -> None:
+    """Writes records, each by its name, and beside each the report that the second program gives of it."""
+    for name, text in texts:
+        Path(folder, name).write_bytes(text.encode("latin1"))
+        report = "".join(line + "\n" for line in play(text, folder, history))
+        Path(folder, f"{name}.stdout").write_text(report)
+
+
 def main() -> None:
     folder, count, seed = sys.argv[1], int(sys.argv[2]), int(sys.argv[3])
     os.makedirs(folder, exist_ok=True)
-    for i in range(count):
-        text = Generator(seed * 100000 + i, folder).record()
-        with open(f"{folder}/{i:04}.rec", "w") as file:
-            file.write(text)
-        with open(f"{folder}/{i:04}.rec.stdout", "w") as file:
-            file.write("".join(line + "\n" for line in play(text, folder, "--history" in sys.argv)))
+    texts = ((f"{i:04}.rec", Generator(seed * 100000 + i, folder).record()) for i in range(count))
+    write_all(folder, texts, "--history" in sys.argv)
 
 
 if __name__ == "__main__":

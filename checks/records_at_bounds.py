@@ -11,7 +11,7 @@ from typing import Callable, List, Tuple
 if not __package__:
     import repository_path  # noqa: F401  (run as a script: the packages of this repository)
 
-from second.model import play
+from checks.random_records import write_all
 
 MOMENT_MAX = 9000000000000000
 LEAST, GREATEST = -(2**31), 2**31 - 1
@@ -142,15 +142,6 @@ MAKERS: Tuple[Callable[[], str], ...] = (clients, moments, fuzz, slots, counts, 
 RECORDS = {make.__name__: make for make in MAKERS}
 
 
-def main() -> None:
-    folder = sys.argv[1]
-    os.makedirs(folder, exist_ok=True)
-    for name, make in RECORDS.items():
-        with open(f"{folder}/{name}", "w", encoding="latin1", newline="") as file:
-            file.write(make())
-        with open(f"{folder}/{name}.stdout", "w") as file:
-            file.write("".join(line + "\n" for line in play(make())))
-
-
 if __name__ == "__main__":
-    main()
+    os.makedirs(sys.argv[1], exist_ok=True)
+    write_all(sys.argv[1], [(name, make()) for name, make in RECORDS.items()])

@@ -28,7 +28,7 @@ class Headline(FolderCase):
     def test_a_tree_without_them(self):
         ended = said("--top", self.folder)
         self.assertEqual((2, ""), (ended.returncode, ended.stdout))
-        self.assertIn("checks/headline: [Errno 2] No such file", ended.stderr)
+        self.assertRegex(ended.stderr, r"^checks/headline: .*/History\.antt is not there\n$")
 
     def test_a_definition_that_is_gone(self):
         specs = self.folder / "crates" / "inp_model" / "specs"

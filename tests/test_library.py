@@ -1,9 +1,8 @@
 """The library for C, and what is built over it: C, C++, Rust and Python programs, linked and run.
 
-`rt ci` builds no static library, so these checks are made where `tools/build --library` made one, or where
-they are asked for by name: `tests/run library` then builds it first. A check whose tool is not there is left
-out by its name. Where all pass, `tests/run library` keeps over which sources they did
-(`tests/library/passed.json`), which the gate compares.
+`rt ci` builds no static library, so these checks are made where `tools/build --library` made one, or where they are asked
+for by name: `tests/run library` then builds it first. A check whose tool is not there is left out by its name. Where all
+pass, `tests/run library` keeps over which sources they did (`tests/library/passed.json`), which the gate compares.
 """
 
 import os
@@ -81,8 +80,7 @@ class Header(Library):
     def test_what_is_visible_is_what_is_declared(self):
         names = set(re.findall(r"^(?:uint32_t|void) (inputplay_\w+)\(", HEADER, re.M))
         for flag, file in (("-D", "libinputplay.so"), ("-g", "libinputplay.a")):
-            came = re.findall(r"^[0-9a-f]+ T (\w+)$",
-                              run(["nm", flag, "--defined-only", BUILT / file]).stdout, re.M)
+            came = re.findall(r"^[0-9a-f]+ T (\w+)$", run(["nm", flag, "--defined-only", BUILT / file]).stdout, re.M)
             self.assertEqual(sorted(names), sorted(came), file)
 
 
@@ -136,10 +134,8 @@ class Rust(Library):
     tool = "cargo"
 
     def test_the_crate_s_tests(self):
-        shutil.copytree(TOP / "bindings" / "rust", self.folder / "rust",
-                        ignore=shutil.ignore_patterns("target"))
-        variables = {**os.environ, "INPUTPLAY_LIB_DIR": str(BUILT),
-                     "CARGO_TARGET_DIR": str(self.folder / "target")}
+        shutil.copytree(TOP / "bindings" / "rust", self.folder / "rust", ignore=shutil.ignore_patterns("target"))
+        variables = {**os.environ, "INPUTPLAY_LIB_DIR": str(BUILT), "CARGO_TARGET_DIR": str(self.folder / "target")}
         done = run(["cargo", "test", "--offline", "-q"], cwd=self.folder / "rust", env=variables)
         self.assertEqual(0, done.returncode, done.stdout + done.stderr)
         self.assertIn("10 passed; 0 failed", done.stdout)
@@ -170,24 +166,18 @@ class Pip(Library):
     def test_it_installs_offline_from_its_folder(self):
         shutil.copytree(PYTHON, self.folder / "python", ignore=shutil.ignore_patterns("__pycache__", "build"))
         where = self.folder / "site"
-        done = run([sys.executable, "-m", "pip", "install", "--no-index", "-q", "--target", where,
-                    self.folder / "python"])
+        done = run([sys.executable, "-m", "pip", "install", "--no-index", "-q", "--target", where, self.folder / "python"])
         self.assertEqual(0, done.returncode, done.stderr)
-        variables = {**os.environ, "INPUTPLAY_LIBRARY": str(BUILT / "libinputplay.so"),
-                     "PYTHONPATH": str(where)}
-        self.says("30\n",
-                  [sys.executable, "-B", "-c", "import inputplay; print(inputplay.code_of('KEY_A')[1])"],
-                  env=variables)
+        variables = {**os.environ, "INPUTPLAY_LIBRARY": str(BUILT / "libinputplay.so"), "PYTHONPATH": str(where)}
+        self.says("30\n", [sys.executable, "-B", "-c", "import inputplay; print(inputplay.code_of('KEY_A')[1])"], env=variables)
 
 
 class Pytest(Library):
     tool = "pytest"
 
     def test_its_page(self):
-        variables = {**os.environ, "INPUTPLAY_LIBRARY": str(BUILT / "libinputplay.so"),
-                     "PYTHONPATH": str(PYTHON)}
-        done = run([sys.executable, "-B", "-m", "pytest", "-q", "-p", "no:cacheprovider", PYTHON / "tests"],
-                   env=variables)
+        variables = {**os.environ, "INPUTPLAY_LIBRARY": str(BUILT / "libinputplay.so"), "PYTHONPATH": str(PYTHON)}
+        done = run([sys.executable, "-B", "-m", "pytest", "-q", "-p", "no:cacheprovider", PYTHON / "tests"], env=variables)
         self.assertEqual(0, done.returncode, done.stdout)
 
 
@@ -199,8 +189,7 @@ def is_there(tool):
 
 
 def make_library(is_asked):
-    """Links the libraries of the archive that is there; builds it too where that is asked for. Says why they
-    are not there, or None."""
+    """Links the libraries of the archive that is there; builds it too where that is asked for. Says why they are not there, or None."""
     if not ARCHIVE.is_file() and not is_asked:
         return "the library is not built"
     words = ["--made"] if ARCHIVE.is_file() and not is_asked else []
@@ -235,5 +224,6 @@ def load_tests(loader, _tests, _pattern):
     if Build.why:
         return loader.loadTestsFromTestCase(Build)
     cases = (Header, C, Valgrind, CPlusPlus, Rust, Python, Pip, Pytest)
-    return unittest.TestSuite(loader.loadTestsFromTestCase(case if is_there(case.tool) else without(case))
-                              for case in cases)
+    return unittest.TestSuite(
+        loader.loadTestsFromTestCase(case if is_there(case.tool) else without(case)) for case in cases
+    )

@@ -2,16 +2,19 @@
 
 import re
 
-TOP_TYPES = {"u16": "uint16_t", "u32": "uint32_t", "u64": "uint64_t", "i16": "int16_t", "i32": "int32_t",
-             "AxisInfo": "inputplay_info"}
+TOP_TYPES = {"u16": "uint16_t", "u32": "uint32_t", "u64": "uint64_t", "i16": "int16_t", "i32": "int32_t", "AxisInfo": "inputplay_info"}
 
 # The header's struct, and the crate and the file that have it.
-STRUCTS = {"inputplay_info": "inp_model/src/axis_info.rt", "inputplay_step_t": "inp_c/src/c_step.rt",
-           "inputplay_reply": "inp_c/src/c_reply.rt", "inputplay_event": "inp_model/src/taken.rt",
-           "inputplay_stamped": "inp_model/src/stamped.rt", "inputplay_picture": "inp_c/src/c_picture.rt"}
+STRUCTS = {
+    "inputplay_info": "inp_model/src/axis_info.rt",
+    "inputplay_step_t": "inp_c/src/c_step.rt",
+    "inputplay_reply": "inp_c/src/c_reply.rt",
+    "inputplay_event": "inp_model/src/taken.rt",
+    "inputplay_stamped": "inp_model/src/stamped.rt",
+    "inputplay_picture": "inp_c/src/c_picture.rt",
+}
 
-# Fields that are spelled otherwise, since `type` is a word of the crate's language, and `now` one of its
-# contracts.
+# Fields that are spelled otherwise, since `type` is a word of the crate's language, and `now` one of its contracts.
 SPELLED = {"kind": "type", "moment": "now"}
 
 # What a number of the header is called, and the file and form in which the crate has it.
@@ -26,11 +29,20 @@ NUMBERS = [
 ]
 
 # A limit that the header names, and the file that has it.
-LIMITS = {"READ_MAX": "inp_actors/src/command.rt", "FEEDBACK_MAX": "inp_feedback/src/fed.rt"}
+LIMITS = {
+    "READ_MAX": "inp_actors/src/command.rt",
+    "FEEDBACK_MAX": "inp_feedback/src/fed.rt",
+}
 
 # Names that differ, since C has one name space.
-RENAMED = {"TOOMANYLINES": "TOOMANY", "LINEBADCODE": "BADCODE", "LINEBADSTREAM": "BADSTREAM",
-           "STEPREFUSED": "REFUSED", "STEPNOMEMORY": "NOMEMORY", "NEXTEVENT": "SUCCESS"}
+RENAMED = {
+    "TOOMANYLINES": "TOOMANY",
+    "LINEBADCODE": "BADCODE",
+    "LINEBADSTREAM": "BADSTREAM",
+    "STEPREFUSED": "REFUSED",
+    "STEPNOMEMORY": "NOMEMORY",
+    "NEXTEVENT": "SUCCESS",
+}
 
 
 def fields_of_header(header, struct):
@@ -38,8 +50,7 @@ def fields_of_header(header, struct):
     body = re.search(rf"typedef struct {struct} \{{(.*?)\}}", header, re.S).group(1)
     for kind, names in re.findall(r"(\w+) ([^;]+);", body):
         for name in names.split(", "):
-            yield (f"{kind}{name[name.index('['):]}",
-                   name[: name.index("[")]) if "[" in name else (kind, name)
+            yield (f"{kind}{name[name.index('['):]}", name[: name.index("[")]) if "[" in name else (kind, name)
 
 
 def fields_of_crate(file):

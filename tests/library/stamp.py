@@ -1,7 +1,7 @@
 """What `tests/run library` last passed over: the sums of all sources that it depends on, and its counts.
 
-The gate builds no archive, so it cannot run these checks itself. It compares the sums, and fails where a
-source has changed since. The code of the crates is summed; proofs and definitions make no code.
+The gate builds no archive, so it cannot run these checks itself. It compares the sums, and fails where a source has changed
+since. The code of the crates is summed; proofs and definitions make no code.
 """
 
 import hashlib
@@ -36,10 +36,8 @@ def files_of(top: Path) -> Iterator[Path]:
     for crate in crates_below(top, LIBRARY):
         yield from sorted((top / "crates" / crate / "src").rglob("*.rt"))
     yield top / "include" / "inputplay.h"
-    for folder, ends in (("bindings", (".py", ".rs", ".toml")), ("examples/c", (".c",)),
-                         ("tests/library", (".c", ".py"))):
-        yield from sorted(path for path in (top / folder).rglob("*")
-                          if path.suffix in ends and "target" not in path.parts)
+    for folder, ends in (("bindings", (".py", ".rs", ".toml")), ("examples/c", (".c",)), ("tests/library", (".c", ".py"))):
+        yield from sorted(path for path in (top / folder).rglob("*") if path.suffix in ends and "target" not in path.parts)
     yield top / "tests" / "test_library.py"
 
 
