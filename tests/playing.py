@@ -10,7 +10,7 @@ import unittest
 from importlib.machinery import SourceFileLoader
 from pathlib import Path
 from types import ModuleType
-from typing import Any, Iterable, List, NamedTuple, Optional
+from typing import Any, Iterable, List, NamedTuple, Optional, Union
 
 from tests import TOP as TOP
 
@@ -43,6 +43,29 @@ class FolderCase(unittest.TestCase):
         folder = tempfile.TemporaryDirectory()
         self.addCleanup(folder.cleanup)
         self.folder = Path(folder.name)
+
+    def write(self, name: str, text: str, mode: int = 0o644) -> Path:
+        """A file below the folder."""
+        path = self.folder / name
+        path.parent.mkdir(parents=True, exist_ok=True)
+        path.write_text(text)
+        path.chmod(mode)
+        return path
+
+
+class Said(NamedTuple):
+    """What a run of a script came to."""
+
+    status: int
+    text: str
+    errors: str
+
+
+def said(script: Union[str, Path], *words: object, **more: Any) -> Said:
+    """Runs a script, which may be named by its path from the top."""
+    done = subprocess.run([str(TOP / script), *map(str, words)], capture_output=True, text=True, check=False,
+                          **{"timeout": 60, **more})
+    return Said(done.returncode, done.stdout, done.stderr)
 
 
 def needs_program(test: Optional[unittest.TestCase] = None) -> None:

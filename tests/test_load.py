@@ -2,9 +2,8 @@
 
 import shutil
 import subprocess
-import unittest
 
-from tests.playing import TOP, FolderCase, run
+from tests.playing import TOP, FolderCase, run, said
 
 BENCH = TOP / "bench"
 # Without a compiler bench/run can't be run, and nothing rests on plain C.
@@ -83,12 +82,8 @@ REFUSED = (b"do finger event 1 EV_KEY KEY_A \x7f", b"inputrecord 1", b"cap EV_KE
 
 
 class Loads(FolderCase):
-    def load(self, *words):
-        return subprocess.run([str(BENCH / "load"), *words], cwd=self.folder, capture_output=True, text=True,
-                              check=False)
-
     def written(self, *words):
-        self.assertEqual(0, self.load(*words).returncode)
+        self.assertEqual(0, said("bench/load", *words, cwd=self.folder).status)
         return (self.folder / words[1]).read_text()
 
     def test_followed(self):
@@ -113,7 +108,7 @@ class Loads(FolderCase):
         return self.folder / name
 
     def names(self):
-        return subprocess.run([BENCH / "plain_names"], capture_output=True, text=True, check=True).stdout
+        return said("bench/plain_names").text
 
     def test_both_programs_print_the_same(self):
         if not COMPILER:
@@ -144,44 +139,6 @@ class Loads(FolderCase):
         self.assertIn('{ "KEY_A", 5, 1, 30 },', lines)
         self.assertIn('{ "ABS_MT_SLOT", 11, 3, 47 },', lines)
 
-    def test_no_load(self):
-        for words, told in ((["walked", "one"], "invalid choice: 'walked'"),
-                            (["followed", "one", "--frames", "0"], "0 is not 1 or more"),
-                            (["followed"], "required: FILE")):
-            with self.subTest(words=words):
-                ended = self.load(*words)
-                self.assertEqual(2, ended.returncode)
-                self.assertIn(told, ended.stderr)
-
     def test_a_folder_that_is_not_there(self):
-        ended = self.load("followed", "none/one")
-        self.assertEqual((1, "load: none/one cannot be written: No such file or directory\n"),
-                         (ended.returncode, ended.stderr))
-
-
-class Measuring(FolderCase):
-    def measured(self, *words, **more):
-        return subprocess.run([str(BENCH / "run"), *words], capture_output=True, text=True, check=False,
-                              **more)
-
-    def test_help(self):
-        ended = self.measured("--help")
-        self.assertEqual((0, ""), (ended.returncode, ended.stderr))
-        self.assertIn("usage: bench/run [-h]", ended.stdout)
-
-    def test_what_is_refused(self):
-        none = self.folder / "none"
-        for words, told in (([none, none], f"unrecognized arguments: {none}"),
-                            (["--fast"], "unrecognized arguments: --fast"),
-                            (["--runs", "many"], "many is no number from 1 on"),
-                            (["--only", "walked"], "invalid choice: 'walked'"),
-                            ([none], f"bench/run: {none} is not there\n")):
-            with self.subTest(words=words):
-                ended = self.measured(*map(str, words))
-                self.assertEqual((2, ""), (ended.returncode, ended.stdout))
-                self.assertIn(told, ended.stderr)
-                self.assertNotIn("Traceback", ended.stderr)
-
-
-if __name__ == "__main__":
-    unittest.main()
+        self.assertEqual((1, "", "load: none/one cannot be written: No such file or directory\n"),
+                         said("bench/load", "followed", "none/one", cwd=self.folder))
