@@ -11,7 +11,7 @@ import sys
 
 from checks.trial import Run
 from second.side_by_side import play_side_by_side
-from tests.playing import TOP, USAGE, FolderCase, loaded
+from tests.playing import TOP, USAGE, FolderCase, loaded, said
 
 HAS_COMPILER = shutil.which(os.environ.get("CC", "cc")) is not None
 
@@ -55,8 +55,6 @@ int main(int count, char **words) {
 }
 """
 
-RECORD = "inputrecord 1\n"
-
 # Programs that are wrong: the script that finds it, what is changed, and what is said.
 WRONG = {
     "it takes memory that it was not given": ("alloc", ("if (!bytes)", "if (!bytes && (bytes[0] = 1))"),
@@ -87,25 +85,20 @@ WRONG = {
 class FailingCalls(FolderCase):
     def setUp(self):
         super().setUp()
-        (self.folder / "f").write_text(RECORD)
+        self.write("f", "inputrecord 1\n")
         self.program = self.folder / "program"
 
     def compile(self, text, *more):
-        source = self.folder / "program.c"
-        source.write_text(text)
+        source = self.write("program.c", text)
         command = [os.environ.get("CC", "cc"), *more, "-o", self.program, source]
         subprocess.run(command, check=True, capture_output=True, timeout=60)
 
-    def script(self, name, *words):
-        command = [sys.executable, TOP / "checks" / name, "--program", self.program, *words]
-        where = {**os.environ, "TMPDIR": str(self.folder)}
-        return subprocess.run(command, capture_output=True, text=True, timeout=60, env=where)
-
-    def says(self, name, status, *said, words=()):
-        done = self.script(name, *words, self.folder / "f")
-        self.assertEqual(status, done.returncode, done.stdout + done.stderr)
-        for text in said:
-            self.assertIn(text, done.stdout + done.stderr)
+    def says(self, name, status, *told, words=()):
+        env = {**os.environ, "TMPDIR": str(self.folder)}
+        done = said(f"checks/{name}", "--program", self.program, *words, self.folder / "f", env=env)
+        self.assertEqual(status, done.status, done.text + done.errors)
+        for text in told:
+            self.assertIn(text, done.text + done.errors)
 
     def test_a_program_that_is_right(self):
         if not HAS_COMPILER:
@@ -142,19 +135,6 @@ class FailingCalls(FolderCase):
             for name in ("alloc", "faults"):
                 with self.subTest(script=name, said=said):
                     self.says(name, status, said)
-
-    def test_wrong_words(self):
-        shutil.copy(sys.executable, self.program)
-        for name, words, said in (("alloc", ["--program", "none"], "is not there; 'rt ci' builds it"),
-                                  ("alloc", [self.folder / "g"], "is not there"),
-                                  ("alloc", ["--word=--threads"], "so --word=--history is wanted too"),
-                                  ("faults", ["--program", "none"], "is not there; 'rt ci' builds it"),
-                                  ("faults", [self.folder / "g"], "is not there"),
-                                  ("faults", ["--piece", "0"], "0 is not 1 or more")):
-            with self.subTest(script=name, words=words):
-                done = self.script(name, *words)
-                self.assertEqual(2, done.returncode)
-                self.assertIn(said, done.stderr)
 
 
 class Judging(FolderCase):

@@ -65,9 +65,7 @@ class Ends(FolderCase):
         (self.folder / "rt").chmod(0o755)
 
     def version(self, crate, name, text):
-        folder = self.top / "checks" / "wrong" / crate
-        folder.mkdir(parents=True, exist_ok=True)
-        (folder / f"{name}.edit").write_text(text)
+        self.write(f"top/checks/wrong/{crate}/{name}.edit", text)
 
     def told(self, *words, said=""):
         (self.folder / "said").write_text(said)
