@@ -17,24 +17,23 @@ class Desk(FolderCase):
         found = re.fullmatch(r"(\d+) runs \(2 random, 2 captures, 2 mutated\), none that fails", last)
         self.assertTrue(found, last)
         self.assertEqual(int(found[1]), sum(int(line.split()[0]) for line in ends))
-        self.assertRegex(parts, r"^of the random records \d have filters, \d have joysticks, \d have an owner$")
+        self.assertRegex(parts,
+                         r"^of the random records \d have filters, \d have joysticks, \d have an owner$")
         for tool in ("play", "stuck", "draw", "check", "compare", "export", "describe", "record"):
             self.assertRegex(text, rf"\b{tool} +status \d +\d+\.\d s\n")
 
     def test_what_fails(self):
         trace = b"Traceback (most recent call last):\n  File\nIndexError: no\n"
-        for run, told in (
-            (("stuck", 0, b"text", b""), None),
-            (("stuck", 2, b"", b"stuck: one line\n"), None),
-            (("play", 2, b"", b"two\nlines\n"), None),
-            (("check", 1, b"text", b""), None),
-            (("draw", 1, b"", trace), "it ends in a traceback: IndexError: no"),
-            (("draw", 1, b"", b""), "it ends in 1"),
-            (("draw", -11, b"", b""), "it ends in SIGSEGV"),
-            (("draw", -14, b"", b""), "it takes longer than 60 seconds"),
-            (("stuck", 2, b"", b"a\nb\n"), "status 2 with 2 lines on standard error"),
-            (("stuck", 2, b"x", b"a\n"), "status 2 with something on standard output"),
-        ):
+        for run, told in ((("stuck", 0, b"text", b""), None),
+                          (("stuck", 2, b"", b"stuck: one line\n"), None),
+                          (("play", 2, b"", b"two\nlines\n"), None),
+                          (("check", 1, b"text", b""), None),
+                          (("draw", 1, b"", trace), "it ends in a traceback: IndexError: no"),
+                          (("draw", 1, b"", b""), "it ends in 1"),
+                          (("draw", -11, b"", b""), "it ends in SIGSEGV"),
+                          (("draw", -14, b"", b""), "it takes longer than 60 seconds"),
+                          (("stuck", 2, b"", b"a\nb\n"), "status 2 with 2 lines on standard error"),
+                          (("stuck", 2, b"x", b"a\n"), "status 2 with something on standard output")):
             with self.subTest(run):
                 self.assertEqual(told, loaded(SCRIPT).what_fails(*run))
 

@@ -153,22 +153,20 @@ class Text(NamedTuple):
 
 
 # Texts that are refused before their end, that are no text, or that are long.
-OTHERS = (
-    Text("#\n", "bad-header", 2),
-    Text("device\0\n", "not-text"),
-    Text("\r\r\n" + VERSION_1, "not-text"),
-    Text("\r# a carriage return before the comment\n" + VERSION_1, "not-text"),
-    Text(VERSION_1 + "\x0b\n", "not-text", 2),
-    Text(VERSION_1 + "device k\0d\n", "not-text", 2),
-    Text(VERSION_1 + "device d # \x7f\n", "not-text", 2),
-    Text(VERSION_1 + numbered("device d{}", 8) + "device d0\n", "twice", 10),
-    Text(DEVICE_1 + numbered("tap t{}", 64) + 65 * "client c\n", "twice", 68),
-    Text(DEVICE_2 + 9 * "filter norepeat\n", "bad-filter", 11),
-    Text(DEVICE_2 + 8 * "filter norepeat\n" + "filter eat EV_KEY 0\n", "bad-code", 11),
-    Text(VERSION_2 + numbered("udevice u{}", 8) + "device d\n", "too-many", 10),
-    Text(VERSION_2 + numbered("udevice u{}", 8) + "device u7\n", "twice", 10),
-    Text(OWNED + numbered("tap t{}", 129), "too-many", 132),
-)
+OTHERS = (Text("#\n", "bad-header", 2),
+          Text("device\0\n", "not-text"),
+          Text("\r\r\n" + VERSION_1, "not-text"),
+          Text("\r# a carriage return before the comment\n" + VERSION_1, "not-text"),
+          Text(VERSION_1 + "\x0b\n", "not-text", 2),
+          Text(VERSION_1 + "device k\0d\n", "not-text", 2),
+          Text(VERSION_1 + "device d # \x7f\n", "not-text", 2),
+          Text(VERSION_1 + numbered("device d{}", 8) + "device d0\n", "twice", 10),
+          Text(DEVICE_1 + numbered("tap t{}", 64) + 65 * "client c\n", "twice", 68),
+          Text(DEVICE_2 + 9 * "filter norepeat\n", "bad-filter", 11),
+          Text(DEVICE_2 + 8 * "filter norepeat\n" + "filter eat EV_KEY 0\n", "bad-code", 11),
+          Text(VERSION_2 + numbered("udevice u{}", 8) + "device d\n", "too-many", 10),
+          Text(VERSION_2 + numbered("udevice u{}", 8) + "device u7\n", "twice", 10),
+          Text(OWNED + numbered("tap t{}", 129), "too-many", 132))
 
 
 def texts() -> Iterator[Text]:

@@ -3,13 +3,12 @@
 The runs are of `second/side_by_side.py`, which draws the order of the calls by a seed.
 """
 
-import subprocess
 import sys
 
 from checks.random_records import Generator
 from second.replay import Differs, check
 from second.side_by_side import play_side_by_side
-from tests.playing import TOP, FolderCase
+from tests.playing import TOP, FolderCase, said
 
 
 # Two clients of a keyboard with two sources. The record has an order in which each line has its say.
@@ -95,12 +94,11 @@ class Replay(FolderCase):
         record, report = self.folder / "f", self.folder / "report"
         record.write_bytes(RECORD.encode() + b"# any bytes: \xe9\xff\x85\n")
         report.write_text(self.report())
-        for words, status, said in ((["--idle", IDLE, record, report], 0, ""),
+        for words, status, told in ((["--idle", IDLE, record, report], 0, ""),
                                     ([record, record], 1, "second.replay: "),
                                     ([record], 2, "required: report"),
                                     ([record, self.folder / "none"], 2, "No such file")):
             with self.subTest(words=words[-1]):
-                script = [sys.executable, "-m", "second.replay", *map(str, words)]
-                done = subprocess.run(script, cwd=TOP, capture_output=True, text=True, timeout=30)
-                self.assertEqual(status, done.returncode)
-                self.assertIn(said, done.stderr)
+                done = said(sys.executable, "-m", "second.replay", *words, cwd=TOP)
+                self.assertEqual(status, done.status)
+                self.assertIn(told, done.errors)
