@@ -47,7 +47,7 @@ class Tally:
         lines = [
             f"{numbers['records']} records, {numbers['rounds']} quiet points, {numbers['values']} values",
             f"events: libevdev {numbers['events of libevdev']}, the reader {numbers['events']}",
-            f"losses: libevdev {numbers['losses of libevdev']}, the reader {numbers['losses']}",
+            f"losses: libevdev {numbers['losses of libevdev']}, the reader {numbers['losses']}"
         ]
         lines += [f"{count} times known: {name}" for name, count in sorted(self.known.items())]
         lines += self.unexplained or ["none else"]

@@ -1,11 +1,13 @@
 """Reads the definitions (specs/*.antt) and the declarations (src/*.rt) of the crates, item by item.
 
-Each item has its lines, the names that it gives (its own, its constructors, its fields), and the items that it uses: those
-whose names stand in it, by the file's imports. So an import that an item does not name does not count for it. A variable
-of the same name as an item of its file counts as that item, which is too much and never too little.
+Each item has its lines, the names that it gives (its own, its constructors, its fields), and the items that
+it uses: those whose names stand in it, by the file's imports. So an import that an item does not name does
+not count for it. A variable of the same name as an item of its file counts as that item, which is too much
+and never too little.
 
-Of a type that contracts see by a model (`impl Model`) what counts is of what kind the model's values are, and not how the
-type keeps them, unless a definition looks inside it. Of a function the contract counts, and not the body.
+Of a type that contracts see by a model (`impl Model`) what counts is of what kind the model's values are, and
+not how the type keeps them, unless a definition looks inside it. Of a function the contract counts, and not
+the body.
 """
 
 import re
@@ -56,34 +58,44 @@ class Item:
         return self.find_uses()
 
 
+def dependencies(top: Path) -> Dict[str, List[str]]:
+    """What each crate of a repository depends on by crates.txt, crates of the toolchain too."""
+    rows = (row.partition("#")[0].partition(":") for row in (top / "crates.txt").read_text().splitlines())
+    # (a static library has this word after its name)
+    return {front.split()[0]: names.split() for front, colon, names in rows if colon}
+
+
+def below(top: Path, crate: str) -> List[str]:
+    """A crate, and the crates of the repository that it stands on, each after those below it."""
+    deps = dependencies(top)
+    return in_order({crate} & deps.keys(), lambda one: [name for name in deps[one] if name in deps])
+
+
+def in_order(roots: Iterable[Node], below: Callable[[Node], Iterable[Node]]) -> List[Node]:
+    """All that is reached from the roots, each after what is below it."""
+    order: List[Node] = []
+    seen: Set[Node] = set()
+
+    def visit(one: Node) -> None:
+        if one not in seen:
+            seen.add(one)
+            for other in below(one):
+                visit(other)
+            order.append(one)
+
+    for root in roots:
+        visit(root)
+    return order
+
+
 class Repository:
     """The crates below one folder, and what their names mean."""
 
     def __init__(self, top: Path) -> None:
         self.top = Path(top)
-        rows = (self.top / "crates.txt").read_text().splitlines()
-        pairs = [row.split(":", 1) for row in rows if row.strip() and not row.startswith("#")]
-        # (a static library has this word after its name)
-        deps = {name.split()[0]: text for name, text in pairs}
-        self.deps = {crate: [dep for dep in text.split() if dep in deps] for crate, text in deps.items()}
-        self.crates = self.in_order(self.deps, self.deps.__getitem__)
-
-    @staticmethod
-    def in_order(roots: Iterable[Node], below: Callable[[Node], Iterable[Node]]) -> List[Node]:
-        """All that is reached from the roots, each after what is below it."""
-        order: List[Node] = []
-        seen: Set[Node] = set()
-
-        def visit(one: Node) -> None:
-            if one not in seen:
-                seen.add(one)
-                for other in below(one):
-                    visit(other)
-                order.append(one)
-
-        for root in roots:
-            visit(root)
-        return order
+        deps = dependencies(self.top)
+        self.deps = {crate: [dep for dep in names if dep in deps] for crate, names in deps.items()}
+        self.crates = in_order(self.deps, self.deps.__getitem__)
 
     @lru_cache(maxsize=None)
     def file(self, crate: str, path: str) -> "SourceFile":
@@ -178,7 +190,8 @@ class SourceFile:
         return True
 
     def meanings(self, dotted: str) -> List[Optional[Key]]:
-        """The keys of what a name with dots may mean; None for a variable, and for what is not the repository's."""
+        """The keys of what a name with dots may mean; None for a variable, and for what is not the
+        repository's."""
         first, *rest = dotted.split(".")
         if first in self.modules:
             module = self.modules[first]

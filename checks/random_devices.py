@@ -6,8 +6,8 @@ not, and sends autorepeats of keys, whether they are down or not."""
 
 from __future__ import annotations
 
-import argparse
 import random
+import sys
 from typing import Dict, List, Tuple
 
 KEYS = (30, 48, 46, 1, 0x110, 0x111, 0x145, 0x14A, 0x14D, 0x130, 0x2C0)
@@ -93,14 +93,5 @@ class RandomDevice:
         return "".join(f"{line}\n" for line in ["inputrecord 2", *self.description(), *self.frames()])
 
 
-def main() -> None:
-    words = argparse.ArgumentParser(prog="checks/random_devices.py", description=__doc__,
-                                    formatter_class=argparse.RawDescriptionHelpFormatter)
-    words.add_argument("seed", metavar="SEED", type=int)
-    words.add_argument("--raw", action="store_true", help="the driver does what drivers do not")
-    asked = words.parse_args()
-    print(RandomDevice(asked.seed, asked.raw).record(), end="")
-
-
 if __name__ == "__main__":
-    main()
+    print(RandomDevice(int(sys.argv[1]), "--raw" in sys.argv).record(), end="")

@@ -1,10 +1,8 @@
 #!/usr/bin/env python3
-"""Makes a random record of a gamepad, and says how it stands at the end: checks/random_pads.py SEED FRAMES >
-FILE"""
+"""Makes a random record of a gamepad, and how it stands at last: checks/random_pads.py SEED FRAMES > FILE"""
 
 from __future__ import annotations
 
-import argparse
 import random
 import sys
 from typing import Dict, List, Tuple
@@ -52,15 +50,7 @@ class RandomPad:
         return " ".join(["stands", *buttons, "/", *sticks])
 
 
-def main() -> None:
-    words = argparse.ArgumentParser(prog="checks/random_pads.py", description=__doc__)
-    words.add_argument("seed", metavar="SEED", type=int)
-    words.add_argument("frames", metavar="FRAMES", type=int)
-    asked = words.parse_args()
-    pad = RandomPad(asked.seed, asked.frames)
-    print(pad.record(), end="")
-    print(pad.stands(), file=sys.stderr)
-
-
 if __name__ == "__main__":
-    main()
+    made = RandomPad(int(sys.argv[1]), int(sys.argv[2]))
+    print(made.record(), end="")
+    print(made.stands(), file=sys.stderr)

@@ -1,6 +1,6 @@
 #!/usr/bin/env python3
-"""Writes random records, each with the report that the model gives of it and the files of its streams, into a folder
-for checks/compare.
+"""Writes random records, each with the report that the model gives of it and the files of its streams, into a
+folder for checks/compare.
 
 usage: random_records.py FOLDER COUNT SEED [--history]
 """
@@ -9,7 +9,8 @@ import os
 import random
 import struct
 import sys
-from typing import Callable, Dict, List, Optional, Set, Tuple
+from pathlib import Path
+from typing import Callable, Dict, Iterable, List, Optional, Set, Tuple
 
 if not __package__:
     import repository_path  # noqa: F401  (run as a script: the packages of this repository)
@@ -36,7 +37,7 @@ Actors = List[Tuple[str, str]]
 
 
 class Generator:
-    """Makes one record. Where a folder is given its sources have streams, and their files are written there."""
+    """Makes one record. Where a folder is given its sources have streams, whose files go there."""
 
     def __init__(self, seed: int, folder: Optional[str] = None) -> None:
         self.r = random.Random(seed)
@@ -87,7 +88,8 @@ class Generator:
             codes += [(REP, 0), (REP, 1)]
         for kind in kinds:
             for _ in range(r.randint(1, 4) if kind != ABS else 0):
-                code = r.choice(list(CODES[kind].values())) if r.random() < 0.9 else r.randint(1, GREATEST[kind])
+                code = (r.choice(list(CODES[kind].values())) if r.random() < 0.9
+                        else r.randint(1, GREATEST[kind]))
                 if kind == KEY and self.version == 2 and r.random() < 0.5:
                     code = r.choice(BUTTONS)
                 lines.append(f"cap {kind_text(kind)} {code_text(kind, code)}")
@@ -134,13 +136,11 @@ class Generator:
         r = self.r
         actors: Actors = []
         owners = int(r.random() < 0.8) if lines[0].startswith("udevice") else 0
-        for role, count in (
-            ("source", r.choice([1, 1, 2])),
-            ("client", r.randint(1, 3)),
-            ("tap", r.randint(0, 2)),
-            ("owner", owners),
-            ("joy", r.choice([0, 1, 2]) if self.version == 2 else 0),
-        ):
+        for role, count in (("source", r.choice([1, 1, 2])),
+                            ("client", r.randint(1, 3)),
+                            ("tap", r.randint(0, 2)),
+                            ("owner", owners),
+                            ("joy", r.choice([0, 1, 2]) if self.version == 2 else 0)):
             for i in range(count):
                 lines.append(f"{role} {role[0]}{d}{i}")
                 actors.append((role, f"{role[0]}{d}{i}"))
@@ -160,12 +160,14 @@ class Generator:
             actors, codes, slots = r.choice(self.devices)
             weights = [(12 if busy else 3) if role == "source" else 1 for role, _ in actors]
             role, name = r.choices(actors, weights)[0]
-            acts: Dict[str, Callable[..., List[str]]] = {"source": self.source_action, "joy": self.joy_action, "owner": self.owner_action}
+            acts: Dict[str, Callable[..., List[str]]] = {"source": self.source_action, "joy": self.joy_action,
+                                                         "owner": self.owner_action}
             act = acts.get(role, self.client_action)
             actions += [f"do {name} {action}" for action in act(role, codes, slots, busy)]
         for actors, _, _ in self.devices:
             last = {"client": "follow", "joy": "read 4294967295", "owner": "feedback 4096"}
-            actions += [f"do {name} {last[role]}" for role, name in actors if role in last and r.random() < 0.7]
+            actions += [f"do {name} {last[role]}" for role, name in actors
+                        if role in last and r.random() < 0.7]
         return "\n".join(lines + actions) + "\n"
 
     def stream(self, codes: Codes, slots: int) -> List[str]:
@@ -177,7 +179,8 @@ class Generator:
             for _ in range(r.randint(0, 20)):
                 kind, code = r.choice(codes) if r.random() < 0.6 else (0, 0)
                 time = divmod(self.moment(), 1000000)
-                file.write(struct.pack(RECORD_FORMS[command], *time, kind, code, self.value(kind, code, slots)))
+                file.write(struct.pack(RECORD_FORMS[command], *time, kind, code,
+                                       self.value(kind, code, slots)))
         return [f"{command} {name}"]
 
     def source_action(self, _: str, codes: Codes, slots: int, busy: bool) -> List[str]:
@@ -210,7 +213,8 @@ class Generator:
     def owner_action(self, *_: object) -> List[str]:
         """One feedback call, or so many that a small limit is met."""
         r = self.r
-        return [f"feedback {r.choice([1, 1, 2, 5, 15, 16, 4096])}"] * (1 if r.random() < 0.9 else r.randint(2, 30))
+        return ([f"feedback {r.choice([1, 1, 2, 5, 15, 16, 4096])}"]
+                * (1 if r.random() < 0.9 else r.randint(2, 30)))
 
     def new_description(self, codes: Codes) -> str:
         """A command that describes an axis anew, mostly one that the device has."""
@@ -218,13 +222,15 @@ class Generator:
         axes = [code for kind, code in codes if kind == ABS]
         code = r.choice(axes) if axes and r.random() < 0.9 else r.choice([0, 1, 0x2F, 0x35, 0x3F, 0x40])
         fuzz = r.choice([0, 0, 1, 4, 8, 16, 300, 2**30] * 3 + [-1, 2**30 + 1])
-        numbers = [r.randint(-600, 600), r.randint(-500, 0), r.randint(0, 4096), fuzz, r.randint(-1, 9), r.choice([0, 12])]
+        numbers = [r.randint(-600, 600), r.randint(-500, 0), r.randint(0, 4096), fuzz, r.randint(-1, 9),
+                   r.choice([0, 12])]
         return f"setaxis {code_text(ABS, code)} " + " ".join(map(str, numbers))
 
     def client_action(self, role: str, codes: Codes, slots: int, _: bool) -> List[str]:
         r, x = self.r, self.r.random()
         if x < 0.5 and role == "client":
-            return [r.choice(["follow", "follow", f"next {r.randint(0, 30)}", f"skip {r.randint(0, 30)}", "force"])]
+            return [r.choice(["follow", "follow", f"next {r.randint(0, 30)}", f"skip {r.randint(0, 30)}",
+                              "force"])]
         if x < 0.5:
             axis = code_text(ABS, r.choice([0, 1, 0x2F, 0x35, 0x3F, 0x40]))
             value = code_text(ABS, r.choice([0x35, 0x39, 0x2F, 0x30]))
@@ -252,15 +258,19 @@ class Generator:
         return ["close"] if x < 0.98 else ["revoke"]
 
 
+def write_all(folder: str, texts: Iterable[Tuple[str, str]], history: bool = False) -> None:
+    """Writes records, each by its name, and beside each the report that the second program gives of it."""
+    for name, text in texts:
+        Path(folder, name).write_bytes(text.encode("latin1"))
+        report = "".join(line + "\n" for line in play(text, folder, history))
+        Path(folder, f"{name}.stdout").write_text(report)
+
+
 def main() -> None:
     folder, count, seed = sys.argv[1], int(sys.argv[2]), int(sys.argv[3])
     os.makedirs(folder, exist_ok=True)
-    for i in range(count):
-        text = Generator(seed * 100000 + i, folder).record()
-        with open(f"{folder}/{i:04}.rec", "w") as file:
-            file.write(text)
-        with open(f"{folder}/{i:04}.rec.stdout", "w") as file:
-            file.write("".join(line + "\n" for line in play(text, folder, "--history" in sys.argv)))
+    texts = ((f"{i:04}.rec", Generator(seed * 100000 + i, folder).record()) for i in range(count))
+    write_all(folder, texts, "--history" in sys.argv)
 
 
 if __name__ == "__main__":

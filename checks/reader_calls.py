@@ -1,7 +1,9 @@
-"""The calls of a reader and of a joystick client of the library, beside those of the second program over the same steps.
+"""The calls of a reader and of a joystick client of the library, beside those of the second program over the
+same steps.
 
-Each stands between an event that goes to the device's owner and the owner's call. Its answer is to be the second program's, and
-what the owner then takes too. Each is noted in numbers, for programs in other languages.
+Each stands between an event that goes to the device's owner and the owner's call. Its answer is to be the
+second program's, and what the owner then takes too. Each is noted in numbers, for programs in other
+languages.
 """
 
 from struct import pack
@@ -100,7 +102,8 @@ class Beside:
             same("client", reader.client, self.kept.client)
         except self.library.StepRefused as refused:
             self.kept, why = None, int(refused.why)
-        same("why", refusal_of(model.calls), why and self.library.Why(why).name.lower().replace("_", "-") or "")
+        same("why", refusal_of(model.calls),
+             why and self.library.Why(why).name.lower().replace("_", "-") or "")
         self.note("start", self.device.number, number, why, self.kept.client if self.kept else 0)
 
     def next(self, at: int) -> None:

@@ -11,7 +11,7 @@ from typing import Callable, List, Tuple
 if not __package__:
     import repository_path  # noqa: F401  (run as a script: the packages of this repository)
 
-from second.model import play
+from checks.random_records import write_all
 
 MOMENT_MAX = 9000000000000000
 LEAST, GREATEST = -(2**31), 2**31 - 1
@@ -39,13 +39,18 @@ def clients() -> str:
 def moments() -> str:
     """The last moment on clocks with the greatest offsets, the greatest codes, and values at their bounds."""
     device = ["device d", f"clock realtime {MOMENT_MAX}", f"clock boottime {MOMENT_MAX:#x}", "type EV_REP"]
-    device += ["cap EV_KEY 767", "cap EV_SW 16", "cap EV_LED 15", "cap EV_SND 7", "cap EV_MSC 7", "cap EV_REL 15"]
+    device += ["cap EV_KEY 767", "cap EV_SW 16", "cap EV_LED 15", "cap EV_SND 7", "cap EV_MSC 7",
+               "cap EV_REL 15"]
     actions = ["do c open", "do t open", f"do t clock monotonic {MOMENT_MAX}"]
-    actions += events(MOMENT_MAX, f"EV_REP REP_DELAY {GREATEST}", "EV_REP REP_PERIOD 1", f"EV_KEY 767 {LEAST}")
+    actions += events(MOMENT_MAX, f"EV_REP REP_DELAY {GREATEST}", "EV_REP REP_PERIOD 1",
+                      f"EV_KEY 767 {LEAST}")
     actions += report(MOMENT_MAX, -5) + [f"do s tick {MOMENT_MAX}"]
-    actions += events(0, "EV_KEY 767 0", "EV_KEY 767 1") + report(0, GREATEST) + [f"do s tick {MOMENT_MAX}"] * 2
-    actions += events(5, "EV_SW 16 9", "EV_LED 15 -1", "EV_SND 7 3", f"EV_MSC 7 {LEAST}", f"EV_REL 15 {GREATEST}")
-    actions += report(5) + ["do c follow", "do t read 4096", "do t sounds", "do t switches", "do t leds", "do t keys"]
+    actions += events(0, "EV_KEY 767 0", "EV_KEY 767 1") + report(0,
+                                                                  GREATEST) + [f"do s tick {MOMENT_MAX}"] * 2
+    actions += events(5, "EV_SW 16 9", "EV_LED 15 -1", "EV_SND 7 3", f"EV_MSC 7 {LEAST}",
+                      f"EV_REL 15 {GREATEST}")
+    actions += report(5) + ["do c follow", "do t read 4096", "do t sounds", "do t switches", "do t leds",
+                            "do t keys"]
     return record(device + ["source s", "client c", "tap t"], actions)
 
 
@@ -54,12 +59,14 @@ def fuzz(version: int = 1, slots: int = 64) -> str:
     device = ["device d", f"slots {slots}", "hint 512", f"axis ABS_X {LEAST} {LEAST} {GREATEST} {2**30} 0 0"]
     device += [f"axis ABS_Y {GREATEST} 0 0 1 0 0", "axis ABS_Z -7 0 0 3 0 0", "axis 63 1 2 3 5 6 -7"]
     device += [f"axis ABS_MT_POSITION_X 0 0 0 {2**30} 0 0", "source s", "client c"]
-    values = [LEAST, GREATEST, 0, 1, -1, 2**30 - 1, -(2**30), 2**29 - 1, 2**29, -(2**29) - 1, GREATEST - 1, LEAST + 1]
+    values = [LEAST, GREATEST, 0, 1, -1, 2**30 - 1, -(2**30), 2**29 - 1, 2**29, -(2**29) - 1, GREATEST - 1,
+              LEAST + 1]
     actions = ["do c open"]
     for i, value in enumerate(values * 3):
         for axis in ("ABS_X", "ABS_Y", "ABS_Z", "ABS_MT_POSITION_X", "63"):
             actions += events(1, f"EV_ABS ABS_MT_SLOT {i}", f"EV_ABS {axis} {value}")
-    actions += report(1) + events(2, f"EV_ABS ABS_MT_SLOT {slots - 1}", f"EV_ABS ABS_MT_TRACKING_ID {GREATEST}") + report(2)
+    actions += report(1) + events(2, f"EV_ABS ABS_MT_SLOT {slots - 1}",
+                                  f"EV_ABS ABS_MT_TRACKING_ID {GREATEST}") + report(2)
     return record(device, actions + ["do c follow", "do s inhibit 3", "do c follow"], version)
 
 
@@ -91,11 +98,12 @@ def devices() -> str:
 
 
 def owners() -> str:
-    """Eight owners of devices with small limits, who have room for one event and for 4096, where more are sent than can wait."""
+    """Eight owners of devices with small limits: room for 1 and for 4096, and more sent than can wait."""
     device, actions = [], []
     values = [LEAST + n for n in range(9)] + [GREATEST - n for n in range(9)]
     for i in range(8):
-        device += [f"udevice u{i}", f"log {1 + 3 * i}", "type EV_REP", "cap EV_MSC 7", f"source s{i}", f"owner o{i}"]
+        device += [f"udevice u{i}", f"log {1 + 3 * i}", "type EV_REP", "cap EV_MSC 7", f"source s{i}",
+                   f"owner o{i}"]
         actions += [f"do o{i} feedback 1", f"do s{i} event {MOMENT_MAX} EV_REP 1 {GREATEST}"]
         actions += [f"do s{i} event 0 EV_MSC 7 {value}" for value in values]
         actions += [f"do o{i} feedback 0x1"] + [f"do o{i} feedback 4096"] * 4
@@ -117,7 +125,8 @@ def full_start() -> str:
 
 def blanks() -> str:
     """Comments, blank lines, carriage returns, tabs, numbers in both bases, and no line feed at the end."""
-    lines = ["\r", "# c\xe9 \r", " \t inputrecord\t1\r", "", "device  d \r", "cap 0x1 0x1E\r", "source s\r", "tap t\r"]
+    lines = ["\r", "# c\xe9 \r", " \t inputrecord\t1\r", "", "device  d \r", "cap 0x1 0x1E\r", "source s\r",
+             "tap t\r"]
     lines += ["do\tt open\r", "  # c", " do s event 0x10 1 30 -0\r", "do s event 00012 EV_KEY KEY_A 0x1\r"]
     return "\n".join(lines + ["do s event 1 0 0 0\r", "do t read 0x10"])
 
@@ -128,19 +137,11 @@ def nothing() -> str:
 
 
 # Each record by its name.
-MAKERS: Tuple[Callable[[], str], ...] = (clients, moments, fuzz, slots, counts, devices, owners, full, full_start, blanks, nothing)
+MAKERS: Tuple[Callable[[], str], ...] = (clients, moments, fuzz, slots, counts, devices, owners, full,
+                                         full_start, blanks, nothing)
 RECORDS = {make.__name__: make for make in MAKERS}
 
 
-def main() -> None:
-    folder = sys.argv[1]
-    os.makedirs(folder, exist_ok=True)
-    for name, make in RECORDS.items():
-        with open(f"{folder}/{name}", "w", encoding="latin1", newline="") as file:
-            file.write(make())
-        with open(f"{folder}/{name}.stdout", "w") as file:
-            file.write("".join(line + "\n" for line in play(make())))
-
-
 if __name__ == "__main__":
-    main()
+    os.makedirs(sys.argv[1], exist_ok=True)
+    write_all(sys.argv[1], [(name, make()) for name, make in RECORDS.items()])

@@ -26,7 +26,8 @@ def heed_stops() -> None:
 def raw_events(data: bytes, size: int = 24) -> List[Captured]:
     """The events of a raw capture: (time from the first one on, type, code, value)."""
     form = struct.Struct("<QQHHi" if size == 24 else "<IIHHi")
-    found = [(s * 1000000 + micros, kind, code, value) for s, micros, kind, code, value in form.iter_unpack(data)]
+    found = [(s * 1000000 + micros, kind, code, value)
+             for s, micros, kind, code, value in form.iter_unpack(data)]
     return [(time - found[0][0], kind, code, value) for time, kind, code, value in found]
 
 

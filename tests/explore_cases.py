@@ -10,11 +10,7 @@ from pathlib import Path
 
 TOP = Path(__file__).resolve().parents[1]
 
-from inputtools.explored_ends import (
-    READS,
-    differences,
-    things_at,
-)
+from inputtools.explored_ends import (READS, differences, things_at)
 from inputtools.explored_record import ExploredRecord
 from inputtools.exploring import Asked, Problem
 from inputtools.exploring_graph import Counts, Graph
@@ -108,11 +104,8 @@ class AtEnd:
         return getattr(self.actor, name)
 
     def has_opened(self):
-        clients = {
-            "client": self.actor.reader.client,
-            "joy": self.joystick.reader.client,
-            "tap": self.actor.client,
-        }
+        clients = {"client": self.actor.reader.client, "joy": self.joystick.reader.client,
+                   "tap": self.actor.client}
         return clients.get(self.role) != NO_CLIENT
 
 
@@ -143,40 +136,13 @@ def graph_things(record, target, share, folds):
 
 # Random records
 
-OF_CLIENT = (
-    "follow",
-    "grab",
-    "ungrab",
-    "force",
-    "next 1",
-    "skip 2",
-    "revoke",
-    "close",
-    "open",
-    "write 900 EV_LED LED_CAPSL 1",
-    "write 900 EV_LED LED_CAPSL 0",
-    "clock monotonic 2000",
-    "mask EV_KEY 0 0x0",
-)
-OF_TAP = (
-    "read 64",
-    "read 1",
-    "grab",
-    "ungrab",
-    "discard",
-    "keys",
-    "open",
-    "close",
-    "revoke",
-    "leds",
-    "clock boottime 2000",
-)
-FILTERS = (
-    "filter eat EV_KEY KEY_B",
-    "filter norepeat",
-    "filter chord KEY_A KEY_B",
-    "filter bounce KEY_A 5000",
-)
+OF_CLIENT = ("follow", "grab", "ungrab", "force", "next 1", "skip 2", "revoke", "close", "open",
+             "write 900 EV_LED LED_CAPSL 1", "write 900 EV_LED LED_CAPSL 0", "clock monotonic 2000",
+             "mask EV_KEY 0 0x0")
+OF_TAP = ("read 64", "read 1", "grab", "ungrab", "discard", "keys", "open", "close", "revoke", "leds",
+          "clock boottime 2000")
+FILTERS = ("filter eat EV_KEY KEY_B", "filter norepeat", "filter chord KEY_A KEY_B",
+           "filter bounce KEY_A 5000")
 
 
 class RandomRecord:
@@ -194,14 +160,11 @@ class RandomRecord:
     def text(self):
         lines = ["inputrecord 2", *self.description()]
         lines += ["source s", "source z"] if self.has_two_sources else ["source s"]
-        names = [
-            (f"c{number}", self.random.choice(("client", "client", "tap", "tap", "joy")))
-            for number in range(2)
-        ]
+        names = [(f"c{number}", self.random.choice(("client", "client", "tap", "tap", "joy")))
+                 for number in range(2)]
         lines += [f"{role} {name}" for name, role in names]
-        decks = self.source_decks() + [
-            [[f"do {name} {line}"] for line in self.own_lines(role)] for name, role in names
-        ]
+        decks = self.source_decks() + [[[f"do {name} {line}"] for line in self.own_lines(role)]
+                                       for name, role in names]
         self.orders = count_of_orders([len(deck) for deck in decks])
         return "".join(line + "\n" for line in lines + self.shuffled(decks))
 
@@ -228,13 +191,9 @@ class RandomRecord:
     def event(self):
         choice, kind = self.random.choice, self.random.random()
         if self.has_slots and kind < 0.3:
-            return choice(
-                (
-                    f"EV_ABS ABS_MT_SLOT {choice((0, 1))}",
-                    f"EV_ABS ABS_MT_TRACKING_ID {choice((-1, 5, 6))}",
-                    f"EV_ABS ABS_MT_POSITION_X {self.random.randint(0, 9)}",
-                )
-            )
+            return choice((f"EV_ABS ABS_MT_SLOT {choice((0, 1))}",
+                           f"EV_ABS ABS_MT_TRACKING_ID {choice((-1, 5, 6))}",
+                           f"EV_ABS ABS_MT_POSITION_X {self.random.randint(0, 9)}"))
         if self.has_axis and kind < 0.5:
             return f"EV_ABS ABS_X {self.random.randint(-9, 9)}"
         key = choice(("KEY_A", "KEY_B", "KEY_A", "KEY_B", "BTN_TRIGGER"))
@@ -260,19 +219,14 @@ class RandomRecord:
     def own_lines(self, role):
         """An actor's lines: it opens, and does a few of three commands, or of grabs."""
         if role == "joy":
-            return [
-                "open",
-                *(f"read {self.random.choice((1, 2, 9))}" for _ in range(self.random.choice((1, 2)))),
-            ]
+            return ["open",
+                    *(f"read {self.random.choice((1, 2, 9))}" for _ in range(self.random.choice((1, 2))))]
         own = ["open"] if role == "client" or self.random.random() < 0.8 else []
         if role == "tap" and own and self.random.random() < 0.7:
             own.append("keys")
         commands = OF_CLIENT if role == "client" else OF_TAP
-        commands += (
-            (("axis ABS_X",) if self.has_axis else ()) + (("syncslots",) if self.has_slots else ())
-            if role == "tap"
-            else ()
-        )
+        commands += ((("axis ABS_X",) if self.has_axis else ()) + (("syncslots",) if self.has_slots else ())
+                     if role == "tap" else ())
         picked = [*self.random.sample(commands, 2), commands[0]]
         picked += ["grab", "grab", "ungrab"] if self.random.random() < 0.4 else []
         return own + [self.random.choice(picked) for _ in range(self.random.choice((1, 1, 2)))]

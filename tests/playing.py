@@ -10,7 +10,7 @@ import unittest
 from importlib.machinery import SourceFileLoader
 from pathlib import Path
 from types import ModuleType
-from typing import Any, Iterable, List, NamedTuple, Optional
+from typing import Any, Iterable, List, NamedTuple, Optional, Union
 
 from tests import TOP as TOP
 
@@ -18,10 +18,8 @@ RECORDS = TOP / "tests" / "records"
 EXAMPLES = TOP / "examples"
 PROGRAM = os.environ.get("INPUTPLAY") or str(TOP / "crates" / "inp_main" / "out" / "inp_main")
 
-USAGE = (
-    b"usage: inputplay [--threads] [--history] [--idle N] FILE, or inputplay --migrate FILE, "
-    b"or inputplay --make NUMBER [--count COUNT]\n"
-)
+USAGE = (b"usage: inputplay [--threads] [--history] [--idle N] FILE, or inputplay --migrate FILE, "
+         b"or inputplay --make NUMBER [--count COUNT]\n")
 
 # No run takes longer than a part of a second; one that hangs is a failure.
 SECONDS = 30
@@ -46,6 +44,29 @@ class FolderCase(unittest.TestCase):
         self.addCleanup(folder.cleanup)
         self.folder = Path(folder.name)
 
+    def write(self, name: str, text: str, mode: int = 0o644) -> Path:
+        """A file below the folder."""
+        path = self.folder / name
+        path.parent.mkdir(parents=True, exist_ok=True)
+        path.write_text(text)
+        path.chmod(mode)
+        return path
+
+
+class Said(NamedTuple):
+    """What a run of a script came to."""
+
+    status: int
+    text: str
+    errors: str
+
+
+def said(script: Union[str, Path], *words: object, **more: Any) -> Said:
+    """Runs a script, which may be named by its path from the top."""
+    done = subprocess.run([str(TOP / script), *map(str, words)], capture_output=True, text=True, check=False,
+                          **{"timeout": 60, **more})
+    return Said(done.returncode, done.stdout, done.stderr)
+
 
 def needs_program(test: Optional[unittest.TestCase] = None) -> None:
     """Leaves out a test that needs the program where it is not there."""
@@ -65,14 +86,8 @@ def run(words: Iterable[object], folder: Path, **more: Any) -> Run:
     """Runs the program with these words in a folder. Its text is read, unless `stdout` says where it goes."""
     needs_program()
     more = {"stdout": subprocess.PIPE, **more}
-    done = subprocess.run(
-        [PROGRAM, *map(str, words)],
-        cwd=folder,
-        stdin=subprocess.DEVNULL,
-        stderr=subprocess.PIPE,
-        timeout=SECONDS,
-        **more,
-    )
+    done = subprocess.run([PROGRAM, *map(str, words)], cwd=folder, stdin=subprocess.DEVNULL,
+                          stderr=subprocess.PIPE, timeout=SECONDS, **more)
     return Run(done.returncode, done.stdout or b"", done.stderr)
 
 

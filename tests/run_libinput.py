@@ -41,8 +41,8 @@ class Libinput(RunCase):
         self.assertGreater(done.count("POINTER_MOTION"), 40, self.shown(done))
 
     def test_touchpad(self) -> None:
-        """At the record's times. (Its gestures wait by timers, so that two runs need not say the same.) Contacts
-        begin behind the open: libinput leaves out those that were there before."""
+        """At the record's times. (Its gestures wait by timers, so that two runs need not say the same.)
+        Contacts begin behind the open: libinput leaves out those that were there before."""
         words = ["--end", "int", self.records / "touchpad.rec"]
         done = self.ran(words, self.debug_events())
         self.assertGreater(done.count("POINTER_MOTION|GESTURE"), 20, self.shown(done))

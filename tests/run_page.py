@@ -2,14 +2,13 @@
 
 import re
 import subprocess
+from pathlib import Path
 from typing import Dict, List, Tuple
 
-from tests.run_cases import RunCase, needs, variables
-
 from tests.playing import TOP
+from tests.run_cases import RunCase, needs, variables
+from tests.test_pages import shown
 
-PROMPT, MORE = "    $ ", "    > "
-PAGE = TOP / "docs" / "RUN.md"
 # What a command needs beside the tools, by a word of it, with the package.
 PROGRAMS: Dict[str, Tuple[Tuple[str, str], ...]] = {
     "libinput debug-events": (("libinput", "libinput-tools"), ("umockdev-run", "umockdev")),
@@ -21,52 +20,28 @@ SECONDS = 60
 TIME = re.compile(r"\+[0-9]+\.[0-9]{3}s")
 
 
-def commands(text: str) -> List[Tuple[str, List[str]]]:
-    """The commands of a page, and of each the lines that it shows after it."""
-    found: List[Tuple[str, List[str]]] = []
-    is_behind_a_command = False
-    for line in text.splitlines():
-        if line.startswith(PROMPT):
-            found.append((line[len(PROMPT) :], []))
-            is_behind_a_command = True
-        elif line.startswith(MORE) and is_behind_a_command and not found[-1][1]:
-            found[-1] = (found[-1][0] + "\n" + line[len(MORE) :], [])
-        elif line.startswith("    ") and is_behind_a_command:
-            found[-1][1].append(line[4:])
-        else:
-            is_behind_a_command = False
-    return found
-
-
 def with_single_blanks(lines: List[str]) -> List[str]:
-    """Lines whose blanks and tabs are one blank each; a last empty one is left out. libinput tells times from its
-    own start on, which differ by run."""
+    """Lines whose blanks and tabs are one blank each; a last empty one is left out. libinput tells times from
+    its own start on, which differ by run."""
     told = [TIME.sub("+0.000s", " ".join(line.split())) for line in lines]
     return told[:-1] if told[-1:] == [""] else told
 
 
 class Page(RunCase):
-    def is_shown(self, command: str, page: List[str]) -> None:
-        """Runs a command in the test's folder. What it wrote is what the page says."""
+    def is_shown(self, command: str, folder: Path, page: List[str]) -> None:
+        """Runs a command in a folder. What it wrote is what the page says."""
         for word, programs in PROGRAMS.items():
             for program, package in programs if word in command else ():
                 needs(self, program, package)
-        done = subprocess.run(["bash", "-c", command], cwd=self.folder, env=variables(self.built),
+        done = subprocess.run(["bash", "-c", command], cwd=folder, env=variables(self.built),
                               capture_output=True, text=True, timeout=SECONDS, check=False)
         came = with_single_blanks(done.stdout.splitlines())
         self.assertEqual((0, with_single_blanks(page)), (done.returncode, came), done.stderr)
 
-    def all_shown(self, text: str, least: int) -> None:
-        for name in ("tools", "tests", "examples"):
-            (self.folder / name).symlink_to(TOP / name)
-        found = commands(text)
-        self.assertGreaterEqual(len(found), least)
-        for command, lines in found:
-            with self.subTest(command):
-                self.is_shown(command, lines)
-
-    def test_each_command_of_the_page(self) -> None:
-        self.all_shown(PAGE.read_text(), 11)
-
-    def test_each_command_of_the_readme(self) -> None:
-        self.all_shown((TOP / "README.md").read_text(), 2)
+    def test_each_command(self) -> None:
+        for page, least in ((TOP / "docs" / "RUN.md", 11), (TOP / "README.md", 2)):
+            folder = self.folder / page.stem
+            folder.mkdir()
+            for command, lines in shown(page, least, folder):
+                with self.subTest(command):
+                    self.is_shown(command, folder, lines)

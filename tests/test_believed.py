@@ -1,15 +1,16 @@
-"""What checks/believed finds in a small repository that the test writes; and that docs/PROMISES.md has its table."""
+"""What checks/believed finds in a small repository; and that docs/PROMISES.md has its table."""
 
 import re
-import subprocess
-import sys
 
-from tests.playing import TOP, FolderCase
+from tests.playing import TOP, FolderCase, said
 
-SCRIPT = TOP / "checks" / "believed"
+from checks import pages
 from checks.definitions import Key, Repository
 
-# A crate `low`, and a crate `high` that depends on it. What counts for `call` has `yes` in a comment beside it.
+SCRIPT = "checks/believed"
+
+# A crate `low`, and a crate `high` that depends on it. What counts for `call` has `yes` in a comment beside
+# it.
 FILES = {
     "crates.txt": "# crates\nhigh: low clap\nlow:\n",
     "crates/low/src/lib.rt": "mod color;\nmod kept;\n",
@@ -166,50 +167,38 @@ class Believed(FolderCase):
         for name, text in FILES.items():
             self.write(name, text)
 
-    def write(self, name, text):
-        path = self.folder / name
-        path.parent.mkdir(parents=True, exist_ok=True)
-        path.write_text(text)
-
-    def believed(self, *words):
-        command = [sys.executable, SCRIPT, *words]
-        return subprocess.run(command, capture_output=True, text=True, check=False)
-
     def small(self, *words):
-        return self.believed("--top", self.folder, *(words or ("high", "top.rt", "call")))
+        return said(SCRIPT, "--top", self.folder, *(words or ("high", "top.rt", "call")))
 
     def test_small_repository(self):
-        came = self.small()
-        self.assertEqual((0, WANTED, ""), (came.returncode, came.stdout, came.stderr))
+        self.assertEqual((0, WANTED, ""), self.small())
 
     def test_another_contract(self):
-        self.assertIn("color.rt  Color FIRST\n", self.small("high", "top.rt", "inner").stdout)
-        self.assertNotIn("FIRST", self.small().stdout)
+        self.assertIn("color.rt  Color FIRST\n", self.small("high", "top.rt", "inner").text)
+        self.assertNotIn("FIRST", self.small().text)
 
     def test_a_definition_that_looks_inside_a_type(self):
         self.write("crates/high/specs/Promise.antt", LOOKING_INSIDE)
-        self.assertIn("low/src/color.rt  LAST Unnamed\n", self.small().stdout)
+        self.assertIn("low/src/color.rt  LAST Unnamed\n", self.small().text)
 
     def test_page(self):
+        status, text, errors = said(SCRIPT, "--page")
+        self.assertEqual((0, ""), (status, errors))
         page = (TOP / "docs" / "PROMISES.md").read_text()
-        came = self.believed("--page")
-        self.assertEqual((0, ""), (came.returncode, came.stderr))
-        self.assertIn(f"\n{came.stdout}<!--", page, "'checks/believed --write' writes the table anew")
+        self.assertIn(f"\n{text}<!--", page, "'checks/believed --write' writes the table anew")
 
     def test_write(self):
-        page = self.folder / "docs" / "PROMISES.md"
-        self.write("docs/PROMISES.md", "Page\n")
+        """It writes the table of one function alone. (What writes a page is looked at in test_counts.py.)"""
+        begin, end = pages.marks(SCRIPT)
+        page = self.write("docs/PROMISES.md", f"{begin}\nold\n{end}")
         self.rename_to_top_call()
-        came = self.small("--write")
-        line = "checks/believed: docs/PROMISES.md has not both marks of what is written there\n"
-        self.assertEqual((2, "", line), (came.returncode, came.stdout, came.stderr))
-        marks = re.findall(r"^<!-- .* checks/believed .*-->$", (TOP / "docs" / "PROMISES.md").read_text(), re.M)
-        self.write("docs/PROMISES.md", "\n".join(["Page", marks[0], "old", marks[1], "end"]))
-        self.assertEqual(0, self.small("--write").returncode)
-        table = self.small("--page").stdout
-        self.assertEqual("\n".join(["Page", marks[0], table + marks[1], "end"]), page.read_text())
-        self.assertIn("| `low` | `Kept`, `Color`, the numbers in `color.rt` | `Seen`, `Mixing` | 17 | 27 |\n", table)
-        self.assertIn("| `inp_tool` | `Giver` | `Promise` | 5 | 7 |\n", table)
+        of_page = ("inp_tool", "top.rt", "inputplay")
+        self.assertEqual((0, "", ""), self.small(*of_page, "--write"))
+        table = self.small(*of_page, "--page").text
+        self.assertEqual(f"{begin}\n{table}{end}", page.read_text())
+        for row in ("| `low` | `Kept`, `Color`, the numbers in `color.rt` | `Seen`, `Mixing` | 17 | 27 |\n",
+                    "| `inp_tool` | `Giver` | `Promise` | 5 | 7 |\n"):
+            self.assertIn(row, table)
 
     def rename_to_top_call(self):
         """Makes the small repository's function that of the page."""
@@ -217,20 +206,6 @@ class Believed(FolderCase):
         for path in ["crates.txt", "crates/inp_tool/src/top.rt"]:
             text = (self.folder / path).read_text()
             self.write(path, text.replace("high", "inp_tool").replace("pub fn call<", "pub fn inputplay<"))
-
-    def test_wrong_input(self):
-        for words, line in [
-            (["nix", "top.rt", "call"], f"{self.folder}/crates/nix/src/top.rt is not there"),
-            (["high", "nix.rt", "call"], f"{self.folder}/crates/high/src/nix.rt is not there"),
-            (["high", "top.rt", "nix"], "high/src/top.rt has no nix"),
-        ]:
-            with self.subTest(line):
-                came = self.small(*words)
-                self.assertEqual((2, "", f"checks/believed: {line}\n"), (came.returncode, came.stdout, came.stderr))
-
-    def test_help_and_options(self):
-        self.assertIn("FUNCTION", self.believed("--help").stdout)
-        self.assertEqual(2, self.believed("--page", "inp_recon", "laws.rt", "faithful").returncode)
 
 
 class Numbers(FolderCase):
@@ -240,7 +215,8 @@ class Numbers(FolderCase):
         numbers = [key for key, item in reached.items() if item.kind == "const"]
         self.assertGreater(len(numbers), 40)
         once = {key.name for key in numbers if not self.is_proved(repository, key)}
-        paragraph = re.search(r"Beside each constant.*?\n\n", (TOP / "docs" / "PROMISES.md").read_text(), re.S)[0]
+        paragraph = re.search(r"Beside each constant.*?\n\n", (TOP / "docs" / "PROMISES.md").read_text(),
+                              re.S)[0]
         self.assertEqual(once, set(re.findall(r"`(\w+)`", paragraph)))
 
     def is_proved(self, repository, key):

@@ -1,12 +1,12 @@
-"""What checks/counts counts of a small repository that the test writes; and that docs/TESTING.md has its table."""
+"""What checks/counts counts of a small repository; and that docs/TESTING.md has its table."""
 
 import re
-import subprocess
-import sys
 
-from tests.playing import TOP, FolderCase
+from tests.playing import TOP, FolderCase, said
 
-SCRIPT = TOP / "checks" / "counts"
+from checks import pages
+
+SCRIPT = "checks/counts"
 
 # Each line of code has the mark `code` after it, and each for the prover `prover`; they are not written.
 FILES = {
@@ -90,44 +90,26 @@ class Counts(FolderCase):
         for name, text in FILES.items():
             self.write(name, re.sub(" // (code|prover)$", "", text, flags=re.M))
 
-    def write(self, name, text):
-        path = self.folder / name
-        path.parent.mkdir(parents=True, exist_ok=True)
-        path.write_text(text)
-
-    def counts(self, *words):
-        return subprocess.run([sys.executable, SCRIPT, *words], capture_output=True, text=True, check=False)
-
     def small(self, *words):
-        return self.counts("--top", self.folder, *words)
+        return said(SCRIPT, "--top", self.folder, *words)
 
     def test_small_repository(self):
         code = FILES["crates/one/src/lib.rt"]
         # the clause of two lines has one mark
         self.assertEqual((13, 9), (code.count("// code"), code.count("// prover")))
-        came = self.small()
-        self.assertEqual((0, WANTED, ""), (came.returncode, came.stdout, came.stderr))
+        self.assertEqual((0, WANTED, ""), self.small())
 
     def test_page(self):
-        came = self.counts("--page")
-        self.assertEqual((0, ""), (came.returncode, came.stderr))
+        status, text, errors = said(SCRIPT, "--page")
+        self.assertEqual((0, ""), (status, errors))
         page = (TOP / "docs" / "TESTING.md").read_text()
-        self.assertIn(f"\n{came.stdout}<!--", page, "'checks/counts --write' writes the table anew")
+        self.assertIn(f"\n{text}<!--", page, "'checks/counts --write' writes the table anew")
 
     def test_write(self):
-        page = self.folder / "docs" / "TESTING.md"
-        self.write("docs/TESTING.md", "Page\n")
-        came = self.small("--write")
+        page = self.write("docs/TESTING.md", "Page\n")
         line = "checks/counts: docs/TESTING.md has not both marks of what is written there\n"
-        self.assertEqual((2, "", line), (came.returncode, came.stdout, came.stderr))
-        marks = re.findall(r"^<!-- .* -->$", (TOP / "docs" / "TESTING.md").read_text(), re.M)
-        self.write("docs/TESTING.md", "\n".join(["Page", marks[0], "old", marks[1], "end"]))
-        self.assertEqual(0, self.small("--write").returncode)
-        self.assertEqual("\n".join(["Page", marks[0], self.small("--page").stdout + marks[1], "end"]), page.read_text())
-
-    def test_wrong_input(self):
-        self.assertIn("--write", self.counts("--help").stdout)
-        (self.folder / "crates.txt").unlink()
-        came = self.small()
-        line = f"checks/counts: {self.folder}/crates.txt is not there\n"
-        self.assertEqual((2, "", line), (came.returncode, came.stdout, came.stderr))
+        self.assertEqual((2, "", line), self.small("--write"))
+        begin, end = pages.marks(SCRIPT)
+        page.write_text("\n".join(["Page", begin, "old", end, "end"]))
+        self.assertEqual((0, "", ""), self.small("--write"))
+        self.assertEqual("\n".join(["Page", begin, self.small("--page").text + end, "end"]), page.read_text())

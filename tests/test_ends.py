@@ -1,5 +1,5 @@
-"""How each tool of tools/ ends where it is stopped, where nobody takes what it writes, and where a file or the program
-is not what it is to be: by one line and a status, and never by a traceback."""
+"""How each tool of tools/ ends where it is stopped, where nobody takes what it writes, and where a file or
+the program is not what it is to be: by one line and a status, and never by a traceback."""
 
 import os
 import signal
@@ -15,15 +15,19 @@ CAPTURE = DATA / "lid.evtest"
 
 
 class EndsCase(DeskCase):
-    """`playing` has of each tool words with which it plays a record, and `all` of each those with which it writes
-    something."""
+    """Words with which each tool plays a record (`playing`), or writes something (`all`)."""
 
     def setUp(self):
         super().setUp()
         needs_program(self)
         expects = self.file("expects.rec", "#= desktop takes KEY_LEFTCTRL\n" + RECORD.read_text())
-        playing = {"play": [RECORD], "stuck": [RECORD], "draw": [RECORD], "check": [expects], "compare": [RECORD, OTHER]}
-        self.playing = [*playing.items(), ("export", [RECORD, "--raw", "desktop"]), ("record", [CAPTURE, "--verify"])]
+        playing = {"play": [RECORD],
+                   "stuck": [RECORD],
+                   "draw": [RECORD],
+                   "check": [expects],
+                   "compare": [RECORD, OTHER]}
+        self.playing = [*playing.items(), ("export", [RECORD, "--raw", "desktop"]),
+                        ("record", [CAPTURE, "--verify"])]
         self.all = [*self.playing, ("export", [RECORD, "--evemu"]), ("describe", [CAPTURE]),
                     ("shrink", [RECORD, "--", "grep", "-q", "grab"])]
 
@@ -65,7 +69,8 @@ class Output(EndsCase):
         def tells(tool, words):
             status, text, said = self.run_tool(tool, *words)
             self.assertEqual((0, []), (status, said))
-            for end in ("Status", "2", "stdout failed" if tool == "play" else "standard output failed", "130: stopped"):
+            for end in ("Status", "2", "stdout failed" if tool == "play" else "standard output failed",
+                        "130: stopped"):
                 self.assertIn(end, " ".join(text.split()))
 
         helps = sorted({(tool, ("--help",)) for tool, _ in self.all})
@@ -75,7 +80,8 @@ class Output(EndsCase):
     def test_a_closed_output(self):
         closed = {"stdout": None, "preexec_fn": lambda: os.close(1)}
         self.each(self.all, lambda tool, words: self.fails(tool, words, " is closed", **closed))
-        self.each([("play", [RECORD, "--json"])], lambda tool, words: self.fails(tool, words, " is closed", **closed))
+        self.each([("play", [RECORD, "--json"])],
+                  lambda tool, words: self.fails(tool, words, " is closed", **closed))
 
     def test_a_reader_that_has_read_enough(self):
         def ends(tool, words):
@@ -93,10 +99,10 @@ class Output(EndsCase):
 class Stopped(EndsCase):
     def stopped(self, tool, words, program):
         """The status and the last line of a tool that is stopped while a program runs."""
-        started = subprocess.Popen(
-            [sys.executable, TOOLS / tool, *words], env={**os.environ, "INPUTPLAY": str(program)}, text=True,
-            stdout=subprocess.PIPE, stderr=subprocess.PIPE, start_new_session=True, preexec_fn=heed_stops,
-        )
+        started = subprocess.Popen([sys.executable, TOOLS / tool, *words],
+                                   env={**os.environ, "INPUTPLAY": str(program)}, text=True,
+                                   stdout=subprocess.PIPE, stderr=subprocess.PIPE, start_new_session=True,
+                                   preexec_fn=heed_stops)
         self.wait_for(self.folder / "runs")
         os.killpg(started.pid, signal.SIGINT)
         text, said = started.communicate(timeout=20)

@@ -2,7 +2,8 @@
 the graph has it, in both forms: each actor apart with states folded, and all actors together with none
 folded.
 
-By hand `compare_by_seed` of `tests/explore_cases.py` compared more than 1,000 such records of up to 300 orders each.
+By hand `compare_by_seed` of `tests/explore_cases.py` compared more than 1,000 such records of up to 300
+orders each.
 """
 
 import unittest

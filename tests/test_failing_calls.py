@@ -1,7 +1,7 @@
 """What `checks/alloc` and `checks/faults` say of programs that are right, and of some that are not.
 
-The programs are small ones in C, which do as the real one at calls that fail. Where there is no C compiler the
-scripts must say so, and the rules by which they judge are tested alone.
+The programs are small ones in C, which do as the real one at calls that fail. Where there is no C compiler
+the scripts must say so, and the rules by which they judge are tested alone.
 """
 
 import os
@@ -11,7 +11,7 @@ import sys
 
 from checks.trial import Run
 from second.side_by_side import play_side_by_side
-from tests.playing import TOP, USAGE, FolderCase, loaded
+from tests.playing import TOP, USAGE, FolderCase, loaded, said
 
 HAS_COMPILER = shutil.which(os.environ.get("CC", "cc")) is not None
 
@@ -55,39 +55,29 @@ int main(int count, char **words) {
 }
 """
 
-RECORD = "inputrecord 1\n"
-
 # Programs that are wrong: the script that finds it, what is changed, and what is said.
 WRONG = {
-    "it takes memory that it was not given": (
-        "alloc",
-        ("if (!bytes)", "if (!bytes && (bytes[0] = 1))"),
-        "allocation 2 refused (calloc 1000 bytes): SIGSEGV, b''",
-    ),
+    "it takes memory that it was not given": ("alloc", ("if (!bytes)", "if (!bytes && (bytes[0] = 1))"),
+                                              "allocation 2 refused (calloc 1000 bytes): SIGSEGV, b''"),
     "it tells of its words too late": (
         "alloc",
         ("bytes = larger ? larger : bytes;", 'if (!larger) return say(2, "usage: inputplay FILE\\n");'),
-        "allocation 3 refused (realloc 2000 bytes): status 2, b'usage: inputplay FILE\\n'",
+        "allocation 3 refused (realloc 2000 bytes): status 2, b'usage: inputplay FILE\\n'"
     ),
-    "it takes a fault for an end": (
-        "faults",
-        ("bytes + size, 7)) < 0)", "bytes + size, 7)) < 0 && (more = 0))"),
-        "read 1 of f fails: WRONG: status 0, and status 3 was wanted\n",
-    ),
+    "it takes a fault for an end": ("faults",
+                                    ("bytes + size, 7)) < 0)", "bytes + size, 7)) < 0 && (more = 0))"),
+                                    "read 1 of f fails: WRONG: status 0, and status 3 was wanted\n"),
     "it takes a short read for an end": (
-        "faults",
-        ("more; size += more)", "more == 7 || more == 1; size += more)"),
-        "read 1 of f is short: WRONG: status 0, which is not as without it\n",
+        "faults", ("more; size += more)", "more == 7 || more == 1; size += more)"),
+        "read 1 of f is short: WRONG: status 0, which is not as without it\n"
     ),
     "it takes a short write for a whole one": (
-        "faults",
-        ("done += more", "done += 4"),
-        "write 1 of the output is short: WRONG: status 0, which is not as without it\n",
+        "faults", ("done += more", "done += 4"),
+        "write 1 of the output is short: WRONG: status 0, which is not as without it\n"
     ),
     "it does not look at its writes": (
-        "faults",
-        ("return 4;", "more = 4;"),
-        "write 1 of the output fails: WRONG: status 0, and status 4 was wanted\n",
+        "faults", ("return 4;", "more = 4;"),
+        "write 1 of the output fails: WRONG: status 0, and status 4 was wanted\n"
     ),
 }
 
@@ -95,25 +85,20 @@ WRONG = {
 class FailingCalls(FolderCase):
     def setUp(self):
         super().setUp()
-        (self.folder / "f").write_text(RECORD)
+        self.write("f", "inputrecord 1\n")
         self.program = self.folder / "program"
 
     def compile(self, text, *more):
-        source = self.folder / "program.c"
-        source.write_text(text)
+        source = self.write("program.c", text)
         command = [os.environ.get("CC", "cc"), *more, "-o", self.program, source]
         subprocess.run(command, check=True, capture_output=True, timeout=60)
 
-    def script(self, name, *words):
-        command = [sys.executable, TOP / "checks" / name, "--program", self.program, *words]
-        where = {**os.environ, "TMPDIR": str(self.folder)}
-        return subprocess.run(command, capture_output=True, text=True, timeout=60, env=where)
-
-    def says(self, name, status, *said, words=()):
-        done = self.script(name, *words, self.folder / "f")
-        self.assertEqual(status, done.returncode, done.stdout + done.stderr)
-        for text in said:
-            self.assertIn(text, done.stdout + done.stderr)
+    def says(self, name, status, *told, words=()):
+        env = {**os.environ, "TMPDIR": str(self.folder)}
+        done = said(f"checks/{name}", "--program", self.program, *words, self.folder / "f", env=env)
+        self.assertEqual(status, done.status, done.text + done.errors)
+        for text in told:
+            self.assertIn(text, done.text + done.errors)
 
     def test_a_program_that_is_right(self):
         if not HAS_COMPILER:
@@ -122,18 +107,13 @@ class FailingCalls(FolderCase):
                 self.says(name, 2, "there is no C compiler: ")
             return
         self.compile(RIGHT)
-        self.says("alloc", 0, "f: 1 status 0, 1 status 2, 1 status 5\n3 runs of 1 records, none that ends otherwise\n")
+        self.says("alloc", 0,
+                  "f: 1 status 0, 1 status 2, 1 status 5\n3 runs of 1 records, none that ends otherwise\n")
         self.says("alloc", 0, "f: 1 status 0, 1 status 2, 1 status 5\n", words=["--rest"])
-        self.says(
-            "faults",
-            0,
-            "    open 1 of f fails: status 3\n",
-            "    read 3 of f fails: status 3\n",
-            "    write 3 of the output fails: status 4\n",
-            "    read 2 of f is short: status 0\n",
-            "    write 2 of the output is short: status 0\n",
-            "11 runs of 1 records, none that ends otherwise\n",
-        )
+        self.says("faults", 0, "    open 1 of f fails: status 3\n", "    read 3 of f fails: status 3\n",
+                  "    write 3 of the output fails: status 4\n", "    read 2 of f is short: status 0\n",
+                  "    write 2 of the output is short: status 0\n",
+                  "11 runs of 1 records, none that ends otherwise\n")
         self.says("faults", 0, "f\n18 runs of 1 records, none ", words=["--piece", "3", "--quiet"])
 
     def test_programs_that_are_wrong(self):
@@ -148,29 +128,13 @@ class FailingCalls(FolderCase):
     def test_a_program_whose_calls_cannot_be_made_to_fail(self):
         if not HAS_COMPILER:
             self.skipTest("there is no C compiler")
-        for text, status, said, words in (
-            ("void _start(void) {}", 2, "is not linked dynamically", ["-static", "-nostdlib"]),
-            ("int main() {}", 1, "no call could be made to fail\n", []),
-        ):
+        for text, status, said, words in (("void _start(void) {}", 2, "is not linked dynamically",
+                                           ["-static", "-nostdlib"]),
+                                          ("int main() {}", 1, "no call could be made to fail\n", [])):
             self.compile(text, *words)
             for name in ("alloc", "faults"):
                 with self.subTest(script=name, said=said):
                     self.says(name, status, said)
-
-    def test_wrong_words(self):
-        shutil.copy(sys.executable, self.program)
-        for name, words, said in (
-            ("alloc", ["--program", "none"], "is not there; 'rt ci' builds it"),
-            ("alloc", [self.folder / "g"], "is not there"),
-            ("alloc", ["--word=--threads"], "so --word=--history is wanted too"),
-            ("faults", ["--program", "none"], "is not there; 'rt ci' builds it"),
-            ("faults", [self.folder / "g"], "is not there"),
-            ("faults", ["--piece", "0"], "0 is not 1 or more"),
-        ):
-            with self.subTest(script=name, words=words):
-                done = self.script(name, *words)
-                self.assertEqual(2, done.returncode)
-                self.assertIn(said, done.stderr)
 
 
 class Judging(FolderCase):
@@ -178,20 +142,18 @@ class Judging(FolderCase):
 
     def test_runs_with_an_allocation_refused(self):
         whole = Run(6, b"device d steps 1\n", b"")
-        for run, is_right in (
-            (whole, True),
-            (Run(5, b"inputplay: out of memory\n", b""), True),
-            (Run(4, b"inputplay: out", b""), True),
-            (Run(4, b"inputplay: out of memory\n", b""), False),
-            (Run(4, b"device", b""), False),
-            (Run(0, whole.text, b""), False),
-            (Run(6, b"device d", b""), False),
-            (Run(5, b"device d steps 1\n", b""), False),
-            (Run(5, b"inputplay: out of memory\n", b"?"), False),
-            (Run(2, USAGE, b""), False),
-            (Run(-11, b"", b""), False),
-            (Run(None, b"", b""), False),
-        ):
+        for run, is_right in ((whole, True),
+                              (Run(5, b"inputplay: out of memory\n", b""), True),
+                              (Run(4, b"inputplay: out", b""), True),
+                              (Run(4, b"inputplay: out of memory\n", b""), False),
+                              (Run(4, b"device", b""), False),
+                              (Run(0, whole.text, b""), False),
+                              (Run(6, b"device d", b""), False),
+                              (Run(5, b"device d steps 1\n", b""), False),
+                              (Run(5, b"inputplay: out of memory\n", b"?"), False),
+                              (Run(2, USAGE, b""), False),
+                              (Run(-11, b"", b""), False),
+                              (Run(None, b"", b""), False)):
             with self.subTest(run=run):
                 judge = loaded(TOP / "checks" / "alloc").Judge(self.folder / "f", [], whole)
                 self.assertIsNone(judge.complaint(Run(2, USAGE, b"")))
@@ -202,7 +164,9 @@ class Judging(FolderCase):
         record = "inputrecord 1\ndevice d\ncap EV_KEY KEY_A\nsource s\nclient c\n"
         record += "do c open\ndo s uninhibit\ndo c follow\n"
         (self.folder / "f").write_text(record)
-        judge = loaded(TOP / "checks" / "alloc").Judge(self.folder / "f", ["--threads", "--history", "--idle", "3"], Run(0, b"", b""))
+        judge = loaded(TOP / "checks" / "alloc").Judge(self.folder / "f",
+                                                       ["--threads", "--history", "--idle", "3"],
+                                                       Run(0, b"", b""))
         for seed in range(3):
             text = "".join(line + "\n" for line in play_side_by_side(record, seed, idle=3)).encode()
             self.assertIsNone(judge.complaint(Run(0, text, b"")))

@@ -1,7 +1,9 @@
-"""The library as far as no archive is needed: the header beside the crate, and each source over it beside the header.
+"""The library as far as no archive is needed: the header beside the crate, and each source over it beside the
+header.
 
-What needs the archive is in test_library.py, which is run where the library was built. `tests/library/passed.json` says over
-which sources it passed; here these are compared with those that are there.
+What needs the archive is in test_library.py, which is run where the library was built.
+`tests/library/passed.json` says over which sources it passed; here these are compared with those that are
+there.
 """
 
 import os
@@ -70,13 +72,15 @@ class Sources(FolderCase):
                 if '"inputplay.h"' not in source.read_text():
                     continue
                 with self.subTest(source.name):
-                    self.compiled(["gcc", "-fsyntax-only", "-std=c11", "-Wall", "-Wextra", "-Werror", f"-I{TOP / 'include'}", source])
+                    self.compiled(["gcc", "-fsyntax-only", "-std=c11", "-Wall", "-Wextra", "-Werror",
+                                   f"-I{TOP / 'include'}", source])
 
     def test_c_plus_plus(self):
         needs("g++")
         source = self.folder / "calls.cpp"
         shutil.copy(TOP / "tests" / "library" / "calls.c", source)
-        self.compiled(["g++", "-fsyntax-only", "-std=c++11", "-Wall", "-Wextra", "-Werror", f"-I{TOP / 'include'}", source])
+        self.compiled(["g++", "-fsyntax-only", "-std=c++11", "-Wall", "-Wextra", "-Werror",
+                       f"-I{TOP / 'include'}", source])
 
     def test_python(self):
         shutil.copytree(TOP / "bindings" / "python", self.folder / "python")
@@ -84,9 +88,11 @@ class Sources(FolderCase):
 
     def test_rust(self):
         needs("cargo")
-        shutil.copytree(TOP / "bindings" / "rust", self.folder / "rust", ignore=shutil.ignore_patterns("target"))
+        shutil.copytree(TOP / "bindings" / "rust", self.folder / "rust",
+                        ignore=shutil.ignore_patterns("target"))
         variables = {**os.environ, "CARGO_TARGET_DIR": str(self.folder / "target")}
-        self.compiled(["cargo", "check", "--offline", "-q", "--all-targets"], cwd=self.folder / "rust", env=variables)
+        self.compiled(["cargo", "check", "--offline", "-q", "--all-targets"], cwd=self.folder / "rust",
+                      env=variables)
 
 
 class Stamp(FolderCase):
@@ -94,7 +100,10 @@ class Stamp(FolderCase):
 
     def test_nothing_changed_since_they_passed(self):
         changed = stamp.changed()
-        self.assertEqual([], changed, "these changed since 'tests/run library' passed: run it, and commit tests/library/passed.json")
+        self.assertEqual(
+            [], changed,
+            "these changed since 'tests/run library' passed: run it, and commit tests/library/passed.json"
+        )
 
     def test_a_change_is_told(self):
         (self.folder / "crates" / "inp_c" / "src").mkdir(parents=True)
@@ -102,7 +111,8 @@ class Stamp(FolderCase):
         (self.folder / "tests").mkdir()
         (self.folder / "crates.txt").write_text("inp_c staticlib: other\n")
         source = self.folder / "crates" / "inp_c" / "src" / "lib.rt"
-        for path in (source, self.folder / "include" / "inputplay.h", self.folder / "tests" / "test_library.py"):
+        for path in (source, self.folder / "include" / "inputplay.h",
+                     self.folder / "tests" / "test_library.py"):
             path.write_text("one\n")
         kept = self.folder / "passed.json"
         self.assertEqual(["crates/inp_c", "include", "tests"], stamp.changed(self.folder, kept))

@@ -24,7 +24,7 @@ GRABBED = ("do t open", "do t grab")
 
 
 class Step(NamedTuple):
-    """A line whose step meets the limit, its call and reply, and the lines before it that fill the history."""
+    """A line whose step meets the limit, its call and reply, and the lines that fill the history."""
 
     line: str
     call: str
@@ -33,25 +33,23 @@ class Step(NamedTuple):
 
 
 # The steps of a client. AT is the place of the step.
-OF_A_CLIENT = (
-    Step("close", "close 0", "done AT"),
-    Step("discard", "discard 0", "discarded AT 0"),
-    Step("keys", "getkeys 0", "bits AT"),
-    Step("switches", "getswitches 0", "bits AT"),
-    Step("leds", "getleds 0", "bits AT"),
-    Step("sounds", "getsounds 0", "bits AT"),
-    Step("axis ABS_X", "getaxis 0 ABS_X", "axis AT 0 0 100 0 0 0"),
-    Step("setaxis ABS_X 0 0 50 0 0 0", "setaxis 0 ABS_X 0 0 50 0 0 0", "done AT"),
-    Step("slots ABS_MT_POSITION_X", "getslots 0 ABS_MT_POSITION_X", "cells AT 2 0"),
-    Step("syncslots", "syncslots 0", "cells AT 28 0"),
-    Step("write 0 EV_SYN SYN_REPORT 0", "write 0 0 EV_SYN SYN_REPORT 0", "done AT"),
-    Step("grab", "grab 0", "done AT"),
-    Step("mask EV_KEY 0 0", "mask 0 EV_KEY 0 0x0000000000000000", "done AT"),
-    Step("clock monotonic 0", "clock 0 monotonic 0", "done AT"),
-    Step("revoke", "revoke 0", "done AT"),
-    Step("read 16", "read 0 16", "took AT 2", VISIBLE),
-    Step("ungrab", "ungrab 0", "done AT", GRABBED),
-)
+OF_A_CLIENT = (Step("close", "close 0", "done AT"),
+               Step("discard", "discard 0", "discarded AT 0"),
+               Step("keys", "getkeys 0", "bits AT"),
+               Step("switches", "getswitches 0", "bits AT"),
+               Step("leds", "getleds 0", "bits AT"),
+               Step("sounds", "getsounds 0", "bits AT"),
+               Step("axis ABS_X", "getaxis 0 ABS_X", "axis AT 0 0 100 0 0 0"),
+               Step("setaxis ABS_X 0 0 50 0 0 0", "setaxis 0 ABS_X 0 0 50 0 0 0", "done AT"),
+               Step("slots ABS_MT_POSITION_X", "getslots 0 ABS_MT_POSITION_X", "cells AT 2 0"),
+               Step("syncslots", "syncslots 0", "cells AT 28 0"),
+               Step("write 0 EV_SYN SYN_REPORT 0", "write 0 0 EV_SYN SYN_REPORT 0", "done AT"),
+               Step("grab", "grab 0", "done AT"),
+               Step("mask EV_KEY 0 0", "mask 0 EV_KEY 0 0x0000000000000000", "done AT"),
+               Step("clock monotonic 0", "clock 0 monotonic 0", "done AT"),
+               Step("revoke", "revoke 0", "done AT"),
+               Step("read 16", "read 0 16", "took AT 2", VISIBLE),
+               Step("ungrab", "ungrab 0", "done AT", GRABBED))
 # Those of a source, whose part has no lines of its own.
 OF_A_SOURCE = ("event 0 EV_KEY KEY_A 1", "tick 0", "inhibit 0", "uninhibit")
 

@@ -1,10 +1,9 @@
-"""What bench/load writes for small loads, that the program and plain C print the same of them, and what is no load."""
+"""What bench/load writes for small loads, what the program and plain C print of them, and no loads."""
 
 import shutil
 import subprocess
-import unittest
 
-from tests.playing import TOP, FolderCase, run
+from tests.playing import TOP, FolderCase, run, said
 
 BENCH = TOP / "bench"
 # Without a compiler bench/run can't be run, and nothing rests on plain C.
@@ -75,33 +74,21 @@ stop finished
 
 # The first lines of a record, and lines each of which is refused after them, for a cause of its own.
 BEGUN = b"inputrecord 1\ndevice keypad\ncap EV_KEY KEY_A\nsource finger\nclient c0\ndo c0 open\n"
-REFUSED = (
-    b"do finger event 1 EV_KEY KEY_A \x7f",
-    b"inputrecord 1",
-    b"cap EV_KEY KEY_B",
-    b"hint",
-    b"do thumb event 1 EV_KEY KEY_A 1",
-    b"do c0 event 1 EV_KEY KEY_A 1",
-    b"do finger follow",
-    b"do finger event 9000000000000001 EV_KEY KEY_A 1",
-    b"do finger event 1 EV_KEY SYN_REPORT 1",
-    b"do finger event 1 EV_KAY KEY_A 1",
-    b"do finger event 1 EV_KEY 0xfffff 1",
-    b"do finger event 1 EV_KEY KEY_A 2147483648",
-    b"do finger event 1 EV_KEY KEY_A -",
-)
+REFUSED = (b"do finger event 1 EV_KEY KEY_A \x7f", b"inputrecord 1", b"cap EV_KEY KEY_B", b"hint",
+           b"do thumb event 1 EV_KEY KEY_A 1", b"do c0 event 1 EV_KEY KEY_A 1", b"do finger follow",
+           b"do finger event 9000000000000001 EV_KEY KEY_A 1", b"do finger event 1 EV_KEY SYN_REPORT 1",
+           b"do finger event 1 EV_KAY KEY_A 1", b"do finger event 1 EV_KEY 0xfffff 1",
+           b"do finger event 1 EV_KEY KEY_A 2147483648", b"do finger event 1 EV_KEY KEY_A -")
 
 
 class Loads(FolderCase):
-    def load(self, *words):
-        return subprocess.run([str(BENCH / "load"), *words], cwd=self.folder, capture_output=True, text=True, check=False)
-
     def written(self, *words):
-        self.assertEqual(0, self.load(*words).returncode)
+        self.assertEqual(0, said("bench/load", *words, cwd=self.folder).status)
         return (self.folder / words[1]).read_text()
 
     def test_followed(self):
-        self.assertEqual(FOLLOWED, self.written("followed", "one", "--frames", "3", "--clients", "2", "--every", "2"))
+        self.assertEqual(FOLLOWED,
+                         self.written("followed", "one", "--frames", "3", "--clients", "2", "--every", "2"))
 
     def test_streamed(self):
         self.assertEqual(STREAMED, self.written("streamed", "one", "--frames", "2", "--clients", "1"))
@@ -116,20 +103,23 @@ class Loads(FolderCase):
     def compiled(self, name):
         """A program in plain C."""
         (self.folder / "plain_names.h").write_text(self.names())
-        subprocess.run([COMPILER, "-O2", "-I", self.folder, "-o", self.folder / name, BENCH / f"{name}.c"], check=True)
+        subprocess.run([COMPILER, "-O2", "-I", self.folder, "-o", self.folder / name, BENCH / f"{name}.c"],
+                       check=True)
         return self.folder / name
 
     def names(self):
-        return subprocess.run([BENCH / "plain_names"], capture_output=True, text=True, check=True).stdout
+        return said("bench/plain_names").text
 
     def test_both_programs_print_the_same(self):
         if not COMPILER:
             self.skipTest("there is no C compiler")
-        for kind, plain in (("followed", "plain_play"), ("streamed", "plain_play"), ("recorded", "plain_recorded")):
+        for kind, plain in (("followed", "plain_play"), ("streamed", "plain_play"),
+                            ("recorded", "plain_recorded")):
             with self.subTest(kind=kind):
                 self.written(kind, "one", "--frames", "300", "--clients", "2")
                 ours = run(["one"], self.folder)
-                theirs = subprocess.run([self.compiled(plain), "one"], cwd=self.folder, capture_output=True, check=True)
+                theirs = subprocess.run([self.compiled(plain), "one"], cwd=self.folder, capture_output=True,
+                                        check=True)
                 self.assertEqual((0, theirs.stdout), (ours.status, ours.text))
 
     def test_both_programs_refuse_the_same(self):
@@ -149,46 +139,6 @@ class Loads(FolderCase):
         self.assertIn('{ "KEY_A", 5, 1, 30 },', lines)
         self.assertIn('{ "ABS_MT_SLOT", 11, 3, 47 },', lines)
 
-    def test_no_load(self):
-        for words, told in (
-            (["walked", "one"], "invalid choice: 'walked'"),
-            (["followed", "one", "--frames", "0"], "0 is not 1 or more"),
-            (["followed"], "required: FILE"),
-        ):
-            with self.subTest(words=words):
-                ended = self.load(*words)
-                self.assertEqual(2, ended.returncode)
-                self.assertIn(told, ended.stderr)
-
     def test_a_folder_that_is_not_there(self):
-        ended = self.load("followed", "none/one")
-        self.assertEqual((1, "load: none/one cannot be written: No such file or directory\n"), (ended.returncode, ended.stderr))
-
-
-class Measuring(FolderCase):
-    def measured(self, *words, **more):
-        return subprocess.run([str(BENCH / "run"), *words], capture_output=True, text=True, check=False, **more)
-
-    def test_help(self):
-        ended = self.measured("--help")
-        self.assertEqual((0, ""), (ended.returncode, ended.stderr))
-        self.assertIn("usage: bench/run [-h]", ended.stdout)
-
-    def test_what_is_refused(self):
-        none = self.folder / "none"
-        for words, told in (
-            ([none, none], f"unrecognized arguments: {none}"),
-            (["--fast"], "unrecognized arguments: --fast"),
-            (["--runs", "many"], "many is no number from 1 on"),
-            (["--only", "walked"], "invalid choice: 'walked'"),
-            ([none], f"bench/run: {none} is not there\n"),
-        ):
-            with self.subTest(words=words):
-                ended = self.measured(*map(str, words))
-                self.assertEqual((2, ""), (ended.returncode, ended.stdout))
-                self.assertIn(told, ended.stderr)
-                self.assertNotIn("Traceback", ended.stderr)
-
-
-if __name__ == "__main__":
-    unittest.main()
+        self.assertEqual((1, "", "load: none/one cannot be written: No such file or directory\n"),
+                         said("bench/load", "followed", "none/one", cwd=self.folder))

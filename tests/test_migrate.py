@@ -260,10 +260,8 @@ class MigratedRecords(FolderCase):
     def test_files_and_lines_are_judged_as_by_a_play(self):
         (self.folder / "bad").write_bytes(b"inputrecord 1\nhint 8\n")
         (self.folder / "lacks").write_bytes(WRITTEN)
-        for name, status, text in [
-            ("bad", 1, b"inputplay: line 2: out-of-place\n"),
-            ("missing", 3, b"inputplay: read failed\n"),
-            ("lacks", 3, b"inputplay: read failed\n"),
-        ]:
+        for name, status, text in [("bad", 1, b"inputplay: line 2: out-of-place\n"),
+                                   ("missing", 3, b"inputplay: read failed\n"),
+                                   ("lacks", 3, b"inputplay: read failed\n")]:
             with self.subTest(file=name):
                 assert_run(self, run(["--migrate", name], self.folder), status, text)

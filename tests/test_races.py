@@ -38,34 +38,34 @@ do t read 1
 
 
 def stack(*names):
-    """A stack of these functions, the innermost first, whose instructions have the addresses 0xA, 0xB and so on."""
+    """A stack of these functions, the innermost first, at the addresses 0xA, 0xB and so on."""
     frames = (f"<frame><ip>0x{at:X}</ip><fn>{name}</fn></frame>" for at, name in enumerate(names, 10))
     return "<stack>" + "".join(frames) + "</stack>"
 
 
-DRD = (
-    "<valgrindoutput><error><unique>0x1</unique><what>Conflicting load by thread 3 at 0x1 size 8</what>"
-    + stack("step", "work")
-    + "<auxwhat>Address 0x30 is at offset 16 from 0x20.</auxwhat>"
-    + "<allocation_context>" + stack("malloc", "make", "main") + "</allocation_context></error>"
-    + "<error><unique>0x2</unique><what>Conflicting store by thread 2 at 0x2 size 8</what>" + stack("memmove", "work") + "</error>"
-    + "<errorcounts><pair><count>7</count><unique>0x1</unique></pair></errorcounts>"
-    + "<suppcounts><pair><count>9</count><name>drd-ld</name></pair></suppcounts></valgrindoutput>"
-)
+def error(number, what, *more):
+    return f"<error><unique>0x{number}</unique>{what}{''.join(more)}</error>"
 
-HELGRIND = (
-    "<valgrindoutput><error><unique>0x0</unique><xwhat><text>Possible data race during write of size 8 by thread #3</text></xwhat>"
-    + stack("step")
-    + stack("other")
-    + "<auxwhat>Address 0xA0 is 16 bytes inside a block of size 64 alloc'd</auxwhat>"
-    + stack("calloc", "make")
-    + "<auxwhat>Block was alloc'd by thread #1</auxwhat></error><error><unique>0x1</unique><xwhat><text>Possible data race during read of size 8</text></xwhat>"
-    + stack("step")
-    + stack("other")
-    + stack("realloc", "make")
-    + "</error></valgrindoutput>"
-)
 
+def race(number, did, *more):
+    """A report of helgrind."""
+    return error(number, f"<xwhat><text>Possible data race during {did}</text></xwhat>", stack("step"),
+                 stack("other"), *more)
+
+
+DRD = ("<valgrindoutput>"
+       + error(1, "<what>Conflicting load by thread 3 at 0x1 size 8</what>", stack("step", "work"),
+               "<auxwhat>Address 0x30 is at offset 16 from 0x20.</auxwhat>",
+               "<allocation_context>" + stack("malloc", "make", "main") + "</allocation_context>")
+       + error(2, "<what>Conflicting store by thread 2 at 0x2 size 8</what>", stack("memmove", "work"))
+       + "<errorcounts><pair><count>7</count><unique>0x1</unique></pair></errorcounts>"
+       + "<suppcounts><pair><count>9</count><name>drd-ld</name></pair></suppcounts></valgrindoutput>")
+
+HELGRIND = ("<valgrindoutput>"
+            + race(0, "write of size 8 by thread #3",
+                   "<auxwhat>Address 0xA0 is 16 bytes inside a block of size 64 alloc'd</auxwhat>",
+                   stack("calloc", "make"), "<auxwhat>Block was alloc'd by thread #1</auxwhat>")
+            + race(1, "read of size 8", stack("realloc", "make")) + "</valgrindoutput>")
 
 REPORT = """device kbd steps 4
 step 0 open
@@ -98,9 +98,8 @@ class Races(unittest.TestCase):
         return said.getvalue(), ""
 
     def test_a_run_without_a_read_fails(self):
-        said, end = self.run_over(REPORT)
-        self.assertEqual("device kbd steps 4\ndevice pad steps 0\n2 reads were accepted\n0 places, 0 times\n", said)
-        self.assertEqual("", end)
+        told = "device kbd steps 4\ndevice pad steps 0\n2 reads were accepted\n0 places, 0 times\n"
+        self.assertEqual((told, ""), self.run_over(REPORT))
         said, end = self.run_over("device kbd steps 0\n")
         self.assertIn("\n0 reads were accepted\n", said)
         self.assertIn("no read was accepted", end)
@@ -116,13 +115,6 @@ class Races(unittest.TestCase):
     def test_a_table(self):
         read, wrote = ("f", "reads", "g"), ("f", "writes", "-")
         found = [(read, "0x1", 8, 2), (read, "0x2", 9, 3), (read, "0x2", 9, 1), (wrote, "0x1", 0, 1)]
-        lines = [
-            "     2 places         6 times    2 blocks  f reads the memory of g",
-            "     1 places         1 times    1 blocks  f writes the memory of -",
-            "3 places, 7 times",
-        ]
+        lines = ["     2 places         6 times    2 blocks  f reads the memory of g",
+                 "     1 places         1 times    1 blocks  f writes the memory of -", "3 places, 7 times"]
         self.assertEqual(lines, list(races.table(found)))
-
-
-if __name__ == "__main__":
-    unittest.main()

@@ -1,7 +1,8 @@
 """Random records, and ones at the bounds of what is allowed, are played by the program and by a second one.
 
-The second program (second) is in Python, was written from docs/RULES.md, docs/READER.md and docs/FORMATS.md alone,
-and shares no code with the first. Both must write the same report, byte for byte. Each run has the same records.
+The second program (second) is in Python, was written from docs/RULES.md, docs/READER.md and docs/FORMATS.md
+alone, and shares no code with the first. Both must write the same report, byte for byte. Each run has the
+same records.
 """
 
 
@@ -55,23 +56,11 @@ class SecondProgram(FolderCase):
             with self.subTest(text=text):
                 self.assertIn(text, "".join(texts))
         reports = b"".join(report_of(text, self.folder, history=True)[0] for text in texts)
-        for text in (
-            b"EV_SYN SYN_DROPPED 0\n",
-            b"EV_SYN SYN_REPORT 1\n",
-            b"\nmade EV_",
-            b"\nagain ",
-            b" no-device\n",
-            b" bad-client\n",
-            b" bad-info\n",
-            b" busy\n",
-            b" log-full\n",
-            b"\nstop full ",
-            b"\njs 0 1 129 ",
-            b" 1 1 0\n",
-            b"\nbuttons 0 1\n",
-            b" 0\nfeedback ",
-            b" 15\nfed ",
-            *(f"\nfed {kind} ".encode() for kind in ("EV_LED", "EV_SND", "EV_MSC", "EV_REP", "EV_SYN SYN_CONFIG")),
-        ):
+        for text in (b"EV_SYN SYN_DROPPED 0\n", b"EV_SYN SYN_REPORT 1\n", b"\nmade EV_", b"\nagain ",
+                     b" no-device\n", b" bad-client\n", b" bad-info\n", b" busy\n", b" log-full\n",
+                     b"\nstop full ", b"\njs 0 1 129 ", b" 1 1 0\n", b"\nbuttons 0 1\n", b" 0\nfeedback ",
+                     b" 15\nfed ",
+                     *(f"\nfed {kind} ".encode()
+                       for kind in ("EV_LED", "EV_SND", "EV_MSC", "EV_REP", "EV_SYN SYN_CONFIG"))):
             with self.subTest(text=text):
                 self.assertIn(text, reports)

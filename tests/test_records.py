@@ -1,8 +1,9 @@
 """Records are played through the built program, and its text and exit status are compared with stored ones.
 
-Beside a record `NAME.rec` stands the report `NAME.report`, which was worked out by the rules (docs/RULES.md and
-docs/READER.md). Where `NAME.history` is there it is the report with `--history`; where `NAME.status` is there it has the
-exit status, which is 0 else. A record is played in its own folder, so the files of its `stream` lines are found.
+Beside a record `NAME.rec` stands the report `NAME.report`, which was worked out by the rules (docs/RULES.md
+and docs/READER.md). Where `NAME.history` is there it is the report with `--history`; where `NAME.status` is
+there it has the exit status, which is 0 else. A record is played in its own folder, so the files of its
+`stream` lines are found.
 """
 
 import unittest

@@ -3,13 +3,12 @@
 The runs are of `second/side_by_side.py`, which draws the order of the calls by a seed.
 """
 
-import subprocess
 import sys
 
 from checks.random_records import Generator
 from second.replay import Differs, check
 from second.side_by_side import play_side_by_side
-from tests.playing import TOP, FolderCase
+from tests.playing import TOP, FolderCase, said
 
 
 # Two clients of a keyboard with two sources. The record has an order in which each line has its say.
@@ -40,7 +39,8 @@ SPOILED = {
     "an event with another value": ("took 5 2 EV_KEY KEY_A 1\n", "took 5 2 EV_KEY KEY_A 0\n", "line"),
     "an event at another place": ("took 5 2 EV_KEY KEY_A 1\n", "took 4 2 EV_KEY KEY_A 1\n", "line"),
     "a key that is not down": ("\nkeys KEY_A KEY_B\n", "\nkeys KEY_A\n", "line"),
-    "a step that nobody made": ("step 1 inject 1 EV_KEY KEY_A 1", "step 1 inject 1 EV_KEY KEY_A 2", "nobody's"),
+    "a step that nobody made": ("step 1 inject 1 EV_KEY KEY_A 1", "step 1 inject 1 EV_KEY KEY_A 2",
+                                "nobody's"),
     "a step that is refused": ("step 1 inject 1 EV_KEY KEY_A 1", "step 1 read 0 64", "is answered"),
     "a step that is none": ("step 1 inject 1 EV_KEY KEY_A 1", "step 1 inject 1", "none of a report"),
     "a call at a place of another step": ("reply opened 3 ", "reply opened 5 ", "is not step"),
@@ -71,7 +71,8 @@ class Replay(FolderCase):
         self.assertIsNone(self.complaint(self.report()))
 
     def test_how_far_the_jobs_met(self):
-        """The tap, sources, the client, sources, the tap, the client, sources; the client's read took the frame of step 5."""
+        """The tap, sources, the client, sources, the tap, the client, sources; the client's read took the
+        frame of step 5."""
         (device,) = check(RECORD, self.report().split("\n")[:-1], idle=IDLE)
         self.assertEqual((6, 1), (device.changes(), device.waits()))
 
@@ -93,14 +94,11 @@ class Replay(FolderCase):
         record, report = self.folder / "f", self.folder / "report"
         record.write_bytes(RECORD.encode() + b"# any bytes: \xe9\xff\x85\n")
         report.write_text(self.report())
-        for words, status, said in (
-            (["--idle", IDLE, record, report], 0, ""),
-            ([record, record], 1, "second.replay: "),
-            ([record], 2, "required: report"),
-            ([record, self.folder / "none"], 2, "No such file"),
-        ):
+        for words, status, told in ((["--idle", IDLE, record, report], 0, ""),
+                                    ([record, record], 1, "second.replay: "),
+                                    ([record], 2, "required: report"),
+                                    ([record, self.folder / "none"], 2, "No such file")):
             with self.subTest(words=words[-1]):
-                script = [sys.executable, "-m", "second.replay", *map(str, words)]
-                done = subprocess.run(script, cwd=TOP, capture_output=True, text=True, timeout=30)
-                self.assertEqual(status, done.returncode)
-                self.assertIn(said, done.stderr)
+                done = said(sys.executable, "-m", "second.replay", *words, cwd=TOP)
+                self.assertEqual(status, done.status)
+                self.assertIn(told, done.errors)

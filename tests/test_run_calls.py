@@ -2,8 +2,8 @@
 with what finds wrong reads, writes and races.
 
 The checks want a C compiler and the library's archive (out/library, or the folder that INPUTPLAY_LIB_DIR
-names). A check that wants what is not here is left out. Those with sanitizers and valgrind take longer, and are
-made where they are asked for by name: `tests/run run_calls`.
+names). A check that wants what is not here is left out. Those with sanitizers and valgrind take longer, and
+are made where they are asked for by name: `tests/run run_calls`.
 """
 
 from __future__ import annotations
@@ -39,20 +39,8 @@ PYTHON = [sys.executable, "-B"]
 
 
 def compiled(source: Path, program: Path, flags: Sequence[str] = (), more: Sequence[str] = ()) -> str:
-    words = [
-        COMPILER,
-        "-std=c11",
-        "-D_GNU_SOURCE",
-        "-O1",
-        "-g",
-        "-Wall",
-        "-Wextra",
-        *flags,
-        str(source),
-        *more,
-        "-o",
-        str(program),
-    ]
+    words = [COMPILER, "-std=c11", "-D_GNU_SOURCE", "-O1", "-g", "-Wall", "-Wextra", *flags, str(source),
+             *more, "-o", str(program)]
     done = subprocess.run(words, stdout=subprocess.PIPE, stderr=subprocess.STDOUT, text=True, check=False)
     if done.returncode:
         raise AssertionError(f"{source.name}: {done.stdout}")
@@ -100,21 +88,12 @@ class RunCase(FolderCase):
             self.skipTest(why)
         self.built = built()
 
-    def run_tool(
-        self, words: Sequence[object], programs: Optional[Path] = None
-    ) -> subprocess.CompletedProcess[str]:
+    def run_tool(self, words: Sequence[object],
+                 programs: Optional[Path] = None) -> subprocess.CompletedProcess[str]:
         variables = {**variables_to_play(), BUILT_VARIABLE: str(programs or self.built)}
-        return subprocess.run(
-            [RUN, "--sys", "none", *map(str, words)],
-            env=variables,
-            stdout=subprocess.PIPE,
-            stderr=subprocess.PIPE,
-            text=True,
-            errors="replace",
-            stdin=subprocess.DEVNULL,
-            timeout=SECONDS,
-            check=False,
-        )
+        return subprocess.run([RUN, "--sys", "none", *map(str, words)], env=variables, stdout=subprocess.PIPE,
+                              stderr=subprocess.PIPE, text=True, errors="replace", stdin=subprocess.DEVNULL,
+                              timeout=SECONDS, check=False)
 
     def says_all(self, done: subprocess.CompletedProcess[str], form: str, status: int = 0) -> None:
         """It ended in a status, and wrote this at its end."""
@@ -146,17 +125,8 @@ class Calls(RunCase):
 
     def test_a_file_that_nobody_reads_holds_nobody_up(self) -> None:
         for options in (["--frames", 1, "--patience", 200], ["--patience", 200]):
-            words = [
-                *options,
-                "--end",
-                "gone",
-                HERE / "calls.rec",
-                "--",
-                *PYTHON,
-                HERE / "reader.py",
-                64,
-                "held",
-            ]
+            words = [*options, "--end", "gone", HERE / "calls.rec", "--", *PYTHON, HERE / "reader.py", 64,
+                     "held"]
             done = self.run_tool(words)
             self.assertEqual((0, 6), (done.returncode, len(done.stdout.splitlines())), done.stderr)
 
@@ -166,10 +136,8 @@ class Calls(RunCase):
         self.assertIn("the server ended by signal 9", done.stderr)
 
     def test_limits_and_a_server_that_is_stopped(self) -> None:
-        self.says_ok(
-            self.run_tool(["--quiet", 60000, HERE / "keys.rec", "--", *PYTHON, HERE / "limits.py"]),
-            LIMIT_CHECKS,
-        )
+        self.says_ok(self.run_tool(["--quiet", 60000, HERE / "keys.rec", "--", *PYTHON, HERE / "limits.py"]),
+                     LIMIT_CHECKS)
 
 
 class Random(RunCase):
@@ -203,15 +171,11 @@ class Statuses(RunCase):
         self.ends(126, [], "a RECORD and, behind --, a PROGRAM are wanted")
         self.ends(126, ["--speed", "0", HERE / "keys.rec", "--", "true"], "--speed 0 is no number above 0")
         self.ends(126, [self.folder / "none.rec", "--", "true"], "none.rec: No such file")
-        self.ends(
-            126, ["--as", "s", HERE / "keys.rec", "--", "true"], "has no client, tap or joystick of this name"
-        )
+        self.ends(126, ["--as", "s", HERE / "keys.rec", "--", "true"],
+                  "has no client, tap or joystick of this name")
         self.ends(127, [HERE / "keys.rec", "--", self.folder / "none"], "No such file")
-        self.ends(
-            128,
-            ["--timeout", "0.2", HERE / "keys.rec", "--", "sleep", "9"],
-            "sleep was ended after 0.2 seconds",
-        )
+        self.ends(128, ["--timeout", "0.2", HERE / "keys.rec", "--", "sleep", "9"],
+                  "sleep was ended after 0.2 seconds")
 
     def test_a_record_that_is_none(self) -> None:
         wrong = self.folder / "wrong.rec"
@@ -232,29 +196,25 @@ class Histories(RunCase):
 
     def tool(self, name: str, *words: object) -> str:
         command = [str(TOP / "tools" / name), *map(str, words)]
-        done = subprocess.run(
-            command, stdout=subprocess.PIPE, env=variables_to_play(), text=True, check=False
-        )
+        done = subprocess.run(command, stdout=subprocess.PIPE, env=variables_to_play(), text=True,
+                              check=False)
         return done.stdout
 
     def test_an_expectation_of_the_program(self) -> None:
         record = self.folder / "stuck.rec"
         record.write_text("#= desktop agrees\n#= remapper drops 0\n" + STUCK.read_text())
         history, said = self.ran("--as", "desktop", "--frames", 1, record, status=125)
-        self.assertIn(
-            f"{record}:1: desktop agrees: at place 7 (0.002 s): KEY_LEFTCTRL is down for it and up", said
-        )
+        self.assertIn(f"{record}:1: desktop agrees: at place 7 (0.002 s): KEY_LEFTCTRL is down for it and up",
+                      said)
         self.assertIn("0 of 1 expectation held", said)
         self.assertIn("#= desktop agrees\n", history)
         self.assertIn("0 of 1 expectation held", self.tool("check", self.folder / "history.rec"))
-        self.assertIn(
-            "KEY_LEFTCTRL: down for it, up on the device", self.tool("stuck", self.folder / "history.rec")
-        )
+        self.assertIn("KEY_LEFTCTRL: down for it, up on the device",
+                      self.tool("stuck", self.folder / "history.rec"))
         record.write_text("#= desktop drops 0\n" + STUCK.read_text())
         page = self.folder / "page.html"
-        self.assertIn(
-            "1 of 1 expectation held", self.ran("--as", "desktop", "--frames", 1, "--draw", page, record)[1]
-        )
+        self.assertIn("1 of 1 expectation held",
+                      self.ran("--as", "desktop", "--frames", 1, "--draw", page, record)[1])
         self.assertIn("KEY_LEFTCTRL", page.read_text())
 
     def test_it_is_the_same_at_each_run(self) -> None:
@@ -264,27 +224,16 @@ class Histories(RunCase):
         self.assertIn("do python3 read ", one)
 
     def test_what_was_read_is_what_the_history_tells(self) -> None:
-        for record, (frames, events) in zip(
-            sorted(EXAMPLES.glob("*.rec")), cycle(((1, 64), (7, 3), (100000, 2)))
-        ):
+        for record, (frames, events) in zip(sorted(EXAMPLES.glob("*.rec")),
+                                            cycle(((1, 64), (7, 3), (100000, 2)))):
             with self.subTest(record=record.name, frames=frames):
                 self.reads_as_told(record, frames, events)
 
     def reads_as_told(self, record: Path, frames: int, events: int) -> None:
         """A program that reads so many events at once reads those of its history's report."""
         history = self.folder / "history.rec"
-        options = [
-            "--as",
-            "*",
-            "--end",
-            "gone",
-            "--clock",
-            "record",
-            "--frames",
-            frames,
-            "--history",
-            history,
-        ]
+        options = ["--as", "*", "--end", "gone", "--clock", "record", "--frames", frames, "--history",
+                   history]
         done = self.run_tool([*options, record, "--", *PYTHON, HERE / "reader.py", events])
         self.assertEqual(0, done.returncode, done.stderr)
         # (the first device stands first in the report)
@@ -335,9 +284,8 @@ class Sanitized(RunCase):
         for name in names:
             with self.subTest(name):
                 program = compiled(HERE / f"{name}.c", self.folder / name, flags, shim)
-                done = self.run_tool(
-                    [*PROGRAMS[name], HERE / "calls.rec", "--", *plain, program], self.folder
-                )
+                done = self.run_tool([*PROGRAMS[name], HERE / "calls.rec", "--", *plain, program],
+                                     self.folder)
                 self.says_all(done, r"\d+ checks, 0 failed")
                 self.assertNotIn("Sanitizer", done.stderr)
 
@@ -361,18 +309,8 @@ class Valgrind(RunCase):
         server.chmod(0o755)
         shutil.copy(self.built / runbuild.SHIM, self.folder)
         program = compiled(HERE / "calls.c", self.folder / "calls")
-        words = [
-            "--frames",
-            1,
-            "--end",
-            "gone",
-            "--patience",
-            20000,
-            HERE / "calls.rec",
-            "--",
-            *valgrind.split(),
-            program,
-        ]
+        words = ["--frames", 1, "--end", "gone", "--patience", 20000, HERE / "calls.rec", "--",
+                 *valgrind.split(), program]
         done = self.run_tool([*words, "--right-places"], self.folder)
         self.says_all(done, r"\A\d+ checks, 0 failed")
         self.assertNotRegex(done.stderr, r"==\d+==")

@@ -1,5 +1,5 @@
-"""Devices that programs make by /dev/uinput under tools/run: the requests one by one, and real programs, each of
-which is left out by its name where it is not installed."""
+"""Devices that programs make by /dev/uinput under tools/run: the requests one by one, and real programs, each
+of which is left out by its name where it is not installed."""
 
 from __future__ import annotations
 
@@ -83,10 +83,8 @@ class Programs(RunCase):
             self.skipTest("python3-evdev is not there")
         remapper = f"{PYTHON} -B {HERE / 'remapper.py'} /dev/input/event0"
         # (its own open of what it made, evtest's and its grabbed keyboard are the ones to wait for)
-        both = [
-            self.read_of(remapper, "--clients", 4, "--frames", 1, "--end", "term"),
-            self.read_of(remapper, "--clients", 4, "--end", "gone"),
-        ]
+        both = [self.read_of(remapper, "--clients", 4, "--frames", 1, "--end", "term"),
+                self.read_of(remapper, "--clients", 4, "--end", "gone")]
         wanted = [*presses(KEY_B), (1, 58, 1), (1, 58, 0)]
         self.assertEqual([wanted, wanted], both)
 

@@ -1,6 +1,6 @@
-"""Time that goes by a record's moments (tools/run --virtual): clocks, sleeps, timeouts and timers one by one, and
-that real programs write the same at each run, with the times that they tell. A program that is not installed is
-left out by its name."""
+"""Time that goes by a record's moments (tools/run --virtual): clocks, sleeps, timeouts and timers one by one,
+and that real programs write the same at each run, with the times that they tell. A program that is not
+installed is left out by its name."""
 
 from __future__ import annotations
 

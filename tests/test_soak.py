@@ -4,10 +4,9 @@ The programs are small scripts over `second/side_by_side.py`.
 """
 
 import os
-import subprocess
 import sys
 
-from tests.playing import TOP, FolderCase
+from tests.playing import TOP, FolderCase, said
 
 RUN = f"""#!{sys.executable}
 import os, sys
@@ -24,25 +23,24 @@ OTHER = SAME.replace("read(), 1,", "read(), os.getpid(),")
 SPOILED = RUN.replace("SEED", "1") + "print('\\n'.join(lines[:-1] + ['stop full 0']))\nsys.exit(6)\n"
 STATUS = RUN.replace("SEED", "1") + "print('\\n'.join(lines))\nsys.exit(3)\n"
 
-# Of the jobs that wait for their turn the last one by name is next: a client comes when all sources and taps have ended.
+# Of the jobs that wait for their turn the last one by name is next: a client comes when all sources and taps
+# have ended.
 ONE_BY_ONE = SAME.replace(
-    "words = sys", "from second import side_by_side\nside_by_side.Order.next = lambda order: order.waiting and "
+    "words = sys",
+    "from second import side_by_side\nside_by_side.Order.next = lambda order: order.waiting and "
     "len(order.waiting) == order.running and order.waiting.pop(max(order.waiting)).set()\nwords = sys"
 )
 
 
 class Soak(FolderCase):
     def soak(self, program, *words):
-        script = self.folder / "program"
-        script.write_text(program)
-        script.chmod(0o755)
-        command = [sys.executable, TOP / "checks" / "soak", "--program", script, *words]
-        where = {**os.environ, "TMPDIR": str(self.folder)}
-        return subprocess.run(command, capture_output=True, text=True, timeout=60, env=where)
+        script = self.write("program", program, 0o755)
+        env = {**os.environ, "TMPDIR": str(self.folder)}
+        return said("checks/soak", "--program", script, *words, env=env)
 
     def test_what_it_says(self):
         words = ["--records", "4", "--times", "2", "--frames", "12"]
-        for name, program, status, said in (
+        for name, program, status, told in (
             ("one order", SAME, 0, "8 runs of 4 records, none that differs; 4 different reports\n"),
             ("jobs that meet", SAME, 0, " had both\n"),
             ("jobs one by one", ONE_BY_ONE, 1, "fewer than half of the runs have both"),
@@ -52,22 +50,12 @@ class Soak(FolderCase):
         ):
             with self.subTest(name):
                 done = self.soak(program, *words)
-                self.assertEqual(status, done.returncode, done.stderr)
-                self.assertIn(said, done.stdout + done.stderr)
+                self.assertEqual(status, done.status, done.errors)
+                self.assertIn(told, done.text + done.errors)
 
     def test_a_line_for_each_run(self):
         done = self.soak(SAME, "--records", "1", "--times", "3", "--frames", "2", "--each")
-        lines = [line for line in done.stdout.splitlines() if line.startswith("record 0, --idle 1000, processors ")]
-        self.assertEqual(3, len(lines), done.stderr)
+        lines = [line for line in done.text.splitlines()
+                 if line.startswith("record 0, --idle 1000, processors ")]
+        self.assertEqual(3, len(lines), done.errors)
         self.assertEqual(1, len({line.split(": ")[1] for line in lines}), "one order is one run")
-
-    def test_wrong_words(self):
-        for words, said in (
-            (["--records", "0"], "0 is not 1 or more"),
-            (["--times", "x"], "invalid positive value"),
-            (["--program", "none"], "is not there"),
-        ):
-            with self.subTest(words=words):
-                done = self.soak(SAME, *words)
-                self.assertEqual(2, done.returncode)
-                self.assertIn(said, done.stderr)

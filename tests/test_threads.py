@@ -1,7 +1,7 @@
 """Records are played on threads, and each run is checked by the history that it printed.
 
-The result of a record depends on the order in which the threads made their steps. So the printed history is played
-on one thread by a second program (second/replay.py), which has to give the same report, byte for byte.
+The result of a record depends on the order in which the threads made their steps. So the printed history is
+played on one thread by a second program (second/replay.py), which has to give the same report, byte for byte.
 """
 
 import unittest
@@ -14,8 +14,8 @@ from second.replay import Differs, check
 # A `follow` ends after so many reads in a row that found nothing.
 IDLE = 1000
 
-# Of runs that tell an owner something so many are looked at. Others tell it nothing: those are made anew, but for so
-# many runs at most.
+# Of runs that tell an owner something so many are looked at. Others tell it nothing: those are made anew, but
+# for so many runs at most.
 TELLING_RUNS = 8
 MOST_RUNS = 400
 
@@ -64,19 +64,17 @@ stop finished
 """
 
 # What is wrong with a report, and what stands in it instead of what.
-SPOILED = [
-    ("more is taken than was sent", "feedback 2 2", "feedback 1 2"),
-    ("less is taken than there is", "feedback 2 2", "feedback 3 2"),
-    ("another number", "feedback 4 1", "feedback 4 0"),
-    ("an event is twice", "fed EV_SND SND_BELL 2", "fed EV_SND SND_BELL 1"),
-    ("an event is not told", "fed EV_SND SND_BELL 2\n", ""),
-    ("a place falls", "feedback 4 1", "feedback 1 1"),
-    ("a place is past the history", "feedback 4 1", "feedback 5 1"),
-    ("a call is not told", "feedback 4 1\nfed EV_SND SND_BELL 3\n", ""),
-    ("a call is told that was not made", "SND_BELL 3\nstop", "SND_BELL 3\nfeedback 4 0\nstop"),
-    ("it stopped and had calls left", "SND_BELL 3\nstop finished", "SND_BELL 3\nstop full 4"),
-    ("there is no owner", "\nowner o\n", "\nowner p\n"),
-]
+SPOILED = [("more is taken than was sent", "feedback 2 2", "feedback 1 2"),
+           ("less is taken than there is", "feedback 2 2", "feedback 3 2"),
+           ("another number", "feedback 4 1", "feedback 4 0"),
+           ("an event is twice", "fed EV_SND SND_BELL 2", "fed EV_SND SND_BELL 1"),
+           ("an event is not told", "fed EV_SND SND_BELL 2\n", ""),
+           ("a place falls", "feedback 4 1", "feedback 1 1"),
+           ("a place is past the history", "feedback 4 1", "feedback 5 1"),
+           ("a call is not told", "feedback 4 1\nfed EV_SND SND_BELL 3\n", ""),
+           ("a call is told that was not made", "SND_BELL 3\nstop", "SND_BELL 3\nfeedback 4 0\nstop"),
+           ("it stopped and had calls left", "SND_BELL 3\nstop finished", "SND_BELL 3\nstop full 4"),
+           ("there is no owner", "\nowner o\n", "\nowner p\n")]
 
 
 class Replays(unittest.TestCase):
@@ -153,24 +151,16 @@ class Threads(FolderCase):
 
     def test_reports_that_depend_on_no_order(self):
         for name, record, words, status, report in (
-            ("a source alone", SOURCE_ALONE, ["--threads"], 0, "device kbd steps 3\nsource s calls 2 stop finished\n"),
-            ("a source on one thread", SOURCE_ALONE, [], 0, "device kbd steps 2\nsource s calls 2 stop finished\n"),
-            (
-                "no source to wait for",
-                NO_SOURCE,
-                ["--threads"],
-                0,
-                "device kbd steps 2\nclient c\ncall open reply opened 0 0 128\ncall getkeys 0 reply bits 1\n"
-                "again 2\nkeys\nstop finished\n",
-            ),
+            ("a source alone", SOURCE_ALONE, ["--threads"], 0,
+             "device kbd steps 3\nsource s calls 2 stop finished\n"),
+            ("a source on one thread", SOURCE_ALONE, [], 0,
+             "device kbd steps 2\nsource s calls 2 stop finished\n"),
+            ("no source to wait for", NO_SOURCE, ["--threads"], 0,
+             "device kbd steps 2\nclient c\ncall open reply opened 0 0 128\ncall getkeys 0 reply bits 1\n"
+             "again 2\nkeys\nstop finished\n"),
             ("a bound without threads", NO_SOURCE, ["--idle", "1"], 0, None),
-            (
-                "an owner alone",
-                OWNER_ALONE,
-                ["--threads"],
-                0,
-                "device u steps 0\nowner o\nfeedback 0 0\nfeedback 0 0\nstop finished\n",
-            ),
+            ("an owner alone", OWNER_ALONE, ["--threads"], 0,
+             "device u steps 0\nowner o\nfeedback 0 0\nfeedback 0 0\nstop finished\n"),
         ):
             with self.subTest(name):
                 (self.folder / "f").write_bytes(record)

@@ -1,4 +1,4 @@
-"""Every function of the tools, the second program and the scripts in checks/ has types, and mypy finds them right."""
+"""Every function of the tools, the second program and checks/ has types, and mypy finds them right."""
 
 import shutil
 import subprocess
@@ -6,14 +6,15 @@ import subprocess
 from tests.playing import TOP, FolderCase
 
 PACKAGES = ("inputtools", "second")
-HELPERS = ("tests.playing", "tests.desk_cases", "tests.page_commands")
+HELPERS = ("tests.playing", "tests.desk_cases", "tests.test_pages")
 # The scripts have no ending by which mypy would find them; it takes each as a module of its own name.
 SCRIPTS = ("tools", "bin", "checks", "tests")
 
 
 def modules():
     """The modules of checks/ but the one that its scripts import by its own name, and what tests share."""
-    names = [path.stem for path in sorted((TOP / "checks").glob("*.py")) if path.stem not in ("__init__", "repository_path")]
+    names = [path.stem for path in sorted((TOP / "checks").glob("*.py"))
+             if path.stem not in ("__init__", "repository_path")]
     return [*(f"checks.{name}" for name in names), *HELPERS]
 
 
@@ -27,8 +28,8 @@ def scripts(folder):
 class Types(FolderCase):
     def mypy(self, *words):
         """It has nothing to say."""
-        done = subprocess.run(["mypy", "--config-file", "tests/mypy.ini", "--cache-dir", self.folder, *words], cwd=TOP,
-                              capture_output=True, text=True, check=False)
+        done = subprocess.run(["mypy", "--config-file", "tests/mypy.ini", "--cache-dir", self.folder, *words],
+                              cwd=TOP, capture_output=True, text=True, check=False)
         self.assertEqual((0, ""), (done.returncode, done.stderr), done.stdout)
 
     def setUp(self):

@@ -14,31 +14,9 @@ import sys
 import threading
 import time
 
-from nodes import (
-    EBUSY,
-    ENODEV,
-    ENOENT,
-    EVENT_BYTES,
-    EVIOCGNAME,
-    EVIOCREVOKE,
-    NODE,
-    FLAGS,
-    READ,
-    WAIT,
-    answer_to,
-    connection,
-    error_of,
-    grab_error,
-    is_ready,
-    name_of,
-    opened,
-    read_count,
-    request,
-    result_of,
-    says,
-    send_descriptors,
-    server_id,
-)
+from nodes import (EBUSY, ENODEV, ENOENT, EVENT_BYTES, EVIOCGNAME, EVIOCREVOKE, NODE, FLAGS, READ, WAIT,
+                   answer_to, connection, error_of, grab_error, is_ready, name_of, opened, read_count,
+                   request, result_of, says, send_descriptors, server_id)
 
 RECEIVER = """
 import os, select, socket, sys
@@ -75,9 +53,8 @@ def execs(two: int) -> None:
     text = (
         f"import fcntl, os; print(fcntl.ioctl({two}, {EVIOCGNAME}, bytes(255))[:3], os.fstat({two}).st_rdev)"
     )
-    told = subprocess.run(
-        [sys.executable, "-c", text], close_fds=False, stdout=subprocess.PIPE, text=True, check=False
-    ).stdout
+    told = subprocess.run([sys.executable, "-c", text], close_fds=False, stdout=subprocess.PIPE, text=True,
+                          check=False).stdout
     says("a program after exec uses it", told == f"b'kbd' {os.makedev(13, 64)}\n")
 
 
@@ -97,53 +74,33 @@ def hands_on(two: int) -> None:
     says("and has the grab", grab_error(two, True) == EBUSY)
     ours.send(b"y")
     other.wait()
-    says(
-        "it was killed, and its client is closed", grab_error(two, True) == 0 and grab_error(two, False) == 0
-    )
+    says("it was killed, and its client is closed",
+         grab_error(two, True) == 0 and grab_error(two, False) == 0)
 
 
 def revokes() -> None:
     four = opened()
     is_first = error_of(fcntl.ioctl, four, EVIOCREVOKE, 0) == 0
-    says(
-        "revoked: ENODEV from then on",
-        is_first
-        and error_of(os.read, four, 24) == ENODEV
-        and error_of(fcntl.ioctl, four, EVIOCREVOKE, 0) == ENODEV
-        and os.fstat(four).st_rdev == os.makedev(13, 64),
-    )
+    says("revoked: ENODEV from then on",
+         is_first and error_of(os.read, four, 24) == ENODEV
+         and error_of(fcntl.ioctl, four, EVIOCREVOKE, 0) == ENODEV
+         and os.fstat(four).st_rdev == os.makedev(13, 64))
     poll = select.poll()
     poll.register(four, select.POLLIN)
-    says(
-        "revoked: POLLHUP and POLLERR",
-        poll.poll(0)[0][1] & (select.POLLHUP | select.POLLERR) == select.POLLHUP | select.POLLERR,
-    )
+    says("revoked: POLLHUP and POLLERR",
+         poll.poll(0)[0][1] & (select.POLLHUP | select.POLLERR) == select.POLLHUP | select.POLLERR)
     os.close(four)
 
 
 def sends_rubbish(two: int) -> None:
-    rubbish = [
-        b"x",
-        bytes(32),
-        os.urandom(31),
-        request(99),
-        request(READ, 0, 7),
-        request(4)[:20],
-        request(WAIT) + b"more",
-        request(READ) + bytes(90000),
-        os.urandom(50000),
-    ]
-    says(
-        "rubbish is dropped",
-        all(answer_to(message) == b"" for message in rubbish) and answer_to(request(READ), [0, 1, 2]) == b"",
-    )
-    says(
-        "a node that is none, a descriptor that is none",
-        result_of(answer_to(request(1, 5))) == -ENOENT
-        and result_of(answer_to(request(1, -1))) == -ENOENT
-        and result_of(answer_to(request(1, 1 << 30))) == -ENOENT
-        and result_of(answer_to(request(READ), [0])) == -ENODEV,
-    )
+    rubbish = [b"x", bytes(32), os.urandom(31), request(99), request(READ, 0, 7), request(4)[:20],
+               request(WAIT) + b"more", request(READ) + bytes(90000), os.urandom(50000)]
+    says("rubbish is dropped",
+         all(answer_to(message) == b"" for message in rubbish) and answer_to(request(READ), [0, 1, 2]) == b"")
+    says("a node that is none, a descriptor that is none",
+         result_of(answer_to(request(1, 5))) == -ENOENT and result_of(answer_to(request(1, -1))) == -ENOENT
+         and result_of(answer_to(request(1, 1 << 30))) == -ENOENT
+         and result_of(answer_to(request(READ), [0])) == -ENODEV)
     idle = [connection() for _ in range(200)]
     says("two hundred connections that say nothing are in nobody's way", name_of(two) == b"kbd")
     for line in idle:
@@ -175,16 +132,11 @@ def ends_with_the_server(two: int) -> None:
     began, last = time.monotonic(), 0
     while not last:  # (it blocks once the record is over)
         last = error_of(os.read, two, EVENT_BYTES * 64)
-    says(
-        "the server was killed: a read that blocks is ENODEV", last == ENODEV and time.monotonic() - began < 5
-    )
-    says(
-        "so are others",
-        error_of(os.read, others[0], 24) == ENODEV
-        and grab_error(others[1], True) == ENODEV
-        and error_of(os.open, NODE, FLAGS) == ENODEV
-        and os.fstat(two).st_rdev == os.makedev(13, 64),
-    )
+    says("the server was killed: a read that blocks is ENODEV",
+         last == ENODEV and time.monotonic() - began < 5)
+    says("so are others",
+         error_of(os.read, others[0], 24) == ENODEV and grab_error(others[1], True) == ENODEV
+         and error_of(os.open, NODE, FLAGS) == ENODEV and os.fstat(two).st_rdev == os.makedev(13, 64))
     says("and select has them ready", is_ready(others[2]))
 
 

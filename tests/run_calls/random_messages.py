@@ -10,40 +10,12 @@ import struct
 import sys
 from typing import List
 
-from nodes import (
-    MAGIC,
-    NODE,
-    REQUEST,
-    connection,
-    name_of,
-    opened,
-    receive_descriptors,
-    says,
-    send_descriptors,
-)
+from nodes import (MAGIC, NODE, REQUEST, connection, name_of, opened, receive_descriptors, says,
+                   send_descriptors)
 
-NUMBERS = [
-    0x40044590,
-    0x40044591,
-    0x80044501,
-    0x80FF4506,
-    0x80604518,
-    0x40104593,
-    0x80104592,
-    0x80404521,
-    0x80004521 | 900 << 16,
-    0x800C450A,
-    0x83FF450A,
-    0x401845C0,
-    0x80184540,
-    0x400445A0,
-    0x80084503,
-    0x40084503,
-    0x80088502,
-    0x80046A11,
-    0x80406A32,
-    0x84006A34,
-]
+NUMBERS = [0x40044590, 0x40044591, 0x80044501, 0x80FF4506, 0x80604518, 0x40104593, 0x80104592, 0x80404521,
+           0x80004521 | 900 << 16, 0x800C450A, 0x83FF450A, 0x401845C0, 0x80184540, 0x400445A0, 0x80084503,
+           0x40084503, 0x80088502, 0x80046A11, 0x80406A32, 0x84006A34]
 
 
 class Sender:
@@ -59,36 +31,26 @@ class Sender:
         if len(data) < 16 or self.random.random() > 0.3:
             return data
         size = self.random.choice([len(data) - 16, 8, 96, 1 << 31])
-        return (
-            struct.pack("<IIQ", self.random.choice([0, 1, 2, 3, 99]), size, self.random.getrandbits(64))
-            + data[16:]
-        )
+        return (struct.pack("<IIQ", self.random.choice([0, 1, 2, 3, 99]), size, self.random.getrandbits(64))
+                + data[16:])
 
     def message(self) -> bytes:
         pick, body = self.random, self.body()
         length = len(body) if pick.random() < 0.9 else pick.getrandbits(pick.choice([4, 16, 32]))
-        return (
-            REQUEST.pack(
-                MAGIC if pick.random() < 0.97 else pick.getrandbits(32),
-                pick.choice([1, 2, 3, 4, 4, 4, 5, 0, 6]) if pick.random() < 0.9 else pick.getrandbits(32),
-                pick.choice([0, 0, 32, 64, -1, 5, 1 << 30]),
-                pick.choice([0, 1, 2, 2048, pick.getrandbits(32)]),
-                pick.choice(NUMBERS) if pick.random() < 0.8 else pick.getrandbits(32),
-                length,
-                pick.choice([0, 23, 24, 96, 98304, pick.getrandbits(32)]),
-                0,
-            )
-            + body
-        )
+        return (REQUEST.pack(MAGIC if pick.random() < 0.97 else pick.getrandbits(32),
+                             pick.choice([1, 2, 3, 4, 4, 4, 5, 0, 6]) if pick.random() < 0.9
+                             else pick.getrandbits(32),
+                             pick.choice([0, 0, 32, 64, -1, 5, 1 << 30]),
+                             pick.choice([0, 1, 2, 2048, pick.getrandbits(32)]),
+                             pick.choice(NUMBERS) if pick.random() < 0.8 else pick.getrandbits(32), length,
+                             pick.choice([0, 23, 24, 96, 98304, pick.getrandbits(32)]), 0)
+                + body)
 
     def descriptors(self) -> List[int]:
         if self.random.random() < 0.8:
             return [self.random.choice(self.nodes)]
-        return (
-            []
-            if self.random.random() < 0.5
-            else self.random.choices([0, 1, self.nodes[0]], k=self.random.randint(1, 7))
-        )
+        return ([] if self.random.random() < 0.5
+                else self.random.choices([0, 1, self.nodes[0]], k=self.random.randint(1, 7)))
 
     def is_answered(self, line: socket.socket) -> bool:
         """Sends one message; whether the connection is still there."""

@@ -1,5 +1,5 @@
 #!/usr/bin/python3
-"""A remapper by python3-evdev: it grabs a keyboard, and has a device of its own send what that sends, A as B."""
+"""A remapper by python3-evdev: it grabs a keyboard, and its own device sends the same, A as B."""
 
 import evdev
 from evdev import ecodes
