@@ -394,15 +394,16 @@ class Report:
         for number, line in enumerate(lines[:-1], 1):
             if number % TOLD_EVERY == 1:
                 progress.tell("the report is read, line", number - 1, len(lines) - 1)
+            word, _, rest = line.partition(" ")
             try:
                 # (most lines of a long report are of the first two kinds)
-                if line.startswith("step "):
-                    self.devices[-1].history.append(step_of(line.split(" ", 2)[2]))
-                elif line.startswith("took ") and self.part:
-                    self.part.sight.append(_took(number, line, line[5:]))
+                if word == "step":
+                    self.devices[-1].history.append(step_of(rest.split(" ", 1)[1]))
+                elif word == "took" and self.part:
+                    self.part.sight.append(_took(number, line, rest))
                 else:
-                    self.take(entry_of(number, line))
-            except (ValueError, IndexError):
+                    self.take(FORMS[word](number, line, rest))
+            except (ValueError, LookupError, TypeError):
                 raise at_line(number - 1, f"no line of a report: {line[:60]!r}") from None
         cut_off = next((part for part in self.parts.values() if not part.end.text), None)
         if cut_off:
