@@ -25,7 +25,7 @@ import os
 import tempfile
 from typing import Callable, Dict, List, NamedTuple, Optional, Set, Tuple
 
-from inputtools.belief import CURRENT, QUERIED_KIND, Belief, Thing, first_difference, setting_of, view_of_lines
+from inputtools.belief import CURRENT, QUERIED_KIND, Belief, Thing, first_difference, view_of_lines
 from inputtools.command import Wrong
 from inputtools.filters import eater
 from inputtools.handles import Handles
@@ -36,9 +36,10 @@ from inputtools.report import Again, Call, Event, Feedback, Fed, Made, Part, Rep
 from inputtools.report import Device as ReportedDevice
 
 TEXT_LIMIT = 16777216
-SOURCE_STEPS = ("inject", "tick", "inhibit", "uninhibit", "write")
 DESCRIPTION = "setaxis"
-STATE_STEPS = frozenset((*SOURCE_STEPS, DESCRIPTION))
+# The steps that a source makes, and all that a device's state comes from.
+SOURCE_STEPS = frozenset(("inject", "tick", "inhibit", "uninhibit"))
+STATE_STEPS = SOURCE_STEPS | {"write", DESCRIPTION}
 
 # The types of the events that go to the device, for its owner to read; and the one code of EV_SYN.
 OUTPUT_KINDS = ("EV_LED", "EV_SND", "EV_MSC", "EV_REP")
@@ -62,23 +63,13 @@ class Changes:
         self.frames, self.values = [-1], [value]
 
     def add(self, frame: int, value: int) -> None:
-        if self.frames[-1] == frame:
-            self.values[-1] = value
-        else:
-            self.frames.append(frame)
-            self.values.append(value)
+        """The value after a frame, which is behind those that are there."""
+        self.frames.append(frame)
+        self.values.append(value)
 
-    def value_at(self, frame: int) -> int:
-        return self.values[bisect.bisect_right(self.frames, frame) - 1]
-
-    def change_before(self, frame: int) -> int:
-        return self.frames[bisect.bisect_right(self.frames, frame) - 1]
-
-    def other_since(self, frame: int, value: int, seen: Callable[[int], int]) -> int:
-        index = bisect.bisect_right(self.frames, frame) - 1
-        while index > 0 and seen(self.values[index - 1]) != value:
-            index -= 1
-        return self.frames[index]
+    def index(self, frame: int) -> int:
+        """Which change was the last one up to a frame."""
+        return bisect.bisect_right(self.frames, frame) - 1
 
 
 class Sent(NamedTuple):
@@ -111,10 +102,13 @@ class DeviceState:
         self.frame_places: List[int] = []
         self.described = sorted({step.code for step in history if step.name == DESCRIPTION})
 
+    def changes_of(self, thing: Thing) -> Changes:
+        return self.changes.get(thing) or Changes(thing.first_value)
+
     def value(self, thing: Thing, frame: int) -> int:
         """The value of a thing at the end of a frame; number -1 stands for the start."""
-        changes = self.changes.get(thing)
-        return changes.value_at(frame) if changes else thing.first_value
+        changes = self.changes_of(thing)
+        return changes.values[changes.index(frame)]
 
     def end_value(self, thing: Thing) -> int:
         """The value of a thing at the end of the record, in the midst of a frame too."""
@@ -122,22 +116,24 @@ class DeviceState:
 
     def last_change(self, thing: Thing, frame: int) -> int:
         """The number of the last frame up to `frame` that changed a thing, or -1."""
-        return self.changes[thing].change_before(frame) if thing in self.changes else -1
+        changes = self.changes_of(thing)
+        return changes.frames[changes.index(frame)]
 
     def other_since(self, thing: Thing, frame: int, value: int, seen: Callable[[int], int]) -> int:
         """The number of the frame since which a thing was always another than `value`, up to `frame`. `seen`
         says as what a reader is told a value."""
-        return self.changes[thing].other_since(frame, value, seen) if thing in self.changes else -1
+        changes = self.changes_of(thing)
+        index = changes.index(frame)
+        while index > 0 and seen(changes.values[index - 1]) != value:
+            index -= 1
+        return changes.frames[index]
 
     def eater_of(self, thing: Thing, frame: int) -> Optional[int]:
         """The number of the filter that ate the event by which a frame set a thing last, from 1, or None."""
-        current, eaten_by = self.value(CURRENT, frame - 1), None
+        belief, eaten_by = Belief(self.description.slots), None
+        belief.values[CURRENT] = self.value(CURRENT, frame - 1)
         for event, by in zip(self.frames[frame].events, self.frames[frame].eaten):
-            setting = setting_of(event, current, self.description.slots)
-            if setting and setting.thing == CURRENT:
-                current = setting.value
-            if setting and setting.thing == thing:
-                eaten_by = by
+            eaten_by = by if belief.take(event, None) == thing else eaten_by
         return eaten_by
 
     def place_of(self, frame: int) -> Optional[int]:
@@ -162,7 +158,7 @@ class DeviceState:
         """Finds which filter ate each event, of the frames that ended while no client held the grab."""
         filters = self.description.filters
         for frame in self.frames if filters else ():
-            if not self.handles.is_grabbed(frame.place):
+            if self.handles.grab_at(frame.place) is None:
                 frame.eaten = [eater(filters, event, frame.time) for event in frame.events]
 
 
@@ -175,11 +171,13 @@ def sync_points(state: DeviceState) -> Set[int]:
     return {bisect.bisect_left(state.places, place) for place in places}
 
 
-def action_of(step: Step) -> str:
-    """The words of the source's action for a step. A written event is a raw event as an injected one is."""
-    if step.name == "write":
-        return "event " + step.rest.split(" ", 1)[1]
-    return f"event {step.rest}" if step.name == "inject" else step.text()
+def action_line(number: int, step: Step) -> str:
+    """The line by which the source makes a step, or the tap describes an axis. A written event is a raw event as an
+    injected one is."""
+    actor = f"axes{number} {DESCRIPTION}" if step.name == DESCRIPTION else f"s{number} event"
+    if step.name in ("write", DESCRIPTION):
+        return f"do {actor} {step.rest.split(' ', 1)[1]}"
+    return f"do {actor} {step.rest}" if step.name == "inject" else f"do s{number} {step.text()}"
 
 
 def is_read_behind(step: Step, waiting: int, hint: int) -> bool:
@@ -191,16 +189,13 @@ def is_read_behind(step: Step, waiting: int, hint: int) -> bool:
 
 def is_sent(step: Step) -> bool:
     """May this step send something to the device?"""
-    if step.name not in ("inject", "write"):
-        return False
-    *_, kind, code, _ = step.words
-    return kind in OUTPUT_KINDS or (kind, code) == ("EV_SYN", OUTPUT_SYN)
+    event = step.event
+    return event is not None and (event.kind in OUTPUT_KINDS or event.code == OUTPUT_SYN)
 
 
 def sending_places(state: DeviceState) -> List[int]:
     """The places of the steps after which the owner asks, where there is one."""
-    is_requested = state.description.is_requested
-    return [place for place in state.places if is_requested and is_sent(state.history[place])]
+    return [place for place in state.places if state.description.is_requested and is_sent(state.history[place])]
 
 
 def device_lines(number: int, state: DeviceState) -> List[str]:
@@ -215,18 +210,17 @@ def device_lines(number: int, state: DeviceState) -> List[str]:
 
 def action_lines(number: int, state: DeviceState) -> List[str]:
     """What the source and both clients of a device do."""
-    read, tap, source = [f"do frames{number} follow"], f"do axes{number}", f"do s{number} "
-    ask = [f"do state{number} force", f"do state{number} follow"]
+    read, ask = [f"do frames{number} follow"], [f"do state{number} force", f"do state{number} follow"]
+    axes = [f"do axes{number} axis {code}" for code in state.described]
     points, sending = sync_points(state), set(sending_places(state))
     lines = [f"do frames{number} open", f"do frames{number} clock monotonic 0", f"do state{number} open"]
-    lines += [f"{tap} open"] if state.described else []
+    lines += [f"do axes{number} open"] if state.described else []
     lines += ask if 0 in points else []
     waiting = 0
     for index, place in enumerate(state.places, 1):
         step = state.history[place]
-        is_description = step.name == DESCRIPTION
-        lines.append(" ".join((tap, DESCRIPTION, *step.words[2:])) if is_description else source + action_of(step))
-        lines += [f"{tap} axis {code}" for code in state.described]
+        lines.append(action_line(number, step))
+        lines += axes
         lines += [f"do owner{number} feedback 1"] if place in sending else []
         waiting += 1
         if is_read_behind(step, waiting, state.description.hint):
@@ -289,11 +283,13 @@ def frames_of(part: Part, places: SourcePlaces) -> List[Frame]:
     events: List[Event] = []
     time = called = 0
     for entry in part.sight:
-        if isinstance(entry, Call):
-            called = entry.reply.place
-        if not isinstance(entry, (Took, Made)):
+        if isinstance(entry, Took):
+            place, time = entry.place, entry.time
+        elif isinstance(entry, Made):
+            place = called
+        else:
+            called = entry.reply.place if isinstance(entry, Call) else called
             continue
-        place, time = (entry.place, entry.time) if isinstance(entry, Took) else (called, time)
         if not entry.event.is_loss:
             events.append(entry.event)
         if entry.event.is_report:
@@ -310,12 +306,12 @@ def read_frames(state: DeviceState, part: Part, places: SourcePlaces) -> None:
     state.frames = frames_of(part, places)
     state.frame_places = [frame.place for frame in state.frames]
     for number, frame in enumerate(state.frames):
-        things = {thing for thing in (belief.take(event, None) for event in frame.events) if thing is not None}
+        things = {thing for event in frame.events for thing in [belief.take(event, None)] if thing}
         state.changed.append(things)
         for thing in things:
             if thing not in changes:
                 changes[thing] = Changes(thing.first_value)
-            changes[thing].add(number, belief.value(thing))
+            changes[thing].add(number, belief.values[thing])
     is_told_by(part, belief, state)
 
 

@@ -8,18 +8,15 @@ from inputtools.names import TYPES, number_of_code
 from inputtools.report import Step
 
 ALL_BITS = 2**64 - 1
-STEPS = ("open", "grab", "ungrab", "close", "revoke", "mask", "clock")
+STEPS = frozenset(("grab", "ungrab", "close", "revoke", "mask", "clock"))
 
 
-class Grab:
+class Grab(NamedTuple):
     """A grab: its client, the place from which it held, and the place where it ended, or None."""
 
-    def __init__(self, client: int, begin: int) -> None:
-        self.client, self.begin = client, begin
-        self.end: Optional[int] = None
-
-    def holds_at(self, place: int) -> bool:
-        return self.begin < place and (self.end is None or place < self.end)
+    client: int
+    begin: int
+    end: Optional[int] = None
 
 
 class Mask(NamedTuple):
@@ -31,19 +28,12 @@ class Mask(NamedTuple):
     bits: int
 
 
-class Span(NamedTuple):
-    """A span of places, the last of which is None where it did not end."""
-
-    begin: int
-    end: Optional[int]
-
-
 class MaskSpan(NamedTuple):
-    """From which place to which a mask leaves anything of a type out."""
+    """From which place to which a mask leaves anything of a type out. The last place is None where it did not end."""
 
     kind: str
     begin: int
-    end: Optional[int]
+    end: Optional[int] = None
 
 
 class Clock(NamedTuple):
@@ -57,7 +47,6 @@ class Handles:
     """The clients of a device, by their numbers."""
 
     def __init__(self, history: List[Step]) -> None:
-        self.opens: List[int] = []
         self.closes: Dict[int, int] = {}
         self.revokes: Dict[int, int] = {}
         self.grabs: List[Grab] = []
@@ -69,24 +58,20 @@ class Handles:
                 self.add(place, step)
 
     def add(self, place: int, step: Step) -> None:
-        if step.name == "open":
-            self.opens.append(place)
-        elif step.name == "grab":
-            self.grabs.append(Grab(step.client, place))
+        client = step.client
+        if step.name == "grab":
+            self.grabs.append(Grab(client, place))
             self.grab_begins.append(place)
         elif step.name == "mask":
             word, bits = step.rest.split(" ")[2:]
-            self.masks.setdefault(step.client, []).append(Mask(place, step.code, int(word), int(bits, 16)))
+            self.masks.setdefault(client, []).append(Mask(place, step.code, int(word), int(bits, 16)))
         elif step.name == "clock":
-            self.add_clock(place, step.client, step.code)
+            self.add_clock(place, client, step.code)
         else:
-            self.end_grab(place, step.client)
             ends: Dict[int, int] = {"close": self.closes, "revoke": self.revokes}.get(step.name, {})
-            ends.setdefault(step.client, place)
-
-    def end_grab(self, place: int, client: int) -> None:
-        if self.grabs and self.grabs[-1].client == client and self.grabs[-1].end is None:
-            self.grabs[-1].end = place
+            ends.setdefault(client, place)
+            if self.grabs and self.grabs[-1].client == client and self.grabs[-1].end is None:
+                self.grabs[-1] = self.grabs[-1]._replace(end=place)
 
     def add_clock(self, place: int, client: int, clock: str) -> None:
         """Keeps the changes to another clock. A client starts on the realtime clock."""
@@ -97,10 +82,8 @@ class Handles:
     def grab_at(self, place: int) -> Optional[Grab]:
         """The grab that was held when the step at a place was made, or None. One holds at a time."""
         index = bisect.bisect_left(self.grab_begins, place) - 1
-        return self.grabs[index] if index >= 0 and self.grabs[index].holds_at(place) else None
-
-    def is_grabbed(self, place: int) -> bool:
-        return self.grab_at(place) is not None
+        grab = self.grabs[index] if index >= 0 else None
+        return None if grab is None or (grab.end is not None and place >= grab.end) else grab
 
     def grab_of_another(self, client: int, place: int) -> Optional[Grab]:
         """The grab that another client held when the step at a place was made, or None."""
@@ -108,24 +91,21 @@ class Handles:
         return grab if grab is not None and grab.client != client else None
 
     def mask_at(self, client: int, place: int, kind: str, code: str) -> Optional[MaskSpan]:
-        """The client's mask that leaves an event out at a place: its type, from which place to which; or
-        None."""
-        for mask, number in (("EV_SYN", TYPES[kind]), (kind, number_of_code(TYPES[kind], code) or 0)):
-            steps = [step for step in self.masks.get(client, []) if (step.kind, step.word) == (mask, number // 64)]
-            begun = (span for span in masked_spans(steps, number % 64) if span.begin < place)
-            span = next((span for span in begun if span.end is None or place < span.end), None)
-            if span:
-                return MaskSpan("types" if mask == "EV_SYN" else mask, *span)
+        """The client's mask that leaves an event out at a place: its type, from which place to which; or None."""
+        number = TYPES[kind]
+        for mask, bit in (("EV_SYN", number), (kind, number_of_code(number, code) or 0)):
+            steps = [step for step in self.masks.get(client, []) if (step.kind, step.word) == (mask, bit // 64)]
+            for span in masked_spans(steps, 1 << bit % 64):
+                if span.begin < place and (span.end is None or place < span.end):
+                    return span
         return None
 
     def spans_of_masks(self, client: int) -> List[MaskSpan]:
-        """The client's masks that leave anything out: the type, from which place, and to which or None."""
+        """The client's masks that leave anything out."""
         words: Dict[Tuple[str, int], List[Mask]] = {}
         for mask in self.masks.get(client, []):
-            words.setdefault((mask.kind, mask.word), []).append(mask._replace(bits=int(mask.bits == ALL_BITS)))
-        names = {"EV_SYN": "types"}
-        return [MaskSpan(names.get(kind, kind), *span) for (kind, _), steps in words.items()
-                for span in masked_spans(steps, 0)]
+            words.setdefault((mask.kind, mask.word), []).append(mask)
+        return [span for steps in words.values() for span in masked_spans(steps, ALL_BITS)]
 
     def is_clock_change(self, client: int, place: int) -> bool:
         return any(changed.place == place for changed in self.clocks.get(client, [])[1:])
@@ -135,13 +115,13 @@ class Handles:
         return next((changed.place for changed in self.clocks.get(client, [])[1:] if changed.place > place), None)
 
 
-def masked_spans(steps: List[Mask], bit: int) -> List[Span]:
-    """From which place to which a bit of a mask was cleared, None for no end."""
-    spans: List[Span] = []
+def masked_spans(steps: List[Mask], bits: int) -> List[MaskSpan]:
+    """Where any of some bits of a word of a mask was cleared. The mask of EV_SYN is that of the types."""
+    spans: List[MaskSpan] = []
     for step in steps:
-        is_set, is_open = step.bits >> bit & 1, bool(spans) and spans[-1].end is None
+        is_set, is_open = step.bits & bits == bits, bool(spans) and spans[-1].end is None
         if is_set and is_open:
             spans[-1] = spans[-1]._replace(end=step.place)
         elif not is_set and not is_open:
-            spans.append(Span(step.place, None))
+            spans.append(MaskSpan("types" if step.kind == "EV_SYN" else step.kind, step.place))
     return spans

@@ -5,9 +5,9 @@ seconds, with as many digits as it has.
 """
 
 import bisect
-from typing import List, Optional, Sequence
+from typing import Optional, Sequence
 
-from inputtools.report import Step
+from inputtools.report import MOMENT_AT, Step
 
 
 def seconds_text(micros: int) -> str:
@@ -20,18 +20,13 @@ class Places:
     """The places of a history."""
 
     def __init__(self, history: Sequence[Step]) -> None:
-        self.places: List[int] = []
-        self.moments: List[int] = []
-        for place, step in enumerate(history):
-            moment = step.moment
-            if moment is not None:
-                self.places.append(place)
-                self.moments.append(moment)
+        self.history = history
+        self.places = [place for place, step in enumerate(history) if step.name in MOMENT_AT]
 
     def moment(self, place: int) -> Optional[int]:
         """The time of a place in microseconds, or None where no step up to it has one."""
         index = bisect.bisect_right(self.places, place) - 1
-        return self.moments[index] if index >= 0 else None
+        return self.history[self.places[index]].moment if index >= 0 else None
 
     def bare(self, place: int) -> str:
         """A place and its time: `12 (12.3 s)`."""

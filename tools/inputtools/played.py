@@ -81,21 +81,12 @@ def steps_of_action(line: Line, folder: str) -> int:
     return 1 if stream is None else os.path.getsize(os.path.join(folder, stream.file)) // stream.size
 
 
-def source_steps(record: Record, number: int, device: Device, folder: str) -> List[Made]:
-    """The steps that the sources of a device made."""
-    sources = {actor.name for actor in record.actors.values() if actor.role == "source" and actor.device == number}
-    lines = (line for line in record.actions if line.actor in sources)
-    names = [line.actor for line in lines for _ in range(steps_of_action(line, folder))]
-    places = [place for place, step in enumerate(device.history) if step.name in SOURCE_STEPS and step.name != "write"]
-    return [Made(*each) for each in zip(places, names)]
-
-
 class PlayedDevice:
     """A device: its description, what was reported of it, its state, its clients' handles, its clients and
     taps, its joysticks, and its owners, of which there is one at most."""
 
-    def __init__(self, report: Device, state: DeviceState, unread: Unread, steps: List[Made]) -> None:
-        self.name, self.report, self.state, self.source_steps = report.name, report, state, steps
+    def __init__(self, report: Device, state: DeviceState, unread: Unread) -> None:
+        self.name, self.report, self.state, self.unread = report.name, report, state, unread
         self.handles = state.handles
         causes = Causes(state, report, unread.losses)
         self.clients = [Client(Walk(part, state, causes.cause_of)) for part in report.readers()]
@@ -105,6 +96,15 @@ class PlayedDevice:
     def readers(self) -> List[Reader]:
         """All who may part from the device."""
         return [*self.clients, *self.joysticks, *self.owners]
+
+    @property
+    def source_steps(self) -> List[Made]:
+        """The steps that its sources made."""
+        sources = {part.name for part in self.report.parts if part.role == "source"}
+        lines = (line for line in self.unread.record.actions if line.actor in sources)
+        names = [line.actor for line in lines for _ in range(steps_of_action(line, self.unread.folder))]
+        places = (place for place in self.state.places if self.state.history[place].name in SOURCE_STEPS)
+        return [Made(*each) for each in zip(places, names)]
 
 
 def add_parts_behind(report: Report, record: Record) -> None:
@@ -134,7 +134,4 @@ def played(name: str, text: str, folder: str, player: Player, written: str) -> L
     progress.tell(f"{name}: the devices are played alone, {sum(len(state.history) for state in states)} steps")
     devicestate.ask(states, player)
     unread = Unread(text, record, folder, player, report)
-    return [
-        PlayedDevice(device, state, unread, source_steps(record, number, device, folder))
-        for number, (device, state) in enumerate(zip(report.devices, states))
-    ]
+    return [PlayedDevice(device, state, unread) for device, state in zip(report.devices, states)]

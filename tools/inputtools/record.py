@@ -1,22 +1,25 @@
 """Reads a record's text: its devices with their descriptions, its actors, and its actions.
 
-The forms of the lines are in docs/FORMATS.md. `Record` takes the text for one that the program has accepted: what is
-wrong in it is for the program to say. `descriptions_of` reads the lines that `tools/describe` or somebody wrote, and
-says what is wrong in them.
+The forms of the lines are in docs/FORMATS.md. `Record` takes the text for one that the program has accepted: what
+is wrong in it is for the program to say. `descriptions_of` reads the lines that `tools/describe` or somebody wrote,
+and says what is wrong in them.
 
 What a description has no place for stands in comments of the form `# state TYPE CODE VALUE`: what was on
 when the device was described, the slot that was announced, and settings of the autorepeat.
 """
 
 import os
+import re
+from functools import cached_property
 from typing import Dict, Iterator, List, NamedTuple, Optional, Sequence, Set, Tuple
 
 from inputtools import raw
 from inputtools.command import Wrong, at_line
-from inputtools.filters import Filter, filters_of
-from inputtools.identity import Identity, identities_of
+from inputtools.filters import filters_of
+from inputtools.identity import identities_of
 from inputtools.names import (
-    ABS, KEY, LED, REP, SLOT, SW, TYPES, code_text, is_in_a_record, is_slot_value, number_of_code, number_of_kind,
+    ABS, KEY, LED, REP, SLOT, SW, TRACKING_ID, TYPES, code_text, is_in_a_record,
+    is_slot_value, number_of_code, number_of_kind,
 )
 from inputtools.recording import GREATEST, LEAST, Axis, Event, Recording
 from inputtools.recording import Device as Description
@@ -25,8 +28,10 @@ from inputtools.source import read_bytes, read_text
 DEVICE_WORDS = ("device", "udevice")
 ROLES = ("source", "client", "tap", "joy", "owner")
 FIRST_WORDS = ("inputrecord", *DEVICE_WORDS, "hint", "log", "clock", "slots", "type", "cap", "axis", "filter")
+NUMBER = re.compile("-?(0x[0-9a-fA-F]+|[0-9]+)")
 # How many words stand behind the first one of a description's line.
-COUNTS = {"hint": 1, "slots": 1, "type": 1, "cap": 2, "axis": 7, "log": 1, "clock": 2}
+ANY = -1
+COUNTS = {"hint": 1, "slots": 1, "type": 1, "cap": 2, "axis": 7, "log": 1, "clock": 2, "filter": ANY}
 GREATEST_LOG, LATEST = 8388608, 9000000000000000
 DEFAULT_HINT = 16
 
@@ -36,13 +41,10 @@ RECORD_SIZES = {"stream": 24, "stream16": 16}
 
 def number_of(word: str, low: int, high: int) -> int:
     """The number that a word of a record stands for."""
-    sign, digits = (-1, word[1:]) if word.startswith("-") else (1, word)
-    is_hexadecimal = digits.startswith("0x")
-    digits = digits[2:] if is_hexadecimal else digits
-    known = "0123456789abcdefABCDEF" if is_hexadecimal else "0123456789"
-    if not digits or set(digits) - set(known) or len(digits.lstrip("0")) > 20:
+    digits = word.lstrip("-0x")
+    if not NUMBER.fullmatch(word) or len(digits) > 20:
         raise Wrong(f"{word[:40]} is no number")
-    value = sign * int(digits.lstrip("0") or "0", 16 if is_hexadecimal else 10)
+    value = int(digits or "0", 16 if "x" in word else 10) * (-1 if word[0] == "-" else 1)
     if not low <= value <= high:
         raise Wrong(f"the number {word[:40]} is not in {low} to {high}")
     return value
@@ -54,6 +56,13 @@ def kind_and_code(words: Sequence[str]) -> Tuple[int, int]:
     code = number_of_code(kind, words[1]) if kind is not None else None
     if kind is None or code is None or kind > 65535 or code > 65535:
         raise Wrong(f"{' '.join(words[:2])} is no type and code")
+    return kind, code
+
+
+def kind_and_code_of_a_device(words: Sequence[str]) -> Tuple[int, int]:
+    kind, code = kind_and_code(words)
+    if not is_in_a_record(kind, code):
+        raise Wrong(f"{' '.join(words[:2])} is no type and code that a device of a record can have")
     return kind, code
 
 
@@ -112,7 +121,7 @@ class Line(NamedTuple):
     @property
     def stream(self) -> Optional[Stream]:
         """What an action injects by the name of a file, or None."""
-        if not self.is_action or len(self.words) != 4 or self.words[2] not in RECORD_SIZES:
+        if len(self.words) != 4 or not self.is_action or self.words[2] not in RECORD_SIZES:
             return None
         return Stream(self.words[3], RECORD_SIZES[self.words[2]])
 
@@ -163,75 +172,61 @@ class Parser:
     """One device, from the lines that describe it."""
 
     def __init__(self, name: str = "") -> None:
-        self.device = Description("a record", name)
-        self.slots: List[int] = []
+        self.device, self.slot = Description("a record", name), 0
 
     def take(self, words: Sequence[str]) -> None:
         first, *rest = words
-        if first == "filter":
-            # (what filters a device has stands in the record as it is)
-            self.device.other_lines.append(" ".join(words))
-            return
         if first not in COUNTS:
             raise Wrong("no line of a device's description")
-        if len(rest) != COUNTS[first]:
+        if COUNTS[first] not in (len(rest), ANY):
             raise Wrong(f"{first} wants {COUNTS[first]} words behind it")
-        if first in ("log", "clock"):
-            self.take_other(words)
-        elif first == "hint":
+        if first == "hint":
             self.device.hint = number_of(rest[0], 2, 512)
         elif first == "slots":
             self.device.slots = number_of(rest[0], 1, 256)
         elif first == "axis":
-            _, code = self.kind_and_code(["EV_ABS", rest[0]])
+            _, code = kind_and_code_of_a_device(["EV_ABS", rest[0]])
             self.device.add(ABS, [code])
             self.device.axes[code] = Axis(*(number_of(word, LEAST, GREATEST) for word in rest[1:]))
-        else:
+        elif first in ("type", "cap"):
             self.take_cap(rest)
+        else:
+            self.take_other(words)
 
     def take_other(self, words: Sequence[str]) -> None:
-        """The history's limit and the clocks, which stand in the record as they are."""
+        """The history's limit, the clocks and the filters, which stand in the record as they are."""
         if words[0] == "log":
             number_of(words[1], 1, GREATEST_LOG)
-        elif words[1] not in ("realtime", "boottime"):
-            raise Wrong(f"{words[1]} is no clock that has an offset")
-        else:
+        elif words[0] == "clock":
+            if words[1] not in ("realtime", "boottime"):
+                raise Wrong(f"{words[1]} is no clock that has an offset")
             number_of(words[2], 0, LATEST)
         self.device.other_lines.append(" ".join(words))
-
-    def kind_and_code(self, words: Sequence[str]) -> Tuple[int, int]:
-        kind = number_of_kind(words[0])
-        code = number_of_code(kind, words[1]) if kind is not None else None
-        if kind is None or code is None or not is_in_a_record(kind, code):
-            raise Wrong(f"{' '.join(words[:2])} is no type and code that a device of a record can have")
-        return kind, code
 
     def take_cap(self, words: Sequence[str]) -> None:
         kind = number_of_kind(words[0])
         if kind is None or not is_in_a_record(kind, 1):
             raise Wrong(f"{words[0]} is no type that a device of a record can have")
         if kind:
-            self.device.add(kind, [self.kind_and_code(words)[1]] if words[1:] else [])
+            self.device.add(kind, [kind_and_code_of_a_device(words)[1]] if words[1:] else [])
 
     def take_state(self, words: Sequence[str]) -> None:
-        kind, code = self.kind_and_code(words)
+        kind, code = kind_and_code_of_a_device(words)
         value = number_of(words[2], LEAST, GREATEST)
         if kind in (KEY, SW, LED):
             (self.device.on[kind].add if value else self.device.on[kind].discard)(code)
         elif kind == REP:
             self.device.repeat[code] = value
         elif (kind, code) == (ABS, SLOT):
-            self.slots.append(value)
+            self.slot = value
 
     def finished(self) -> Description:
         device = self.device
+        device.slots = device.slots or 0
         if device.slots:
-            device.add(ABS, [SLOT, SLOT + 10])
-            device.axes.setdefault(SLOT, Axis(0, 0, device.slots - 1))
-            device.axes.setdefault(SLOT + 10, Axis(0, 0, 65535))
-            device.axes[SLOT].value = self.slots[-1] if self.slots else 0
-        else:
-            device.slots = 0
+            device.add(ABS, [SLOT, TRACKING_ID])
+            device.axes.setdefault(SLOT, Axis(0, 0, device.slots - 1)).value = self.slot
+            device.axes.setdefault(TRACKING_ID, Axis(0, 0, 65535))
         return device
 
 
@@ -256,14 +251,11 @@ def descriptions_of(text: str) -> List[Description]:
                 parsers[-1].take(line.words)
         except Wrong as wrong:
             raise at_line(line.number - 1, f"{wrong}: {line.text.strip()[:60]}") from None
-    give_identities([parser.device for parser in parsers], identities_of(text))
-    return [parser.finished() for parser in parsers]
-
-
-def give_identities(devices: List[Description], identities: List[Identity]) -> None:
-    """Tells each device who it is. (Lines before the first line `device` are of a device without one.)"""
+    devices, identities = [parser.finished() for parser in parsers], identities_of(text)
+    # (lines before the first line `device` are of a device without an identity)
     for device, identity in zip(devices[len(devices) - len(identities) :], identities):
         device.identity, device.properties = identity, identity.properties
+    return devices
 
 
 def parse(text: str) -> List[Recording]:
@@ -276,37 +268,20 @@ def parse(text: str) -> List[Recording]:
 
 class Device:
     """A device of a record: its name, its lines of description but the log limit and the filters, and what
-    they describe."""
+    all lines describe."""
 
-    hint: int
-    slots: int
-    codes: Dict[int, Set[int]]
-    filters: List[Filter]
-    realtime: int
-
-    def __init__(self, name: str, is_requested: bool = False) -> None:
+    def __init__(self, name: str, is_requested: bool, lines: Sequence[Tuple[str, ...]]) -> None:
         self.name, self.is_requested = name, is_requested
-        self.lines: List[str] = []
-        self.filter_lines: List[str] = []
-        self.parser = Parser(name)
-
-    def describe(self, words: Sequence[str]) -> None:
-        """Adds a line of the description."""
-        if words[0] == "filter":
-            self.filter_lines.append(" ".join(words))
-        elif words[0] != "log":
-            self.lines.append(" ".join(words))
-        self.parser.take(words)
-
-    def finish(self) -> None:
-        """The description is whole."""
-        described = self.parser.finished()
-        self.hint, self.slots = described.hint or DEFAULT_HINT, described.slots or 0
-        self.codes = {kind: set(codes) for kind, codes in described.codes.items()}
+        self.lines = [" ".join(words) for words in lines if words[0] not in ("filter", "log")]
+        parser = Parser(name)
+        for words in lines:
+            parser.take(words)
+        described = parser.finished()
+        self.hint, self.slots, self.codes = described.hint or DEFAULT_HINT, described.slots or 0, described.codes
         self.codes[ABS] = {code for code in described.axes if not is_slot_value(code)} - {SLOT}
-        self.filters = filters_of(self.filter_lines)
-        clocks = [line.split() for line in self.lines if line.startswith("clock realtime ")]
-        self.realtime = number_of(clocks[0][2], 0, LATEST) if clocks else 0
+        self.filters = filters_of(described.other_lines)
+        offsets = (words[2] for words in lines if words[:2] == ("clock", "realtime"))
+        self.realtime = number_of(next(offsets, "0"), 0, LATEST)
 
     def written_codes(self, kind: str) -> Set[str]:
         """The codes of a type that a report writes of a client's belief."""
@@ -327,24 +302,24 @@ class Actor(NamedTuple):
 
 
 class Record:
-    """The devices, the actors by name, and the lines of the actions."""
+    """The devices, and the actors by name."""
 
     def __init__(self, text: str) -> None:
-        self.devices: List[Device] = []
+        self.text = text
         self.actors: Dict[str, Actor] = {}
-        self.actions: List[Line] = []
-        for line in lines_of(text):
-            if line.words and line.words[0] != "inputrecord":
-                self.add(line)
-        for device in self.devices:
-            device.finish()
+        devices: List[Tuple[Line, List[Tuple[str, ...]]]] = []
+        # (most lines of a long record are actions, which few who read it want)
+        rows = ((number, row) for number, row in enumerate(text.split("\n"), 1) if not row.startswith("do "))
+        for line in (line_of(*each) for each in rows):
+            if line.names_device:
+                devices.append((line, []))
+            elif line.names_actor:
+                self.actors[line.actor] = Actor(line.actor, line.first, len(devices) - 1)
+            elif line.words and line.first not in ("inputrecord", "do"):
+                devices[-1][1].append(line.words)
+        self.devices = [Device(line.actor, line.first == "udevice", lines) for line, lines in devices]
 
-    def add(self, line: Line) -> None:
-        if line.is_action:
-            self.actions.append(line)
-        elif line.names_device:
-            self.devices.append(Device(line.actor, line.first == "udevice"))
-        elif line.names_actor:
-            self.actors[line.actor] = Actor(line.actor, line.first, len(self.devices) - 1)
-        else:
-            self.devices[-1].describe(line.words)
+    @cached_property
+    def actions(self) -> List[Line]:
+        """The lines of the actions."""
+        return [line for line in lines_of(self.text) if line.is_action]

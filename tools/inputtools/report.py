@@ -23,6 +23,9 @@ BEHIND = ("joy", "owner")
 # Where the moment stands in the words of a step.
 MOMENT_AT = {"inject": 1, "tick": 1, "inhibit": 1, "write": 2, "clock": 3}
 
+# Makes a named tuple of its fields. (The way by its name takes twice as long, which is felt where there is one a line.)
+make = tuple.__new__
+
 
 class Event(NamedTuple):
     """An event: its type and code as they are written, and its value."""
@@ -44,7 +47,8 @@ class Event(NamedTuple):
 
 
 @lru_cache(maxsize=None)
-def event_of(kind: str, code: str, value: str) -> Event:
+def event_of(text: str) -> Event:
+    kind, code, value = text.split(" ")
     return Event(kind, code, int(value))
 
 
@@ -71,7 +75,8 @@ class Step(NamedTuple):
     @property
     def event(self) -> Optional[Event]:
         """What is injected or written, or None."""
-        return event_of(*self.rest.rsplit(" ", 3)[-3:]) if self.name in ("inject", "write") else None
+        at = {"inject": 1, "write": 2}.get(self.name)
+        return None if at is None else event_of(self.rest.split(" ", at)[at])
 
     @property
     def moment(self) -> Optional[int]:
@@ -94,40 +99,33 @@ class Step(NamedTuple):
 def step_of(text: str) -> Step:
     """The step of a text."""
     name, _, rest = text.partition(" ")
-    return Step(name, rest)
+    return make(Step, (name, rest))
 
 
 class Reply(NamedTuple):
-    """The reply of a call: its words, the second of which is a place."""
+    """The reply of a call: its name, its place, and the words behind that, which of an answer of bits are codes."""
 
-    words: Tuple[str, ...]
-
-    @property
-    def name(self) -> str:
-        return self.words[0]
+    name: str
+    place: int
+    rest: Tuple[str, ...]
 
     @property
-    def place(self) -> int:
-        return int(self.words[1])
+    def words(self) -> Tuple[str, ...]:
+        return (self.name, str(self.place), *self.rest)
 
     @property
     def is_refused(self) -> bool:
-        return self.words[0] == "refused"
+        return self.name == "refused"
 
     @property
     def number(self) -> int:
         """The client that was opened; how many events were taken; the value of an axis."""
-        return int(self.words[2])
+        return int(self.rest[0])
 
     @property
     def slot(self) -> int:
         """The current slot, by an answer that tells cells."""
-        return int(self.words[3])
-
-    @property
-    def rest(self) -> Tuple[str, ...]:
-        """What stands behind the place: the codes of an answer that tells bits."""
-        return self.words[2:]
+        return int(self.rest[1])
 
 
 # Lines
@@ -278,50 +276,60 @@ class Fed(Line):
 Entry = Union[Line, Took]
 
 
-Words = List[str]
+def _call(number: int, text: str, rest: str) -> Entry:
+    step, reply = rest.split(" reply ")
+    name, place, *more = reply.split(" ")
+    return Call(number, text, step_of(step), Reply(name, int(place), tuple(more)))
 
 
-def _call(number: int, text: str, words: Words) -> Entry:
-    middle = words.index("reply")
-    reply = Reply(tuple(words[middle + 1 :]))
-    return Call(number, text, Step(words[1], " ".join(words[2:middle])), reply) if reply.place >= 0 else Line(number, text)
+def _source(number: int, text: str, rest: str) -> Entry:
+    name, _, calls, _, reason = rest.split(" ", 4)
+    return SourceLine(number, text, reason, name, int(calls))
 
 
-def _source(number: int, text: str, words: Words) -> Entry:
-    return SourceLine(number, text, " ".join(words[5:]), words[1], int(words[3]))
-
-
-def _device(number: int, text: str, words: Words) -> Entry:
+def _device(number: int, text: str, rest: str) -> Entry:
     if not FIRST_LINE.match(text):
         raise ValueError
-    return DeviceLine(number, text, words[1], int(words[3]))
+    name, _, steps = rest.split(" ")
+    return DeviceLine(number, text, name, int(steps))
 
 
-FORMS: Dict[str, Callable[[int, str, Words], Entry]] = {
+def _step(number: int, text: str, rest: str) -> Entry:
+    place, step = rest.split(" ", 1)
+    return StepLine(number, text, int(place), step_of(step))
+
+
+def _took(number: int, text: str, rest: str) -> Took:
+    place, time, event = rest.split(" ", 2)
+    return make(Took, (number, text, int(place), int(time), event_of(event)))
+
+
+# How a line is read, by its first word: from its number, its text, and what stands behind that word.
+FORMS: Dict[str, Callable[[int, str, str], Entry]] = {
     "device": _device,
-    "step": lambda number, text, words: StepLine(number, text, int(words[1]), step_of(" ".join(words[2:]))),
+    "step": _step,
     "source": _source,
     "call": _call,
-    "took": lambda number, text, words: Took(number, text, int(words[1]), int(words[2]), event_of(*words[3:])),
-    "made": lambda number, text, words: Made(number, text, event_of(*words[1:])),
-    "again": lambda number, text, words: Again(number, text, int(words[1])),
-    "js": lambda number, text, words: JoyRecord(number, text, *map(int, words[1:])),
-    "feedback": lambda number, text, words: Feedback(number, text, *map(int, words[1:])),
-    "fed": lambda number, text, words: Fed(number, text, event_of(*words[1:])),
-    "stop": lambda number, text, words: Stop(number, text, " ".join(words[1:])),
+    "took": _took,
+    "made": lambda number, text, rest: Made(number, text, event_of(rest)),
+    "again": lambda number, text, rest: Again(number, text, int(rest)),
+    "js": lambda number, text, rest: JoyRecord(number, text, *map(int, rest.split(" "))),
+    "feedback": lambda number, text, rest: Feedback(number, text, *map(int, rest.split(" "))),
+    "fed": lambda number, text, rest: Fed(number, text, event_of(rest)),
+    "stop": lambda number, text, rest: Stop(number, text, rest),
 }
 for _role in ("client", "tap", *BEHIND):
-    FORMS[_role] = lambda number, text, words: ActorLine(number, text, *words)
+    FORMS[_role] = lambda number, text, rest: ActorLine(number, text, *text.split(" "))
 for _word in VIEW_WORDS:
-    FORMS[_word] = lambda number, text, words: ViewLine(number, text, tuple(words))
+    FORMS[_word] = lambda number, text, rest: ViewLine(number, text, tuple(text.split(" ")))
 
 
 def entry_of(number: int, text: str) -> Entry:
     """A line of a report. Another line is a ValueError."""
-    words = text.split(" ")
+    word, _, rest = text.partition(" ")
     try:
-        return FORMS[words[0]](number, text, words)
-    except (KeyError, TypeError, IndexError):
+        return FORMS[word](number, text, rest)
+    except (KeyError, TypeError):
         raise ValueError(text) from None
 
 
@@ -386,16 +394,16 @@ class Report:
         for number, line in enumerate(lines[:-1], 1):
             if number % TOLD_EVERY == 1:
                 progress.tell("the report is read, line", number - 1, len(lines) - 1)
+            word, _, rest = line.partition(" ")
             try:
                 # (most lines of a long report are of the first two kinds)
-                if line.startswith("step "):
-                    self.devices[-1].history.append(step_of(line.split(" ", 2)[2]))
-                elif line.startswith("took ") and self.part:
-                    _, place, time, kind, code, value = line.split(" ")
-                    self.part.sight.append(Took(number, line, int(place), int(time), event_of(kind, code, value)))
+                if word == "step":
+                    self.devices[-1].history.append(step_of(rest.split(" ", 1)[1]))
+                elif word == "took" and self.part:
+                    self.part.sight.append(_took(number, line, rest))
                 else:
-                    self.take(entry_of(number, line))
-            except (ValueError, IndexError):
+                    self.take(FORMS[word](number, line, rest))
+            except (ValueError, LookupError, TypeError):
                 raise at_line(number - 1, f"no line of a report: {line[:60]!r}") from None
         cut_off = next((part for part in self.parts.values() if not part.end.text), None)
         if cut_off:
