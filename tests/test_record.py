@@ -8,6 +8,7 @@ import subprocess
 from tests.desk_cases import (
     DATA, TOOLS, DeskCase, belief, needs_program, part_of, raw_capture, raw_events, taken, without_comments,
 )
+from inputtools.verifying import found_in_order
 
 DEVICES = ("keyboard", "mouse", "touchpad", "lid")
 HEADER = 'Input driver version is 1.0.1\nInput device name: "Test"\nSupported events:\n'
@@ -710,6 +711,14 @@ class Parts(DeskCase):
         said = self.noted(1, self.file("odd", KEYS + evtest_text(events)))
         first = "the first that is not is EV_KEY KEY_A 1 at 0.000000 s"
         self.assertIn(f"test: 5 of 6 events as captured; {first}; 1 event came that was not captured", said)
+
+    def test_verify_finds_as_many_events_as_can_be(self):
+        """An event that is wanted early and comes late too keeps none between from being found."""
+        for wanted, came, missed in (([1, 9, 2, 9, 3, 9], [1, 2, 9, 3, 9], [1]), ([1, 2], [], [0, 1]), ([1, 2], [3, 1, 2], []),
+                                     ([*range(2000)], [*range(700, 2000), 0], [*range(700)])):
+            with self.subTest(came=came[:5]):
+                found = found_in_order(wanted, came)
+                self.assertEqual(missed, [index for index, is_there in enumerate(found) if not is_there])
 
     def noted(self, wanted, *words):
         """The last note of a record that is verified."""
