@@ -48,15 +48,15 @@ class Differences(CompareCase):
 
     def test_another_word(self):
         other = REPORT.replace("made EV_KEY KEY_LEFTCTRL 0", "made EV_KEY KEY_LEFTCTRL 1")
-        self.differ(REPORT, other, "desktop, entry 10: another: a.report:13: made EV_KEY KEY_LEFTCTRL 0 | "
+        self.differ(REPORT, other, "desktop, entry 10, place 12: another: a.report:13: made EV_KEY KEY_LEFTCTRL 0 | "
                                    "b.report:13: made EV_KEY KEY_LEFTCTRL 1")
         other = REPORT.replace("made EV_SYN SYN_REPORT 0\nagain 13\nkeys", "made EV_SYN SYN_REPORT 0\nagain 13\nkeys KEY_A")
-        self.differ(REPORT, other, "desktop, entry 13: another: a.report:16: keys | b.report:16: keys KEY_A")
+        self.differ(REPORT, other, "desktop, entry 13, place 13: another: a.report:16: keys | b.report:16: keys KEY_A")
 
     def test_an_entry_more(self):
         other = REPORT.replace("again 7\n", "again 7\nagain 7\n")
-        self.differ(REPORT, other, "desktop, entry 7: only in the second: nothing | b.report:10: again 7")
-        self.differ(other, REPORT, "desktop, entry 7: only in the first: a.report:10: again 7 | nothing")
+        self.differ(REPORT, other, "desktop, entry 7, place 7: only in the second: nothing before a.report:10: again 11 | b.report:10: again 7")
+        self.differ(other, REPORT, "desktop, entry 7, place 7: only in the first: a.report:10: again 7 | nothing before b.report:10: again 11")
 
     def test_the_first_alone(self):
         other = REPORT.replace("again 7", "again 7\nagain 7").replace("keys\n", "keys KEY_A\n")
@@ -71,31 +71,42 @@ class Differences(CompareCase):
         # what the remapper did at place 10 comes after what the desktop did at places 11 and 12
         other = REPORT.replace("call ungrab 1 reply done 10", "call ungrab 1 reply done 12")
         other = other.replace("discarded 11 0", "discarded 10 0").replace("bits 12\n", "bits 11\n").replace("again 11", "again 10")
-        self.differ(REPORT, other, "remapper, entry 4: another order of places: a.report:22: call ungrab 1 reply done 10 | "
+        self.differ(REPORT, other, "remapper, entry 4, place 10: another order of places: a.report:22: call ungrab 1 reply done 10 | "
                                    "b.report:22: call ungrab 1 reply done 12")
 
     def test_times(self):
         other = REPORT.replace("5 1000 EV", "5 1002 EV")
-        self.differ(REPORT, other, "desktop, entry 4: another time by +2 and at 1 entries behind it: a.report:7: "
+        self.differ(REPORT, other, "desktop, entry 4, place 5: another time by +2 and at 1 entries behind it: a.report:7: "
                                    "took 5 1000 EV_KEY KEY_LEFTCTRL 1 | b.report:7: took 5 1002 EV_KEY KEY_LEFTCTRL 1")
         self.are_alike(REPORT, other, "--ignore", "times")
 
     def test_counts(self):
         other = REPORT.replace("steps 13", "steps 14").replace("calls 4", "calls 5")
-        self.differ(REPORT, other, "device kbd: another count: a.report:1: device kbd steps 13 | b.report:1: device kbd steps 14",
-                    "usb, entry 1: another count: a.report:2: source usb calls 4 stop finished | "
+        self.differ(REPORT, other, "device kbd, place 13: another count: a.report:1: device kbd steps 13 | b.report:1: device kbd steps 14",
+                    "usb, entry 1, place 13: another count: a.report:2: source usb calls 4 stop finished | "
                     "b.report:2: source usb calls 5 stop finished")
         self.differ(REPORT, REPORT.replace("calls 4 stop finished", "calls 4 stop full 13"),
-                    "usb, entry 1: another: a.report:2: source usb calls 4 stop finished | b.report:2: source usb calls 4 stop full 13")
+                    "usb, entry 1, place 13: another: a.report:2: source usb calls 4 stop finished | b.report:2: source usb calls 4 stop full 13")
 
     def test_actors_and_devices(self):
         desktop = REPORT.index("client remapper")
-        self.differ(REPORT, REPORT[:desktop], "remapper: only in the first: a.report:18: client remapper | nothing")
+        self.differ(REPORT, REPORT[:desktop], "remapper, place 2: only in the first: a.report:18: client remapper | nothing")
         self.differ(REPORT, REPORT + "device other steps 0\n",
-                    "device other: only in the second: nothing | b.report:25: device other steps 0")
+                    "device other, place 0: only in the second: nothing | b.report:25: device other steps 0")
         self.differ(REPORT, REPORT.replace("client remapper", "tap remapper"),
-                    "remapper: only in the first: a.report:18: client remapper | nothing",
-                    "remapper: only in the second: nothing | b.report:18: tap remapper")
+                    "remapper, place 2: only in the first: a.report:18: client remapper | nothing",
+                    "remapper, place 2: only in the second: nothing | b.report:18: tap remapper")
+
+    def test_the_first_of_hundreds(self):
+        """Where more is left over than is paired, the first difference has a place, a line and both sides all the same."""
+        head, tail = REPORT.split("again 7\n")
+        reports = [head + "".join(f"took 7 2000 EV_KEY {key} {value % 2}\n" for value in range(600)) + f"again 7\n{tail}"
+                   for key in ("KEY_A", "KEY_B")]
+        status, lines = self.compared(*reports)
+        self.assertEqual((1, ["desktop, entry 6, place 7: another: a.report:9: took 7 2000 EV_KEY KEY_A 0 | "
+                              "b.report:9: took 7 2000 EV_KEY KEY_B 0"]), (status, lines))
+        rest = self.compared(*reports, "--all")[1][-1]
+        self.assertIn("desktop: more than 500 entries are left over", rest)
 
     def test_histories(self):
         text = (EXAMPLES / "one_key.history").read_text()
@@ -104,13 +115,13 @@ class Differences(CompareCase):
         self.assertNotEqual(text, other)
         status, lines = self.compared(text, other)
         self.assertEqual((1, 1), (status, len(lines)))
-        self.assertTrue(lines[0].startswith("device kbd: another step: a.report:3: step 1 inject 1000"), lines)
+        self.assertTrue(lines[0].startswith("device kbd, place 1: another step: a.report:3: step 1 inject 1000"), lines)
 
     def test_json(self):
         other = REPORT.replace("again 7\n", "again 7\nagain 7\n")
         status, lines = self.compared(REPORT, other, "--json")
-        wanted = {"device": "kbd", "actor": "desktop", "entry": 7, "what": "only in the second", "first": None,
-                  "second": {"line": 10, "text": "again 7"}}
+        wanted = {"device": "kbd", "actor": "desktop", "entry": 7, "place": 7, "what": "only in the second", "first": None,
+                  "second": {"line": 10, "text": "again 7"}, "before": {"line": 10, "text": "again 11"}}
         self.assertEqual((1, wanted), (status, json.loads(lines[0])))
         page = (TOP / "docs" / "JSON.md").read_text().split("## compare")[1].split("\n## ")[0]
         for name in wanted:
@@ -128,7 +139,7 @@ class Records(CompareCase):
         status, written, _ = self.tool("compare", *paths, "--all")
         rows = written.splitlines()
         self.assertEqual((1, 1), (status, len(rows)), rows)
-        self.assertRegex(rows[0], rf"^reader, entry \d+: only in the second: nothing \| the report of {paths[1]}:\d+: took \d+ \d+ EV_REL REL_Y ")
+        self.assertRegex(rows[0], rf"^reader, entry \d+, place \d+: only in the second: nothing before .* \| the report of {paths[1]}:\d+: took \d+ \d+ EV_REL REL_Y ")
 
     def test_a_record_and_its_report(self):
         for record in (EXAMPLES / "stuck_key.rec", EXAMPLES / "views.rec"):

@@ -8,6 +8,7 @@ import subprocess
 from tests.desk_cases import (
     DATA, TOOLS, DeskCase, belief, needs_program, part_of, raw_capture, raw_events, taken, without_comments,
 )
+from inputtools.verifying import found_in_order
 
 DEVICES = ("keyboard", "mouse", "touchpad", "lid")
 HEADER = 'Input driver version is 1.0.1\nInput device name: "Test"\nSupported events:\n'
@@ -55,6 +56,22 @@ def evtest_text(events, base=1764252210496169):
             text = SYN_TEXTS[code]
         lines.append(f"Event: time {(base + time) // 1000000}.{(base + time) % 1000000:06d}, {text}\n")
     return "".join(lines)
+
+
+def gaps(events, length):
+    """Gaps of so many frames behind which the next event names no slot, and is not in the one announced before: the
+    events, with SYN_DROPPED and a report in their place, and its slot."""
+    ends = [index + 1 for index, event in enumerate(events) if event[1:3] == (0, 0)]
+    slots, slot = [], 1
+    for event in events:
+        slots.append(slot)
+        slot = event[3] if event[1:3] == (3, SLOT) else slot
+    for begin, end in zip(ends, ends[length:-1]):
+        of_slots = (event for event in events[end:] if event[1:3] == (0, 3) or (event[1] == 3 and 46 < event[2] < 62))
+        behind = next(of_slots)
+        if slots[begin] != slots[end] and behind[1:3] not in ((0, 3), (3, SLOT)):
+            time = events[end][0]
+            yield [*events[:begin], (time, 0, 3, 0), (time, 0, 0, 0), *events[end:]], slots[end]
 
 
 class RoundTrip(DeskCase):
@@ -371,14 +388,46 @@ class Losses(DeskCase):
     def test_contacts_behind_a_loss(self):
         first = frames([(3, SLOT, 0), (3, ID, 4), (3, X, 5)])
         lost = [(2000, 0, 3, 0), (2000, 0, 0, 0)]
-        for batch in ([(3, ID, 4), (3, X, 5)], [(3, SLOT, 0), (3, ID, -1)], [(3, SLOT, 2), (3, ID, -1)],
-                      [(3, SLOT, 2), (3, X, 0)], [(3, 0, 7)]):
+        note = "lost events at 0.002000 s"
+        guess = "behind the loss at 0.002000 s slot 1 is a guess for 2 events that name none: EV_ABS ABS_MT_TRACKING_ID 4"
+        for batch, notes in (([(3, ID, 4), (3, X, 5)], [note, guess]), ([(3, SLOT, 0), (3, ID, -1)], [note]),
+                             ([(3, SLOT, 2), (3, ID, -1)], [note]), ([(3, SLOT, 2), (3, X, 0)], [note]),
+                             ([(3, 0, 7)], [note])):
             with self.subTest(batch=batch):
                 behind = [(3000, *event) for event in [*batch, (0, 0, 0)]]
                 files = [self.file("h", SLOTS), self.file("c", raw_capture(first + lost + behind))]
-                text = self.written("record", *files, notes=["lost events at 0.002000 s"])
-                came = taken(self.play(text))
+                came = taken(self.play(self.written("record", *files, notes=notes)))
                 self.assertEqual((first, behind), (came[: len(first)], came[-len(behind):]))
+
+    def test_the_slot_behind_a_gap(self):
+        """Of 28 gaps in a capture, where another slot was announced before than behind them, and the next event names none,
+        the slot is guessed right in all. (The slot before, or where that cannot be another one, is right in 12.)"""
+        captured, guesses = raw_events((DATA / "touchpad-lost.bin").read_bytes()), []
+        for length in (20, 25):
+            for events, slot in gaps(captured, length):
+                path = self.file("gap.bin", raw_capture(events))
+                _, text, notes = self.tool("record", DATA / "touchpad.evemu", path)
+                guesses.append((slot, int(re.search("slot ([0-9]) is a guess", notes[1])[1])))
+                self.assertIn(f"# slot {guesses[-1][1]} is a guess for ", text)
+        self.assertEqual(28, len(guesses))
+        self.assertEqual([], [(slot, guess) for slot, guess in guesses if slot != guess])
+
+    def test_a_slot_that_is_no_guess(self):
+        """Of two slots it is the one that is not announced next. With --strict a guess ends in status 1."""
+        two = SLOTS.replace(axis(47, 1, 0, 3), axis(47, 1, 0, 1))
+        events = frames([(3, SLOT, 0), (3, ID, 4), (3, X, 5)]) + [(2000, 0, 3, 0), (2000, 0, 0, 0)]
+        for header, batch, status in ((two, [(3, X, 9), (3, SLOT, 1), (3, ID, 5)], 0), (two, [(3, X, 9)], 1),
+                                      (SLOTS, [(3, X, 9), (3, SLOT, 1), (3, ID, 5)], 1)):
+            with self.subTest(batch=batch, status=status):
+                path = self.file("c", raw_capture(events + [(3000, *event) for event in [*batch, (0, 0, 0)]]))
+                ended, text, notes = self.tool("record", self.file("h", header), path, "--strict")
+                self.assertEqual((status, status == 0), (ended, text != ""), notes)
+                self.assertEqual(status == 1, "nothing is written, since a slot is a guess" in notes[-1])
+
+    def test_a_report_alone_is_not_left_out_silently(self):
+        events = frames([(1, 30, 1)], [], [(1, 30, 0)])
+        files = [self.file("h", KEYS), self.file("c", raw_capture(events))]
+        self.written("record", *files, notes=["1 report is left out, before which no event stands in its frame"])
 
     def test_a_loss_that_a_form_does_not_tell(self):
         events = frames([(1, 30, 1)], [(1, 30, 1)])
@@ -662,6 +711,14 @@ class Parts(DeskCase):
         said = self.noted(1, self.file("odd", KEYS + evtest_text(events)))
         first = "the first that is not is EV_KEY KEY_A 1 at 0.000000 s"
         self.assertIn(f"test: 5 of 6 events as captured; {first}; 1 event came that was not captured", said)
+
+    def test_verify_finds_as_many_events_as_can_be(self):
+        """An event that is wanted early and comes late too keeps none between from being found."""
+        for wanted, came, missed in (([1, 9, 2, 9, 3, 9], [1, 2, 9, 3, 9], [1]), ([1, 2], [], [0, 1]), ([1, 2], [3, 1, 2], []),
+                                     ([*range(2000)], [*range(700, 2000), 0], [*range(700)])):
+            with self.subTest(came=came[:5]):
+                found = found_in_order(wanted, came)
+                self.assertEqual(missed, [index for index, is_there in enumerate(found) if not is_there])
 
     def noted(self, wanted, *words):
         """The last note of a record that is verified."""

@@ -37,12 +37,12 @@ class StandardInput(DeskCase):
         played = subprocess.run([PROGRAM, self.record], cwd=self.beside, capture_output=True, check=True)
         (self.beside / "wanted.report").write_bytes(played.stdout)
 
-    def run_tool(self, tool, *words, folder, given=None):
+    def run_tool(self, tool, *words, folder, given=None, pipes=()):
         """Status, output and standard error of a tool that is run in a folder."""
         env = {**os.environ, "INPUTPLAY": PROGRAM}
         words = [TOOLS / tool, *words]
         with open(given or os.devnull, "rb") as file:
-            done = subprocess.run(words, stdin=file, cwd=folder, env=env, capture_output=True, check=False)
+            done = subprocess.run(words, stdin=file, cwd=folder, env=env, capture_output=True, check=False, pass_fds=pipes)
         return done.returncode, done.stdout, done.stderr
 
     def is_one(self, tool, *words, given=None, named=None):
@@ -72,6 +72,29 @@ class StandardInput(DeskCase):
         for name in ("lid.evtest", "lid.evemu", "lid.libinput.yml"):
             self.is_one("record", "-", given=DATA / name)
             self.is_one("describe", "-", given=DATA / name)
+
+    def test_pipes(self):
+        """What a shell's <(..) gives, and /dev/stdin, are read to their end first, as standard input is."""
+        lid, shown = DATA / "lid.evtest", ["sh", "-c", "cat {}"]
+        for given, tool, *words in (
+            (self.record, "play", "-"), (self.record, "stuck", "-"), (self.record, "draw", "-"),
+            (self.record, "check", "-"), (self.record, "compare", "-", self.beside / "wanted.report"),
+            (self.record, "export", "-", "--evemu"), (self.record, "export", "-", "--raw", "a"),
+            (self.record, "shrink", "-", "--", *shown), (lid, "describe", "-"),
+            (lid, "record", "-"), (lid, "record", lid, "-"),
+        ):
+            wanted = self.run_tool(tool, *words, folder=self.beside, given=given)
+            read, write = os.pipe()
+            os.write(write, given.read_bytes())
+            os.close(write)
+            for name, pipes in ((f"/dev/fd/{read}", [read]), ("/dev/stdin", [])):
+                with self.subTest(f"{tool} of {name}"):
+                    named = [name if word == "-" else word for word in words]
+                    came = self.run_tool(tool, *named, folder=self.beside, given=given, pipes=pipes)
+                    texts = [text.replace(name.encode(), b"standard input") for text in came[1:]]
+                    texts = [text.replace(b">%s<" % os.path.basename(name).encode(), b">standard input<") for text in texts]
+                    self.assertEqual(wanted, (came[0], *texts))
+            os.close(read)
 
     def test_where_the_files_of_streams_are_not(self):
         status, text, said = self.run_tool("check", "-", folder=self.folder, given=self.record)

@@ -7,7 +7,7 @@ from inputtools.command import Wrong, counted
 from inputtools.description import GREATEST_HINT, GREATEST_SLOTS, estimate, hint_of
 from inputtools.names import ABS, KEY, MSC, REP, SLOT, SYN, code_text, is_in_a_record, kernel_kind_text
 from inputtools.recording import Device, Recording
-from inputtools.recording import Event, frames_of
+from inputtools.recording import SYN_REPORT, Event, frames_of
 
 MSC_SCAN, REPEAT = 4, 2
 LATEST = 9000000000000000
@@ -24,6 +24,7 @@ class Capture:
                  base: Optional[int] = None) -> None:
         self.notes: List[str] = []
         self.refuse_hidden_keys(recording, takes_hidden_keys)
+        self.note_empty_frames(recording.events)
         events = self.without_what_a_record_lacks(self.from_the_first_on(recording.events, base))
         self.find_slots(device, events)
         if takes_hidden_keys and recording.hides_keys:
@@ -68,6 +69,14 @@ class Capture:
             are = "1 event is" if count == 1 else f"{count} events are"
             self.notes.append(f"{are} left out, since a record has no {', '.join(names)}")
         return kept
+
+    def note_empty_frames(self, events: List[Event]) -> None:
+        """(the report that stands behind a SYN_DROPPED belongs to it)"""
+        reports = [(event.kind, event.code) == (SYN, SYN_REPORT) for event in events]
+        empty = sum(map(lambda one, other: one and other, [True, *reports], reports))
+        if empty:
+            are = "1 report is" if empty == 1 else f"{empty} reports are"
+            self.notes.append(f"{are} left out, before which no event stands in its frame")
 
     def find_slots(self, device: Device, events: List[Event]) -> None:
         """A capture that names slots is of a device with two or more: where none are told, the named ones."""

@@ -4,8 +4,7 @@ import json
 from typing import Callable, List, Optional, Sequence
 
 from inputtools.command import Result, Words, Wrong
-from inputtools.comparing import Difference
-from inputtools.comparing import compare
+from inputtools.comparing import Difference, compare
 from inputtools.program import PLAYED, Player, find_player
 from inputtools.progress import progress
 from inputtools.refusal_hints import refusal_text
@@ -22,9 +21,9 @@ the places have to stand in the same order, also among the actors of a device; a
 made is compared where nothing else differs. Times are compared by how far they are apart: a run of
 entries that come later by the same time is one difference.
 
-Each difference is one line: the actor, the number of the entry in its part of the report, what differs,
-and the line of each report. They stand actor by actor, and of a device's actors the one that differs at
-the first place is in front."""
+Each difference is one line: the actor, the number of the entry in its part of the report, the place in the device's
+history, what differs, and the line of each report, or the one before which it would stand. They stand actor by actor,
+and of a device's actors the one that differs at the first place is in front."""
 
 STATUSES = """Status 0: no difference. 1: they differ. 2: wrong words, or a file that is neither a report nor a record that
 can be played. 4: standard output failed. 130: stopped from the keyboard."""
@@ -69,21 +68,24 @@ def reports_of(paths: Sequence[str]) -> List[Compared]:
     return compared
 
 
-def line_text(compared: Compared, line: Optional[Entry]) -> str:
-    return "nothing" if line is None else f"{compared.name}:{line.number}: {line.text}"
+def line_text(compared: Compared, line: Optional[Entry], before: Optional[Entry]) -> str:
+    if line is None:
+        return "nothing" + (f" before {line_text(compared, before, None)}" if before else "")
+    return f"{compared.name}:{line.number}: {line.text}"
 
 
 def difference_text(each: Difference, first: Compared, second: Compared) -> str:
     who = each.actor if each.actor is not None else f"device {each.device}"
-    entry = "" if each.entry is None else f", entry {each.entry}"
-    lines = "" if each.first is each.second else f": {line_text(first, each.first)} | {line_text(second, each.second)}"
-    return f"{who}{entry}: {each.what}{lines}"
+    where = "".join(f", {name} {number}" for name, number in (("entry", each.entry), ("place", each.place)) if number is not None)
+    lines = [line_text(*side, each.before) for side in ((first, each.first), (second, each.second))]
+    return f"{who}{where}: {each.what}" + ("" if each.first is each.second else f": {' | '.join(lines)}")
 
 
 def difference_json(each: Difference) -> str:
-    lines = [None if line is None else {"line": line.number, "text": line.text} for line in (each.first, each.second)]
-    told = {"device": each.device, "actor": each.actor, "entry": each.entry, "what": each.what}
-    return json.dumps({**told, "first": lines[0], "second": lines[1]})
+    told = {"device": each.device, "actor": each.actor, "entry": each.entry, "place": each.place, "what": each.what}
+    lines = {"first": each.first, "second": each.second, "before": each.before}
+    sides = {side: line and {"line": line.number, "text": line.text} for side, line in lines.items()}
+    return json.dumps({**told, **sides})
 
 
 def command(arguments: List[str]) -> Result:

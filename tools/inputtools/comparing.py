@@ -8,6 +8,7 @@ distance: where it changes from one pair to the next, the times differ.
 """
 
 import bisect
+from dataclasses import dataclass
 from itertools import groupby, zip_longest
 from typing import Dict, Hashable, Iterator, List, NamedTuple, Optional, Sequence, Tuple
 
@@ -25,30 +26,31 @@ CLIENT_STEPS = (
 )
 
 
+@dataclass(frozen=True)
 class Difference:
-    """Where two reports differ: the actor (or None for a device's line), the number of the entry in its part
-    from 1, the line of each report or None where it has none, and what differs."""
+    """Where two reports differ, and in what: the actor (or None for a device's line), the number of the entry in its part
+    from 1, the place in the device's history, and the line of each report. Where one has none, `before` is the line of
+    it before which it would stand."""
 
-    def __init__(self, what: str, device: Optional[str], actor: Optional[str], entry: Optional[int],
-                 first: Optional[Entry], second: Optional[Entry]) -> None:
-        self.what, self.device, self.actor, self.entry = what, device, actor, entry
-        self.first, self.second = first, second
-
-    def place(self) -> Optional[int]:
-        """The place at which it comes, for the order of differences."""
-        places = (line.place_told() for line in (self.first, self.second) if line is not None)
-        return min((place for place in places if place is not None), default=None)
+    what: str
+    device: Optional[str]
+    actor: Optional[str]
+    entry: Optional[int] = None
+    place: Optional[int] = None
+    first: Optional[Entry] = None
+    second: Optional[Entry] = None
+    before: Optional[Entry] = None
 
 
 Key = Tuple[str, ...]
 
 
 class Item:
-    """An entry of a part: its number from 1, its line, the words by which it is paired, and what kind of entry
-    it is."""
+    """An entry of a part: its number from 1, its line, the place that was told last, the words by which it is paired, and
+    what kind of entry it is."""
 
-    def __init__(self, number: int, line: Entry, is_sight: bool) -> None:
-        self.number, self.line = number, line
+    def __init__(self, number: int, line: Entry, place: Optional[int], is_sight: bool) -> None:
+        self.number, self.line, self.place = number, line, place
         self.key: Key = key_of(line) if is_sight else view_key(line)
         self.kind: Key = self.key[:2] if isinstance(line, Call) or not is_sight else self.key[:1]
 
@@ -56,7 +58,12 @@ class Item:
 def items_of(part: Part) -> List[Item]:
     """The entries of a part: what the actor saw, its view, and how it ended."""
     lines: List[Entry] = [*part.sight, *part.view, part.end]
-    return [Item(number, line, number <= len(part.sight)) for number, line in enumerate(lines, 1)]
+    items, place = [], None
+    for number, line in enumerate(lines, 1):
+        told = line.place_told()
+        place = place if told is None else told
+        items.append(Item(number, line, place, number <= len(part.sight)))
+    return items
 
 
 def view_key(line: Entry) -> Key:
@@ -194,8 +201,16 @@ def distance(pair: Pair, one: List[Item], other: List[Item]) -> Optional[int]:
 # Comparing
 
 
+class Other(NamedTuple):
+    """Entries that are no pair of equal ones: one of both may be None, and then that of its report which comes next."""
+
+    one: Optional[Item]
+    other: Optional[Item]
+    before: Optional[Item] = None
+
+
 class Parts:
-    """An actor's entries in both reports, in pairs: (first, second), one of both None where it has no other."""
+    """An actor's entries in both reports: those that are equal, and the others, in pairs as far as can be."""
 
     def __init__(self, first: Part, second: Part) -> None:
         progress.tell(f"what {first.name} saw is compared")
@@ -203,40 +218,43 @@ class Parts:
         self.device = first.device.name if first.device else None
         self.name = first.name
         self.same: List[Tuple[Item, Item]] = []
-        self.others: List[Tuple[Optional[Item], Optional[Item]]] = []
+        self.others: List[Other] = []
         pairs, self.is_whole = pairs_of([item.key for item in one], [item.key for item in other])
         pairs, last = slid(pairs, one, other), (-1, -1)
         for pair in [*pairs, (len(one), len(other))]:
-            self.add_between(one[last[0] + 1 : pair[0]], other[last[1] + 1 : pair[1]])
+            self.add_between(one[last[0] + 1 : pair[0] + 1], other[last[1] + 1 : pair[1] + 1], pair[0] < len(one))
             if pair[0] < len(one):
                 self.same.append((one[pair[0]], other[pair[1]]))
             last = pair
 
-    def add_between(self, one: List[Item], other: List[Item]) -> None:
-        """Entries that are left over between two pairs: those of a kind are told together."""
-        pairs, _ = pairs_of([item.kind for item in one], [item.kind for item in other])
+    def add_between(self, one: List[Item], other: List[Item], is_paired: bool) -> None:
+        """Entries that are left over before a pair, the last of both lists, or at the end: those of a kind are told
+        together."""
+        ends = len(one) - is_paired, len(other) - is_paired
+        pairs, _ = pairs_of([item.kind for item in one[: ends[0]]], [item.kind for item in other[: ends[1]]])
         last = (-1, -1)
-        for pair in [*pairs, (len(one), len(other))]:
-            self.others += [(item, None) for item in one[last[0] + 1 : pair[0]]]
-            self.others += [(None, item) for item in other[last[1] + 1 : pair[1]]]
-            if pair[0] < len(one):
-                self.others.append((one[pair[0]], other[pair[1]]))
+        for pair in [*pairs, ends]:
+            ours, theirs = (items[at] if at < len(items) else None for items, at in zip((one, other), pair))
+            self.others += [Other(item, None, theirs) for item in one[last[0] + 1 : pair[0]]]
+            self.others += [Other(None, item, ours) for item in other[last[1] + 1 : pair[1]]]
+            self.others += [Other(ours, theirs)] if pair != ends else []
             last = pair
 
     def differences(self, ignores_times: bool) -> List[Difference]:
         found = []
-        for one, other in self.others:
+        for one, other, before in self.others:
             what = "another" if one and other else "only in the first" if one else "only in the second"
-            found.append(self.difference(what, one, other))
+            found.append(self.difference(what, one, other, before))
         if not self.is_whole:
-            found.append(Difference(f"more than {GREATEST_DISTANCE} entries are left over: those behind are not "
-                                    "paired", self.device, self.name, None, None, None))
+            what = f"more than {GREATEST_DISTANCE} entries are left over: those behind are paired by their kind alone"
+            found.append(Difference(what, self.device, self.name))
         return found + self.other_counts() + ([] if ignores_times else self.other_times())
 
-    def difference(self, what: str, one: Optional[Item], other: Optional[Item]) -> Difference:
-        number = next(item.number for item in (one, other) if item)
-        first, second = (item.line if item else None for item in (one, other))
-        return Difference(what, self.device, self.name, number, first, second)
+    def difference(self, what: str, one: Optional[Item], other: Optional[Item], before: Optional[Item] = None) -> Difference:
+        items = [item for item in (one, other) if item]
+        place = min((item.place for item in items if item.place is not None), default=None)
+        first, second, third = (item.line if item else None for item in (one, other, before))
+        return Difference(what, self.device, self.name, items[0].number, place, first, second, third)
 
     def other_counts(self) -> List[Difference]:
         """Reads that took another number of events, where as many events are after them."""
@@ -339,11 +357,12 @@ def compare_device(one: Device, other: Device, parts: List[Parts], ignores_times
     if found:
         return found
     if one.line.text != other.line.text:
-        found.append(Difference("another count", one.name, None, None, one.line, other.line))
+        place = min(one.steps, other.steps)
+        found.append(Difference("another count", one.name, None, None, place, one.line, other.line))
     for part in parts:
         ours, theirs = (item.line for item in part.same[0])
         if isinstance(ours, SourceLine) and ours.text != theirs.text:
-            found.append(Difference("another count", one.name, part.name, 1, ours, theirs))
+            found.append(Difference("another count", one.name, part.name, 1, min(one.steps, other.steps), ours, theirs))
     if not found and one.history and other.history:
         found = compare_histories(one, other)
     return found
@@ -355,7 +374,7 @@ def compare_histories(one: Device, other: Device) -> List[Difference]:
     place = next((place for place, (ours, theirs) in pairs if ours != theirs), None)
     if place is None:
         return []
-    return [Difference("another step", one.name, None, None, one.step_line(place), other.step_line(place))]
+    return [Difference("another step", one.name, None, None, place, one.step_line(place), other.step_line(place))]
 
 
 def compare(first: Report, second: Report, ignores_times: bool = False) -> List[Difference]:
@@ -378,22 +397,21 @@ def in_order(differences: List[Difference]) -> List[Difference]:
     """Actor by actor, that which differs at the first place in front; those of an actor as they stand in its part."""
     first: Dict[Optional[str], int] = {}
     for each in differences:
-        place = each.place()
-        if place is not None:
-            first[each.actor] = min(place, first.get(each.actor, place))
+        if each.place is not None:
+            first[each.actor] = min(each.place, first.get(each.actor, each.place))
     actors = list(dict.fromkeys(each.actor for each in differences))
     actors.sort(key=lambda actor: (actor not in first, first.get(actor, 0)))
-    return sorted(differences, key=lambda each: (actors.index(each.actor), each.entry or 0))
+    return sorted(differences, key=lambda each: (actors.index(each.actor), each.entry is None, each.entry or 0))
 
 
 def missing(one: Report, other: Report, which: str) -> List[Difference]:
     """Devices and actors that one of both reports has alone."""
-    def alone(device: Optional[str], actor: Optional[str], line: Entry) -> Difference:
+    def alone(device: Optional[str], actor: Optional[str], line: Entry, place: Optional[int]) -> Difference:
         lines = (line, None) if which == "first" else (None, line)
-        return Difference(f"only in the {which}", device, actor, None, *lines)
+        return Difference(f"only in the {which}", device, actor, None, place, *lines)
 
     names = {device.name for device in other.devices}
-    found = [alone(each.name, None, each.line) for each in one.devices if each.name not in names]
-    return found + [alone(part.device.name if part.device else None, name, part.first)
+    found = [alone(each.name, None, each.line, 0) for each in one.devices if each.name not in names]
+    return found + [alone(part.device.name if part.device else None, name, part.first, items_of(part)[0].place)
                     for name, part in one.parts.items()
                     if name not in other.parts or other.parts[name].role != part.role]

@@ -1,4 +1,5 @@
-"""Reads the files that a command is given. `-` stands for standard input, which is read once."""
+"""Reads the files that a command is given. `-` stands for standard input, which is read once. What is no regular file,
+as a pipe, is read to its end first: it cannot be read a second time, nor by the program that plays."""
 
 import atexit
 import os
@@ -48,9 +49,16 @@ def write_bytes(path: str, data: bytes) -> None:
         raise Wrong(f"{path}: {fault_text(fault)}") from None
 
 
+def is_stream(path: str) -> bool:
+    """Is it standard input, or another file that can be read once? (What is named below /dev or /proc, as /dev/stdin, is
+    another file to another process.)"""
+    is_none = path != INPUT and (os.path.isdir(path) or not os.path.exists(path))
+    return not is_none and (not os.path.isfile(path) or os.path.abspath(path).startswith(("/dev/", "/proc/")))
+
+
 def as_file(path: str) -> str:
-    """A file that has what is to be read: the file itself, or a copy of standard input."""
-    if path != INPUT:
+    """A file that has what is to be read: the file itself, or a copy of what can be read once."""
+    if not is_stream(path):
         return path
     data = read_bytes(path)
     folder = tempfile.mkdtemp()
@@ -62,9 +70,9 @@ def as_file(path: str) -> str:
 
 
 def folder_of(path: str) -> str:
-    """The folder in which a record is played, which has the files of its `stream` lines: for standard input
+    """The folder in which a record is played, which has the files of its `stream` lines: for standard input or a pipe
     the present one."""
-    return os.getcwd() if path == INPUT else os.path.dirname(os.path.abspath(path))
+    return os.getcwd() if is_stream(path) else os.path.dirname(os.path.abspath(path))
 
 
 class Given:

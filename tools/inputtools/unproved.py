@@ -9,7 +9,7 @@ from typing import List, Optional, Tuple
 
 from inputtools.command import Result, Wrong
 from inputtools.program import Player, SecondProgram, Toolchain, has_second
-from inputtools.source import folder_of
+from inputtools.source import INPUT, as_file, folder_of
 
 WITH_VALUE = ("--idle", "--make", "--count")
 # The words beside a record with which the second program plays it.
@@ -43,10 +43,12 @@ def player_of(path: Optional[str], flags: List[str]) -> Player:
 
 def play(words: List[str]) -> Result:
     """Plays without proof."""
-    path, flags = file_of(words)
+    named, flags = file_of(words)
+    # (to the program `-` is a file of this name)
+    path = named if named in (None, INPUT) else as_file(named or "")
     if path is not None and not os.path.isfile(path):
         raise Wrong(f"{path}: no such file")
-    run = player_of(path, flags).start(path, folder_of(path or "record"), flags)
+    run = player_of(path, flags).start(path, folder_of(named or "record"), flags)
     written = run.whole_output()
     status = run.status()
     run.player.check_begin(written[:64], path or "")

@@ -1,14 +1,15 @@
 """Plays a record that was made, with one reader that follows after each frame, and says how many events of the
 capture it took as they were captured."""
 
-import bisect
 import copy
 import os
 import tempfile
-from typing import Dict, List, Tuple
+from difflib import SequenceMatcher
+from typing import Hashable, List, Sequence, Tuple
 
 from inputtools.capture import seconds
 from inputtools.command import Wrong, counted
+from inputtools.comparing import pairs_of
 from inputtools.names import code_text, kind_text
 from inputtools.program import PLAYED, find_player
 from inputtools.readers import Reader
@@ -68,19 +69,14 @@ def verify(record: Record) -> Tuple[bool, str]:
     return not missed and not more, f"{record.name}: {said}"
 
 
-def found_in_order(wanted: List[Taken], came: List[Taken]) -> List[bool]:
-    """Of each event that is wanted, whether it came, after those before it."""
-    places: Dict[Taken, List[int]] = {}
-    index = 0
-    found: List[bool] = []
-    for place, event in enumerate(came):
-        places.setdefault(event, []).append(place)
-    for event in wanted:
-        there = places.get(event, [])
-        at = bisect.bisect_left(there, index)
-        found.append(at < len(there))
-        index = there[at] + 1 if found[-1] else index
-    return found
+def found_in_order(wanted: Sequence[Hashable], came: Sequence[Hashable]) -> List[bool]:
+    """Of each event that is wanted, whether it came: as many as can be found in one order."""
+    pairs, is_whole = pairs_of(wanted, came)
+    found = {index for index, _ in pairs}
+    if not is_whole:
+        blocks = SequenceMatcher(None, wanted, came, autojunk=False).get_matching_blocks()
+        found = {index for block in blocks for index in range(block.a, block.a + block.size)}
+    return [index in found for index in range(len(wanted))]
 
 
 def realtime_of(record: Record) -> int:

@@ -2,12 +2,14 @@
 
 import copy
 import struct
+from dataclasses import dataclass
 from typing import Iterable, Iterator, List, NamedTuple, Optional, Set
 
 from inputtools.capture import Capture, seconds
-from inputtools.command import Wrong
+from inputtools.command import Wrong, counted
 from inputtools.description import comments, description_lines, hint_of, slots_of, version_of
 from inputtools.evtest import WHY_GRABBED
+from inputtools.likely_slot import Guess, guess_of
 from inputtools.names import ABS, SYN, TRACKING_ID
 from inputtools.progress import progress
 from inputtools.readers import DRIVER, Acts
@@ -23,12 +25,19 @@ LOSS_COMMENT = "# Events were lost here. This frame was not captured; it has wha
 STREAM_RECORD = struct.Struct("<QQHHi")
 
 
+@dataclass
 class Written:
-    """A frame as the record has it. One that stands for a loss was not captured."""
+    """A frame as the record has it. One that stands for a loss was not captured. A guess is told before it."""
 
-    def __init__(self, time: int, events: List[Event], report: int,
-                 was_captured: bool = True) -> None:
-        self.time, self.events, self.report, self.was_captured = time, events, report, was_captured
+    time: int
+    events: List[Event]
+    report: int
+    was_captured: bool = True
+    guess: Optional[Guess] = None
+
+    def comments(self) -> List[str]:
+        lines = [] if self.was_captured else [LOSS_COMMENT]
+        return lines + ([f"# {self.guess.text()}."] if self.guess else [])
 
     def all_events(self) -> List[Event]:
         return self.events + [Event(self.time, SYN, 0, self.report)]
@@ -69,6 +78,7 @@ class Record:
         self.device, self.name, self.readers, self.stream = copy.deepcopy(device), name, readers, stream
         self.window, self.driver = window or Window(), driver
         self.notes = list(capture.notes)
+        self.guess: Optional[Guess] = None
         self.raise_hint(capture)
         self.find_start(capture)
         self.raise_log()
@@ -100,11 +110,13 @@ class Record:
         self.window.refuse_none(self.frames, capture)
         self.set_start(slots)
         self.note_unpassed(unpassed)
+        self.notes += self.guess_notes()
 
     def add(self, frame: Written, state: State) -> None:
         """Takes a frame, or the state after one that comes before the part that is taken."""
         if self.window.has(frame.time):
             self.frames.append(frame)
+            frame.guess, self.guess = self.guess, None
         elif not self.frames:
             self.before = state.copy()
 
@@ -117,12 +129,25 @@ class Record:
         self.start = events_between(fresh, self.before)
 
     def add_what_was_lost(self, state: State, part: List[Frame], ids: Set[int]) -> State:
-        after = state_before(state, part, ids)
-        time = part[0].lost or 0
+        guess, known, time = guess_of(state, part), state.copy(), part[0].lost or 0
+        if guess:
+            known.slot = guess.slot
+            self.guess = None if guess.is_certain else guess
+        after = state_before(known, part, ids)
         events = [Event(time, *event) for event in events_between(state, after)]
         if events:
             self.add(Written(time, events, 0, was_captured=False), after)
         return after
+
+    def guesses(self) -> List[Guess]:
+        """The slots that are guessed, each before the frame from which on it counts."""
+        return [frame.guess for frame in self.frames if frame.guess]
+
+    def guess_notes(self) -> List[str]:
+        """What is said of the slots that are guessed."""
+        first, *more = [f"behind the loss at {seconds(guess.lost)} {guess.text()}" for guess in self.guesses()] or [""]
+        others = f"; and so at {counted(len(more), 'place')} more" if more else ""
+        return [first + others] if first else []
 
     def note_unpassed(self, unpassed: List[Event]) -> None:
         if unpassed:
@@ -185,13 +210,13 @@ class Record:
 
     def lines_of_frame(self, frame: Written) -> Iterator[str]:
         """A frame, and what the readers do after it."""
-        if not frame.was_captured:
-            yield LOSS_COMMENT
+        yield from frame.comments()
         yield from self.event_lines(frame.all_events())
         for reader in self.readers:
             yield from reader.lines_behind_a_frame()
 
     def stream_lines(self) -> Iterator[str]:
+        yield from (f"# {guess.text()}." for guess in self.guesses())
         yield f"do {self.driver} stream {self.stream}"
         for reader in self.readers:
             reader.unread = 1
