@@ -237,12 +237,13 @@ class Install(TreeCase):
         status, written, lines = self.install(prefix)
         self.assertEqual((0, []), (status, lines))
         listed = set(written.splitlines())
-        self.assertEqual({str(path) for path in prefix.rglob("*") if path.is_file()}, listed)
+        own = {str(prefix / "lib" / "inputplay"), str(prefix / "share" / "doc" / "inputplay")}
+        self.assertEqual({str(path) for path in prefix.rglob("*") if path.is_file()} | own, listed)
         tools = {path.name for path in TOOLS.iterdir() if path.is_file()} - {"build", "install"}
         programs = {path.name for path in (prefix / "bin").iterdir()}
         self.assertEqual({"inputplay"} | {f"inputplay-{tool}" for tool in tools}, programs)
         self.assertEqual((TOP / "docs" / "inputplay.1").read_bytes(), (prefix / "share" / "man" / "man1" / "inputplay.1").read_bytes())
-        self.assertFalse([path for path in prefix.rglob("*") if path.name.endswith(".new") or path.suffix == ".pyc"])
+        self.assertFalse([path for path in prefix.rglob("*") if path.name.endswith(".new")])
         # again, over it
         self.assertEqual((0, written, []), self.install(prefix))
 
@@ -261,7 +262,7 @@ class Install(TreeCase):
     def test_what_is_installed_plays_without_the_program(self):
         self.built()
         self.install("here")
-        (self.folder / "here" / "bin" / "inputplay").unlink()
+        (self.folder / "here" / "lib" / "inputplay" / "inputplay").unlink()
         record = TOP / "examples" / "stuck_key.rec"
         status, written, said = self.run_installed(self.folder / "here" / "bin" / "inputplay-play", record)
         self.assertEqual((0, record.with_suffix(".report").read_text()), (status, written), said)

@@ -3,6 +3,7 @@
 import argparse
 import gc
 import os
+import re
 import signal
 import sys
 from enum import Enum
@@ -11,7 +12,12 @@ from typing import Any, Callable, IO, List, NamedTuple, NoReturn, Optional, Unio
 
 from inputtools.progress import progress
 
+VERSION = "1.0.0"
 WRONG, CUT_OFF, STOPPED = 2, 4, 130
+
+# What stands before a tool's name where it is installed, and a tool's name in a clone.
+PREFIX = "inputplay-"
+IN_A_CLONE = re.compile(r"(?<![\w./-])tools/(?!build|install)(?=[a-z]+(?![\w/-]|\.\w))")
 
 
 class Wrong(Exception):
@@ -26,29 +32,66 @@ class Result(NamedTuple):
     status: int = 0
 
 
+# Names
+
+
+def is_installed() -> bool:
+    """Was the command begun by the name that it has where it is installed?"""
+    return os.path.basename(sys.argv[0]).startswith(PREFIX)
+
+
+def name_of(program: str) -> str:
+    """A tool's name as its user has it."""
+    return PREFIX + program if is_installed() and not program.startswith(PREFIX) else program
+
+
+def named(text: str) -> str:
+    """A text that names tools of a clone, with the names that they have for its user."""
+    return IN_A_CLONE.sub(PREFIX, text) if is_installed() else text
+
+
+def with_pages(text: str) -> str:
+    """A text that names pages of a clone, with the places that they have for its user."""
+    lib = os.path.dirname(os.path.dirname(os.path.dirname(os.path.realpath(sys.argv[0]))))
+    pages = os.path.join(os.path.dirname(lib), "share", "doc", "inputplay", "docs", "")
+    return text.replace("docs/", pages) if is_installed() else text
+
+
+# Words
+
+
 class Words(argparse.ArgumentParser):
     """The words of a command. Wrong ones are refused as any other wrong input is, by one line."""
 
-    def __init__(self, **more: Any) -> None:
-        super().__init__(formatter_class=argparse.RawDescriptionHelpFormatter, allow_abbrev=False, **more)
+    def __init__(self, prog: str, **more: Any) -> None:
+        form = argparse.RawDescriptionHelpFormatter
+        super().__init__(prog=name_of(prog), formatter_class=form, allow_abbrev=False, **more)
+        self.add_argument("--version", action=Version, nargs=0, help="show the version and exit")
 
     def error(self, message: str) -> NoReturn:
         raise Wrong(message)
 
     def print_help(self, file: Optional[IO[str]] = None) -> None:
-        status = write(self.prog, self.format_help())
+        status = write(self.prog, with_pages(named(self.format_help())))
         if status:
             sys.exit(status)
+
+
+class Version(argparse.Action):
+    """Writes the version and ends."""
+
+    def __call__(self, parser: argparse.ArgumentParser, *_: object) -> NoReturn:
+        sys.exit(write(parser.prog, f"{parser.prog} (inputplay) {VERSION}\n"))
 
 
 def say(program: str, text: str) -> None:
     """One line on standard error, whatever characters a file's own names have."""
     progress.clear()
-    line = " ".join(text.split())
+    line = " ".join(named(text).split())
     if sys.stderr is not None:
         try:
             plain = line.encode("ascii", "backslashreplace").decode()
-            print(f"{program}: {plain}", file=sys.stderr, flush=True)
+            print(f"{name_of(program)}: {plain}", file=sys.stderr, flush=True)
         except OSError:
             pass
 
@@ -114,7 +157,7 @@ def ends(program: str, body: Callable[[], int]) -> None:
     after that a stop ends the process at once."""
     # (a tool ends soon, and what it reads has no cycles: to look for some would take a third of its time)
     gc.disable()
-    progress.begin(program)
+    progress.begin(name_of(program))
     try:
         stop_by(signal.default_int_handler)
         status = status_of(program, body)
@@ -130,7 +173,7 @@ def ends(program: str, body: Callable[[], int]) -> None:
 
 
 def run(program: str, command: Callable[[List[str]], Result]) -> None:
-    """Ends in what the command comes to: its text on standard output, its notes on standard error, and its status."""
+    """Ends in what the command comes to: its text on stdout, its notes on standard error, and its status."""
 
     def body() -> int:
         text, notes, *status = command(sys.argv[1:])

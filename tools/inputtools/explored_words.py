@@ -5,7 +5,7 @@ from __future__ import annotations
 
 from typing import List, Optional, Sequence
 
-from inputtools.command import counted
+from inputtools.command import counted, named
 from inputtools.explored_answers import Answer, Found
 
 
@@ -108,7 +108,7 @@ def count_text(answer: Answer, found: Found) -> str:
     share = found.orders / answer.orders
     if found.orders == answer.orders:
         every = "in the order" if answer.orders == 1 else f"in each of {of_text(answer)}"
-        return f"{every}: this is no race, and tools/stuck tells it" if answer.drawn is None else every
+        return f"{every}: this is no race, and {named('tools/stuck')} tells it" if answer.drawn is None else every
     chance = "" if found.chance is None else f", by chance {share_text(found.chance)}"
     is_bounded = answer.drawn is not None or bounds_text(answer) != ""
     of_these = f"these {number_text(answer.orders)} orders" if is_bounded else of_text(answer)
@@ -135,8 +135,8 @@ def found_lines(answer: Answer, found: Found, path: Optional[str]) -> List[str]:
     lines += order_lines(found)
     if path is not None:
         lines += [
-            f"    why in full:  tools/stuck {path}",
-            f"    the picture:  tools/draw {path} > order.html",
+            f"    why in full:  {named('tools/stuck')} {path}",
+            f"    the picture:  {named('tools/draw')} {path} > order.html",
         ]
     return lines
 

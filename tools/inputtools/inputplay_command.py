@@ -5,7 +5,7 @@ import sys
 from typing import List
 
 from inputtools.building import build, is_built
-from inputtools.command import Result
+from inputtools.command import VERSION, Result
 from inputtools.program import BUILT
 from inputtools.unproved import play
 
@@ -29,6 +29,8 @@ The program's words, of which docs/FORMATS.md says more:
   --migrate FILE                  nothing is played, and the record's text in version 2 is written
   --make NUMBER [--count COUNT]   a record is made from a number and played
 
+--version as the first word writes the version, and nothing is played.
+
 Status: the program's own: 0 played; 1 a line is refused; 2 wrong words, or the program could not be built; 3
 a file could not be read; 4 stdout failed; 5 no memory; 6 played, and a history was full; 7 a file is too
 long; 130 stopped from the keyboard."""
@@ -37,6 +39,8 @@ long; 130 stopped from the keyboard."""
 def command(words: List[str]) -> Result:
     if words[:1] in (["--help"], ["-h"]):
         return Result(HELP + "\n")
+    if words[:1] == ["--version"]:
+        return Result(f"inputplay {VERSION}\n")
     if words[:1] == ["--unproved"]:
         return play(words[1:])
     if not is_built():

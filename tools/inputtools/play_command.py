@@ -5,7 +5,7 @@ import os
 import sys
 from typing import List, Optional
 
-from inputtools.command import CUT_OFF, Result, Words, Wrote, put
+from inputtools.command import CUT_OFF, Result, Words, Wrote, name_of, named, put
 from inputtools.jsonlines import ReportLines, line_of
 from inputtools.program import MESSAGES, PLAYED, Player, Run, find_player
 from inputtools.progress import progress
@@ -34,7 +34,7 @@ UNREAD = 3
 def tell(text: str) -> None:
     progress.clear()
     if sys.stderr is not None:
-        print(text.encode("ascii", "backslashreplace").decode(), file=sys.stderr, flush=True)
+        print(named(text).encode("ascii", "backslashreplace").decode(), file=sys.stderr, flush=True)
 
 
 def has_put(data: bytes) -> bool:
@@ -134,7 +134,7 @@ def command(arguments: List[str]) -> Result:
     words.add_argument("--json", action="store_true", help="write one JSON object a line (docs/JSON.md)")
     asked = words.parse_args(arguments)
     player = find_player()
-    tell(f"play: {player.told()}")
+    tell(f"{name_of('play')}: {player.told()}")
     statuses: List[int] = []
     is_named = len(asked.files) > 1 and not asked.json
     for path in asked.files:

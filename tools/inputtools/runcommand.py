@@ -7,7 +7,7 @@ import os
 from typing import List, NoReturn, Optional, Tuple
 
 from inputtools import running
-from inputtools.command import Words, Wrong, say
+from inputtools.command import Words, Wrong, name_of, say
 from inputtools.running import FAILED, NOT_HELD, NOT_STARTED, NoProgram, Run, Settings
 from inputtools.runsystem import with_system_files
 from inputtools.source import Given
@@ -19,8 +19,8 @@ what the library answers: rings that lose events, grabs, masks, clocks, revocati
 The record's lines come at their times, once programs have opened a node and have read nothing new for a
 while. With --frames they come wherever all programs wait, so that each run is the same. Lines of clients do
 what they say beside the program: a client that opens and grabs is another program that grabs. With --as the
-program stands in for one of them, and what the record expects of that one in its `#=` lines (see check
---help) is judged over what the program did.
+program stands in for one of them, and what the record expects of that one in its `#=` lines (see
+tools/check --help) is judged over what the program did.
 
 A program that is statically linked, sets itself more rights or makes system calls by itself is not reached.
 tools/build --run builds what this needs; docs/RUN.md says what is served and what is not."""
@@ -35,7 +35,7 @@ class RunWords(Words):
     """Wrong words are refused with run's own status."""
 
     def error(self, message: str) -> NoReturn:
-        raise Wrong(f"{message}; see run --help")
+        raise Wrong(f"{message}; see {name_of('run')} --help")
 
 
 def words() -> RunWords:
@@ -43,8 +43,8 @@ def words() -> RunWords:
         prog="run",
         description=HELP,
         epilog=STATUSES,
-        usage="run [OPTIONS] RECORD -- PROGRAM [ARGS]\n"
-        "       run --server FOLDER [OPTIONS] [RECORD] [-- PROGRAM [ARGS]]",
+        usage="%(prog)s [OPTIONS] RECORD -- PROGRAM [ARGS]\n"
+        "       %(prog)s --server FOLDER [OPTIONS] [RECORD] [-- PROGRAM [ARGS]]",
     )
     told.add_argument("record", metavar="RECORD", nargs="?", help="a record; - is standard input")
     told.add_argument(
@@ -215,7 +215,7 @@ def start_kept(asked: argparse.Namespace, folder: str, record: Given) -> Run:
     history = os.path.join(folder, running.HISTORY)
     run = running.start_server(folder, settings_of(asked), server_words(asked, record, history), is_kept=True)
     running.keep(run)
-    say("run", f"the server stays: run --server {asked.server} -- PROGRAM uses it, and --stop ends it")
+    say("run", f"the server stays: {name_of('run')} --server {asked.server} -- PROGRAM uses it, and --stop ends it")
     return run
 
 
@@ -240,7 +240,7 @@ def split_words(arguments: List[str]) -> Tuple[List[str], List[str]]:
 
 def checked_words(asked: argparse.Namespace, program: List[str]) -> None:
     if asked.server is None and (asked.record is None or not program):
-        raise Wrong("a RECORD and, behind --, a PROGRAM are wanted; see run --help")
+        raise Wrong(f"a RECORD and, behind --, a PROGRAM are wanted; see {name_of('run')} --help")
     if asked.stop and (asked.server is None or asked.record is not None or program):
         raise Wrong("--stop wants --server FOLDER, and nothing else")
     if asked.server is not None and (asked.history or asked.draw):

@@ -28,7 +28,7 @@ or does not end with the same status twice. 4: standard output failed. 130: stop
 
 
 def command(arguments: List[str]) -> Result:
-    usage = "shrink [--says TEXT] [--seconds N] RECORD -- COMMAND .."
+    usage = "%(prog)s [--says TEXT] [--seconds N] RECORD -- COMMAND .."
     words = Words(prog="shrink", usage=usage, description=HELP, epilog=STATUSES)
     words.add_argument("record", metavar="RECORD", help="a record; - is standard input")
     words.add_argument("--seconds", type=float, default=60, help="a run that takes longer has no status (60)")

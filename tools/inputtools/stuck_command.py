@@ -3,7 +3,8 @@
 from typing import List
 
 from inputtools.command import Result, Words
-from inputtools.jsonlines import stuck_lines
+from inputtools.jsonlines import line_of, stuck_lines
+from inputtools.narrowing import Asked, add_client, narrow
 from inputtools.played import play
 from inputtools.program import find_player
 from inputtools.source import Given
@@ -36,12 +37,19 @@ def command(arguments: List[str]) -> Result:
     words.add_argument("--fail", action="store_true", help="end in status 1 where a client ends apart")
     words.add_argument("--summary", action="store_true", help="write a count by cause and key first")
     words.add_argument("--json", action="store_true", help="write one JSON object a line (docs/JSON.md)")
+    add_client(words)
+    words.add_argument("--thing", action="append", default=[], metavar="NAME",
+                       help="this key, switch, light or axis alone: KEY_A, ABS_X, 'slot 0 ABS_MT_POSITION_X'")
+    words.add_argument("--end", action="store_true", help="what is so at the end alone")
     asked = words.parse_args(arguments)
-    devices = play(Given(asked.file), find_player())
+    only = Asked(asked.client, asked.thing, asked.end)
+    devices = narrow(play(Given(asked.file), find_player()), only)
     if asked.json:
-        lines = stuck_lines(devices)
+        asked_for = line_of("only", clients=only.readers, things=only.things, end=only.is_end)
+        lines = ([] if only.is_all else [asked_for]) + stuck_lines(devices)
     else:
-        lines = summary_lines(devices) if asked.summary else []
+        lines = [] if only.is_all else [only.text()]
+        lines += summary_lines(devices) if asked.summary else []
         lines += [line for device in devices for line in device_lines(device)]
     status = int(asked.fail and bool(ends_apart(devices)))
     return Result("".join(line + "\n" for line in lines), [], status)
