@@ -11,7 +11,7 @@ import socket
 import struct
 from typing import Callable, List, Sequence, Tuple
 
-NODE, FLAGS = "/dev/input/event0", os.O_RDWR | os.O_NONBLOCK
+NODE, MAKER, FLAGS = "/dev/input/event0", "/dev/uinput", os.O_RDWR | os.O_NONBLOCK
 EVENT_BYTES = 24
 EVIOCGRAB, EVIOCREVOKE, EVIOCGNAME, EVIOCGID = 0x40044590, 0x40044591, 0x80FF4506, 0x80084502
 
@@ -34,8 +34,8 @@ def error_of(call: Callable[..., object], *words: object) -> int:
     return 0
 
 
-def opened() -> int:
-    return os.open(NODE, FLAGS)
+def opened(path: str = NODE) -> int:
+    return os.open(path, FLAGS)
 
 
 def grab_error(descriptor: int, is_taken: bool) -> int:

@@ -10,12 +10,14 @@ import struct
 import sys
 from typing import List
 
-from nodes import (MAGIC, NODE, REQUEST, connection, name_of, opened, receive_descriptors, says,
+from nodes import (MAGIC, MAKER, NODE, REQUEST, connection, name_of, opened, receive_descriptors, says,
                    send_descriptors)
 
 NUMBERS = [0x40044590, 0x40044591, 0x80044501, 0x80FF4506, 0x80604518, 0x40104593, 0x80104592, 0x80404521,
            0x80004521 | 900 << 16, 0x800C450A, 0x83FF450A, 0x401845C0, 0x80184540, 0x400445A0, 0x80084503,
-           0x40084503, 0x80088502, 0x80046A11, 0x80406A32, 0x84006A34]
+           0x40084503, 0x80088502, 0x80046A11, 0x80406A32, 0x84006A34, 0x5501, 0x5502, 0x405C5503, 0x401C5504,
+           0x40045564, 0x40045565, 0x40045567, 0x8040552C, 0x8004552D]
+PATHS = [NODE, NODE, NODE, MAKER]
 
 
 class Sender:
@@ -23,7 +25,7 @@ class Sender:
 
     def __init__(self, seed: int) -> None:
         self.random, self.sent, self.dropped = random.Random(seed), 0, 0
-        self.nodes = [opened() for _ in range(4)]
+        self.nodes = [opened(path) for path in PATHS]
 
     def body(self) -> bytes:
         """What stands behind a request: bytes, or often a mask's struct."""
@@ -72,9 +74,9 @@ class Sender:
                 if not self.is_answered(line):
                     break
         if self.random.random() < 0.02:
-            at = self.random.randrange(4)
+            at = self.random.randrange(len(PATHS))
             os.close(self.nodes[at])
-            self.nodes[at] = opened()
+            self.nodes[at] = opened(PATHS[at])
 
 
 def main() -> None:

@@ -1,11 +1,12 @@
-/* Requests at random on the nodes of a played device: random_requests COUNT SEED, run by tools/run. Numbers,
- * sizes and places are at random, among them places that are not there. Nothing may crash, and what is right
- * is answered afterwards. */
+/* Requests at random on the nodes of a played device, and on /dev/uinput: random_requests COUNT SEED, run by
+ * tools/run. Numbers, sizes and places are at random, among them places that are not there. Nothing may crash,
+ * and what is right is answered afterwards. */
 #include "check.h"
 
 #include <fcntl.h>
 #include <linux/input.h>
 #include <linux/joystick.h>
+#include <linux/uinput.h>
 #include <stdbool.h>
 #include <stdint.h>
 #include <string.h>
@@ -50,9 +51,18 @@ static const uint32_t KNOWN[] = {
     JSIOCGNAME(0),    JSIOCSCORR,       JSIOCGCORR,    JSIOCGAXMAP,   JSIOCGBTNMAP,
 };
 
+/* What a maker of devices is asked. */
+static const uint32_t MADE[] = {
+    UI_DEV_SETUP,   UI_ABS_SETUP,   UI_SET_EVBIT,  UI_SET_KEYBIT, UI_SET_RELBIT,   UI_SET_ABSBIT,
+    UI_SET_MSCBIT,  UI_SET_LEDBIT,  UI_SET_SNDBIT, UI_SET_SWBIT,  UI_SET_FFBIT,    UI_SET_PROPBIT,
+    UI_SET_PHYS,    UI_DEV_CREATE,  UI_DEV_CREATE, UI_DEV_CREATE, UI_DEV_DESTROY,  UI_GET_SYSNAME(64),
+    UI_GET_VERSION, UI_SET_EVBIT,   UI_SET_KEYBIT, UI_SET_ABSBIT, UI_BEGIN_FF_UPLOAD,
+};
+
 /* A number: a known one, of another size or of a code behind it; or any. */
 static uint32_t request_number(void) {
-    uint32_t number = KNOWN[random_below(sizeof KNOWN / sizeof KNOWN[0])];
+    uint32_t number = random_below(3) ? KNOWN[random_below(sizeof KNOWN / sizeof KNOWN[0])]
+                                      : MADE[random_below(sizeof MADE / sizeof MADE[0])];
     if (random_below(10) == 0)
         return random_number();
     if (random_below(3) == 0)
@@ -76,13 +86,17 @@ static long request_once(int file) {
     bool is_mask = number == (uint32_t)EVIOCGMASK || number == (uint32_t)EVIOCSMASK;
     if (number == (uint32_t)EVIOCGRAB)
         argument = (void *)(uintptr_t)random_below(2);
+    /* (the bits of a device that is made are numbers) */
+    if (number >= (uint32_t)UI_SET_EVBIT && number <= (uint32_t)UI_SET_PROPBIT && random_below(8))
+        argument = (void *)(uintptr_t)random_below(32);
     return ioctl(file, number, is_mask && random_below(4) ? mask_request() : argument);
 }
 
 static void reopen(int *file) {
-    static const char *const paths[] = {"/dev/input/event0", "/dev/input/event1", "/dev/input/js0"};
+    static const char *const paths[] = {"/dev/input/event0", "/dev/input/event1", "/dev/input/js0",
+                                        "/dev/input/event2", "/dev/input/event3", "/dev/uinput", "/dev/uinput"};
     close(*file);
-    *file = open(paths[random_below(3)], (int)random_below(3) | O_NONBLOCK);
+    *file = open(paths[random_below(sizeof paths / sizeof paths[0])], (int)random_below(3) | O_NONBLOCK);
 }
 
 static void once(void) {
