@@ -1,7 +1,7 @@
 """Lines of a record that are just refused, each with its cause, and lines that are just accepted.
 
-All was worked out by docs/FORMATS.md ("The lines", "Action lines", "Causes") and docs/RULES.md ("What a device
-has"). `tests/test_statuses.py` has each cause once; here are the bounds of each line.
+All was worked out by docs/FORMATS.md ("The lines", "Action lines", "Causes") and docs/RULES.md ("What a
+device has"). `tests/test_statuses.py` has each cause once; here are the bounds of each line.
 """
 
 from typing import Iterator, NamedTuple, Optional
@@ -15,8 +15,8 @@ DEVICE_1, DEVICE_2, UDEVICE = VERSION_1 + "device d\n", VERSION_2 + "device d\n"
 SOURCE, READERS = DEVICE_1 + "source s\n", DEVICE_1 + "tap t\nclient c\n"
 JOYSTICK, OWNED = DEVICE_2 + "joy j\ntap t\nclient c\n", UDEVICE + "owner o\n"
 OWNER = OWNED + "tap t\nclient c\njoy j\n"
-# Clients, taps and joysticks of a device are counted together: there may be 128. So are devices of both kinds:
-# there may be eight.
+# Clients, taps and joysticks of a device are counted together: there may be 128. So are devices of both
+# kinds: there may be eight.
 MANY_JOYSTICKS = DEVICE_2 + "".join(f"joy j{number}\n" for number in range(126))
 SEVEN = VERSION_2 + "device a\nudevice b\ndevice c\nudevice d\ndevice e\nudevice f\ndevice g\n"
 
@@ -180,35 +180,6 @@ def texts() -> Iterator[Text]:
     yield from OTHERS
 
 
-HEAD = "hint 16\nlog 1048576\nclock realtime 0\nclock boottime 0\n"
-
-# What a text has, the text, and how it is written.
-WRITTEN = {
-    "eight filters": (
-        EIGHT_FILTERS,
-        DEVICE_2 + HEAD + """filter chord KEY_A KEY_B
-filter norepeat
-filter bounce KEY_A 1000
-filter norepeat
-filter bounce 767 1000000
-filter eat EV_REP REP_PERIOD
-filter bounce KEY_A 1
-filter eat EV_KEY BTN_LEFT
-""",
-    ),
-    "a joystick": (
-        DEVICE_2 + HEAD + "tap t\njoy j\n"
-        "do j open\ndo j read 4097\ndo j read 4294967295\ndo t read 4096\ndo j close\n",
-        None,
-    ),
-    "an owner": (
-        DEVICE_2 + HEAD + "udevice u\n" + HEAD + "type EV_LED\ncap EV_LED LED_CAPSL\ntap t\nowner o\n"
-        "do t open\ndo o feedback 1\ndo o feedback 4096\n",
-        None,
-    ),
-}
-
-
 class Lines(FolderCase):
     def told(self, text: str, *words: str) -> Run:
         """What the program says of a text."""
@@ -236,11 +207,6 @@ class Lines(FolderCase):
                 self.assertEqual(int(given.cause is not None), status)
                 if given.cause:
                     self.assertEqual(f"inputplay: line {given.number}: {given.cause}\n".encode(), text)
-
-    def test_a_line_is_written_as_it_was_read(self) -> None:
-        for name, (text, written) in WRITTEN.items():
-            with self.subTest(of=name):
-                self.assertEqual((0, (written or text).encode(), b""), self.told(text, "--migrate"))
 
     def test_a_stream_is_judged_before_a_text_is_written(self) -> None:
         text = DEVICE_1 + "cap EV_KEY KEY_A\nsource s\ndo s stream keys\n"

@@ -7,121 +7,142 @@ import shutil
 
 from tests.playing import EXAMPLES, RECORDS, FolderCase, assert_run, run
 
-# A record of version 1 as people write it, and its text in version 2.
-WRITTEN = b"""# a pad
-inputrecord 1
-device pad
-slots 2
-cap EV_KEY 330
-axis ABS_MT_POSITION_X 0 0 0x1000 0 0 0
-source finger
-tap probe
-do probe open
-do finger stream taps
-do probe mask 3 0 0xff
-"""
-MIGRATED = b"""inputrecord 2
-device pad
-hint 16
-log 1048576
-clock realtime 0
-clock boottime 0
-slots 2
-type EV_KEY
-type EV_ABS
-cap EV_KEY BTN_TOUCH
-axis ABS_MT_SLOT 0 0 1 0 0 0
-axis ABS_MT_POSITION_X 0 0 4096 0 0 0
-axis ABS_MT_TRACKING_ID 0 0 65535 0 0 0
-source finger
-tap probe
-do probe open
-do finger stream taps
-do probe mask EV_ABS 0 0x00000000000000ff
-"""
-
-# What a record has, the record, and its text in version 2.
-CASES = [
-    ("a stream and a mask", WRITTEN, MIGRATED),
-    (
-        "slots, the autorepeat and an axis",
-        b"""inputrecord 1
-device pad
-slots 2
-cap EV_REP 0
-axis 0x35 0 -5 0x1000 0 0 12
+# What stands for two points in a text that is written.
+HEAD = "hint 16\nlog 1048576\nclock realtime 0\nclock boottime 0\n"
+# What a record has, and its lines as people write them beside those that are written of it.
+BESIDE = {
+    "a stream and a mask": """
+# a pad                                    > inputrecord 2
+inputrecord 1                              > device pad
+                                           > ..
+device pad                                 > slots 2
+slots 2                                    > type EV_KEY
+cap EV_KEY 330                             > type EV_ABS
+axis ABS_MT_POSITION_X 0 0 0x1000 0 0 0    > cap EV_KEY BTN_TOUCH
+source finger                              > axis ABS_MT_SLOT 0 0 1 0 0 0
+tap probe                                  > axis ABS_MT_POSITION_X 0 0 4096 0 0 0
+do probe open                              > axis ABS_MT_TRACKING_ID 0 0 65535 0 0 0
+do finger stream taps                      > source finger
+do probe mask 3 0 0xff                     > tap probe
+                                           > do probe open
+                                           > do finger stream taps
+                                           > do probe mask EV_ABS 0 0x00000000000000ff
 """,
-        b"""inputrecord 2
-device pad
-hint 16
-log 1048576
-clock realtime 0
-clock boottime 0
-slots 2
-type EV_ABS
-type EV_REP
-axis ABS_MT_SLOT 0 0 1 0 0 0
-axis ABS_MT_POSITION_X 0 -5 4096 0 0 12
-axis ABS_MT_TRACKING_ID 0 0 65535 0 0 0
+    "slots, the autorepeat and an axis": """
+inputrecord 1                              > inputrecord 2
+device pad                                 > device pad
+                                           > ..
+slots 2                                    > slots 2
+cap EV_REP 0                               > type EV_ABS
+axis 0x35 0 -5 0x1000 0 0 12               > type EV_REP
+                                           > axis ABS_MT_SLOT 0 0 1 0 0 0
+                                           > axis ABS_MT_POSITION_X 0 -5 4096 0 0 12
+                                           > axis ABS_MT_TRACKING_ID 0 0 65535 0 0 0
 """,
-    ),
-    (
-        "filters before and between what else describes a device",
-        b"""inputrecord 2
-device d
-filter bounce 0x1e 0005000
-filter eat 2 8
-cap 1 30
-filter chord KEY_A 84
-axis 0 0 0 0 0 0 0
-filter norepeat
-filter norepeat
+    "filters before and between what else describes a device": """
+inputrecord 2                              > inputrecord 2
+device d                                   > device d
+                                           > ..
+filter bounce 0x1e 0005000                 > type EV_KEY
+filter eat 2 8                             > type EV_ABS
+cap 1 30                                   > cap EV_KEY KEY_A
+filter chord KEY_A 84                      > axis ABS_X 0 0 0 0 0 0
+axis 0 0 0 0 0 0 0                         > filter bounce KEY_A 5000
+filter norepeat                            > filter eat EV_REL REL_WHEEL
+filter norepeat                            > filter chord KEY_A 84
+                                           > filter norepeat
+                                           > filter norepeat
 """,
-        b"""inputrecord 2
-device d
-hint 16
-log 1048576
-clock realtime 0
-clock boottime 0
-type EV_KEY
-type EV_ABS
-cap EV_KEY KEY_A
-axis ABS_X 0 0 0 0 0 0
-filter bounce KEY_A 5000
-filter eat EV_REL REL_WHEEL
-filter chord KEY_A 84
-filter norepeat
-filter norepeat
+    "commands with numbers in both bases": """
+inputrecord 1                              > inputrecord 2
+device d                                   > device d
+                                           > ..
+source s                                   > source s
+tap t                                      > tap t
+do t mask 1 0 0xbeef                       > do t mask EV_KEY 0 0x000000000000beef
+do t clock boottime 5                      > do t clock boottime 5
+do t setaxis 0 0x10 -0 200 8 00 -2147483648 > do t setaxis ABS_X 16 0 200 8 0 -2147483648
+do s stream keys.bin                       > do s stream keys.bin
 """,
-    ),
-    (
-        "commands with numbers in both bases",
-        b"""inputrecord 1
-device d
-source s
-tap t
-do t mask 1 0 0xbeef
-do t clock boottime 5
-do t setaxis 0 0x10 -0 200 8 00 -2147483648
-do s stream keys.bin
+    "devices made by requests, and the owner of one": """
+inputrecord 2                              > inputrecord 2
+udevice  kbd                               > udevice kbd
+                                           > ..
+cap 17 1                                   > type EV_LED
+source s                                   > cap EV_LED LED_CAPSL
+owner o                                    > source s
+tap t                                      > owner o
+device d                                   > tap t
+udevice other                              > device d
+                                           > ..
+do o feedback 0x1000                       > udevice other
+                                           > ..
+do t write 5 EV_LED 1 1                    > do o feedback 4096
+do o  feedback 00001                       > do t write 5 EV_LED LED_CAPSL 1
+                                           > do o feedback 1
 """,
-        b"""inputrecord 2
-device d
-hint 16
-log 1048576
-clock realtime 0
-clock boottime 0
-source s
-tap t
-do t mask EV_KEY 0 0x000000000000beef
-do t clock boottime 5
-do t setaxis ABS_X 16 0 200 8 0 -2147483648
-do s stream keys.bin
+    "streams of both forms": """
+inputrecord 2                              > inputrecord 2
+device d                                   > device d
+                                           > ..
+source s                                   > source s
+do s stream16 keys.bin                     > do s stream16 keys.bin
+do s  stream keys.bin                      > do s stream keys.bin
 """,
-    ),
-    (
-        "two devices, a carriage return, a tab, and no line feed at the end",
-        b"""# two devices
+    "eight filters": """
+inputrecord 2                              > inputrecord 2
+device d                                   > device d
+                                           > ..
+filter chord KEY_A 0x30                    > filter chord KEY_A KEY_B
+filter norepeat                            > filter norepeat
+filter bounce 30 001000                    > filter bounce KEY_A 1000
+filter norepeat                            > filter norepeat
+filter bounce 767 1000000                  > filter bounce 767 1000000
+filter eat EV_REP 1                        > filter eat EV_REP REP_PERIOD
+filter bounce KEY_A 1                      > filter bounce KEY_A 1
+filter eat 1 BTN_LEFT                      > filter eat EV_KEY BTN_LEFT
+""",
+    "a joystick": """
+inputrecord 2                              > inputrecord 2
+device d                                   > device d
+                                           > ..
+hint 16                                    > tap t
+log 1048576                                > joy j
+clock realtime 0                           > do j open
+clock boottime 0                           > do j read 4097
+tap t                                      > do j read 4294967295
+joy j                                      > do t read 4096
+do j open                                  > do j close
+do j read 4097                             >
+do j read 4294967295                       >
+do t read 4096                             >
+do j close                                 >
+""",
+    "an owner": """
+inputrecord 2                              > inputrecord 2
+device d                                   > device d
+                                           > ..
+hint 16                                    > udevice u
+                                           > ..
+log 1048576                                > type EV_LED
+clock realtime 0                           > cap EV_LED LED_CAPSL
+clock boottime 0                           > tap t
+udevice u                                  > owner o
+hint 16                                    > do t open
+log 1048576                                > do o feedback 1
+clock realtime 0                           > do o feedback 4096
+clock boottime 0                           >
+type EV_LED                                >
+cap EV_LED LED_CAPSL                       >
+tap t                                      >
+owner o                                    >
+do t open                                  >
+do o feedback 1                            >
+do o feedback 4096                         >
+""",
+}
+# Two devices, a carriage return, a tab, and no line feed at the end.
+READ = """# two devices
 inputrecord 1
 device kbd
 hint 8
@@ -138,8 +159,8 @@ do t open
 do s event 1000 EV_KEY KEY_A 1
 do c next 3
 do s stream keys.bin
-do t mask EV_KEY 0 0xff""",
-        b"""inputrecord 2
+do t mask EV_KEY 0 0xff"""
+WRITTEN = """inputrecord 2
 device kbd
 hint 8
 log 1048576
@@ -165,78 +186,27 @@ do s event 1000 EV_KEY KEY_A 1
 do c next 3
 do s stream keys.bin
 do t mask EV_KEY 0 0x00000000000000ff
-""",
-    ),
-    (
-        "devices made by requests, and the owner of one",
-        b"""inputrecord 2
-udevice  kbd
-cap 17 1
-source s
-owner o
-tap t
-device d
-udevice other
-do o feedback 0x1000
-do t write 5 EV_LED 1 1
-do o  feedback 00001
-""",
-        b"""inputrecord 2
-udevice kbd
-hint 16
-log 1048576
-clock realtime 0
-clock boottime 0
-type EV_LED
-cap EV_LED LED_CAPSL
-source s
-owner o
-tap t
-device d
-hint 16
-log 1048576
-clock realtime 0
-clock boottime 0
-udevice other
-hint 16
-log 1048576
-clock realtime 0
-clock boottime 0
-do o feedback 4096
-do t write 5 EV_LED LED_CAPSL 1
-do o feedback 1
-""",
-    ),
-    (
-        "streams of both forms",
-        b"""inputrecord 2
-device d
-source s
-do s stream16 keys.bin
-do s  stream keys.bin
-""",
-        b"""inputrecord 2
-device d
-hint 16
-log 1048576
-clock realtime 0
-clock boottime 0
-source s
-do s stream16 keys.bin
-do s stream keys.bin
-""",
-    ),
-]
+"""
+
+
+def cases():
+    """What each record has, the record, and its text in version 2."""
+    yield "two devices", READ, WRITTEN.replace("..\n", HEAD)
+    for name, table in BESIDE.items():
+        rows = [line.partition(">") for line in table.strip("\n").split("\n")]
+        read = "".join(left.rstrip() + "\n" for left, _, _ in rows if left.strip())
+        written = "".join(right.strip() + "\n" for _, _, right in rows if right.strip())
+        yield name, read, written.replace("..\n", HEAD)
 
 
 class MigratedRecords(FolderCase):
     def test_a_record_is_written_in_version_2(self):
         for stream in ["taps", "keys.bin"]:
             (self.folder / stream).write_bytes(b"")
-        for what, written, migrated in CASES:
-            with self.subTest(what=what):
-                (self.folder / "f").write_bytes(written)
-                assert_run(self, run(["--migrate", "f"], self.folder), 0, migrated)
+        for name, read, written in cases():
+            with self.subTest(name):
+                (self.folder / "f").write_bytes(read.encode())
+                assert_run(self, run(["--migrate", "f"], self.folder), 0, written.encode())
 
     def test_a_migrated_record_plays_as_before(self):
         for folder in (EXAMPLES, RECORDS):
@@ -258,8 +228,8 @@ class MigratedRecords(FolderCase):
         assert_run(self, run(["--history", "migrated"], folder), wanted.status, wanted.text)
 
     def test_files_and_lines_are_judged_as_by_a_play(self):
-        (self.folder / "bad").write_bytes(b"inputrecord 1\nhint 8\n")
-        (self.folder / "lacks").write_bytes(WRITTEN)
+        self.write("bad", "inputrecord 1\nhint 8\n")
+        self.write("lacks", READ)
         for name, status, text in [("bad", 1, b"inputplay: line 2: out-of-place\n"),
                                    ("missing", 3, b"inputplay: read failed\n"),
                                    ("lacks", 3, b"inputplay: read failed\n")]:
