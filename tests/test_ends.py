@@ -13,7 +13,6 @@ RECORD, OTHER = TOP / "examples" / "stuck_key.rec", TOP / "examples" / "one_key.
 CAPTURE = DATA / "lid.evtest"
 
 
-
 class EndsCase(DeskCase):
     """Words with which each tool plays a record (`playing`), or writes something (`all`)."""
 
@@ -21,12 +20,8 @@ class EndsCase(DeskCase):
         super().setUp()
         needs_program(self)
         expects = self.file("expects.rec", "#= desktop takes KEY_LEFTCTRL\n" + RECORD.read_text())
-        playing = {"play": [RECORD],
-                   "stuck": [RECORD],
-                   "draw": [RECORD],
-                   "check": [expects],
-                   "compare": [RECORD, OTHER]}
-        self.playing = [*playing.items(), ("export", [RECORD, "--raw", "desktop"]),
+        self.playing = [("play", [RECORD]), ("stuck", [RECORD]), ("draw", [RECORD]), ("check", [expects]),
+                        ("compare", [RECORD, OTHER]), ("export", [RECORD, "--raw", "desktop"]),
                         ("record", [CAPTURE, "--verify"])]
         self.all = [*self.playing, ("export", [RECORD, "--evemu"]), ("describe", [CAPTURE]),
                     ("shrink", [RECORD, "--", "grep", "-q", "grab"])]
@@ -45,9 +40,7 @@ class EndsCase(DeskCase):
         return done.returncode, done.stdout, done.stderr.splitlines()
 
     def stand_in(self, text):
-        path = self.file("stand_in", text)
-        path.chmod(0o755)
-        return path
+        return self.write("stand_in", text, 0o755)
 
 
 class Output(EndsCase):
@@ -79,8 +72,7 @@ class Output(EndsCase):
 
     def test_a_closed_output(self):
         closed = {"stdout": None, "preexec_fn": lambda: os.close(1)}
-        self.each(self.all, lambda tool, words: self.fails(tool, words, " is closed", **closed))
-        self.each([("play", [RECORD, "--json"])],
+        self.each([*self.all, ("play", [RECORD, "--json"])],
                   lambda tool, words: self.fails(tool, words, " is closed", **closed))
 
     def test_a_reader_that_has_read_enough(self):
@@ -130,7 +122,7 @@ class Stopped(EndsCase):
 
     def test_while_a_tool_starts(self):
         """What the tools share is loaded first, and from then on a stop is told by no traceback."""
-        text = "import os, signal, sys; sys.path.insert(0, sys.argv[1]); import inputtools; os.kill(os.getpid(), signal.SIGINT)"
+        text = "import os, sys; sys.path.insert(0, sys.argv[1]); import inputtools; os.kill(os.getpid(), 2)"
         words = [sys.executable, "-Bc", text, TOOLS]
         done = subprocess.run(words, capture_output=True, text=True, check=False, preexec_fn=heed_stops)
         self.assertEqual((-signal.SIGINT, "", ""), (done.returncode, done.stdout, done.stderr))

@@ -9,71 +9,34 @@ BENCH = TOP / "bench"
 # Without a compiler bench/run can't be run, and nothing rests on plain C.
 COMPILER = shutil.which("cc")
 
-FOLLOWED = """\
-inputrecord 1
-device keypad
-cap EV_KEY KEY_A
-source finger
-client c0
-client c1
-do c0 open
-do c1 open
-do finger event 1000 EV_KEY KEY_A 1
-do finger event 1000 EV_SYN SYN_REPORT 0
-do finger event 2000 EV_KEY KEY_A 0
-do finger event 2000 EV_SYN SYN_REPORT 0
-do c0 follow
-do c1 follow
-do finger event 3000 EV_KEY KEY_A 1
-do finger event 3000 EV_SYN SYN_REPORT 0
-do c0 follow
-do c1 follow
-"""
-
-STREAMED = """\
-inputrecord 1
-device keypad
-cap EV_KEY KEY_A
-source finger
-client c0
-do c0 open
-do finger stream one.stream
-do c0 follow
-"""
+HEAD = "inputrecord 1\ndevice keypad\ncap EV_KEY KEY_A\nsource finger\nclient c0\n"
+FRAME = "do finger event {0} EV_KEY KEY_A {1}\ndo finger event {0} EV_SYN SYN_REPORT 0\n"
+FOLLOW = "do c0 follow\ndo c1 follow\n"
+FOLLOWED = (HEAD + "client c1\ndo c0 open\ndo c1 open\n" + FRAME.format(1000, 1) + FRAME.format(2000, 0)
+            + FOLLOW + FRAME.format(3000, 1) + FOLLOW)
+STREAMED = HEAD + "do c0 open\ndo finger stream one.stream\ndo c0 follow\n"
 
 # The second frame's report: no second, 2,000 microseconds, type 0, code 0, value 0.
 LAST_EVENT = bytes(8) + (2000).to_bytes(8, "little") + bytes(8)
 
-REPORT = """\
-device keypad steps 10
-source finger calls 4 stop finished
-client c0
-call open reply opened 0 0 128
-call getkeys 0 reply bits 1
-call read 0 64 reply took 8 4
+# A client by its number, with the places of its open, its query, its read and its last look.
+CLIENT = """\
+client c{0}
+call open reply opened {1} {0} 128
+call getkeys {0} reply bits {2}
+call read {0} 64 reply took {3} 4
 took 5 1000 EV_KEY KEY_A 1
 took 5 1000 EV_SYN SYN_REPORT 0
 took 7 2000 EV_KEY KEY_A 0
 took 7 2000 EV_SYN SYN_REPORT 0
-again 9
-keys
-stop finished
-client c1
-call open reply opened 2 1 128
-call getkeys 1 reply bits 3
-call read 1 64 reply took 9 4
-took 5 1000 EV_KEY KEY_A 1
-took 5 1000 EV_SYN SYN_REPORT 0
-took 7 2000 EV_KEY KEY_A 0
-took 7 2000 EV_SYN SYN_REPORT 0
-again 10
+again {4}
 keys
 stop finished
 """
+REPORT = ("device keypad steps 10\nsource finger calls 4 stop finished\n" + CLIENT.format(0, 0, 1, 8, 9)
+          + CLIENT.format(1, 2, 3, 9, 10))
 
-
-# The first lines of a record, and lines each of which is refused after them, for a cause of its own.
-BEGUN = b"inputrecord 1\ndevice keypad\ncap EV_KEY KEY_A\nsource finger\nclient c0\ndo c0 open\n"
+# Lines each of which is refused, for a cause of its own.
 REFUSED = (b"do finger event 1 EV_KEY KEY_A \x7f", b"inputrecord 1", b"cap EV_KEY KEY_B", b"hint",
            b"do thumb event 1 EV_KEY KEY_A 1", b"do c0 event 1 EV_KEY KEY_A 1", b"do finger follow",
            b"do finger event 9000000000000001 EV_KEY KEY_A 1", b"do finger event 1 EV_KEY SYN_REPORT 1",
@@ -128,7 +91,7 @@ class Loads(FolderCase):
         plain = self.compiled("plain_recorded")
         for line in REFUSED:
             with self.subTest(line=line):
-                (self.folder / "one").write_bytes(BEGUN + line + b"\n")
+                (self.folder / "one").write_bytes(HEAD.encode() + b"do c0 open\n" + line + b"\n")
                 ours = run(["one"], self.folder)
                 theirs = subprocess.run([plain, "one"], cwd=self.folder, capture_output=True, check=False)
                 self.assertEqual((1, theirs.stdout), (ours.status, ours.text))

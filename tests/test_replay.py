@@ -9,6 +9,7 @@ from checks.random_records import Generator
 from second.replay import Differs, check
 from second.side_by_side import play_side_by_side
 from tests.playing import TOP, FolderCase, said
+from tests.test_threads import sounds
 
 
 # Two clients of a keyboard with two sources. The record has an order in which each line has its say.
@@ -30,6 +31,36 @@ do p read 8
 do p keys
 do c follow
 """
+
+# Two sounds of three are sent before the owner's first call. Its second one takes the last.
+SOUNDS = sounds(3, 2)
+SOUNDS_REPORT = """device u steps 4
+step 0 inject 1 EV_SND SND_BELL 1
+step 1 inject 2 EV_SND SND_BELL 2
+step 2 inject 3 EV_SND SND_BELL 3
+step 3 end
+source s calls 3 stop finished
+owner o
+feedback 2 2
+fed EV_SND SND_BELL 1
+fed EV_SND SND_BELL 2
+feedback 4 1
+fed EV_SND SND_BELL 3
+stop finished
+"""
+
+# What is wrong with a report, and what stands in it instead of what.
+SPOILED_OWNERS = [("more is taken than was sent", "feedback 2 2", "feedback 1 2"),
+                  ("less is taken than there is", "feedback 2 2", "feedback 3 2"),
+                  ("another number", "feedback 4 1", "feedback 4 0"),
+                  ("an event is twice", "fed EV_SND SND_BELL 2", "fed EV_SND SND_BELL 1"),
+                  ("an event is not told", "fed EV_SND SND_BELL 2\n", ""),
+                  ("a place falls", "feedback 4 1", "feedback 1 1"),
+                  ("a place is past the history", "feedback 4 1", "feedback 5 1"),
+                  ("a call is not told", "feedback 4 1\nfed EV_SND SND_BELL 3\n", ""),
+                  ("a call is told that was not made", "SND_BELL 3\nstop", "SND_BELL 3\nfeedback 4 0\nstop"),
+                  ("it stopped and had calls left", "SND_BELL 3\nstop finished", "SND_BELL 3\nstop full 4"),
+                  ("there is no owner", "\nowner o\n", "\nowner p\n")]
 
 IDLE = 20
 SEED = 3
@@ -60,9 +91,9 @@ class Replay(FolderCase):
     def report(self):
         return "".join(line + "\n" for line in play_side_by_side(RECORD, SEED, idle=IDLE))
 
-    def complaint(self, text):
+    def complaint(self, text, record=RECORD):
         try:
-            check(RECORD, text.split("\n")[:-1], idle=IDLE)
+            check(record, text.split("\n")[:-1], idle=IDLE)
         except Differs as error:
             return str(error)
         return None
@@ -82,6 +113,13 @@ class Replay(FolderCase):
                 report = self.report()
                 self.assertIn(before, report)
                 self.assertIn(word, self.complaint(report.replace(before, after, 1)) or "nothing")
+
+    def test_an_owner_was_told_something_else(self):
+        self.assertIsNone(self.complaint(SOUNDS_REPORT, SOUNDS))
+        for name, before, after in SPOILED_OWNERS:
+            with self.subTest(name):
+                self.assertEqual(1, SOUNDS_REPORT.count(before))
+                self.assertIsNotNone(self.complaint(SOUNDS_REPORT.replace(before, after), SOUNDS))
 
     def test_random_records(self):
         for number in range(20):

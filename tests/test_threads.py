@@ -4,8 +4,6 @@ The result of a record depends on the order in which the threads made their step
 played on one thread by a second program (second/replay.py), which has to give the same report, byte for byte.
 """
 
-import unittest
-
 from tests.playing import EXAMPLES, RECORDS, FolderCase, assert_run, needs_program, run
 
 from checks.random_records import Generator
@@ -19,24 +17,18 @@ IDLE = 1000
 TELLING_RUNS = 8
 MOST_RUNS = 400
 
-SOURCE_ALONE = b"""inputrecord 1
-device kbd
-cap EV_KEY KEY_A
-source s
-do s event 1000 EV_KEY KEY_A 1
-do s event 1000 EV_SYN SYN_REPORT 0
-"""
-
+# Records whose reports depend on no order.
+KEYBOARD = "inputrecord 1\ndevice kbd\ncap EV_KEY KEY_A\n"
+SOURCE_ALONE = KEYBOARD + "source s\ndo s event 1000 EV_KEY KEY_A 1\ndo s event 1000 EV_SYN SYN_REPORT 0\n"
+SOURCE_REPORT = "device kbd steps {}\nsource s calls 2 stop finished\n"
 # The device has no source, so nothing is waited for.
-NO_SOURCE = b"""inputrecord 1
-device kbd
-cap EV_KEY KEY_A
-client c
-do c open
-do c follow
-"""
-
-OWNER_ALONE = b"inputrecord 2\nudevice u\nlog 2\nowner o\ndo o feedback 1\ndo o feedback 4096\n"
+NO_SOURCE = KEYBOARD + "client c\ndo c open\ndo c follow\n"
+CLIENT_REPORT = (
+    "device kbd steps 2\nclient c\ncall open reply opened 0 0 128\ncall getkeys 0 reply bits 1\nagain 2\n"
+    "keys\nstop finished\n"
+)
+OWNER_ALONE = "inputrecord 2\nudevice u\nlog 2\nowner o\ndo o feedback 1\ndo o feedback 4096\n"
+OWNER_REPORT = "device u steps 0\nowner o\nfeedback 0 0\nfeedback 0 0\nstop finished\n"
 
 
 def sounds(count, calls):
@@ -44,49 +36,6 @@ def sounds(count, calls):
     lines = ["inputrecord 2", "udevice u", "cap EV_SND SND_BELL", "source s", "owner o"]
     lines += [f"do s event {number} EV_SND SND_BELL {number}" for number in range(1, count + 1)]
     return "".join(line + "\n" for line in lines + ["do o feedback 4"] * calls)
-
-
-# Two sounds of three are sent before the owner's first call. Its second one takes the last.
-SOUNDS = sounds(3, 2)
-SOUNDS_REPORT = """device u steps 4
-step 0 inject 1 EV_SND SND_BELL 1
-step 1 inject 2 EV_SND SND_BELL 2
-step 2 inject 3 EV_SND SND_BELL 3
-step 3 end
-source s calls 3 stop finished
-owner o
-feedback 2 2
-fed EV_SND SND_BELL 1
-fed EV_SND SND_BELL 2
-feedback 4 1
-fed EV_SND SND_BELL 3
-stop finished
-"""
-
-# What is wrong with a report, and what stands in it instead of what.
-SPOILED = [("more is taken than was sent", "feedback 2 2", "feedback 1 2"),
-           ("less is taken than there is", "feedback 2 2", "feedback 3 2"),
-           ("another number", "feedback 4 1", "feedback 4 0"),
-           ("an event is twice", "fed EV_SND SND_BELL 2", "fed EV_SND SND_BELL 1"),
-           ("an event is not told", "fed EV_SND SND_BELL 2\n", ""),
-           ("a place falls", "feedback 4 1", "feedback 1 1"),
-           ("a place is past the history", "feedback 4 1", "feedback 5 1"),
-           ("a call is not told", "feedback 4 1\nfed EV_SND SND_BELL 3\n", ""),
-           ("a call is told that was not made", "SND_BELL 3\nstop", "SND_BELL 3\nfeedback 4 0\nstop"),
-           ("it stopped and had calls left", "SND_BELL 3\nstop finished", "SND_BELL 3\nstop full 4"),
-           ("there is no owner", "\nowner o\n", "\nowner p\n")]
-
-
-class Replays(unittest.TestCase):
-    def test_what_an_owner_was_told_is_what_the_history_sent(self):
-        check(SOUNDS, SOUNDS_REPORT.splitlines())
-
-    def test_an_owner_that_was_told_something_else(self):
-        for what, line, instead in SPOILED:
-            with self.subTest(what):
-                self.assertEqual(1, SOUNDS_REPORT.count(line))
-                with self.assertRaises(Differs):
-                    check(SOUNDS, SOUNDS_REPORT.replace(line, instead).splitlines())
 
 
 class Threads(FolderCase):
@@ -150,19 +99,13 @@ class Threads(FolderCase):
             self.assertEqual(sorted(set(told)), told)
 
     def test_reports_that_depend_on_no_order(self):
-        for name, record, words, status, report in (
-            ("a source alone", SOURCE_ALONE, ["--threads"], 0,
-             "device kbd steps 3\nsource s calls 2 stop finished\n"),
-            ("a source on one thread", SOURCE_ALONE, [], 0,
-             "device kbd steps 2\nsource s calls 2 stop finished\n"),
-            ("no source to wait for", NO_SOURCE, ["--threads"], 0,
-             "device kbd steps 2\nclient c\ncall open reply opened 0 0 128\ncall getkeys 0 reply bits 1\n"
-             "again 2\nkeys\nstop finished\n"),
-            ("a bound without threads", NO_SOURCE, ["--idle", "1"], 0, None),
-            ("an owner alone", OWNER_ALONE, ["--threads"], 0,
-             "device u steps 0\nowner o\nfeedback 0 0\nfeedback 0 0\nstop finished\n"),
+        for name, record, words, report in (
+            ("a source alone", SOURCE_ALONE, ["--threads"], SOURCE_REPORT.format(3)),
+            ("a source on one thread", SOURCE_ALONE, [], SOURCE_REPORT.format(2)),
+            ("no source to wait for", NO_SOURCE, ["--threads"], CLIENT_REPORT),
+            ("a bound without threads", NO_SOURCE, ["--idle", "1"], CLIENT_REPORT),
+            ("an owner alone", OWNER_ALONE, ["--threads"], OWNER_REPORT),
         ):
             with self.subTest(name):
-                (self.folder / "f").write_bytes(record)
-                wanted = run(["f"], self.folder).text if report is None else report.encode()
-                assert_run(self, run([*words, "f"], self.folder), status, wanted)
+                self.write("f", record)
+                assert_run(self, run([*words, "f"], self.folder), 0, report.encode())
