@@ -2,7 +2,6 @@
 of a record played by the second program as it is."""
 
 import random
-import sys
 import tempfile
 from collections import Counter
 from math import comb

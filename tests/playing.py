@@ -63,8 +63,9 @@ class Said(NamedTuple):
 
 def said(script: Union[str, Path], *words: object, **more: Any) -> Said:
     """Runs a script, which may be named by its path from the top."""
-    done = subprocess.run([str(TOP / script), *map(str, words)], capture_output=True, text=True, check=False,
-                          **{"timeout": 60, **more})
+    more = {"timeout": 60, **more}
+    command: List[str] = [str(TOP / script), *map(str, words)]
+    done = subprocess.run(command, capture_output=True, text=True, check=False, **more)
     return Said(done.returncode, done.stdout, done.stderr)
 
 

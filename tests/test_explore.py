@@ -10,7 +10,7 @@ from collections import Counter
 from unittest import mock
 
 from tests.desk_cases import DeskCase, heed_stops
-from tests.explore_cases import TOP, counted_things, explored_record, things_of, whole_graph
+from tests.explore_cases import TOP, explored_record, things_of, whole_graph
 from inputtools.belief import Thing
 from inputtools.explored_record import units_of
 from inputtools.exploring_graph import Graph

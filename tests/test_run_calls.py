@@ -8,18 +8,16 @@ are made where they are asked for by name: `tests/run run_calls`.
 
 from __future__ import annotations
 
-import atexit
 import os
 import shutil
 import subprocess
 import sys
-import tempfile
-from functools import lru_cache
 from itertools import cycle
 from pathlib import Path
-from typing import Dict, List, Optional, Sequence, Tuple
+from typing import Dict, Optional, Sequence, Tuple
 
-from tests.playing import EXAMPLES, TOP, FolderCase
+from tests.playing import EXAMPLES, TOP, FolderCase, said
+from tests.run_cases import build, variables, why_not
 
 from inputtools import runbuild
 from inputtools.names import CODES, TYPES
@@ -53,26 +51,6 @@ def numbers(kind: str, code: str, value: str) -> str:
     return f"{number} {CODES.get(number, {}).get(code, code)} {value}"
 
 
-def why_not() -> Optional[str]:
-    """Why no check can be made here, or None."""
-    if shutil.which(COMPILER) is None:
-        return "a C compiler is not there"
-    try:
-        runbuild.archive()
-    except runbuild.NotBuilt:
-        return "the library is not built"
-    return None
-
-
-@lru_cache(maxsize=None)
-def built() -> Path:
-    """A folder with the server and the shim, which are built once."""
-    folder = Path(tempfile.mkdtemp(prefix="inputplay-"))
-    atexit.register(shutil.rmtree, folder, ignore_errors=True)
-    runbuild.build_run(folder, COMPILER, runbuild.archive())
-    return folder
-
-
 class RunCase(FolderCase):
     """A test that runs programs by a server and a shim that were built for all."""
 
@@ -82,18 +60,18 @@ class RunCase(FolderCase):
     def setUp(self) -> None:
         super().setUp()
         why = why_not()
-        if why is None and self.is_long and "run_calls" not in sys.argv[1:]:
-            why = "`tests/run run_calls` makes it"
-        if why is not None:
+        if self.is_long and "run_calls" not in sys.argv[1:]:
+            why = why or "`tests/run run_calls` makes it"
+        if why:
             self.skipTest(why)
-        self.built = built()
+        self.built = build().folder / "built"
 
     def run_tool(self, words: Sequence[object],
                  programs: Optional[Path] = None) -> subprocess.CompletedProcess[str]:
-        variables = {**variables_to_play(), BUILT_VARIABLE: str(programs or self.built)}
-        return subprocess.run([RUN, "--sys", "none", *map(str, words)], env=variables, stdout=subprocess.PIPE,
-                              stderr=subprocess.PIPE, text=True, errors="replace", stdin=subprocess.DEVNULL,
-                              timeout=SECONDS, check=False)
+        env = {**variables(build()), BUILT_VARIABLE: str(programs or self.built)}
+        return subprocess.run([RUN, "--sys", "none", *map(str, words)], env=env, capture_output=True,
+                              text=True, errors="replace", stdin=subprocess.DEVNULL, timeout=SECONDS,
+                              check=False)
 
     def says_all(self, done: subprocess.CompletedProcess[str], form: str, status: int = 0) -> None:
         """It ended in a status, and wrote this at its end."""
@@ -154,33 +132,28 @@ class Random(RunCase):
 class Statuses(RunCase):
     """What is run's own is told apart from a program's status."""
 
-    def ends(self, status: int, words: List[object], said: str = "") -> None:
-        done = self.run_tool(words)
-        self.assertEqual(status, done.returncode, done.stdout + done.stderr)
-        self.assertIn(said, done.stderr)
-
-    def test_the_program_s_own(self) -> None:
-        self.ends(0, [HERE / "keys.rec", "--", "true"])
-        self.ends(7, [HERE / "keys.rec", "--", "sh", "-c", "exit 7"])
-        self.ends(137, [HERE / "keys.rec", "--", "sh", "-c", "kill -9 $$"])
-
-    def test_a_signal_of_end_is_a_good_end(self) -> None:
-        self.ends(0, ["--end", "term", HERE / "keys.rec", "--frames", 1, "--", "cat", "/dev/input/event0"])
-
-    def test_run_s_own(self) -> None:
-        self.ends(126, [], "a RECORD and, behind --, a PROGRAM are wanted")
-        self.ends(126, ["--speed", "0", HERE / "keys.rec", "--", "true"], "--speed 0 is no number above 0")
-        self.ends(126, [self.folder / "none.rec", "--", "true"], "none.rec: No such file")
-        self.ends(126, ["--as", "s", HERE / "keys.rec", "--", "true"],
-                  "has no client, tap or joystick of this name")
-        self.ends(127, [HERE / "keys.rec", "--", self.folder / "none"], "No such file")
-        self.ends(128, ["--timeout", "0.2", HERE / "keys.rec", "--", "sleep", "9"],
-                  "sleep was ended after 0.2 seconds")
-
-    def test_a_record_that_is_none(self) -> None:
-        wrong = self.folder / "wrong.rec"
-        wrong.write_text("inputrecord 2\ndevice d\nhint x\n")
-        self.ends(126, [wrong, "--", "true"], "line 3: bad-word")
+    def test_statuses(self) -> None:
+        keys, wrong = HERE / "keys.rec", self.write("wrong.rec", "inputrecord 2\ndevice d\nhint x\n")
+        rows: Sequence[Tuple[int, Sequence[object], str]] = (
+            # (the program's own, and a signal of --end, which is a good end)
+            (0, [keys, "--", "true"], ""),
+            (7, [keys, "--", "sh", "-c", "exit 7"], ""),
+            (137, [keys, "--", "sh", "-c", "kill -9 $$"], ""),
+            (0, ["--end", "term", keys, "--frames", 1, "--", "cat", "/dev/input/event0"], ""),
+            # (run's own)
+            (126, [], "a RECORD and, behind --, a PROGRAM are wanted"),
+            (126, ["--speed", "0", keys, "--", "true"], "--speed 0 is no number above 0"),
+            (126, [self.folder / "none.rec", "--", "true"], "none.rec: No such file"),
+            (126, ["--as", "s", keys, "--", "true"], "has no client, tap or joystick of this name"),
+            (126, [wrong, "--", "true"], "line 3: bad-word"),
+            (127, [keys, "--", self.folder / "none"], "No such file"),
+            (128, ["--timeout", "0.2", keys, "--", "sleep", "9"], "sleep was ended after 0.2 seconds"),
+        )
+        for status, words, told in rows:
+            with self.subTest(words):
+                done = self.run_tool(words)
+                self.assertEqual(status, done.returncode, done.stdout + done.stderr)
+                self.assertIn(told, done.stderr)
 
 
 class Histories(RunCase):
@@ -195,14 +168,10 @@ class Histories(RunCase):
         return history.read_text(), done.stderr
 
     def tool(self, name: str, *words: object) -> str:
-        command = [str(TOP / "tools" / name), *map(str, words)]
-        done = subprocess.run(command, stdout=subprocess.PIPE, env=variables_to_play(), text=True,
-                              check=False)
-        return done.stdout
+        return said(f"tools/{name}", *words, env=variables(build())).text
 
     def test_an_expectation_of_the_program(self) -> None:
-        record = self.folder / "stuck.rec"
-        record.write_text("#= desktop agrees\n#= remapper drops 0\n" + STUCK.read_text())
+        record = self.write("stuck.rec", "#= desktop agrees\n#= remapper drops 0\n" + STUCK.read_text())
         history, said = self.ran("--as", "desktop", "--frames", 1, record, status=125)
         self.assertIn(f"{record}:1: desktop agrees: at place 7 (0.002 s): KEY_LEFTCTRL is down for it and up",
                       said)
@@ -261,9 +230,7 @@ class Server(RunCase):
         self.assertEqual((0, "event0\n"), (listed.returncode, listed.stdout), listed.stderr)
         read = self.run_tool(["--server", folder, "--", "head", "-c", 48, "/dev/input/event0"])
         self.assertEqual(0, read.returncode, read.stderr)
-        by_shell = f". {folder}/environment && ls /dev/input"
-        told = subprocess.run(["sh", "-c", by_shell], stdout=subprocess.PIPE, text=True, check=False).stdout
-        self.assertEqual("event0\n", told)
+        self.assertEqual("event0\n", said("/bin/sh", "-c", f". {folder}/environment && ls /dev/input").text)
         self.assertEqual(0, self.run_tool(["--server", folder, "--stop"]).returncode)
         self.assertIn("do head read ", (folder / "history.rec").read_text())
         self.assertEqual(126, self.run_tool(["--server", folder, "--", "true"]).returncode)
@@ -304,9 +271,8 @@ class Valgrind(RunCase):
         if shutil.which("valgrind") is None:
             self.skipTest("valgrind is not there")
         valgrind = "valgrind -q --error-exitcode=9 --leak-check=full"
-        server = self.folder / runbuild.SERVER
-        server.write_text(f'#!/bin/sh\nexec {valgrind} {self.built / runbuild.SERVER} "$@"\n')
-        server.chmod(0o755)
+        self.write(runbuild.SERVER, f'#!/bin/sh\nexec {valgrind} {self.built / runbuild.SERVER} "$@"\n',
+                   0o755)
         shutil.copy(self.built / runbuild.SHIM, self.folder)
         program = compiled(HERE / "calls.c", self.folder / "calls")
         words = ["--frames", 1, "--end", "gone", "--patience", 20000, HERE / "calls.rec", "--",
@@ -314,9 +280,3 @@ class Valgrind(RunCase):
         done = self.run_tool([*words, "--right-places"], self.folder)
         self.says_all(done, r"\A\d+ checks, 0 failed")
         self.assertNotRegex(done.stderr, r"==\d+==")
-
-
-def variables_to_play() -> Dict[str, str]:
-    """What the tools are told: the program, where it is there; else the second program plays."""
-    has_program = os.access(os.environ.get("INPUTPLAY", ""), os.X_OK)
-    return {name: value for name, value in os.environ.items() if name != "INPUTPLAY" or has_program}

@@ -5,30 +5,19 @@ from __future__ import annotations
 
 import re
 import shutil
-import subprocess
-from pathlib import Path
 from typing import List, Tuple
 
 from tests.playing import TOP
+from tests.run_cases import needs, needs_module
 from tests.test_run_calls import RunCase, compiled
-
-from inputtools import runsystem
 
 HERE = TOP / "tests" / "run_uinput"
 KEYBOARD = HERE / "keyboard.rec"
-# Debian's Python, which has the modules of Debian's packages.
-PYTHON = "/usr/bin/python3"
-REPLAY = "/usr/libexec/libinput/libinput-replay"
 CHECKS = 125
 KEY_ESC, KEY_A, KEY_B = 1, 30, 48
 HAS_MADE = "until [ -e /dev/input/event1 ]; do sleep 0.05; done"
 
 Event = Tuple[int, int, int]
-
-
-def has_module(name: str) -> bool:
-    words = [PYTHON, "-c", f"import {name}"]
-    return Path(PYTHON).exists() and subprocess.run(words, capture_output=True, check=False).returncode == 0
 
 
 def events_of(text: str) -> List[Event]:
@@ -41,12 +30,6 @@ def presses(*keys: int) -> List[Event]:
     return [(1, key, value) for key in keys for value in (1, 0)]
 
 
-def needs(case: RunCase, *programs: str) -> None:
-    for program in programs:
-        if shutil.which(program) is None:
-            case.skipTest(f"{program} is not there")
-
-
 class Requests(RunCase):
     def test_each_request(self) -> None:
         program = compiled(HERE / "requests.c", self.folder / "requests")
@@ -55,11 +38,10 @@ class Requests(RunCase):
         self.assertEqual(1, done.stderr.count("is not served, and answered EINVAL"), done.stderr)
 
     def test_it_is_clean_under_valgrind(self) -> None:
-        needs(self, "valgrind")
+        needs(self, "valgrind", "valgrind")
         valgrind = "valgrind -q --error-exitcode=9 --leak-check=full"
-        served = self.folder / "inputplay-serve"
-        served.write_text(f'#!/bin/sh\nexec {valgrind} {self.built / served.name} "$@"\n')
-        served.chmod(0o755)
+        self.write("inputplay-serve", f'#!/bin/sh\nexec {valgrind} {self.built}/inputplay-serve "$@"\n',
+                   0o755)
         shutil.copy(self.built / "libinputplay-run.so", self.folder)
         program = compiled(HERE / "requests.c", self.folder / "requests")
         done = self.run_tool(["--sys", "none", "--quiet", 60000, KEYBOARD, "--", program], self.folder)
@@ -72,16 +54,15 @@ class Programs(RunCase):
 
     def read_of(self, script: str, *options: object) -> List[Event]:
         """What evtest reads of the made device, while a script runs."""
-        needs(self, "evtest")
+        needs(self, "evtest", "evtest")
         words = ["--sys", "none", *options, KEYBOARD, "--", "sh", "-c"]
         done = self.run_tool([*words, f"{script} & {HAS_MADE}; evtest /dev/input/event1; wait"])
         self.assertEqual(0, done.returncode, done.stdout + done.stderr)
         return events_of(done.stdout)
 
     def test_python_remapper(self) -> None:
-        if not has_module("evdev"):
-            self.skipTest("python3-evdev is not there")
-        remapper = f"{PYTHON} -B {HERE / 'remapper.py'} /dev/input/event0"
+        python = needs_module(self, "evdev", "python3-evdev")
+        remapper = f"{python} -B {HERE / 'remapper.py'} /dev/input/event0"
         # (its own open of what it made, evtest's and its grabbed keyboard are the ones to wait for)
         both = [self.read_of(remapper, "--clients", 4, "--frames", 1, "--end", "term"),
                 self.read_of(remapper, "--clients", 4, "--end", "gone")]
@@ -89,13 +70,15 @@ class Programs(RunCase):
         self.assertEqual([wanted, wanted], both)
 
     def test_interception_and_caps2esc(self) -> None:
-        needs(self, "interception", "uinput", "caps2esc")
+        for program, package in (("interception", "tools"), ("uinput", "tools"), ("caps2esc", "caps2esc")):
+            needs(self, program, f"interception-{package}")
         script = "(interception -g /dev/input/event0 | caps2esc | uinput -d /dev/input/event0)"
         read = self.read_of(script, "--clients", 3, "--end", "gone")
         self.assertEqual(presses(KEY_A, KEY_ESC), read)
 
     def test_evemu_device(self) -> None:
-        needs(self, "evemu-device", "evemu-describe", "evemu-event")
+        for program in ("evemu-device", "evemu-describe", "evemu-event"):
+            needs(self, program, "evemu-tools")
         said = self.folder / "keyboard.evemu"
         script = f"""evemu-describe /dev/input/event0 > {said}; evemu-device {said} > /dev/null &
             {HAS_MADE}; evemu-describe /dev/input/event1 | diff - {said} && echo alike
@@ -107,13 +90,12 @@ class Programs(RunCase):
         self.assertTrue(done.stdout.endswith("event0\n"), done.stdout)
 
     def test_libinput_replay(self) -> None:
-        needs(self, "umockdev-run", "evtest")
-        if not hasattr(runsystem, "RUNNER"):
-            self.skipTest("tools/run shows no /sys yet")
-        if not (Path(REPLAY).exists() and has_module("libevdev, pyudev, yaml")):
-            self.skipTest("libinput replay is not there")
+        needs(self, "umockdev-run", "umockdev")
+        needs(self, "evtest", "evtest")
+        replay = needs(self, "libinput-replay", "libinput-tools")
+        python = needs_module(self, "libevdev, pyudev, yaml", "libinput-tools")
         script = f"""(until [ -e {self.folder}/go ]; do sleep 0.1; done; echo; sleep 2) |
-            {PYTHON} {REPLAY} {HERE / 'keys.libinput.yml'} > {self.folder}/said 2>&1 &
+            {python} {replay} {HERE / 'keys.libinput.yml'} > {self.folder}/said 2>&1 &
             {HAS_MADE}; (sleep 2; touch {self.folder}/go) & timeout 8 evtest /dev/input/event1"""
         done = self.run_tool(["--sys", "auto", "--quiet", 60000, KEYBOARD, "--", "bash", "-c", script])
         said = (self.folder / "said").read_text()

@@ -5,16 +5,14 @@ installed is left out by its name."""
 from __future__ import annotations
 
 import re
-import shutil
 import subprocess
 import time
 from pathlib import Path
 from typing import List
 
 from tests.playing import TOP
+from tests.run_cases import needs
 from tests.test_run_calls import RunCase, compiled
-
-from inputtools import runsystem
 
 HERE, DATA = TOP / "tests" / "run_virtual", TOP / "tests" / "data"
 CHECKS = 35
@@ -43,8 +41,6 @@ class Programs(RunCase):
 
     def twice(self, options: List[object], record: Path, program: List[object]) -> str:
         """What a program writes, which is the same at two runs."""
-        if shutil.which(str(program[0])) is None:
-            self.skipTest(f"{program[0]} is not there")
         words = ["--virtual", "--end", "int", *options, record, "--", *program]
         one, other = (self.run_tool(words) for _ in range(2))
         self.assertEqual(0, one.returncode, one.stderr)
@@ -52,13 +48,14 @@ class Programs(RunCase):
         return one.stdout
 
     def test_evtest_with_its_times(self) -> None:
+        needs(self, "evtest", "evtest")
         told = self.twice(["--sys", "none"], self.record("touchpad"), ["evtest", "/dev/input/event0"])
         times = re.findall(r"^Event: time (\S+),", told, re.MULTILINE)
         self.assertGreater(len(set(times)), 10)
 
     def test_libinput_with_its_times(self) -> None:
-        if not hasattr(runsystem, "RUNNER") or shutil.which("umockdev-run") is None:
-            self.skipTest("tools/run shows no /sys here")
+        needs(self, "umockdev-run", "umockdev")
+        needs(self, "libinput", "libinput-tools")
         told = self.twice(["--sys", "auto"], self.record("touchpad"), ["libinput", "debug-events"])
         times = re.findall(r"POINTER_MOTION +\+(\d+\.\d+)s", told)
         self.assertGreater(len(set(times)), 5, told)
