@@ -42,7 +42,6 @@ class Tally:
         self.unexplained += other.unexplained
 
     def text(self) -> str:
-        """What was compared, a line each, differences by their names."""
         numbers = self.numbers
         lines = [
             f"{numbers['records']} records, {numbers['rounds']} quiet points, {numbers['values']} values",
@@ -55,7 +54,6 @@ class Tally:
 
 
 def flags_of_libevdev() -> List[str]:
-    """What the compiler has to be told of libevdev."""
     words = ["pkg-config", "--cflags", "--libs", "libevdev"]
     try:
         done = subprocess.run(words, stdout=subprocess.PIPE, stderr=subprocess.PIPE, text=True, check=False)
@@ -67,7 +65,6 @@ def flags_of_libevdev() -> List[str]:
 
 
 def build(out: Path, compiler: str) -> None:
-    """Compiles both programs into a folder."""
     include = ["-I", str(SOURCES), "-I", str(TOP / "include")]
     server = [path for path in sources("server") if not path.endswith("/main.c")]
     first = [str(HERE / f"{SERVER}.c"), *server, str(archive())]

@@ -40,8 +40,6 @@ Node = TypeVar("Node")
 
 
 class Item:
-    """One definition, or one declaration."""
-
     def __init__(self, key: Key, kind: str) -> None:
         self.key, self.kind = key, kind
         # the numbers of its lines, and of the comments in it and right above it
@@ -154,8 +152,6 @@ class Repository:
 
 
 class SourceFile:
-    """A file of a crate, as its items."""
-
     def __init__(self, repository: Repository, crate: str, path: str) -> None:
         self.repository, self.crate, self.path = repository, crate, path
         self.rows = (repository.top / "crates" / crate / path).read_text().splitlines()
@@ -207,8 +203,6 @@ class SourceFile:
 
 
 class Definitions(SourceFile):
-    """A file of specs/."""
-
     def __init__(self, repository: Repository, crate: str, path: str) -> None:
         super().__init__(repository, crate, path)
         item: Optional[Item] = None

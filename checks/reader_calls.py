@@ -120,7 +120,6 @@ class Beside:
         self.note("next", self.device.number, int(sync), int(answer), *map(int, came or NO_EVENT))
 
     def read(self) -> None:
-        """The joystick client's next record or answer."""
         given = self.joystick.read(self.mirror)
         answer, record, place = self.kept.read()
         came = pack("<IhBB", *record) if record else bytes(8)
@@ -128,7 +127,6 @@ class Beside:
         self.note("joyread", self.device.number, int(answer), place, *came)
 
     def make(self) -> None:
-        """Makes the calls of both."""
         self.between(self.start, 0, self.library.Reader, self.reader, self.reader)
         for at in range(NEXTS if self.kept else 0):
             self.between(self.next, at)
@@ -140,6 +138,5 @@ class Beside:
 
 
 def make_calls(devices: List[Any]) -> None:
-    """The calls of a reader and of a joystick client on each device."""
     for device in devices:
         Beside(device).make()

@@ -132,7 +132,6 @@ def blanks() -> str:
 
 
 def nothing() -> str:
-    """No device."""
     return "inputrecord 1\n"
 
 

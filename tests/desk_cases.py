@@ -86,7 +86,6 @@ class DeskCase(FolderCase):
 
 
 def part_of(report: List[str], name: str) -> List[str]:
-    """The lines of a client's part."""
     start = report.index(f"client {name}")
     return report[start : report.index("stop finished", start)]
 

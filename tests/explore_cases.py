@@ -20,7 +20,6 @@ MOST_STATES, SECONDS = 10**6, 600
 
 
 def explored_record(text, folder="."):
-    """A record, of its text."""
     with tempfile.TemporaryDirectory() as temp:
         path = Path(temp) / "explored.rec"
         path.write_text(text)
@@ -28,14 +27,12 @@ def explored_record(text, folder="."):
 
 
 def whole_graph(record, target, **asked):
-    """The whole graph of a record's one device, and its counts."""
     problem = Problem(record, 0, target, Asked(**asked))
     graph = Graph(problem, MOST_STATES, SECONDS)
     return graph, Counts(graph)
 
 
 def counted_things(graph, counts):
-    """In how many orders each thing comes."""
     found = Counter()
     for node, state in graph.ends.items():
         for thing in things_at(state, graph.problem):

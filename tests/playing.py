@@ -45,7 +45,6 @@ class FolderCase(unittest.TestCase):
         self.folder = Path(folder.name)
 
     def write(self, name: str, text: str, mode: int = 0o644) -> Path:
-        """A file below the folder."""
         path = self.folder / name
         path.parent.mkdir(parents=True, exist_ok=True)
         path.write_text(text)
@@ -54,8 +53,6 @@ class FolderCase(unittest.TestCase):
 
 
 class Said(NamedTuple):
-    """What a run of a script came to."""
-
     status: int
     text: str
     errors: str

@@ -42,7 +42,6 @@ class Done:
         return self.text.decode("utf-8", "backslashreplace").splitlines()
 
     def count(self, pattern: str) -> int:
-        """How many lines have the pattern."""
         return sum(bool(re.search(pattern, line)) for line in self.lines())
 
 
@@ -56,7 +55,6 @@ class Built:
             self.record(f"{name}.rec", DATA / f"{name}.evtest", "--identity", DATA / f"{name}.proc")
 
     def record(self, name: str, *words: object) -> Path:
-        """Has tools/record make a record."""
         path = self.folder / name
         command = [str(TOP / "tools" / "record"), *map(str, words)]
         made = subprocess.run(command, capture_output=True, text=True, check=True)
@@ -120,7 +118,6 @@ def needs(test: unittest.TestCase, program: str, package: str) -> str:
 
 
 def needs_module(test: unittest.TestCase, module: str, package: str) -> str:
-    """A Python that has the module, or the test is skipped."""
     found = python_with(module)
     if not found:
         test.skipTest(f"Python's {module} is not installed (Debian: {package})")

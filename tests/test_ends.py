@@ -27,7 +27,6 @@ class EndsCase(DeskCase):
                     ("shrink", [RECORD, "--", "grep", "-q", "grab"])]
 
     def each(self, tools, body):
-        """Does something with each of these tools and its words."""
         for tool, words in tools:
             with self.subTest(f"{tool} {' '.join(map(str, words))}"):
                 body(tool, words)
@@ -58,7 +57,6 @@ class Output(EndsCase):
         self.each(self.all, self.fails_on_a_full_device)
 
     def test_help(self):
-        """It tells how the tool ends."""
         def tells(tool, words):
             status, text, said = self.run_tool(tool, *words)
             self.assertEqual((0, []), (status, said))

@@ -150,13 +150,11 @@ class Actors(unittest.TestCase):
 
 
 def fields(each, *names):
-    """Some fields of an object of JSON."""
     return tuple(each[name] for name in names)
 
 
 class Command(DeskCase):
     def explore(self, *words):
-        """The status and the lines of the command."""
         status, text, lines = self.tool("explore", *words)
         self.assertEqual([], lines)
         return status, text.splitlines()

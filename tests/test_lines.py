@@ -182,7 +182,6 @@ def texts() -> Iterator[Text]:
 
 class Lines(FolderCase):
     def told(self, text: str, *words: str) -> Run:
-        """What the program says of a text."""
         (self.folder / "f").write_bytes(text.encode("latin1"))
         return run([*words, "f"], self.folder)
 

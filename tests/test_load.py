@@ -64,7 +64,6 @@ class Loads(FolderCase):
         self.assertEqual((0, REPORT), (ours.status, ours.text.decode()))
 
     def compiled(self, name):
-        """A program in plain C."""
         (self.folder / "plain_names.h").write_text(self.names())
         subprocess.run([COMPILER, "-O2", "-I", self.folder, "-o", self.folder / name, BENCH / f"{name}.c"],
                        check=True)

@@ -87,7 +87,6 @@ def proofs():
 
 
 def comments(path):
-    """The comments of a file, as one text."""
     return " ".join(COMMENTED.findall(path.read_text()))
 
 
@@ -345,7 +344,6 @@ def taken_words(text):
 
 
 def handed_words(text):
-    """The names that a file of proofs hands on."""
     return [name.split(" as ")[-1].strip() for braces in HANDED_ON.findall(text)
             for name in braces.split(",")]
 

@@ -48,7 +48,6 @@ def error(number, what, *more):
 
 
 def race(number, did, *more):
-    """A report of helgrind."""
     return error(number, f"<xwhat><text>Possible data race during {did}</text></xwhat>", stack("step"),
                  stack("other"), *more)
 

@@ -15,8 +15,6 @@ MODULES = (run_readers, run_libinput, run_games, run_sway, run_remapper, run_pag
 
 
 class NotBuilt(unittest.TestCase):
-    """Stands for all of them."""
-
     def test_programs_run_on_played_devices(self) -> None:
         self.skipTest(why_not())
 

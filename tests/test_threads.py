@@ -69,7 +69,6 @@ class Threads(FolderCase):
         self.assertTrue(owners, "some records have an owner")
 
     def told_of(self, count, calls):
-        """The numbers of the sounds that an owner was told."""
         (self.folder / "f").write_text(sounds(count, calls))
         printed = [line.split() for line in self.runs_by_its_history("f", self.folder)]
         taken = [int(words[2]) for words in printed if words[0] == "feedback"]

@@ -27,7 +27,6 @@ def scripts(folder):
 
 class Types(FolderCase):
     def mypy(self, *words):
-        """It has nothing to say."""
         done = subprocess.run(["mypy", "--config-file", "tests/mypy.ini", "--cache-dir", self.folder, *words],
                               cwd=TOP, capture_output=True, text=True, check=False)
         self.assertEqual((0, ""), (done.returncode, done.stderr), done.stdout)

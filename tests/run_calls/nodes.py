@@ -81,7 +81,6 @@ def connection() -> socket.socket:
 
 
 def server_id() -> int:
-    """The process of the server."""
     with connection() as line:
         process, _, _ = struct.unpack("3i", line.getsockopt(socket.SOL_SOCKET, socket.SO_PEERCRED, 12))
     return int(process)
