@@ -1,4 +1,4 @@
-"""What checks/believed finds in a small repository; and that docs/PROMISES.md has its table."""
+"""What checks/believed finds in a small repository."""
 
 import re
 
@@ -180,12 +180,6 @@ class Believed(FolderCase):
     def test_a_definition_that_looks_inside_a_type(self):
         self.write("crates/high/specs/Promise.antt", LOOKING_INSIDE)
         self.assertIn("low/src/color.rt  LAST Unnamed\n", self.small().text)
-
-    def test_page(self):
-        status, text, errors = said(SCRIPT, "--page")
-        self.assertEqual((0, ""), (status, errors))
-        page = (TOP / "docs" / "PROMISES.md").read_text()
-        self.assertIn(f"\n{text}<!--", page, "'checks/believed --write' writes the table anew")
 
     def test_write(self):
         """It writes the table of one function alone. (What writes a page is looked at in test_counts.py.)"""

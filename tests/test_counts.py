@@ -1,8 +1,8 @@
-"""What checks/counts counts of a small repository; and that docs/TESTING.md has its table."""
+"""What checks/counts counts of a small repository."""
 
 import re
 
-from tests.playing import TOP, FolderCase, said
+from tests.playing import FolderCase, said
 
 from checks import pages
 
@@ -98,12 +98,6 @@ class Counts(FolderCase):
         # the clause of two lines has one mark
         self.assertEqual((13, 9), (code.count("// code"), code.count("// prover")))
         self.assertEqual((0, WANTED, ""), self.small())
-
-    def test_page(self):
-        status, text, errors = said(SCRIPT, "--page")
-        self.assertEqual((0, ""), (status, errors))
-        page = (TOP / "docs" / "TESTING.md").read_text()
-        self.assertIn(f"\n{text}<!--", page, "'checks/counts --write' writes the table anew")
 
     def test_write(self):
         page = self.write("docs/TESTING.md", "Page\n")

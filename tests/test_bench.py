@@ -1,9 +1,9 @@
-"""What bench/load writes for small loads, what the program and plain C print of them, and no loads."""
+"""What the scripts of bench/ make of small loads, and that plain C prints and does the same as the program."""
 
 import shutil
 import subprocess
 
-from tests.playing import TOP, FolderCase, run, said
+from tests.playing import PROGRAM, TOP, FolderCase, needs_program, run, said
 
 BENCH = TOP / "bench"
 # Without a compiler bench/run can't be run, and nothing rests on plain C.
@@ -44,6 +44,12 @@ REFUSED = (b"do finger event 1 EV_KEY KEY_A \x7f", b"inputrecord 1", b"cap EV_KE
            b"do finger event 1 EV_KEY KEY_A 2147483648", b"do finger event 1 EV_KEY KEY_A -")
 
 
+# Two taps, and eight frames of two events. The opens are steps 0 and 1; where masks are set these are 2 and 3.
+WAYS = {"read": ["call read 0 64 reply took 18 16", "call read 1 64 reply took 19 16"],
+        "discard": ["call discard 0 reply discarded 18 16", "call discard 1 reply discarded 19 16"],
+        "none": ["again 20", "again 20"]}
+
+
 class Loads(FolderCase):
     def written(self, *words):
         self.assertEqual(0, said("bench/load", *words, cwd=self.folder).status)
@@ -65,8 +71,9 @@ class Loads(FolderCase):
 
     def compiled(self, name):
         (self.folder / "plain_names.h").write_text(self.names())
-        subprocess.run([COMPILER, "-O2", "-I", self.folder, "-o", self.folder / name, BENCH / f"{name}.c"],
-                       check=True)
+        words = [COMPILER, "-O2", "-pthread", "-I", self.folder, "-o", self.folder / name,
+                 BENCH / f"{name}.c"]
+        subprocess.run(words, check=True)
         return self.folder / name
 
     def names(self):
@@ -104,3 +111,32 @@ class Loads(FolderCase):
     def test_a_folder_that_is_not_there(self):
         self.assertEqual((1, "", "load: none/one cannot be written: No such file or directory\n"),
                          said("bench/load", "followed", "none/one", cwd=self.folder))
+
+    def test_each_way_of_clients(self):
+        for way, answers in WAYS.items():
+            with self.subTest(way=way):
+                made = said("bench/clients", "--print", way, "--clients", "2", "--frames", "8")
+                self.assertEqual((0, ""), (made.status, made.errors))
+                self.write("one", made.text)
+                came = run(["one"], self.folder)
+                self.assertEqual(0, came.status)
+                told = [line for line in came.text.decode().splitlines()
+                        if line.startswith(("call read", "call discard", "again"))]
+                self.assertEqual(answers, told)
+
+    def test_the_times_of_threads(self):
+        needs_program(self)
+        ended = said("bench/threads", PROGRAM, "--frames", "80", "--runs", "1")
+        self.assertEqual((0, ""), (ended.status, ended.errors))
+        rows = [row.split() for row in ended.text.splitlines()]
+        self.assertEqual(["devices", "1", "2", "4", "8"], [row[0] for row in rows])
+        self.assertEqual(["177", "185", "201", "233"], [row[1] for row in rows[1:]])
+
+    def test_plain_threads(self):
+        if not COMPILER:
+            self.skipTest("there is no C compiler")
+        plain = self.compiled("plain_turn")
+        for lock in ("mutex", "spin"):
+            with self.subTest(lock=lock):
+                ended = said(plain, lock, "4", "2", "1000", "8")
+                self.assertEqual((0, "threads 4 devices 2 steps 1000 entered 4000\n", ""), ended)
