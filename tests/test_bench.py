@@ -1,4 +1,4 @@
-"""What the scripts of bench/ make of small loads, and that plain C prints and does the same as the program."""
+"""What the scripts of bench/ make of small loads, and that plain C does the same as the program."""
 
 import shutil
 import subprocess
@@ -44,7 +44,7 @@ REFUSED = (b"do finger event 1 EV_KEY KEY_A \x7f", b"inputrecord 1", b"cap EV_KE
            b"do finger event 1 EV_KEY KEY_A 2147483648", b"do finger event 1 EV_KEY KEY_A -")
 
 
-# Two taps, and eight frames of two events. The opens are steps 0 and 1; where masks are set these are 2 and 3.
+# Two taps, and eight frames of two events. The opens are steps 0 and 1; masks are steps 2 and 3.
 WAYS = {"read": ["call read 0 64 reply took 18 16", "call read 1 64 reply took 19 16"],
         "discard": ["call discard 0 reply discarded 18 16", "call discard 1 reply discarded 19 16"],
         "none": ["again 20", "again 20"]}

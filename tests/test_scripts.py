@@ -1,5 +1,5 @@
-"""Each script of bench/ and checks/ has help, and refuses wrong words by status 2 and a line that says why; and
-the pages have what scripts write into them."""
+"""Each script of bench/ and checks/ has help, and refuses wrong words by status 2 and a line; and pages have
+what scripts write into them."""
 
 import sys
 
