@@ -62,45 +62,35 @@ class Limits(FolderCase):
         self.assertEqual(b"", ran.errors)
         return ran.status, ran.text.decode()
 
-    def test_a_step_of_a_client_is_refused(self) -> None:
+    def test_a_step_of_a_client(self) -> None:
+        """It is refused where the history is full, and accepted as the last one."""
         for step in OF_A_CLIENT:
-            full = len(step.before)
-            with self.subTest(step=step.line):
-                status, text = self.report(full, (*step.before, f"do t {step.line}"))
-                self.assertEqual((6, full), (status, text.count("\nstep ")))
-                self.assertIn(f"\ncall {step.call} reply refused {full} log-full\n", text)
-                self.assertTrue(text.endswith(f"\nstop full {full}\n"))
-
-    def test_a_step_of_a_client_is_the_last(self) -> None:
-        for step in OF_A_CLIENT:
-            full = len(step.before)
-            with self.subTest(step=step.line):
-                status, text = self.report(full + 1, (*step.before, f"do t {step.line}"))
-                self.assertEqual((0, full + 1), (status, text.count("\nstep ")))
-                self.assertIn(f"\nstep {full} {step.call}\n", text)
-                self.assertIn(f"\ncall {step.call} reply {step.reply.replace('AT', str(full))}\n", text)
-                self.assertTrue(text.endswith("\nstop finished\n"))
+            full, lines = len(step.before), (*step.before, f"do t {step.line}")
+            accepted = f"\nstep {full} {step.call}\n", step.reply.replace("AT", str(full)), "finished"
+            refused = "", f"refused {full} log-full", f"full {full}"
+            for limit, ended, (row, reply, stop) in ((full, 6, refused), (full + 1, 0, accepted)):
+                with self.subTest(step=step.line, limit=limit):
+                    status, text = self.report(limit, lines)
+                    self.assertEqual((ended, limit), (status, text.count("\nstep ")))
+                    self.assertIn(row, text)
+                    self.assertIn(f"\ncall {step.call} reply {reply}\n", text)
+                    self.assertTrue(text.endswith(f"\nstop {stop}\n"))
 
     def test_a_step_of_a_source(self) -> None:
         for line in OF_A_SOURCE:
             step = line.replace("event", "inject")
-            with self.subTest(step=step):
-                status, text = self.report(1, (*OPENED, f"do s {line}"))
-                self.assertEqual((6, 1), (status, text.count("\nstep ")))
-                self.assertIn("\nsource s calls 0 stop full 1\n", text)
-                status, text = self.report(2, (*OPENED, f"do s {line}"))
-                self.assertEqual(0, status)
-                self.assertIn(f"\nstep 1 {step}\n", text)
-                self.assertIn("\nsource s calls 1 stop finished\n", text)
+            for limit, ended, told in ((1, 6, "source s calls 0 stop full 1"), (2, 0, f"step 1 {step}")):
+                with self.subTest(step=step, limit=limit):
+                    status, text = self.report(limit, (*OPENED, f"do s {line}"))
+                    self.assertEqual((ended, limit), (status, text.count("\nstep ")))
+                    self.assertIn(f"\n{told}\n", text)
+                    self.assertEqual(limit == 2, "\nsource s calls 1 stop finished\n" in text)
 
     def test_an_open(self) -> None:
-        lines = ("do s uninhibit", "do t open")
-        status, text = self.report(1, lines)
-        self.assertEqual(6, status)
-        self.assertIn("\ncall open reply refused 1 log-full\n", text)
-        status, text = self.report(2, lines)
-        self.assertEqual(0, status)
-        self.assertIn("\ncall open reply opened 1 0 128\n", text)
+        for limit, ended, reply in ((1, 6, "refused 1 log-full"), (2, 0, "opened 1 0 128")):
+            status, text = self.report(limit, ("do s uninhibit", "do t open"))
+            self.assertEqual(ended, status)
+            self.assertIn(f"\ncall open reply {reply}\n", text)
 
     def test_the_end_of_a_source(self) -> None:
         # On a thread of its own a source says that it is done, by a step.
