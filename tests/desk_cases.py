@@ -7,7 +7,7 @@ import struct
 import subprocess
 import sys
 from pathlib import Path
-from typing import Iterable, List, Optional, Sequence, Tuple, Union
+from typing import Iterable, List, Optional, Sequence, Tuple
 
 from inputtools import command, names
 from tests.playing import PROGRAM, TOP, FolderCase, loaded, needs_program
@@ -39,10 +39,7 @@ def raw_capture(events: Iterable[Captured], size: int = 24, base: int = 17642522
 class DeskCase(FolderCase):
     """A test that runs tools and plays what they write."""
 
-    def file(self, name: str, content: Union[str, bytes]) -> Path:
-        path = self.folder / name
-        path.write_bytes(content if isinstance(content, bytes) else content.encode())
-        return path
+    file = FolderCase.write
 
     def tool(self, name: str, *words: object) -> Tuple[int, str, List[str]]:
         """Runs a tool: its status, what it wrote, and the lines on standard error."""

@@ -3,6 +3,7 @@
 import difflib
 import importlib.util
 import os
+import shutil
 import subprocess
 import sys
 import tempfile
@@ -44,10 +45,10 @@ class FolderCase(unittest.TestCase):
         self.addCleanup(folder.cleanup)
         self.folder = Path(folder.name)
 
-    def write(self, name: str, text: str, mode: int = 0o644) -> Path:
+    def write(self, name: str, content: Union[str, bytes], mode: int = 0o644) -> Path:
         path = self.folder / name
         path.parent.mkdir(parents=True, exist_ok=True)
-        path.write_text(text)
+        path.write_bytes(content if isinstance(content, bytes) else content.encode())
         path.chmod(mode)
         return path
 
@@ -70,6 +71,16 @@ def needs_program(test: Optional[unittest.TestCase] = None) -> None:
     """Leaves out a test that needs the program where it is not there."""
     if not os.access(PROGRAM, os.X_OK):
         raise unittest.SkipTest("the program is not there")
+
+
+def needs(test: unittest.TestCase, program: str, package: str) -> str:
+    """The path of a program, or the test is skipped by its name. One of libinput's own stands in a folder of
+    its own."""
+    paths = (program, f"/usr/libexec/libinput/{program}", f"/usr/sbin/{program}")
+    found = next(filter(None, map(shutil.which, paths)), None)
+    if not found:
+        test.skipTest(f"{program} is not installed (Debian: {package})")
+    return str(found)
 
 
 class Run(NamedTuple):

@@ -16,7 +16,7 @@ from dataclasses import dataclass
 from pathlib import Path
 from typing import Dict, List, Mapping, Sequence
 
-from tests.playing import PROGRAM, TOP, FolderCase
+from tests.playing import PROGRAM, TOP, FolderCase, needs as needs
 
 from inputtools.runbuild import NotBuilt, archive, build_run
 from inputtools.running import BUILT_VARIABLE
@@ -25,7 +25,6 @@ DATA, EXAMPLES = TOP / "tests" / "data", TOP / "examples"
 HERE = TOP / "tests" / "run_programs"
 # A program that hangs is a failure.
 SECONDS = 25
-LIBINPUT = "/usr/libexec/libinput"
 NOTHING_MORE: Mapping[str, str] = {}
 CAPTURES = ("keyboard", "mouse", "touchpad", "lid")
 
@@ -105,16 +104,6 @@ def python_with(module: str) -> str:
         if found.returncode == 0:
             return python
     return ""
-
-
-def needs(test: unittest.TestCase, program: str, package: str) -> str:
-    """The path of a program, or the test is skipped by its name. One of libinput's own stands in a folder of
-    its own."""
-    paths = (program, f"{LIBINPUT}/{program}", f"/usr/sbin/{program}")
-    found = next(filter(None, map(shutil.which, paths)), None)
-    if not found:
-        test.skipTest(f"{program} is not installed (Debian: {package})")
-    return str(found)
 
 
 def needs_module(test: unittest.TestCase, module: str, package: str) -> str:

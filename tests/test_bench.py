@@ -1,13 +1,10 @@
 """What the scripts of bench/ make of small loads, and that plain C does the same as the program."""
 
-import shutil
 import subprocess
 
-from tests.playing import PROGRAM, TOP, FolderCase, needs_program, run, said
+from tests.playing import PROGRAM, TOP, FolderCase, needs, needs_program, run, said
 
 BENCH = TOP / "bench"
-# Without a compiler bench/run can't be run, and nothing rests on plain C.
-COMPILER = shutil.which("cc")
 
 HEAD = "inputrecord 1\ndevice keypad\ncap EV_KEY KEY_A\nsource finger\nclient c0\n"
 FRAME = "do finger event {0} EV_KEY KEY_A {1}\ndo finger event {0} EV_SYN SYN_REPORT 0\n"
@@ -70,8 +67,9 @@ class Loads(FolderCase):
         self.assertEqual((0, REPORT), (ours.status, ours.text.decode()))
 
     def compiled(self, name):
-        (self.folder / "plain_names.h").write_text(self.names())
-        words = [COMPILER, "-O2", "-pthread", "-I", self.folder, "-o", self.folder / name,
+        compiler = needs(self, "cc", "gcc")
+        self.write("plain_names.h", self.names())
+        words = [compiler, "-O2", "-pthread", "-I", self.folder, "-o", self.folder / name,
                  BENCH / f"{name}.c"]
         subprocess.run(words, check=True)
         return self.folder / name
@@ -80,8 +78,6 @@ class Loads(FolderCase):
         return said("bench/plain_names").text
 
     def test_both_programs_print_the_same(self):
-        if not COMPILER:
-            self.skipTest("there is no C compiler")
         for kind, plain in (("followed", "plain_play"), ("streamed", "plain_play"),
                             ("recorded", "plain_recorded")):
             with self.subTest(kind=kind):
@@ -92,8 +88,6 @@ class Loads(FolderCase):
                 self.assertEqual((0, theirs.stdout), (ours.status, ours.text))
 
     def test_both_programs_refuse_the_same(self):
-        if not COMPILER:
-            self.skipTest("there is no C compiler")
         plain = self.compiled("plain_recorded")
         for line in REFUSED:
             with self.subTest(line=line):
@@ -133,8 +127,6 @@ class Loads(FolderCase):
         self.assertEqual(["177", "185", "201", "233"], [row[1] for row in rows[1:]])
 
     def test_plain_threads(self):
-        if not COMPILER:
-            self.skipTest("there is no C compiler")
         plain = self.compiled("plain_turn")
         for lock in ("mutex", "spin"):
             with self.subTest(lock=lock):

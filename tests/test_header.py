@@ -9,23 +9,16 @@ there.
 import os
 import re
 import shutil
-import subprocess
 import sys
 import unittest
 
 from tests.library import declared, stamp
-from tests.playing import TOP, FolderCase
+from tests.playing import TOP, FolderCase, needs, said
 
 HEADER = (TOP / "include" / "inputplay.h").read_text()
 CRATE = TOP / "crates" / "inp_c"
 C_SOURCES = ["tests/library", "examples/c", "checks", "bench"]
 SECONDS = 120
-
-
-def needs(tool):
-    """Leaves a check out where its tool is not there."""
-    if shutil.which(tool) is None:
-        raise unittest.SkipTest(f"{tool} is not there")
 
 
 class Header(unittest.TestCase):
@@ -60,67 +53,50 @@ class Header(unittest.TestCase):
 class Sources(FolderCase):
     """Each source over the library is taken by its compiler beside the header. Nothing is linked."""
 
-    def compiled(self, command, **more):
-        words = [str(word) for word in command]
-        done = subprocess.run(words, capture_output=True, text=True, timeout=SECONDS, check=False, **more)
-        self.assertEqual(0, done.returncode, done.stdout + done.stderr)
+    def runs(self, *words, **more):
+        status, text, errors = said(*words, timeout=SECONDS, **more)
+        self.assertEqual(0, status, text + errors)
+
+    def compiled(self, compiler, standard, source):
+        words = ("-fsyntax-only", f"-std={standard}", "-Wall", "-Wextra", "-Werror", f"-I{TOP / 'include'}")
+        self.runs(compiler, *words, source)
 
     def test_c(self):
-        needs("gcc")
-        for folder in C_SOURCES:
-            for source in sorted((TOP / folder).glob("*.c")):
-                if '"inputplay.h"' not in source.read_text():
-                    continue
+        compiler = needs(self, "gcc", "gcc")
+        for source in sorted(path for folder in C_SOURCES for path in (TOP / folder).glob("*.c")):
+            if '"inputplay.h"' in source.read_text():
                 with self.subTest(source.name):
-                    self.compiled(["gcc", "-fsyntax-only", "-std=c11", "-Wall", "-Wextra", "-Werror",
-                                   f"-I{TOP / 'include'}", source])
+                    self.compiled(compiler, "c11", source)
 
     def test_c_plus_plus(self):
-        needs("g++")
-        source = self.folder / "calls.cpp"
-        shutil.copy(TOP / "tests" / "library" / "calls.c", source)
-        self.compiled(["g++", "-fsyntax-only", "-std=c++11", "-Wall", "-Wextra", "-Werror",
-                       f"-I{TOP / 'include'}", source])
+        calls = (TOP / "tests" / "library" / "calls.c").read_text()
+        self.compiled(needs(self, "g++", "g++"), "c++11", self.write("calls.cpp", calls))
 
     def test_python(self):
         shutil.copytree(TOP / "bindings" / "python", self.folder / "python")
-        self.compiled([sys.executable, "-m", "compileall", "-q", self.folder / "python"])
+        self.runs(sys.executable, "-m", "compileall", "-q", self.folder / "python")
 
     def test_rust(self):
-        needs("cargo")
-        shutil.copytree(TOP / "bindings" / "rust", self.folder / "rust",
-                        ignore=shutil.ignore_patterns("target"))
-        variables = {**os.environ, "CARGO_TARGET_DIR": str(self.folder / "target")}
-        self.compiled(["cargo", "check", "--offline", "-q", "--all-targets"], cwd=self.folder / "rust",
-                      env=variables)
+        cargo, rust = needs(self, "cargo", "cargo"), self.folder / "rust"
+        shutil.copytree(TOP / "bindings" / "rust", rust, ignore=shutil.ignore_patterns("target"))
+        env = {**os.environ, "CARGO_TARGET_DIR": str(self.folder / "target")}
+        self.runs(cargo, "check", "--offline", "-q", "--all-targets", cwd=rust, env=env)
 
 
 class Stamp(FolderCase):
     """The checks that need the archive passed over the sources that are there."""
 
     def test_nothing_changed_since_they_passed(self):
-        changed = stamp.changed()
-        self.assertEqual(
-            [], changed,
-            "these changed since 'tests/run library' passed: run it, and commit tests/library/passed.json"
-        )
+        why = "these changed since 'tests/run library' passed: run it, and commit tests/library/passed.json"
+        self.assertEqual([], stamp.changed(), why)
 
     def test_a_change_is_told(self):
-        (self.folder / "crates" / "inp_c" / "src").mkdir(parents=True)
-        (self.folder / "include").mkdir()
-        (self.folder / "tests").mkdir()
-        (self.folder / "crates.txt").write_text("inp_c staticlib: other\n")
-        source = self.folder / "crates" / "inp_c" / "src" / "lib.rt"
-        for path in (source, self.folder / "include" / "inputplay.h",
-                     self.folder / "tests" / "test_library.py"):
-            path.write_text("one\n")
+        self.write("crates.txt", "inp_c staticlib: other\n")
+        for name in ("crates/inp_c/src/lib.rt", "include/inputplay.h", "tests/test_library.py"):
+            self.write(name, "one\n")
         kept = self.folder / "passed.json"
         self.assertEqual(["crates/inp_c", "include", "tests"], stamp.changed(self.folder, kept))
         stamp.write(3, "", self.folder, kept)
         self.assertEqual([], stamp.changed(self.folder, kept))
-        source.write_text("two\n")
+        self.write("crates/inp_c/src/lib.rt", "two\n")
         self.assertEqual(["crates/inp_c"], stamp.changed(self.folder, kept))
-
-
-if __name__ == "__main__":
-    unittest.main()
