@@ -93,6 +93,12 @@ bad-word: do s event 1 1 30 2147483648 | do s event 1 1 30 -2147483649 | do s ev
 bad-word: do s tick +1 | do s tick 1_000 | do s tick 99999999999999999999999999999999
 bad-word: device eeeeeeeeeeeeeeeeeeeeeeeeeeeeeeeee
 bad-command: do s stream16 keys"""),
+    (DEVICE_2 + "source s\n", """
+bad-word: do s event 0 EV_PWR KEY_A 1 | do s event 0 EV_FF KEY_A 1 | do s event 0 ev_key KEY_A 1
+bad-word: do s event 0 EV_KEYS KEY_A 1 | do s event 0 EV_ KEY_A 1 | do s event 0 KEY_A KEY_A 1
+bad-word: do s event 0 EV_KEY KEY_NOSUCH 1 | do s event 0 EV_KEY KEY_ 1 | do s event 0 EV_KEY key_a 1
+bad-word: do s event 0 EV_KEY KEY_AA 1 | do s event 0 EV_KEY BTN_MOUSE 1 | do s event 0 EV_KEY EV_KEY 1
+bad-word: do s event 0 EV_KEY ZZZ 1 | do s event 0 EV_KEY REL_X 1"""),
     (READERS, """
 bad-command: do c read 1 | do t next 1 | do t open now | do t feedback 1
 bad-word: do t read 4097 | do c next 4294967296 | do t mask EV_KEY 65536 0
