@@ -30,6 +30,12 @@ SPEC_HEAD = re.compile(rf"^(?:abbrev |unfoldable )?(?:pub )?(?:(record|data) )?(
 CODE_HEAD = re.compile(r"^(?:pub(?:\([a-z]+\))? )?(const|struct|enum|trait|type|fn) (\w+)")
 METHOD_HEAD = re.compile(r"^    (?:pub(?:\([a-z]+\))? )?fn (\w+)")
 MODEL_HEAD = re.compile(r"^impl(?:<.*?>)? Model for (\w+)")
+# A field of a struct, a variant of an enum, and a ghost member or a function of a trait.
+MEMBERS = {
+    "struct": re.compile(r"^    (?:pub(?:\([a-z]+\))? )?(\w+):"),
+    "enum": re.compile(r"^    ([A-Z]\w*)"),
+    "trait": re.compile(r"^    (?:ghost |fn )(\w+)"),
+}
 SPEC_USE = re.compile(r"^\s*(?:ghost )?use ([\w.]+?)(?:\.\{(.*)\}| as (\w+));?$")
 CODE_USE = re.compile(r"^(?:pub )?use ([\w:]+?)(?:::\{(.*?)\}| as (\w+))?;", re.S)
 
@@ -304,16 +310,10 @@ class Code(SourceFile):
             found.find_uses = partial(self.uses_of, found, models.get(name))
 
     def member(self, item: Item, row: str) -> None:
-        if item.kind == "struct":
-            found = re.match(r"^    (?:pub(?:\([a-z]+\))? )?(\w+):", row)
-            item.fields += [found[1]] if found else []
-        if item.kind == "enum":
-            found = re.match(r"^    ([A-Z]\w*)", row)
-            if found:
-                item.variants.append(found[1])
-        if item.kind == "trait":
-            found = re.match(r"^    (?:ghost |fn )(\w+)", row)
-            item.fields += [found[1]] if found else []
+        form = MEMBERS.get(item.kind)
+        found = form and form.match(row)
+        if found:
+            (item.variants if item.kind == "enum" else item.fields).append(found[1])
 
     def crate_uses(self, text: str) -> None:
         """Takes the imports of types and constants from this crate and others."""
