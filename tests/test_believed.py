@@ -185,7 +185,9 @@ class Believed(FolderCase):
         """It writes the table of one function alone. (What writes a page is looked at in test_counts.py.)"""
         begin, end = pages.marks(SCRIPT)
         page = self.write("docs/PROMISES.md", f"{begin}\nold\n{end}")
-        self.rename_to_top_call()
+        for name, text in FILES.items():
+            text = text.replace("high", "inp_tool").replace("pub fn call<", "pub fn inputplay<")
+            self.write(name.replace("high", "inp_tool"), text)
         of_page = ("inp_tool", "top.rt", "inputplay")
         self.assertEqual((0, "", ""), self.small(*of_page, "--write"))
         table = self.small(*of_page, "--page").text
@@ -193,13 +195,6 @@ class Believed(FolderCase):
         for row in ("| `low` | `Kept`, `Color`, the numbers in `color.rt` | `Seen`, `Mixing` | 17 | 27 |\n",
                     "| `inp_tool` | `Giver` | `Promise` | 5 | 7 |\n"):
             self.assertIn(row, table)
-
-    def rename_to_top_call(self):
-        """Makes the small repository's function that of the page."""
-        (self.folder / "crates" / "high").rename(self.folder / "crates" / "inp_tool")
-        for path in ["crates.txt", "crates/inp_tool/src/top.rt"]:
-            text = (self.folder / path).read_text()
-            self.write(path, text.replace("high", "inp_tool").replace("pub fn call<", "pub fn inputplay<"))
 
 
 class Numbers(FolderCase):
@@ -209,8 +204,8 @@ class Numbers(FolderCase):
         numbers = [key for key, item in reached.items() if item.kind == "const"]
         self.assertGreater(len(numbers), 40)
         once = {key.name for key in numbers if not self.is_proved(repository, key)}
-        paragraph = re.search(r"Beside each constant.*?\n\n", (TOP / "docs" / "PROMISES.md").read_text(),
-                              re.S)[0]
+        page = (TOP / "docs" / "PROMISES.md").read_text()
+        paragraph = re.search(r"Beside each constant.*?\n\n", page, re.S)[0]
         self.assertEqual(once, set(re.findall(r"`(\w+)`", paragraph)))
 
     def is_proved(self, repository, key):
