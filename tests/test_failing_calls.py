@@ -57,28 +57,25 @@ int main(int count, char **words) {
 
 # Programs that are wrong: the script that finds it, what is changed, and what is said.
 WRONG = {
-    "it takes memory that it was not given": ("alloc", ("if (!bytes)", "if (!bytes && (bytes[0] = 1))"),
-                                              "allocation 2 refused (calloc 1000 bytes): SIGSEGV, b''"),
+    "it takes memory that it was not given": (
+        "alloc", "if (!bytes)", "if (!bytes && (bytes[0] = 1))",
+        "allocation 2 refused (calloc 1000 bytes): SIGSEGV, b''"),
     "it tells of its words too late": (
-        "alloc",
-        ("bytes = larger ? larger : bytes;", 'if (!larger) return say(2, "usage: inputplay FILE\\n");'),
-        "allocation 3 refused (realloc 2000 bytes): status 2, b'usage: inputplay FILE\\n'"
-    ),
-    "it takes a fault for an end": ("faults",
-                                    ("bytes + size, 7)) < 0)", "bytes + size, 7)) < 0 && (more = 0))"),
-                                    "read 1 of f fails: WRONG: status 0, and status 3 was wanted\n"),
+        "alloc", "bytes = larger ? larger : bytes;",
+        'if (!larger) return say(2, "usage: inputplay FILE\\n");',
+        "allocation 3 refused (realloc 2000 bytes): status 2, b'usage: inputplay FILE\\n'"),
+    "it takes a fault for an end": (
+        "faults", "bytes + size, 7)) < 0)", "bytes + size, 7)) < 0 && (more = 0))",
+        "read 1 of f fails: WRONG: status 0, and status 3 was wanted\n"),
     "it takes a short read for an end": (
-        "faults", ("more; size += more)", "more == 7 || more == 1; size += more)"),
-        "read 1 of f is short: WRONG: status 0, which is not as without it\n"
-    ),
+        "faults", "more; size += more)", "more == 7 || more == 1; size += more)",
+        "read 1 of f is short: WRONG: status 0, which is not as without it\n"),
     "it takes a short write for a whole one": (
-        "faults", ("done += more", "done += 4"),
-        "write 1 of the output is short: WRONG: status 0, which is not as without it\n"
-    ),
+        "faults", "done += more", "done += 4",
+        "write 1 of the output is short: WRONG: status 0, which is not as without it\n"),
     "it does not look at its writes": (
-        "faults", ("return 4;", "more = 4;"),
-        "write 1 of the output fails: WRONG: status 0, and status 4 was wanted\n"
-    ),
+        "faults", "return 4;", "more = 4;",
+        "write 1 of the output fails: WRONG: status 0, and status 4 was wanted\n"),
 }
 
 
@@ -117,56 +114,48 @@ class FailingCalls(FolderCase):
         self.says("faults", 0, "f\n18 runs of 1 records, none ", words=["--piece", "3", "--quiet"])
 
     def test_programs_that_are_wrong(self):
-        for name, (script, (before, after), said) in WRONG.items():
+        for name, (script, before, after, told) in WRONG.items():
             with self.subTest(name):
                 self.assertIn(before, RIGHT)
                 if not HAS_COMPILER:
                     self.skipTest("there is no C compiler")
                 self.compile(RIGHT.replace(before, after))
-                self.says(script, 1, said, " that end otherwise\n")
+                self.says(script, 1, told, " that end otherwise\n")
 
     def test_a_program_whose_calls_cannot_be_made_to_fail(self):
         if not HAS_COMPILER:
             self.skipTest("there is no C compiler")
-        for text, status, said, words in (("void _start(void) {}", 2, "is not linked dynamically",
-                                           ["-static", "-nostdlib"]),
-                                          ("int main() {}", 1, "no call could be made to fail\n", [])):
+        for text, words, status, told in (
+            ("void _start(void) {}", ["-static", "-nostdlib"], 2, "is not linked dynamically"),
+            ("int main() {}", [], 1, "no call could be made to fail\n"),
+        ):
             self.compile(text, *words)
             for name in ("alloc", "faults"):
-                with self.subTest(script=name, said=said):
-                    self.says(name, status, said)
+                with self.subTest(script=name, told=told):
+                    self.says(name, status, told)
 
 
 class Judging(FolderCase):
     """By which rules a run is judged."""
 
     def test_runs_with_an_allocation_refused(self):
-        whole = Run(6, b"device d steps 1\n", b"")
-        for run, is_right in ((whole, True),
-                              (Run(5, b"inputplay: out of memory\n", b""), True),
-                              (Run(4, b"inputplay: out", b""), True),
-                              (Run(4, b"inputplay: out of memory\n", b""), False),
-                              (Run(4, b"device", b""), False),
-                              (Run(0, whole.text, b""), False),
-                              (Run(6, b"device d", b""), False),
-                              (Run(5, b"device d steps 1\n", b""), False),
-                              (Run(5, b"inputplay: out of memory\n", b"?"), False),
-                              (Run(2, USAGE, b""), False),
-                              (Run(-11, b"", b""), False),
-                              (Run(None, b"", b""), False)):
+        whole, line = Run(6, b"device d steps 1\n", b""), b"inputplay: out of memory\n"
+        right = [whole, Run(5, line, b""), Run(4, line[:14], b"")]
+        wrong = [Run(4, line, b""), Run(4, b"device", b""), Run(0, whole.text, b""), Run(6, b"device d", b""),
+                 Run(5, whole.text, b""), Run(5, line, b"?"), Run(2, USAGE, b""), Run(-11, b"", b""),
+                 Run(None, b"", b"")]
+        for run in right + wrong:
             with self.subTest(run=run):
                 judge = loaded(TOP / "checks" / "alloc").Judge(self.folder / "f", [], whole)
                 self.assertIsNone(judge.complaint(Run(2, USAGE, b"")))
                 judge.complaint(whole)
-                self.assertEqual(is_right, judge.complaint(run) is None)
+                self.assertEqual(run in right, judge.complaint(run) is None)
 
     def test_runs_with_threads(self):
         record = "inputrecord 1\ndevice d\ncap EV_KEY KEY_A\nsource s\nclient c\n"
         record += "do c open\ndo s uninhibit\ndo c follow\n"
-        (self.folder / "f").write_text(record)
-        judge = loaded(TOP / "checks" / "alloc").Judge(self.folder / "f",
-                                                       ["--threads", "--history", "--idle", "3"],
-                                                       Run(0, b"", b""))
+        path, words = self.write("f", record), ["--threads", "--history", "--idle", "3"]
+        judge = loaded(TOP / "checks" / "alloc").Judge(path, words, Run(0, b"", b""))
         for seed in range(3):
             text = "".join(line + "\n" for line in play_side_by_side(record, seed, idle=3)).encode()
             self.assertIsNone(judge.complaint(Run(0, text, b"")))
