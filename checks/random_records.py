@@ -160,8 +160,8 @@ class Generator:
             actors, codes, slots = r.choice(self.devices)
             weights = [(12 if busy else 3) if role == "source" else 1 for role, _ in actors]
             role, name = r.choices(actors, weights)[0]
-            acts: Dict[str, Callable[..., List[str]]] = {"source": self.source_action, "joy": self.joy_action,
-                                                         "owner": self.owner_action}
+            acts: Dict[str, Callable[..., List[str]]] = {
+                "source": self.source_action, "joy": self.joy_action, "owner": self.owner_action}
             act = acts.get(role, self.client_action)
             actions += [f"do {name} {action}" for action in act(role, codes, slots, busy)]
         for actors, _, _ in self.devices:

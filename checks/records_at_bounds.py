@@ -45,8 +45,8 @@ def moments() -> str:
     actions += events(MOMENT_MAX, f"EV_REP REP_DELAY {GREATEST}", "EV_REP REP_PERIOD 1",
                       f"EV_KEY 767 {LEAST}")
     actions += report(MOMENT_MAX, -5) + [f"do s tick {MOMENT_MAX}"]
-    actions += events(0, "EV_KEY 767 0", "EV_KEY 767 1") + report(0,
-                                                                  GREATEST) + [f"do s tick {MOMENT_MAX}"] * 2
+    actions += events(0, "EV_KEY 767 0", "EV_KEY 767 1") + report(0, GREATEST)
+    actions += [f"do s tick {MOMENT_MAX}"] * 2
     actions += events(5, "EV_SW 16 9", "EV_LED 15 -1", "EV_SND 7 3", f"EV_MSC 7 {LEAST}",
                       f"EV_REL 15 {GREATEST}")
     actions += report(5) + ["do c follow", "do t read 4096", "do t sounds", "do t switches", "do t leds",

@@ -50,11 +50,9 @@ def forks(one: int) -> int:
 
 def execs(two: int) -> None:
     os.set_inheritable(two, True)
-    text = (
-        f"import fcntl, os; print(fcntl.ioctl({two}, {EVIOCGNAME}, bytes(255))[:3], os.fstat({two}).st_rdev)"
-    )
-    told = subprocess.run([sys.executable, "-c", text], close_fds=False, stdout=subprocess.PIPE, text=True,
-                          check=False).stdout
+    asks = f"fcntl.ioctl({two}, {EVIOCGNAME}, bytes(255))[:3], os.fstat({two}).st_rdev"
+    words = [sys.executable, "-c", f"import fcntl, os; print({asks})"]
+    told = subprocess.run(words, close_fds=False, stdout=subprocess.PIPE, text=True, check=False).stdout
     says("a program after exec uses it", told == f"b'kbd' {os.makedev(13, 64)}\n")
 
 
