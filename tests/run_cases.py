@@ -2,7 +2,6 @@
 and look for what it has to write."""
 
 import atexit
-import difflib
 import functools
 import os
 import re
@@ -16,7 +15,7 @@ from dataclasses import dataclass
 from pathlib import Path
 from typing import Dict, List, Mapping, Sequence
 
-from tests.playing import PROGRAM, TOP, FolderCase, needs as needs
+from tests.playing import PROGRAM, TOP, FolderCase, differences, needs as needs, said
 
 from inputtools.runbuild import NotBuilt, archive, build_run
 from inputtools.running import BUILT_VARIABLE
@@ -54,10 +53,9 @@ class Built:
             self.record(f"{name}.rec", DATA / f"{name}.evtest", "--identity", DATA / f"{name}.proc")
 
     def record(self, name: str, *words: object) -> Path:
-        path = self.folder / name
-        command = [str(TOP / "tools" / "record"), *map(str, words)]
-        made = subprocess.run(command, capture_output=True, text=True, check=True)
-        path.write_text(made.stdout)
+        path, made = self.folder / name, said("tools/record", *words)
+        assert made.status == 0, made.errors
+        path.write_text(made.text)
         return path
 
 
@@ -89,43 +87,24 @@ def variables(built: Built) -> Dict[str, str]:
     return told
 
 
-def run(built: Built, words: Sequence[object], program: Sequence[object], more: Mapping[str, str]) -> Done:
-    """tools/run with these words, and the program behind them. `more` are variables that it gets too."""
-    command = [sys.executable, TOP / "tools" / "run", "--timeout", SECONDS, *words, "--", *program]
-    done = subprocess.run([str(word) for word in command], env={**variables(built), **more}, cwd=built.folder,
-                          stdin=subprocess.DEVNULL, capture_output=True, timeout=2 * SECONDS, check=False)
-    return Done(done.returncode, done.stdout, done.stderr.decode("utf-8", "replace"))
-
-
-def python_with(module: str) -> str:
-    """A Python that has a module, which may be the system's, or "" where none has."""
-    for python in (sys.executable, "/usr/bin/python3"):
-        found = subprocess.run([python, "-c", f"import {module}"], capture_output=True, check=False)
-        if found.returncode == 0:
-            return python
-    return ""
-
-
 def needs_module(test: unittest.TestCase, module: str, package: str) -> str:
-    found = python_with(module)
-    if not found:
-        test.skipTest(f"Python's {module} is not installed (Debian: {package})")
-    return found
+    """A Python that has a module, which may be the system's, or the test is skipped."""
+    for python in (sys.executable, "/usr/bin/python3"):
+        if said(python, "-c", f"import {module}").status == 0:
+            return python
+    test.skipTest(f"Python's {module} is not installed (Debian: {package})")
 
 
 def compiled(test: unittest.TestCase, built: Built, source: str, library: str, package: str) -> Path:
     """A program of tests/run_programs that is linked with a library, or the test is skipped."""
-    for tool in ("cc", "pkg-config"):
-        needs(test, tool, "gcc, pkg-config")
-    asked = ["pkg-config", "--cflags", "--libs", library]
-    words = subprocess.run(asked, capture_output=True, text=True, check=False)
-    if words.returncode:
+    needs(test, "cc", "gcc")
+    libraries = said(needs(test, "pkg-config", "pkg-config"), "--cflags", "--libs", library)
+    if libraries.status:
         test.skipTest(f"{library} is not installed (Debian: {package})")
     out = built.folder / Path(source).stem
     if not out.exists():
         flags = ["-O1", "-Wall", "-Wextra", "-Werror", "-o", str(out)]
-        command = ["cc", *flags, str(HERE / source), *words.stdout.split()]
-        subprocess.run(command, check=True)
+        subprocess.run(["cc", *flags, str(HERE / source), *libraries.text.split()], check=True)
     return out
 
 
@@ -139,7 +118,12 @@ class RunCase(FolderCase):
 
     def ran(self, words: Sequence[object], program: Sequence[object],
             more: Mapping[str, str] = NOTHING_MORE) -> Done:
-        return run(self.built, words, program, more)
+        """tools/run with these words, and the program behind them. `more` are variables that it gets too."""
+        command = [sys.executable, TOP / "tools" / "run", "--timeout", SECONDS, *words, "--", *program]
+        done = subprocess.run([str(word) for word in command], env={**variables(self.built), **more},
+                              cwd=self.built.folder, stdin=subprocess.DEVNULL, capture_output=True,
+                              timeout=2 * SECONDS, check=False)
+        return Done(done.returncode, done.stdout, done.stderr.decode("utf-8", "replace"))
 
     def says(self, done: Done, pattern: str, count: int) -> None:
         """A pattern stands in so many lines of what the program wrote."""
@@ -159,10 +143,8 @@ class RunCase(FolderCase):
             first, second = pool.map(lambda _: self.ran(words, program, more), range(2))
         texts = [re.sub(but, b"", done.text) if but else done.text for done in (first, second)]
         if texts[0] != texts[1] or first.status != second.status:
-            one, other = (text.decode("utf-8", "backslashreplace").splitlines() for text in texts)
-            more_lines = "\n".join(list(difflib.unified_diff(one, other, lineterm="", n=1))[:40])
             statuses = f"statuses {first.status} {second.status}"
-            self.fail(f"two runs differ, {statuses}:\n{more_lines}\n{first.errors[-1000:]}")
+            self.fail(f"two runs differ, {statuses}:\n{differences(*texts)}{first.errors[-1000:]}")
         return first
 
 

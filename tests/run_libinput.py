@@ -1,12 +1,11 @@
 """libinput's own tools on played devices, which find them by udev's data: umockdev shows it."""
 
-import subprocess
 from typing import List
 
 from tests.run_cases import EXAMPLES, RunCase, needs, sent, variables
 from tests.run_readers import AT_ONCE, NODE, STEPS
 
-from tests.playing import TOP
+from tests.playing import said
 
 PACKAGE = "libinput-tools"
 # libinput tells times from its own start on.
@@ -74,7 +73,6 @@ class Libinput(RunCase):
         done = self.ran(["--history", history, *words], self.debug_events())
         self.says(done, r"KEY_LEFTCTRL \(29\) pressed", 1)
         self.says(done, r"KEY_LEFTCTRL \(29\) released", 0)
-        stuck = [TOP / "tools" / "stuck", history]
-        told = subprocess.run(stuck, env=variables(self.built), capture_output=True, text=True, check=False)
-        self.assertIn("KEY_LEFTCTRL: down for it, up on the device\n", told.stdout)
-        self.assertIn("grab of remapper", told.stdout)
+        told = said("tools/stuck", history, env=variables(self.built)).text
+        self.assertIn("KEY_LEFTCTRL: down for it, up on the device\n", told)
+        self.assertIn("grab of remapper", told)

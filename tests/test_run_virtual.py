@@ -5,12 +5,11 @@ installed is left out by its name."""
 from __future__ import annotations
 
 import re
-import subprocess
 import time
 from pathlib import Path
 from typing import List
 
-from tests.playing import TOP
+from tests.playing import TOP, said
 from tests.run_cases import needs
 from tests.test_run_calls import RunCase, compiled
 
@@ -34,10 +33,7 @@ class Times(RunCase):
 
 class Programs(RunCase):
     def record(self, name: str) -> Path:
-        path = self.folder / f"{name}.rec"
-        words = [str(TOP / "tools" / "record"), str(DATA / f"{name}.evtest")]
-        path.write_text(subprocess.run(words, stdout=subprocess.PIPE, text=True, check=True).stdout)
-        return path
+        return self.write(f"{name}.rec", said("tools/record", DATA / f"{name}.evtest").text)
 
     def twice(self, options: List[object], record: Path, program: List[object]) -> str:
         """What a program writes, which is the same at two runs."""
