@@ -16,7 +16,7 @@ from itertools import cycle
 from pathlib import Path
 from typing import Dict, Optional, Sequence, Tuple
 
-from tests.playing import EXAMPLES, TOP, FolderCase, said
+from tests.playing import EXAMPLES, TOP, FolderCase, Said, said
 from tests.run_cases import build, variables, why_not
 
 from inputtools import runbuild
@@ -25,7 +25,6 @@ from inputtools.running import BUILT_VARIABLE
 
 HERE = TOP / "tests" / "run_calls"
 STUCK = TOP / "examples" / "stuck_key.rec"
-RUN = str(TOP / "tools" / "run")
 COMPILER = os.environ.get("CC", "cc")
 SECONDS = 120
 REQUESTS, MESSAGES, PROCESS_CHECKS, LIMIT_CHECKS = 5000, 2000, 20, 6
@@ -39,9 +38,8 @@ PYTHON = [sys.executable, "-B"]
 def compiled(source: Path, program: Path, flags: Sequence[str] = (), more: Sequence[str] = ()) -> str:
     words = [COMPILER, "-std=c11", "-D_GNU_SOURCE", "-O1", "-g", "-Wall", "-Wextra", *flags, str(source),
              *more, "-o", str(program)]
-    done = subprocess.run(words, stdout=subprocess.PIPE, stderr=subprocess.STDOUT, text=True, check=False)
-    if done.returncode:
-        raise AssertionError(f"{source.name}: {done.stdout}")
+    done = said(*words)
+    assert done.status == 0, f"{source.name}: {done.text}{done.errors}"
     return str(program)
 
 
@@ -66,34 +64,32 @@ class RunCase(FolderCase):
             self.skipTest(why)
         self.built = build().folder / "built"
 
-    def run_tool(self, words: Sequence[object],
-                 programs: Optional[Path] = None) -> subprocess.CompletedProcess[str]:
+    def run_tool(self, words: Sequence[object], programs: Optional[Path] = None) -> Said:
         env = {**variables(build()), BUILT_VARIABLE: str(programs or self.built)}
-        return subprocess.run([RUN, "--sys", "none", *map(str, words)], env=env, capture_output=True,
-                              text=True, errors="replace", stdin=subprocess.DEVNULL, timeout=SECONDS,
-                              check=False)
+        return said("tools/run", "--sys", "none", *words, env=env, errors="replace", stdin=subprocess.DEVNULL,
+                    timeout=SECONDS)
 
-    def says_all(self, done: subprocess.CompletedProcess[str], form: str, status: int = 0) -> None:
+    def says_all(self, done: Said, form: str, status: int = 0) -> None:
         """It ended in a status, and wrote this at its end."""
-        self.assertRegex(done.stdout, form + r"\n\Z", done.stderr[-4000:])
-        self.assertEqual(status, done.returncode, done.stderr[-4000:])
+        self.assertRegex(done.text, form + r"\n\Z", done.errors[-4000:])
+        self.assertEqual(status, done.status, done.errors[-4000:])
 
-    def says_ok(self, done: subprocess.CompletedProcess[str], checks: int) -> None:
+    def says_ok(self, done: Said, checks: int) -> None:
         """It wrote so many lines, each of which says that something is so."""
-        lines = done.stdout.splitlines()
-        self.assertEqual([], [line for line in lines if not line.startswith("ok ")], done.stderr)
-        self.assertEqual(checks, len(lines), done.stdout + done.stderr)
+        lines = done.text.splitlines()
+        self.assertEqual([], [line for line in lines if not line.startswith("ok ")], done.errors)
+        self.assertEqual(checks, len(lines), done.text + done.errors)
 
 
 class Calls(RunCase):
-    def ran(self, name: str) -> subprocess.CompletedProcess[str]:
+    def ran(self, name: str) -> Said:
         program = compiled(HERE / f"{name}.c", self.folder / name)
         return self.run_tool([*PROGRAMS[name], HERE / "calls.rec", "--", program])
 
     def test_each_call_of_evdev(self) -> None:
         done = self.ran("calls")
         self.says_all(done, r"\A\d+ checks, 0 failed")
-        self.assertEqual(2, done.stderr.count("is not served, and answered EINVAL"), done.stderr)
+        self.assertEqual(2, done.errors.count("is not served, and answered EINVAL"), done.errors)
 
     def test_signals_and_a_read_that_blocks(self) -> None:
         self.says_all(self.ran("signals"), r"8 checks, 0 failed")
@@ -106,12 +102,12 @@ class Calls(RunCase):
             words = [*options, "--end", "gone", HERE / "calls.rec", "--", *PYTHON, HERE / "reader.py", 64,
                      "held"]
             done = self.run_tool(words)
-            self.assertEqual((0, 6), (done.returncode, len(done.stdout.splitlines())), done.stderr)
+            self.assertEqual((0, 6), (done.status, len(done.text.splitlines())), done.errors)
 
     def test_several_processes_have_one_device(self) -> None:
         done = self.run_tool(["--frames", 1, HERE / "keys.rec", "--", *PYTHON, HERE / "processes.py"])
         self.says_ok(done, PROCESS_CHECKS)
-        self.assertIn("the server ended by signal 9", done.stderr)
+        self.assertIn("the server ended by signal 9", done.errors)
 
     def test_limits_and_a_server_that_is_stopped(self) -> None:
         self.says_ok(self.run_tool(["--quiet", 60000, HERE / "keys.rec", "--", *PYTHON, HERE / "limits.py"]),
@@ -152,8 +148,8 @@ class Statuses(RunCase):
         for status, words, told in rows:
             with self.subTest(words):
                 done = self.run_tool(words)
-                self.assertEqual(status, done.returncode, done.stdout + done.stderr)
-                self.assertIn(told, done.stderr)
+                self.assertEqual(status, done.status, done.text + done.errors)
+                self.assertIn(told, done.errors)
 
 
 class Histories(RunCase):
@@ -164,8 +160,8 @@ class Histories(RunCase):
         history = self.folder / "history.rec"
         program = ["--", *PYTHON, HERE / "follower.py"]
         done = self.run_tool(["--end", "term", "--clock", "record", "--history", history, *words, *program])
-        self.assertEqual(status, done.returncode, done.stdout + done.stderr)
-        return history.read_text(), done.stderr
+        self.assertEqual(status, done.status, done.text + done.errors)
+        return history.read_text(), done.errors
 
     def tool(self, name: str, *words: object) -> str:
         return said(f"tools/{name}", *words, env=variables(build())).text
@@ -204,12 +200,12 @@ class Histories(RunCase):
         options = ["--as", "*", "--end", "gone", "--clock", "record", "--frames", frames, "--history",
                    history]
         done = self.run_tool([*options, record, "--", *PYTHON, HERE / "reader.py", events])
-        self.assertEqual(0, done.returncode, done.stderr)
+        self.assertEqual(0, done.status, done.errors)
         # (the first device stands first in the report)
         report = self.tool("play", history).split("\ndevice ")[0]
         took = [line.split()[2:] for line in report.splitlines() if line.startswith("took ")]
         told = [f"{time} {numbers(*event)}" for time, *event in took]
-        self.assertEqual(told, done.stdout.splitlines())
+        self.assertEqual(told, done.text.splitlines())
 
     def test_the_first_loss_comes_at_a_place(self) -> None:
         for place in (0, 50):
@@ -224,16 +220,16 @@ class Histories(RunCase):
 class Server(RunCase):
     def test_it_stays_for_programs_that_start_later(self) -> None:
         folder = self.folder / "server"
-        self.assertEqual(0, self.run_tool(["--server", folder, HERE / "keys.rec"]).returncode)
+        self.assertEqual(0, self.run_tool(["--server", folder, HERE / "keys.rec"]).status)
         self.addCleanup(self.run_tool, ["--server", folder, "--stop"])
         listed = self.run_tool(["--server", folder, "--", "ls", "/dev/input"])
-        self.assertEqual((0, "event0\n"), (listed.returncode, listed.stdout), listed.stderr)
+        self.assertEqual((0, "event0\n"), (listed.status, listed.text), listed.errors)
         read = self.run_tool(["--server", folder, "--", "head", "-c", 48, "/dev/input/event0"])
-        self.assertEqual(0, read.returncode, read.stderr)
+        self.assertEqual(0, read.status, read.errors)
         self.assertEqual("event0\n", said("/bin/sh", "-c", f". {folder}/environment && ls /dev/input").text)
-        self.assertEqual(0, self.run_tool(["--server", folder, "--stop"]).returncode)
+        self.assertEqual(0, self.run_tool(["--server", folder, "--stop"]).status)
         self.assertIn("do head read ", (folder / "history.rec").read_text())
-        self.assertEqual(126, self.run_tool(["--server", folder, "--", "true"]).returncode)
+        self.assertEqual(126, self.run_tool(["--server", folder, "--", "true"]).status)
 
 
 class Sanitized(RunCase):
@@ -254,7 +250,7 @@ class Sanitized(RunCase):
                 done = self.run_tool([*PROGRAMS[name], HERE / "calls.rec", "--", *plain, program],
                                      self.folder)
                 self.says_all(done, r"\d+ checks, 0 failed")
-                self.assertNotIn("Sanitizer", done.stderr)
+                self.assertNotIn("Sanitizer", done.errors)
 
     def test_address_and_undefined(self) -> None:
         self.checks("address,undefined", {"ASAN_OPTIONS": "detect_leaks=1"}, list(PROGRAMS))
@@ -279,4 +275,4 @@ class Valgrind(RunCase):
                  *valgrind.split(), program]
         done = self.run_tool([*words, "--right-places"], self.folder)
         self.says_all(done, r"\A\d+ checks, 0 failed")
-        self.assertNotRegex(done.stderr, r"==\d+==")
+        self.assertNotRegex(done.errors, r"==\d+==")

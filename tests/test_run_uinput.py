@@ -35,7 +35,7 @@ class Requests(RunCase):
         program = compiled(HERE / "requests.c", self.folder / "requests")
         done = self.run_tool(["--sys", "none", "--quiet", 60000, KEYBOARD, "--", program])
         self.says_all(done, rf"\A{CHECKS} checks, 0 failed")
-        self.assertEqual(1, done.stderr.count("is not served, and answered EINVAL"), done.stderr)
+        self.assertEqual(1, done.errors.count("is not served, and answered EINVAL"), done.errors)
 
     def test_it_is_clean_under_valgrind(self) -> None:
         needs(self, "valgrind", "valgrind")
@@ -46,7 +46,7 @@ class Requests(RunCase):
         program = compiled(HERE / "requests.c", self.folder / "requests")
         done = self.run_tool(["--sys", "none", "--quiet", 60000, KEYBOARD, "--", program], self.folder)
         self.says_all(done, rf"\A{CHECKS} checks, 0 failed")
-        self.assertNotRegex(done.stderr, r"==\d+==")
+        self.assertNotRegex(done.errors, r"==\d+==")
 
 
 class Programs(RunCase):
@@ -57,8 +57,8 @@ class Programs(RunCase):
         needs(self, "evtest", "evtest")
         words = ["--sys", "none", *options, KEYBOARD, "--", "sh", "-c"]
         done = self.run_tool([*words, f"{script} & {HAS_MADE}; evtest /dev/input/event1; wait"])
-        self.assertEqual(0, done.returncode, done.stdout + done.stderr)
-        return events_of(done.stdout)
+        self.assertEqual(0, done.status, done.text + done.errors)
+        return events_of(done.text)
 
     def test_python_remapper(self) -> None:
         python = needs_module(self, "evdev", "python3-evdev")
@@ -85,9 +85,9 @@ class Programs(RunCase):
             (sleep 1; evemu-event /dev/input/event1 --type EV_KEY --code KEY_A --value 1 --sync) &
             timeout 3 evtest /dev/input/event1; kill %1; sleep 0.5; ls /dev/input"""
         done = self.run_tool(["--sys", "none", "--quiet", 60000, KEYBOARD, "--", "bash", "-c", script])
-        self.assertIn("alike\n", done.stdout, done.stderr)
-        self.assertEqual([(1, KEY_A, 1)], events_of(done.stdout))
-        self.assertTrue(done.stdout.endswith("event0\n"), done.stdout)
+        self.assertIn("alike\n", done.text, done.errors)
+        self.assertEqual([(1, KEY_A, 1)], events_of(done.text))
+        self.assertTrue(done.text.endswith("event0\n"), done.text)
 
     def test_libinput_replay(self) -> None:
         needs(self, "umockdev-run", "umockdev")
@@ -99,5 +99,5 @@ class Programs(RunCase):
             {HAS_MADE}; (sleep 2; touch {self.folder}/go) & timeout 8 evtest /dev/input/event1"""
         done = self.run_tool(["--sys", "auto", "--quiet", 60000, KEYBOARD, "--", "bash", "-c", script])
         said = (self.folder / "said").read_text()
-        self.assertEqual(presses(KEY_A), events_of(done.stdout), done.stderr + said)
-        self.assertIn('Input device name: "recorded keyboard"', done.stdout)
+        self.assertEqual(presses(KEY_A), events_of(done.text), done.errors + said)
+        self.assertIn('Input device name: "recorded keyboard"', done.text)

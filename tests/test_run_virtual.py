@@ -28,7 +28,7 @@ class Times(RunCase):
 
     def test_without_it_clocks_are_the_machine_s(self) -> None:
         done = self.run_tool(["--sys", "none", HERE / "keys.rec", "--", "date", "+%s"])
-        self.assertLess(abs(int(done.stdout) - time.time()), 60)
+        self.assertLess(abs(int(done.text) - time.time()), 60)
 
 
 class Programs(RunCase):
@@ -39,9 +39,9 @@ class Programs(RunCase):
         """What a program writes, which is the same at two runs."""
         words = ["--virtual", "--end", "int", *options, record, "--", *program]
         one, other = (self.run_tool(words) for _ in range(2))
-        self.assertEqual(0, one.returncode, one.stderr)
-        self.assertEqual(one.stdout, other.stdout)
-        return one.stdout
+        self.assertEqual(0, one.status, one.errors)
+        self.assertEqual(one.text, other.text)
+        return one.text
 
     def test_evtest_with_its_times(self) -> None:
         needs(self, "evtest", "evtest")
