@@ -60,9 +60,9 @@ class Said(NamedTuple):
 
 
 def said(script: Union[str, Path], *words: object, **more: Any) -> Said:
-    """Runs a script, which may be named by its path from the top."""
+    """Runs a script, which may be named by its path from the top, or a program by its name."""
     more = {"timeout": 60, **more}
-    command: List[str] = [str(TOP / script), *map(str, words)]
+    command: List[str] = [str(TOP / script if "/" in str(script) else script), *map(str, words)]
     done = subprocess.run(command, capture_output=True, text=True, check=False, **more)
     return Said(done.returncode, done.stdout, done.stderr)
 
