@@ -27,8 +27,8 @@ class Asked(NamedTuple):
 
 
 class Owner:
-    """An owner: its feedback calls; what was lost and what waits at the end; and the things in which what it was told
-    last is not what was sent last."""
+    """An owner: its feedback calls; what was lost and what waits at the end; and the things in which what it
+    was told last is not what was sent last."""
 
     role = "owner"
 
