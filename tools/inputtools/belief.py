@@ -1,7 +1,7 @@
 """What a client believes of its device: the fold of what it read and of the answers to its queries.
 
-A thing is what a belief has a value of. At first nothing is down or on, axes and the current slot are 0, and no slot
-has a contact.
+A thing is what a belief has a value of. At first nothing is down or on, axes and the current slot are 0, and
+no slot has a contact.
 """
 
 from functools import lru_cache
@@ -95,7 +95,7 @@ def setting_of(event: Event, current: int, slots: int) -> Optional[Setting]:
 
 
 class Belief:
-    """A client's belief: the values that are not as at first, and for each thing where its value comes from."""
+    """A client's belief: the values that are not as at first, and where that of each thing comes from."""
 
     def __init__(self, slots: int) -> None:
         self.slots = slots
@@ -124,9 +124,9 @@ class Belief:
         setting = setting_of(event, self.values.get(CURRENT, 0), self.slots)
         if setting is None:
             return None
-        self.values[setting.thing] = setting.value
-        self.origins[setting.thing] = origin
-        return setting.thing
+        thing, value = setting
+        self.values[thing], self.origins[thing] = value, origin
+        return thing
 
     def answer_bits(self, kind: str, codes: Iterable[str], origin: Optional[Origin]) -> Set[Thing]:
         """An answer that tells all keys, switches or LEDs; the things that changed."""

@@ -167,6 +167,8 @@ def ends(program: str, body: Callable[[], int]) -> None:
         say(program, "stopped")
         status = STOPPED
     progress.end()
+    # (what there is now goes with the process, and is not looked through once more)
+    gc.freeze()
     gc.enable()
     if status:
         sys.exit(status)

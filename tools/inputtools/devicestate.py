@@ -82,7 +82,8 @@ class Sent(NamedTuple):
 class DeviceState:
     """What is told of a device.
 
-    `frames` are its frames, `changes` how each thing changed, and `changed` which things each frame set;
+    `frames` are its frames, `changes` how each thing changed, and `changed` what each frame set; `frames_at`
+    has for a place the numbers of the frames that its step ended, and `frame_places` the other way round.
     `sync_states` is its state at each synchronisation of slots, `end` that at the end, and `view` the lines
     in which a report has it. `sent` has what was sent to it; `handles` says what its history does of clients,
     and `at` tells places with their times.
@@ -94,12 +95,13 @@ class DeviceState:
         self.sent: List[Sent] = []
         self.frames: List[Frame] = []
         self.changes: Dict[Thing, Changes] = {}
-        self.changed: List[Set[Thing]] = []
+        self.changed: List[Dict[Thing, int]] = []
         self.sync_states: Dict[int, Dict[Thing, int]] = {}
         self.end: Dict[Thing, int] = {}
         self.view: List[ViewLine] = []
         self.places = [place for place, step in enumerate(history) if step.name in STATE_STEPS]
         self.frame_places: List[int] = []
+        self.frames_at: Dict[int, List[int]] = {}
         self.described = sorted({step.code for step in history if step.name == DESCRIPTION})
 
     def changes_of(self, thing: Thing) -> Changes:
@@ -143,11 +145,6 @@ class DeviceState:
     def frame_before(self, place: int) -> int:
         """The number of the last frame that ended before a place, or -1."""
         return bisect.bisect_left(self.frame_places, place) - 1
-
-    def frames_at(self, place: int) -> range:
-        """The numbers of the frames that the step at a place ended."""
-        first = bisect.bisect_left(self.frame_places, place)
-        return range(first, bisect.bisect_right(self.frame_places, place))
 
     def cells_at(self, place: int) -> Dict[Thing, int]:
         """The values of the slots that a synchronisation at a place was told."""
@@ -306,12 +303,14 @@ def read_frames(state: DeviceState, part: Part, places: SourcePlaces) -> None:
     state.frames = frames_of(part, places)
     state.frame_places = [frame.place for frame in state.frames]
     for number, frame in enumerate(state.frames):
-        things = {thing for event in frame.events for thing in [belief.take(event, None)] if thing}
-        state.changed.append(things)
-        for thing in things:
+        things = (thing for event in frame.events for thing in [belief.take(event, None)] if thing)
+        values = {thing: belief.values[thing] for thing in things}
+        state.frames_at.setdefault(frame.place, []).append(number)
+        state.changed.append(values)
+        for thing, value in values.items():
             if thing not in changes:
                 changes[thing] = Changes(thing.first_value)
-            changes[thing].add(number, belief.values[thing])
+            changes[thing].add(number, value)
     is_told_by(part, belief, state)
 
 
@@ -327,7 +326,7 @@ def read_described(state: DeviceState, part: Part, places: SourcePlaces) -> None
         for number, frame in enumerate(state.frames):
             if changes.values[-1] != told[frame.place, thing]:
                 changes.add(number, told[frame.place, thing])
-                state.changed[number].add(thing)
+                state.changed[number][thing] = told[frame.place, thing]
 
 
 def read_synchronisations(state: DeviceState, part: Part) -> None:

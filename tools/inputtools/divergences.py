@@ -104,6 +104,8 @@ class Walk:
         self.frame, self.reported = -1, -1
         self.taken: List[Event] = []
         self.touched: Set[Thing] = set()
+        # (what the device has at the end of the present frame)
+        self.present = {thing: changes.values[0] for thing, changes in state.changes.items()}
         self.differing = {thing for thing in state.changes if self.is_other(thing)}
         self.divergences: List[Divergence] = []
         self.open: Dict[Thing, Divergence] = {}
@@ -142,7 +144,8 @@ class Walk:
         return None
 
     def is_other(self, thing: Thing) -> bool:
-        return self.belief.value(thing) != self.seen(thing, self.state.value(thing, self.frame))
+        present = self.present.get(thing)
+        return self.belief.value(thing) != self.seen(thing, thing.first_value if present is None else present)
 
     def note(self, thing: Thing) -> None:
         """Enters whether a thing differs now."""
@@ -152,16 +155,21 @@ class Walk:
         """The device's state is now that at the end of this frame. Notes all that may have changed."""
         before, self.frame = self.frame, frame
         if frame < before:
-            self.touched.update(self.state.changes)
-        else:
-            self.touched.update(*self.state.changed[before + 1 : frame + 1])
+            self.present = {thing: self.state.value(thing, frame) for thing in self.state.changes}
+            self.touched.update(self.present)
+        for changed in self.state.changed[before + 1 : frame + 1]:
+            self.present.update(changed)
+            self.touched.update(changed)
         for thing in self.touched:
             self.note(thing)
         self.touched.clear()
 
-    def compare(self, point: Point) -> None:
+    def compare(self, kind: str, place: int, entry: int, frame: int) -> None:
         """Begins, goes on with and ends divergences at a point."""
-        self.move_to(point.frame)
+        self.move_to(frame)
+        if not self.differing and not self.open:
+            return
+        point = Point(kind, place, entry, frame)
         differing = {thing for thing in self.differing if not self.is_told_behind(thing, point)}
         for thing in in_order(set(self.open) - differing):
             self.meet(thing)
@@ -224,37 +232,37 @@ class Walk:
         """A joystick's record, which no client is handed."""
 
     def see_took(self, number: int, entry: Took) -> None:
-        event, place = entry.event, entry.place
-        if event.kind == "EV_SYN":
-            self.taken.append(event)
+        _, _, place, _, event = entry
+        kind, code, _ = event
+        self.taken.append(event)
+        if kind == "EV_SYN":
             if event.is_loss:
                 self.losses.append(place)
             if event.is_report:
-                self.compare(Point("report", place, number, self.frame_of_report(place)))
+                self.compare("report", place, number, self.frame_of_report(place))
                 self.taken = []
             return
-        if event.code != SLOT and is_slot_code(event.kind, event.code):
-            self.slot_of_taken[place, event.code] = self.belief.value(CURRENT)
+        if code != SLOT and is_slot_code(kind, code):
+            self.slot_of_taken[place, code] = self.belief.value(CURRENT)
         thing = self.belief.take(event, Origin(number, False, place))
         if thing is not None:
             self.touched.add(thing)
-        self.taken.append(event)
 
     def frame_of_report(self, place: int) -> int:
         """The number of the frame whose report was taken. One step may end several: the next that has the
         events."""
-        all_frames = self.state.frames_at(place)
+        all_frames = self.state.frames_at.get(place, [])
         if len(all_frames) == 1:
             self.reported = all_frames[0]
             return self.reported
-        frames = [frame for frame in all_frames if frame > self.reported] or list(all_frames)
+        frames = [frame for frame in all_frames if frame > self.reported] or all_frames
         taken = [event for event in self.taken if not event.is_loss]
         fitting = (frame for frame in frames if is_part_of(taken, self.state.frames[frame].events))
         self.reported = next(fitting, frames[-1])
         return self.reported
 
     def see_again(self, number: int, entry: Again) -> None:
-        self.compare(Point("again", entry.place, number, self.state.frame_before(entry.place)))
+        self.compare("again", entry.place, number, self.state.frame_before(entry.place))
 
     def see_call(self, number: int, entry: Call) -> None:
         step, reply = entry.step, entry.reply

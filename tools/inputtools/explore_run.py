@@ -6,7 +6,7 @@ import functools
 import multiprocessing
 import signal
 from dataclasses import dataclass, replace
-from typing import Dict, Iterator, List, Optional, Sequence, Tuple
+from typing import Any, Dict, Iterator, List, Optional, Sequence, Tuple
 
 from inputtools.command import Wrong
 from inputtools.drawn_orders import Draws
@@ -68,9 +68,8 @@ def checked_record(given: Given) -> ExploredRecord:
     record = record_at(given.name, given.path, given.folder)
     for actor in record.actors:
         if actor.role not in ("client", "tap") and any(line.is_guarded for line in actor.lines):
-            raise Wrong(
-                f"{given.name}: `#~ if no key` stands before a line of {actor.name}, which knows of no keys"
-            )
+            what = f"`#~ if no key` stands before a line of {actor.name}, which knows of no keys"
+            raise Wrong(f"{given.name}: {what}")
     return record
 
 
@@ -108,11 +107,10 @@ class Exploration:
     def __init__(self, item: Item, settings: Settings) -> None:
         self.item, self.settings = item, settings
         self.record = record_at(item.name, item.path, item.folder)
-        self.expectations = None
+        self.expectations: Optional[List[Any]] = None
         if settings.expects:
-            self.expectations = [
-                each for each in expectations_on_actors(self.record) if each.actor == item.actor
-            ]
+            found = expectations_on_actors(self.record)
+            self.expectations = [each for each in found if each.actor == item.actor]
         self.player = player_of_orders()
         self.is_stopped = False
 
@@ -170,11 +168,9 @@ class Exploration:
         problem, least, found = graph.problem, LeastOrders(graph), []
         for thing, nodes in ends.items():
             orders = sum(counts.orders[node] for node in nodes)
-            chance = (
-                None if problem.asked.preemptions is not None else sum(counts.chances[node] for node in nodes)
-            )
-            costs = [(least.cost(node), node) for node in nodes]
-            (changes, overtaken), best = min(costs)
+            is_of_all = problem.asked.preemptions is None
+            chance = sum(counts.chances[node] for node in nodes) if is_of_all else None
+            (changes, overtaken), best = min((least.cost(node), node) for node in nodes)
             one = found_of(thing, orders, chance, changes, overtaken, None)
             found.append(self.with_order(problem, one, thing, least.order(best), orders == counts.total))
         return found
@@ -191,40 +187,21 @@ class Exploration:
             least = draws.least[thing]
             one = found_of(thing, orders, None, least.changes, least.overtaken, least.number)
             found.append(self.with_order(problem, one, thing, least.actors, False))
-        why = (
-            "stopped from the keyboard" if draws.is_stopped else "the time was over" if draws.is_late else ""
-        )
-        answer = replace(
-            self.answer(problem, None), drawn=draws.drawn, seed=self.settings.seed, orders=draws.drawn
-        )
+        why = "the time was over" if draws.is_late else ""
+        why = "stopped from the keyboard" if draws.is_stopped else why
+        answer = replace(self.answer(problem), drawn=draws.drawn, seed=self.settings.seed, orders=draws.drawn)
         return replace(answer, is_whole=not why, is_all=False, why=why, found=in_order(found))
 
-    def answer(self, problem: Problem, states: Optional[int]) -> Answer:
-        asked, others = problem.asked, tuple(name for name in problem.names if name != self.item.actor)
+    def answer(self, problem: Problem, states: Optional[int] = None) -> Answer:
+        item, asked = self.item, problem.asked
+        others = tuple(name for name in problem.names if name != item.actor)
         return Answer(
-            self.item.number,
-            self.item.name,
-            problem.device_name,
-            self.item.actor,
-            others,
-            sum(problem.counts),
-            asked.grain,
-            asked.waits,
-            asked.within,
-            asked.preemptions,
-            None,
-            None,
-            0,
-            states,
-            True,
-            True,
-            "",
-            (),
+            item.number, item.name, problem.device_name, item.actor, others, sum(problem.counts),
+            asked.grain, asked.waits, asked.within, asked.preemptions, states=states,
         )
 
-    def with_order(
-        self, problem: Problem, found: Found, thing: Thing, order: Sequence[int], is_in_each: bool
-    ) -> Found:
+    def with_order(self, problem: Problem, found: Found, thing: Thing, order: Sequence[int],
+                   is_in_each: bool) -> Found:
         """What was found, with its short order as a record, which is played again."""
         if (is_in_each and not thing.is_wrong()) or self.is_stopped:
             return found
@@ -252,15 +229,11 @@ def why_text(graph: Graph) -> str:
     return f"the time was over at {graph.states():,} states"
 
 
-def found_of(
-    thing: Thing, orders: int, chance: Optional[float], changes: int, overtaken: int, draw: Optional[int]
-) -> Found:
-    believed = present = None
-    if thing.believed is not None:
-        believed, present = thing.what.value_text(thing.believed), thing.what.value_text(thing.present)
-    return Found(
-        thing.kind, thing.name(), thing.why, believed, present, orders, chance, changes, overtaken, draw
-    )
+def found_of(thing: Thing, *counts: Any) -> Found:
+    """What was found. `counts` are its orders, its chance, its changes, what was overtaken, and its draw."""
+    values = thing.believed, thing.present
+    believed, present = (None if value is None else thing.what.value_text(value) for value in values)
+    return Found(thing.kind, thing.name(), thing.why, believed, present, *counts)
 
 
 # All actors

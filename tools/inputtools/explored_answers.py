@@ -65,14 +65,14 @@ class Answer:
     waits: bool
     within: Optional[int]
     preemptions: Optional[int]
-    drawn: Optional[int]
-    seed: Optional[int]
-    orders: int
-    states: Optional[int]
-    is_whole: bool
-    is_all: bool
-    why: str
-    found: Tuple[Found, ...]
+    drawn: Optional[int] = None
+    seed: Optional[int] = None
+    orders: int = 0
+    states: Optional[int] = None
+    is_whole: bool = True
+    is_all: bool = True
+    why: str = ""
+    found: Tuple[Found, ...] = ()
 
     def place(self) -> Tuple[int, bool]:
         return self.item, self.drawn is not None
@@ -115,7 +115,7 @@ def read_answers(name: str, text: str) -> Tuple[Dict[str, Any], List[Answer]]:
             if kind == "shard":
                 shard = values
             elif kind == "explored":
-                answers.append(Answer(found=(), **values))
+                answers.append(Answer(**values))
             else:
                 answers[-1] = replace(answers[-1], found=(*answers[-1].found, read_found(values)))
     except (ValueError, KeyError, TypeError, IndexError, AttributeError):
@@ -143,20 +143,10 @@ def merged(parts: Sequence[Answer]) -> Answer:
     found: Dict[Tuple[Any, ...], Found] = {}
     for each in (each for part in parts for each in part.found):
         key = each.kind, each.thing, each.why, each.believed, each.present
-        known = found.get(key)
-        found[key] = (
-            each
-            if known is None
-            else replace(min(known, each, key=Found.rank), orders=known.orders + each.orders)
-        )
-    return replace(
-        first,
-        drawn=drawn,
-        orders=drawn,
-        why=why,
-        is_whole=all(part.is_whole for part in parts),
-        found=in_order(found.values()),
-    )
+        known = found.get(key, replace(each, orders=0))
+        found[key] = replace(min(known, each, key=Found.rank), orders=known.orders + each.orders)
+    whole = replace(first, drawn=drawn, orders=drawn, why=why, found=in_order(found.values()))
+    return replace(whole, is_whole=all(part.is_whole for part in parts))
 
 
 def joined(files: Iterable[Tuple[str, str]]) -> List[Answer]:
@@ -166,12 +156,10 @@ def joined(files: Iterable[Tuple[str, str]]) -> List[Answer]:
     for name, shard, _ in shards:
         if (shard["of"], shard["asked"]) != (first["of"], first["asked"]):
             raise Wrong(f"{name}: it is a shard of another run than {shards[0][0]}")
-    numbers = sorted(shard["shard"] for _, shard, _ in shards)
-    if numbers != list(range(1, first["of"] + 1)):
-        wanted = [number for number in range(1, first["of"] + 1) if numbers.count(number) != 1]
-        raise Wrong(
-            f"of the shards 1 to {first['of']} each is wanted once: look at {', '.join(map(str, wanted))}"
-        )
+    numbers = [shard["shard"] for _, shard, _ in shards]
+    wanted = [str(number) for number in range(1, first["of"] + 1) if numbers.count(number) != 1]
+    if wanted or len(numbers) > first["of"]:
+        raise Wrong(f"of the shards 1 to {first['of']} each is wanted once: look at {', '.join(wanted)}")
     parts: Dict[Tuple[Any, ...], List[Answer]] = {}
     for _, shard, answers in sorted(shards, key=lambda each: int(each[1]["shard"])):
         for answer in answers:

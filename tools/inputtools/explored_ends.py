@@ -5,10 +5,11 @@ The reads of the end are those of `tools/stuck`; so what is not read yet is no f
 """
 
 from __future__ import annotations
-from typing import (
-    Any, Callable, Dict, FrozenSet, List, NamedTuple, Optional, Sequence, Set, TYPE_CHECKING, Tuple,
-)
 
+from functools import lru_cache
+from typing import (
+    TYPE_CHECKING, Any, Callable, Dict, FrozenSet, Iterator, List, NamedTuple, Optional, Sequence, Set, Tuple,
+)
 
 from inputtools.belief import CURRENT
 from inputtools.belief import Thing as What
@@ -88,31 +89,23 @@ def things_at(state: State, problem: Problem) -> List[Thing]:
         marks = state.marks | {mark for mark in actor.marks if mark.kind == "lost"}
         if has_opened(actor):
             things += [apart(actor.name, device, row) for row in differences(actor, device)]
-        things += [
-            thing_of(mark)
-            for mark in sorted(marks, key=str)
-            if mark.actor == actor.name and mark.kind != "took"
-        ]
+        own = (mark for mark in sorted(marks, key=str) if mark.actor == actor.name and mark.kind != "took")
+        things += [Thing(mark.kind, mark.actor, mark.what, why=mark.why) for mark in own]
     return things + waiting(state, problem)
 
 
-def missed(
-    actor: ActorState, device: ExploredDevice, marks: FrozenSet[Mark], expectations: Sequence[Any]
-) -> List[Thing]:
+def missed(actor: ActorState, device: ExploredDevice, marks: FrozenSet[Mark],
+           expectations: Sequence[Any]) -> List[Thing]:
     """The expectations of an actor that an end misses."""
     took = {mark.what for mark in marks if mark.kind == "took"}
-    things = []
-    for each in expectations:
-        is_held: Callable[[Any], bool] = {
-            "agrees": lambda _: not differences(actor, device),
-            "never": lambda each: each.number not in took,
-            "takes": lambda each: each.number in took,
-            "drops": lambda each: actor.losses == int(each.words[0]),
-            "at-end": lambda each: has_line(actor, each),
-        }[each.kind]
-        if not is_held(each):
-            things.append(Thing("missed", actor.name, each.text))
-    return things
+    is_held: Dict[str, Callable[[Any], bool]] = {
+        "agrees": lambda _: not differences(actor, device),
+        "never": lambda each: each.number not in took,
+        "takes": lambda each: each.number in took,
+        "drops": lambda each: actor.losses == int(each.words[0]),
+        "at-end": lambda each: has_line(actor, each),
+    }
+    return [Thing("missed", actor.name, each.text) for each in expectations if not is_held[each.kind](each)]
 
 
 def has_line(actor: ActorState, expectation: Any) -> bool:
@@ -124,24 +117,20 @@ def has_line(actor: ActorState, expectation: Any) -> bool:
     count = len(expectation.line)
     words = next((row[count:] for row in rows if row[:count] == expectation.line), None)
     if words is None:
-        raise Wrong(
-            f"line {expectation.number}: the view of {actor.name} has no line {' '.join(expectation.line)}"
-        )
+        line = " ".join(expectation.line)
+        raise Wrong(f"line {expectation.number}: the view of {actor.name} has no line {line}")
     return bool(is_line_held(expectation, words))
 
 
 def waiting(state: State, problem: Problem) -> List[Thing]:
     """The actors that have lines left at an end, since nobody can go on."""
-    names = [
-        actor.name
-        for number, actor in enumerate(state.actors)
-        if state.positions[number] < problem.counts[number]
-    ]
-    return [Thing("waits", name, name) for name in names]
+    left = zip(state.actors, state.positions, problem.counts)
+    return [Thing("waits", actor.name, actor.name) for actor, at, count in left if at < count]
 
 
-def thing_of(mark: Mark) -> Thing:
-    return Thing(mark.kind, mark.actor, mark.what, why=mark.why)
+@lru_cache(maxsize=None)
+def what_of(kind: int, code: int, slot: Optional[int] = None) -> What:
+    return What(kind_text(kind), code_text(kind, code), slot)
 
 
 def apart(name: str, device: ExploredDevice, row: Difference) -> Thing:
@@ -154,12 +143,8 @@ def things_of_batch(device: ExploredDevice) -> Set[Any]:
     things: Set[Any] = set()
     slot = device.at_frame
     for kind, code, value in device.batch:
-        is_of_slot = kind == ABS and FIRST <= code <= LAST
-        if (kind, code) == (ABS, SLOT):
-            slot = value
-        things.add(
-            What(kind_text(kind), code_text(kind, code), slot if is_of_slot else None)
-        )
+        slot = value if (kind, code) == (ABS, SLOT) else slot
+        things.add(what_of(kind, code, slot if kind == ABS and FIRST <= code <= LAST else None))
     return things
 
 
@@ -169,84 +154,60 @@ def things_of_batch(device: ExploredDevice) -> Set[Any]:
 def differences(actor: ActorState, device: ExploredDevice) -> List[Difference]:
     """The things in which an actor differs from the device: what it believes of each, and what is so."""
     if actor.role == "joy":
-        return differences_of_joystick(actor, device)
+        return list(differences_of_joystick(actor, device))
     if actor.role == "owner":
-        return differences_of_owner(actor, device)
-    return (
-        differences_of_bits(actor, device)
-        + differences_of_axes(actor, device)
-        + differences_of_slots(actor, device)
-    )
+        return list(differences_of_owner(actor, device))
+    compared = (differences_of_bits, differences_of_axes, differences_of_slots)
+    return [row for each in compared for row in each(actor, device)]
 
 
-def differences_of_joystick(actor: ActorState, device: ExploredDevice) -> List[Difference]:
+def differences_of_joystick(actor: ActorState, device: ExploredDevice) -> Iterator[Difference]:
     joystick = actor.joystick
-    rows = []
     for code, down in zip(joystick.buttons, joystick.down):
         if down != int(code in device.on[KEY]):
-            rows.append((What(kind_text(KEY), code_text(KEY, code)), int(down), int(code in device.on[KEY])))
+            yield what_of(KEY, code), int(down), int(code in device.on[KEY])
     for code, value in zip(joystick.axes, joystick.values):
         if value != cut(device.axes[code]):
-            rows.append((What(kind_text(ABS), code_text(ABS, code)), value, device.axes[code]))
-    return rows
+            yield what_of(ABS, code), value, device.axes[code]
 
 
-def differences_of_owner(actor: ActorState, device: ExploredDevice) -> List[Difference]:
-    rows = []
+def differences_of_owner(actor: ActorState, device: ExploredDevice) -> Iterator[Difference]:
     for (kind, code), present in sorted(device.outputs.last.items()):
         heard = actor.heard.get((kind, code), FIRST_SETTINGS.get(code_text(kind, code), 0))
         if heard != present:
-            rows.append((What(kind_text(kind), code_text(kind, code)), heard, present))
-    return rows
+            yield what_of(kind, code), heard, present
 
 
-def differences_of_bits(actor: ActorState, device: ExploredDevice) -> List[Difference]:
-    on, rows = actor.belief().on, []
+def differences_of_bits(actor: ActorState, device: ExploredDevice) -> Iterator[Difference]:
+    on = actor.belief().on
     for kind in (KEY, SW, LED):
         for code in sorted(on[kind] ^ device.on[kind]):
-            rows.append(
-                (
-                    What(kind_text(kind), code_text(kind, code)),
-                    int(code in on[kind]),
-                    int(code in device.on[kind]),
-                )
-            )
-    return rows
+            yield what_of(kind, code), int(code in on[kind]), int(code in device.on[kind])
 
 
-def differences_of_axes(actor: ActorState, device: ExploredDevice) -> List[Difference]:
-    axes, rows = actor.belief().axes, []
+def differences_of_axes(actor: ActorState, device: ExploredDevice) -> Iterator[Difference]:
+    axes = actor.belief().axes
     for code in sorted(device.caps.axes):
         if not SLOT <= code <= LAST and axes[code] != device.axes[code]:
-            rows.append((What(kind_text(ABS), code_text(ABS, code)), axes[code], device.axes[code]))
-    return rows
+            yield what_of(ABS, code), axes[code], device.axes[code]
 
 
-def differences_of_slots(actor: ActorState, device: ExploredDevice) -> List[Difference]:
+def differences_of_slots(actor: ActorState, device: ExploredDevice) -> Iterator[Difference]:
     view = actor.belief()
-    rows: List[Difference] = []
     codes = [code for code in sorted(device.caps.axes) if FIRST <= code <= LAST]
     for slot, (believed, present) in enumerate(zip(view.cells, device.cells)):
         for code in codes:
             if believed[code - FIRST] != present[code - FIRST]:
-                rows.append(
-                    (What(kind_text(ABS), code_text(ABS, code), slot), believed[code - FIRST], present[code - FIRST])
-                )
+                yield what_of(ABS, code, slot), believed[code - FIRST], present[code - FIRST]
     if device.caps.slots and view.slot != device.at_frame:
-        rows.append((CURRENT, view.slot, device.at_frame))
-    return rows
+        yield CURRENT, view.slot, device.at_frame
 
 
 def moment_marks(actor: ActorState, device: ExploredDevice, unit: Unit) -> Set[Mark]:
     """The things in which an actor is apart where nothing was left to read and no frame is open."""
-    if (
-        not actor.is_watched
-        or unit.lines[-1].words[0] not in READING
-        or device.batch
-        or actor.stop != FINISHED
-    ):
-        return set()
     client = device.clients.get(actor.present_client())
-    if client is None or client.revoked or client.visible():
+    if client is None or client.revoked or client.visible() or device.batch:
+        return set()
+    if not actor.is_watched or actor.stop != FINISHED or unit.lines[-1].words[0] not in READING:
         return set()
     return {Mark("moment", actor.name, what) for what, _, _ in differences(actor, device)}

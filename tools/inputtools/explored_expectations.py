@@ -2,8 +2,8 @@
 and `never`, `takes` and `drops` of what the actor is handed on its way."""
 
 from __future__ import annotations
-from typing import Any, List, NamedTuple, Sequence, Tuple
 
+from typing import Any, List, NamedTuple, Sequence, Tuple
 
 from inputtools.command import Wrong
 from inputtools.expectations import expectations_of

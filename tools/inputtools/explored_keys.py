@@ -144,19 +144,10 @@ def filter_key(each: Filter) -> Events:
 def core_key(device: ExploredDevice, has_owner: bool) -> CoreKey:
     on, outputs = device.on, device.outputs
     return CoreKey(
-        frozenset(on[KEY]),
-        frozenset(on[SW]),
-        frozenset(on[LED]),
-        tuple(device.axes.values()),
-        tuple([info[3] for info in device.infos.values()]),
-        tuple(map(tuple, device.cells)),
-        device.staged,
-        device.at_frame,
-        tuple(device.batch),
-        device.inhibited,
-        tuple(device.repeat),
-        tuple(map(filter_key, device.filters)),
-        tuple(outputs.waiting) if has_owner else (),
+        frozenset(on[KEY]), frozenset(on[SW]), frozenset(on[LED]), tuple(device.axes.values()),
+        tuple([info[3] for info in device.infos.values()]), tuple(map(tuple, device.cells)),
+        device.staged, device.at_frame, tuple(device.batch), device.inhibited, tuple(device.repeat),
+        tuple(map(filter_key, device.filters)), tuple(outputs.waiting) if has_owner else (),
         tuple(sorted(outputs.last.items())) if has_owner else (),
     )
 
@@ -166,12 +157,9 @@ def device_key(device: ExploredDevice, limits: Limits, numbers: Numbers) -> Devi
         device.core_number = numbers.of(core_key(device, limits.has_owner))
     has_tick = limits.has_tick
     return DeviceKey(
-        device.core_number,
-        device.holder,
-        device.due if has_tick else None,
+        device.core_number, device.holder, device.due if has_tick else None,
         device.repeat_key if has_tick and device.due is not None else None,
-        len(device.clients) if limits.counts_open else 0,
-        len(device.history) if limits.counts_steps else 0,
+        len(device.clients) if limits.counts_open else 0, len(device.history) if limits.counts_steps else 0,
     )
 
 
@@ -181,11 +169,7 @@ def device_key(device: ExploredDevice, limits: Limits, numbers: Numbers) -> Devi
 def view_key(view: View) -> ViewKey:
     on = view.on
     return ViewKey(
-        frozenset(on[KEY]),
-        frozenset(on[LED]),
-        frozenset(on[SW]),
-        tuple(view.axes),
-        view.slot,
+        frozenset(on[KEY]), frozenset(on[LED]), frozenset(on[SW]), tuple(view.axes), view.slot,
         tuple(map(tuple, view.cells)),
     )
 

@@ -6,8 +6,8 @@ believes comes of it.
 """
 
 from __future__ import annotations
-from typing import Any, Dict, FrozenSet, List, NamedTuple, Optional, Sequence, Set, Tuple
 
+from typing import Any, Dict, FrozenSet, List, NamedTuple, Optional, Sequence, Set, Tuple
 
 from inputtools.explored_record import Unit
 from second.device import DROPPED, Caps, Client, Device, Filter, Outputs, is_output
@@ -100,9 +100,8 @@ class LastOutputs(Outputs):
         if not self.has_owner:
             return
         super().send(events)
-        self.last.update(
-            {event[:2]: event[2] for event in events if is_output(event) and event[0] in LASTING}
-        )
+        lasting = (event for event in events if is_output(event) and event[0] in LASTING)
+        self.last.update({(kind, code): value for kind, code, value in lasting})
 
     def copy(self) -> LastOutputs:
         if not self.has_owner:
@@ -379,37 +378,21 @@ class State:
 
     __slots__ = ("device", "actors", "positions", "marks", "last", "preemptions", "made", "keys")
 
-    def __init__(
-        self,
-        device: ExploredDevice,
-        actors: Sequence[ActorState],
-        positions: Tuple[int, ...],
-        marks: FrozenSet[Mark],
-        last: Optional[int] = None,
-        preemptions: int = 0,
-        made: Optional[Step] = None,
-    ) -> None:
+    def __init__(self, device: ExploredDevice, actors: Sequence[ActorState], positions: Tuple[int, ...],
+                 marks: FrozenSet[Mark], last: Optional[int] = None, preemptions: int = 0,
+                 made: Optional[Step] = None) -> None:
         self.device, self.actors, self.positions, self.marks = device, actors, positions, marks
         self.last, self.preemptions, self.made = last, preemptions, made
         # The numbers of the actors' keys, where they are known.
         self.keys: List[Optional[int]] = [None] * len(actors)
 
-    def moved(
-        self,
-        number: int,
-        device: ExploredDevice,
-        actor: ActorState,
-        changes_core: bool,
-        is_done: bool = True,
-        made: Optional[Step] = None,
-    ) -> State:
+    def moved(self, number: int, device: ExploredDevice, actor: ActorState, changes_core: bool,
+              is_done: bool = True, made: Optional[Step] = None) -> State:
         """The state behind a unit, or a call, of an actor. Where the core did not change no other
         actor's key did."""
         actors = list(self.actors)
         actors[number] = actor
-        positions = self.positions
-        if is_done:
-            positions = (*positions[:number], positions[number] + 1, *positions[number + 1 :])
+        positions = self.positions_with(number, self.positions[number] + is_done)
         marks = self.marks | actor.marks if actor.marks else self.marks
         new = State(device, actors, positions, marks, self.last, self.preemptions, made)
         if not changes_core:
@@ -419,8 +402,10 @@ class State:
 
     def at(self, number: int, position: int) -> State:
         """The same state, but that an actor is at another unit."""
-        positions = (*self.positions[:number], position, *self.positions[number + 1 :])
-        return State(self.device, self.actors, positions, self.marks)
+        return State(self.device, self.actors, self.positions_with(number, position), self.marks)
+
+    def positions_with(self, number: int, position: int) -> Tuple[int, ...]:
+        return (*self.positions[:number], position, *self.positions[number + 1 :])
 
 
 def is_core_changed(unit: Unit) -> bool:

@@ -35,9 +35,8 @@ def bounds_text(answer: Answer) -> str:
     """Which orders are spoken of, behind their number."""
     texts = []
     if answer.within is not None:
-        texts.append(
-            f"in which nothing goes ahead of what begins more than {counted(answer.within, 'line')} before it"
-        )
+        lines = counted(answer.within, "line")
+        texts.append(f"in which nothing goes ahead of what begins more than {lines} before it")
     if answer.preemptions is not None:
         texts.append(f"with at most {counted(answer.preemptions, 'change')} of actor that nobody needed")
     return "".join(f" {text}" for text in texts)
@@ -48,12 +47,11 @@ def of_text(answer: Answer) -> str:
     one = "order of calls" if answer.grain == "call" else "order"
     orders = one if answer.orders == 1 else one.replace("order", "orders", 1)
     waits = ", followers waiting," if answer.waits else ""
+    rest = f"{waits}{bounds_text(answer)}"
     if answer.drawn is not None:
-        return (
-            f"{number_text(answer.orders)} {orders} drawn with seed {answer.seed}{waits}{bounds_text(answer)}"
-        )
+        return f"{number_text(answer.orders)} {orders} drawn with seed {answer.seed}{rest}"
     every = "the one" if answer.orders == 1 else f"all {number_text(answer.orders)}"
-    return f"{every} {orders}{waits}{bounds_text(answer)}"
+    return f"{every} {orders}{rest}"
 
 
 def head_line(answer: Answer) -> str:
@@ -70,37 +68,28 @@ def head_line(answer: Answer) -> str:
 def nothing_line(answer: Answer) -> str:
     """Nothing is wrong in any of the orders that were looked at."""
     if answer.drawn is not None:
-        most = f"3 in {number_text(answer.orders)}"
-        return (
-            f"  in none of them is anything wrong: at most {most} are, with 95 of a hundred"
-            if answer.orders
-            else ""
-        )
+        most = f"at most 3 in {number_text(answer.orders)} are, with 95 of a hundred"
+        return f"  in none of them is anything wrong: {most}" if answer.orders else ""
     where = "in it nothing is wrong" if answer.orders == 1 else "in none of them is anything wrong"
     return f"  {where} at the end"
 
 
-def belief_text(found: Found) -> str:
-    return f"{found.thing}: {found.believed} for it, {found.present} on the device,"
+# What orders have, by its kind.
+WHAT = {
+    "apart": "{belief}",
+    "open-frame": "{belief} by a frame that has not ended,",
+    "moment": "{thing} was wrong for it where nothing was left to read",
+    "missed": "`{thing}` is missed",
+    "waits": "{thing} waits for ever, with lines left,",
+    "lost": "it loses events",
+    "refused": "{thing} is refused ({why})",
+    "full": "the history is full, and it stops",
+}
 
 
 def what_text(found: Found) -> str:
-    """What orders have."""
-    if found.kind == "apart":
-        return belief_text(found)
-    if found.kind == "open-frame":
-        return f"{belief_text(found)} by a frame that has not ended,"
-    if found.kind == "moment":
-        return f"{found.thing} was wrong for it where nothing was left to read"
-    if found.kind == "missed":
-        return f"`{found.thing}` is missed"
-    if found.kind == "waits":
-        return f"{found.thing} waits for ever, with lines left,"
-    if found.kind == "lost":
-        return "it loses events"
-    if found.kind == "refused":
-        return f"{found.thing} is refused ({found.why})"
-    return "the history is full, and it stops"
+    belief = f"{found.thing}: {found.believed} for it, {found.present} on the device,"
+    return WHAT[found.kind].format(belief=belief, thing=found.thing, why=found.why)
 
 
 def count_text(answer: Answer, found: Found) -> str:
@@ -134,10 +123,8 @@ def found_lines(answer: Answer, found: Found, path: Optional[str]) -> List[str]:
         lines.append("    BUT: played again, this order does not have it; keep the record, and report it")
     lines += order_lines(found)
     if path is not None:
-        lines += [
-            f"    why in full:  {named('tools/stuck')} {path}",
-            f"    the picture:  {named('tools/draw')} {path} > order.html",
-        ]
+        lines.append(f"    why in full:  {named('tools/stuck')} {path}")
+        lines.append(f"    the picture:  {named('tools/draw')} {path} > order.html")
     return lines
 
 

@@ -8,6 +8,7 @@ are of no concern. Where a limit may be met, of steps or of open clients, all ar
 
 from __future__ import annotations
 
+from bisect import bisect_left, bisect_right
 from dataclasses import dataclass
 from operator import le
 from typing import Any, Callable, List, Optional, Sequence, Set, Tuple
@@ -15,25 +16,11 @@ from typing import Any, Callable, List, Optional, Sequence, Set, Tuple
 from inputtools.explored_ends import moment_marks
 from inputtools.explored_expectations import expected_of
 from inputtools.explored_keys import (
-    ActorKey,
-    Limits,
-    Numbers,
-    StateKey,
-    actor_key,
-    device_key,
-    folded_key,
-    is_alike_when_read,
+    ActorKey, Limits, Numbers, StateKey, actor_key, device_key, folded_key, is_alike_when_read,
 )
 from inputtools.explored_record import ExploredActor, ExploredRecord, Line, Unit, units_of
 from inputtools.explored_state import (
-    EFFECTS,
-    FINISHED,
-    ActorState,
-    ExploredDevice,
-    OneCall,
-    Pause,
-    State,
-    is_core_changed,
+    EFFECTS, FINISHED, ActorState, ExploredDevice, OneCall, Pause, State, is_core_changed,
 )
 from second.device import Caps, is_slot_value
 from second.model import event_of
@@ -140,14 +127,8 @@ class Problem:
     """The units of a device's actors, and the state before them all. Judged are the target, or all
     where there is none."""
 
-    def __init__(
-        self,
-        record: ExploredRecord,
-        number: int,
-        target: Optional[str],
-        asked: Asked,
-        expectations: Optional[Sequence[Any]] = None,
-    ) -> None:
+    def __init__(self, record: ExploredRecord, number: int, target: Optional[str], asked: Asked,
+                 expectations: Optional[Sequence[Any]] = None) -> None:
         self.record, self.number, self.target, self.asked = record, number, target, asked
         self.expectations = expectations
         self.expected = expected_of(expectations or ())
@@ -163,10 +144,10 @@ class Problem:
         if asked.waits:
             self.add_ends()
         self.counts = [len(units) for units in self.units]
+        self.stages = [[unit.first.stage for unit in units] for units in self.units]
         self.changes_core = [[is_core_changed(unit) for unit in units] for units in self.units]
-        self.is_bystander = [
-            target not in (None, actor.name) and is_passive(actor) and not is_tight for actor in actors
-        ]
+        has_others = target is not None and not is_tight
+        self.is_bystander = [has_others and actor.name != target and is_passive(actor) for actor in actors]
         has_owner = any(actor.role == "owner" for actor in actors)
         self.limits = Limits(counts_steps, counts_open, has_owner, False)
         self.start = self.state_at_start()
@@ -201,16 +182,10 @@ class Problem:
     def counts_before(self) -> List[List[Tuple[int, ...]]]:
         """Of each unit, how many units of each actor begin before it in the record."""
         firsts = [[unit.first.index for unit in units] for units in self.units]
-        rows = []
-        for number, units in enumerate(firsts):
-            at, row = [0] * len(firsts), []
-            for index in units:
-                for other, indices in enumerate(firsts):
-                    while at[other] < len(indices) and indices[at[other]] < index:
-                        at[other] += 1
-                row.append(tuple(at[:number] + [0] + at[number + 1 :]))
-            rows.append(row)
-        return rows
+        return [
+            [tuple(0 if other is own else bisect_left(other, index) for other in firsts) for index in own]
+            for own in firsts
+        ]
 
     def prepare_folding(self) -> None:
         """Where may it make no difference when an actor reads? Where no loss can come, and behind its
@@ -219,12 +194,8 @@ class Problem:
         ring = caps.ring() - 1
         is_lossless = most_events(self.actors, caps) < ring
         if not is_lossless and asked.within is not None:
-            window = Window(self.actors, asked.within)
-            readers = [
-                actor
-                for actor, aside in zip(self.actors, self.is_bystander)
-                if reads_events(actor) and not aside
-            ]
+            window, rows = Window(self.actors, asked.within), zip(self.actors, self.is_bystander)
+            readers = (actor for actor, is_aside in rows if reads_events(actor) and not is_aside)
             is_lossless = all(window.most_waiting(actor) < ring for actor in readers)
         # (what waits says how many calls a line makes, of which a log has so many and no more)
         counts_calls = asked.grain == "call" or self.limits.counts_steps
@@ -239,39 +210,25 @@ class Problem:
 
     def next_units(self, state: State) -> List[Tuple[int, Line]]:
         """The actors that have units left, each with the first line of its next one."""
-        rows = []
-        for number, at in enumerate(state.positions):
-            if at < self.counts[number]:
-                rows.append((number, self.units[number][at].first))
-        return rows
+        ats = enumerate(state.positions)
+        return [(number, self.units[number][at].first) for number, at in ats if at < self.counts[number]]
 
     def enabled(self, state: State) -> List[int]:
         """The actors that may go on."""
         rows = self.next_units(state)
-        if not rows:
-            return []
-        stage = min(line.stage for _, line in rows)
-        low = min(line.index for _, line in rows)
+        stage = min((line.stage for _, line in rows), default=0)
+        low = min((line.index for _, line in rows), default=0)
         most = ALWAYS if self.asked.within is None else low + self.asked.within
-        found = []
-        for number, line in rows:
-            if line.stage > stage:
-                continue
-            if line.index > most:
-                self.is_cut = True
-                continue
-            if line.is_guarded and is_kept_back(state.actors[number]):
-                continue
-            found.append(number)
-        return found
+        rows = [(number, line) for number, line in rows if line.stage == stage]
+        within = [(number, line) for number, line in rows if line.index <= most]
+        self.is_cut = self.is_cut or len(within) < len(rows)
+        actors = state.actors
+        return [number for number, line in within if not (line.is_guarded and is_kept_back(actors[number]))]
 
     def units_left(self, state: State, number: int) -> int:
         """How many units an actor has left up to the next barrier."""
-        units, at = self.units[number], state.positions[number]
-        end = at
-        while end < len(units) and units[end].first.stage == units[at].first.stage:
-            end += 1
-        return end - at
+        stages, at = self.stages[number], state.positions[number]
+        return bisect_right(stages, stages[at]) - at
 
     def overtaken(self, state: State, number: int) -> int:
         """How many units that begin before an actor's next one in the record are done after it."""
@@ -280,28 +237,21 @@ class Problem:
 
     def successors(self, state: State) -> List[Tuple[int, State]]:
         """The states behind the next unit of each actor that may go on."""
-        moved = []
-        for number in self.enabled(state):
-            new = self.step(state, number)
-            if new is not None:
-                moved.append((number, new))
+        steps = ((number, self.step(state, number)) for number in self.enabled(state))
+        moved = [(number, new) for number, new in steps if new is not None]
         most = self.asked.preemptions
         return moved if most is None else self.within_preemptions(state, moved, most)
 
-    def within_preemptions(
-        self, state: State, moved: List[Tuple[int, State]], most: int
-    ) -> List[Tuple[int, State]]:
+    def within_preemptions(self, state: State, moved: List[Tuple[int, State]],
+                           most: int) -> List[Tuple[int, State]]:
         """Those behind at most so many changes of actor that nobody needed: the one that is left could
         go on."""
         could_go_on = any(number == state.last for number, _ in moved)
-        kept = []
         for number, new in moved:
             new.preemptions = state.preemptions + (could_go_on and number != state.last)
             new.last = number if new.positions[number] < self.counts[number] else None
-            if new.preemptions <= most:
-                kept.append((number, new))
-            else:
-                self.is_cut = True
+        kept = [(number, new) for number, new in moved if new.preemptions <= most]
+        self.is_cut = self.is_cut or len(kept) < len(moved)
         return kept
 
     # Steps
@@ -357,9 +307,8 @@ class Problem:
     def key(self, state: State) -> StateKey:
         has_tick = any(map(le, state.positions, self.ticks))
         limits = self.limits_before_tick if has_tick else self.limits
-        keys: List[int] = []
-        for number, known in enumerate(state.keys):
-            keys.append(self.numbers.of(self.actor_key(state, number)) if known is None else known)
+        of, known = self.numbers.of, enumerate(state.keys)
+        keys = [of(self.actor_key(state, number)) if key is None else key for number, key in known]
         state.keys = list(keys)
         device = device_key(state.device, limits, self.numbers)
         return StateKey(state.positions, state.marks, device, tuple(keys), state.last, state.preemptions)

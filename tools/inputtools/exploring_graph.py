@@ -45,9 +45,8 @@ class Graph:
     """All states that were reached, with edges. The states themselves are kept of ends alone, where
     nobody can go on."""
 
-    def __init__(
-        self, problem: Problem, most_states: int, seconds: float, tell: Optional[Tell] = None
-    ) -> None:
+    def __init__(self, problem: Problem, most_states: int, seconds: float,
+                 tell: Optional[Tell] = None) -> None:
         self.problem, self.most_states, self.tell = problem, most_states, tell
         self.end_time = time.monotonic() + seconds
         self.edges: List[List[Edge]] = []
@@ -77,9 +76,8 @@ class Graph:
             if not successors:
                 self.ends[node] = state
             for actor, new in successors:
-                self.edges[node].append(
-                    Edge(actor, self.number_of(new), self.problem.overtaken(state, actor))
-                )
+                overtaken = self.problem.overtaken(state, actor)
+                self.edges[node].append(Edge(actor, self.number_of(new), overtaken))
 
     def number_of(self, state: State) -> int:
         """The number of a state, which is explored where it is new."""

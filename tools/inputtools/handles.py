@@ -29,7 +29,7 @@ class Mask(NamedTuple):
 
 
 class MaskSpan(NamedTuple):
-    """From which place to which a mask leaves anything of a type out. The last place is None where it did not end."""
+    """From which place to which a mask leaves anything of a type out; None where that did not end."""
 
     kind: str
     begin: int
@@ -91,10 +91,10 @@ class Handles:
         return grab if grab is not None and grab.client != client else None
 
     def mask_at(self, client: int, place: int, kind: str, code: str) -> Optional[MaskSpan]:
-        """The client's mask that leaves an event out at a place: its type, from which place to which; or None."""
-        number = TYPES[kind]
+        """The client's mask that leaves an event out at a place, or None."""
+        number, own = TYPES[kind], self.masks.get(client, [])
         for mask, bit in (("EV_SYN", number), (kind, number_of_code(number, code) or 0)):
-            steps = [step for step in self.masks.get(client, []) if (step.kind, step.word) == (mask, bit // 64)]
+            steps = [step for step in own if (step.kind, step.word) == (mask, bit // 64)]
             for span in masked_spans(steps, 1 << bit % 64):
                 if span.begin < place and (span.end is None or place < span.end):
                     return span
@@ -108,11 +108,14 @@ class Handles:
         return [span for steps in words.values() for span in masked_spans(steps, ALL_BITS)]
 
     def is_clock_change(self, client: int, place: int) -> bool:
-        return any(changed.place == place for changed in self.clocks.get(client, [])[1:])
+        return place in self.clock_changes(client)
 
     def clock_change_behind(self, client: int, place: int) -> Optional[int]:
         """The place of the client's first change of clock after a place, or None."""
-        return next((changed.place for changed in self.clocks.get(client, [])[1:] if changed.place > place), None)
+        return next((changed for changed in self.clock_changes(client) if changed > place), None)
+
+    def clock_changes(self, client: int) -> List[int]:
+        return [changed.place for changed in self.clocks.get(client, [])[1:]]
 
 
 def masked_spans(steps: List[Mask], bits: int) -> List[MaskSpan]:

@@ -35,7 +35,8 @@ class State:
         self.slots, self.axes = slots, axes  # the axes as the device has them, for their ranges
         self.on: Dict[int, Set[int]] = {kind: set() for kind in FLAGS}
         self.repeat = dict(REPEAT_AT_FIRST)
-        self.values: Dict[int, Optional[int]] = {code: axis.value for code, axis in axes.items() if not self.is_of_slots(code)}
+        own = {code: axis for code, axis in axes.items() if code != SLOT and not is_slot_value(code)}
+        self.values: Dict[int, Optional[int]] = {code: axis.value for code, axis in own.items()}
         self.cells: Dict[Tuple[int, int], int] = {}
         self.slot = self.staged = 0
 
@@ -44,9 +45,6 @@ class State:
         other.on = {kind: set(codes) for kind, codes in self.on.items()}
         other.repeat, other.values, other.cells = dict(self.repeat), dict(self.values), dict(self.cells)
         return other
-
-    def is_of_slots(self, code: int) -> bool:
-        return code == SLOT or is_slot_value(code)
 
     def cell(self, slot: int, code: int) -> int:
         return self.cells.get((slot, code), -1 if code == TRACKING_ID else 0)
@@ -197,7 +195,8 @@ def events_between(old: State, new: State) -> List[RawEvent]:
     events: List[RawEvent] = []
     for kind in FLAGS:
         events += [(kind, code, int(code in new.on[kind])) for code in sorted(old.on[kind] ^ new.on[kind])]
-    events += [(REP, code, value) for code, value in sorted(new.repeat.items()) if value != old.repeat.get(code)]
+    settings = sorted(new.repeat.items())
+    events += [(REP, code, value) for code, value in settings if value != old.repeat.get(code)]
     events += [(ABS, code, value) for code, value in sorted(new.values.items())
                if value is not None and value != old.values.get(code)]
     return events + (slot_events(old, new) if new.slots else [])

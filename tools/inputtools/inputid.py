@@ -4,7 +4,7 @@ The rules are those of systemd's `input_id` (version 252). It looks at the suppo
 properties, and at the bus.
 """
 
-from typing import AbstractSet, Dict, Iterable, List, NamedTuple
+from typing import Dict, Iterable, List
 
 from inputtools.names import ABS, CODES, KEY, REL, SLOT, SW
 from inputtools.recording import Axis, Device
@@ -28,26 +28,6 @@ FULL_KEYBOARD = range(1, 32)
 KEYS_OF_NO_JOYSTICK = (29, 58, 69, 110, 113, 140, 144, 155, 164, 224)
 
 
-class Pointer(NamedTuple):
-    """Which kinds of pointing device it is."""
-
-    is_mouse: bool
-    is_touchpad: bool
-    is_touchscreen: bool
-    is_joystick: bool
-    is_tablet: bool
-    is_pad: bool
-    is_stick: bool
-
-
-def has_all(codes: AbstractSet[int], wanted: Iterable[int]) -> bool:
-    return all(code in codes for code in wanted)
-
-
-def count_of(codes: AbstractSet[int], looked_for: Iterable[int]) -> int:
-    return sum(code in codes for code in looked_for)
-
-
 class Kind:
     """What a device has, as the rules ask for it."""
 
@@ -56,21 +36,22 @@ class Kind:
         self.keys = frozenset(device.codes.get(KEY, ()))
         self.relative = frozenset(device.codes.get(REL, ()))
         self.axes, self.properties, self.bus = frozenset(device.axes), frozenset(properties), bus
-        self.has_position = has_all(self.axes, (ABS_X, ABS_Y))
+        self.has_position = self.axes.issuperset((ABS_X, ABS_Y))
+        self.has_mouse_button = not self.keys.isdisjoint(MOUSE_BUTTONS)
         self.has_wheel = WHEEL in self.relative or HWHEEL in self.relative
         self.has_pen = TOOL_PEN in self.keys or STYLUS in self.keys
-        self.has_pad_buttons = has_all(self.keys, PAD_BUTTONS) and TOOL_PEN not in self.keys
-        self.is_moved = has_all(self.relative, (REL_X, REL_Y))
+        self.has_pad_buttons = self.keys.issuperset(PAD_BUTTONS) and TOOL_PEN not in self.keys
+        self.is_moved = self.relative.issuperset((REL_X, REL_Y))
         self.is_direct = DIRECT in self.properties
 
     def is_accelerometer(self) -> bool:
-        is_in_space = has_all(self.axes, (ABS_X, ABS_Y, ABS_Z))
+        is_in_space = self.axes.issuperset((ABS_X, ABS_Y, ABS_Z))
         return ACCELEROMETER in self.properties or (is_in_space and not self.has_keys)
 
     def has_contacts(self) -> bool:
         """Whether it has positions of contacts. (One that has the axis before ABS_MT_SLOT has all axes there
         are.)"""
-        return has_all(self.axes, MT_POSITION) and not has_all(self.axes, (SLOT, SLOT - 1))
+        return self.axes.issuperset(MT_POSITION) and not self.axes.issuperset((SLOT, SLOT - 1))
 
     def surface(self) -> str:
         """What it is where it has positions, or contacts: a tablet, a touchpad, a touchscreen, or nothing of
@@ -83,59 +64,47 @@ class Kind:
 
     def surfaces(self) -> List[str]:
         """By its positions, and by its contacts. A mouse may have positions too."""
-        has_mouse_button = count_of(self.keys, MOUSE_BUTTONS) > 0
-        found = []
-        if self.has_position:
-            by_position = self.surface()
-            is_mouse = has_mouse_button and by_position in ("touchscreen", "")
-            found.append("mouse" if is_mouse else by_position)
-        if self.has_contacts():
-            found.append(self.surface())
-        return found
+        surface = self.surface()
+        is_mouse = self.has_mouse_button and surface in ("touchscreen", "")
+        found = [("mouse" if is_mouse else surface)] if self.has_position else []
+        return found + ([surface] if self.has_contacts() else [])
 
     def joystick_parts(self) -> int:
         """How many buttons and axes of a joystick it has."""
-        return count_of(self.keys, JOYSTICK_BUTTONS) + count_of(self.axes, JOYSTICK_AXES)
+        return len(self.keys.intersection(JOYSTICK_BUTTONS)) + len(self.axes.intersection(JOYSTICK_AXES))
 
     def is_no_joystick(self) -> bool:
         """Whether it is none, though it has a part of one: keyboards and pads often do."""
-        is_keyboard = count_of(self.keys, KEYS_OF_NO_JOYSTICK) >= 4
+        is_keyboard = len(self.keys.intersection(KEYS_OF_NO_JOYSTICK)) >= 4
         return is_keyboard or self.joystick_parts() < 2 or (self.has_wheel and self.has_pad_buttons)
 
-    def pointer(self) -> Pointer:
+    def pointer(self) -> List[str]:
+        """The names of the kinds of pointing device that it is."""
         surfaces = self.surfaces()
         is_surface = self.has_position and surfaces[0] != ""
         has_joystick = self.joystick_parts() > 0 and not is_surface
-        is_joystick = has_joystick and not self.is_no_joystick()
         is_wheel_pad = self.has_pad_buttons and self.has_wheel and not self.is_moved
-        is_tablet, is_touchpad = "tablet" in surfaces or is_wheel_pad, "touchpad" in surfaces
-        is_plain_mouse = (
-            not (is_tablet or is_touchpad or has_joystick)
-            and count_of(self.keys, MOUSE_BUTTONS) > 0
-            and (self.is_moved or not self.has_position)
-        )
-        return Pointer(
-            "mouse" in surfaces or is_plain_mouse, is_touchpad, "touchscreen" in surfaces, is_joystick,
-            is_tablet,
-            is_wheel_pad or (is_tablet and self.has_pad_buttons),
-            POINTING_STICK in self.properties or (is_plain_mouse and self.bus == BUS_I2C),
-        )
+        is_tablet = "tablet" in surfaces or is_wheel_pad
+        is_plain_mouse = self.has_mouse_button and (self.is_moved or not self.has_position)
+        is_plain_mouse = is_plain_mouse and not (is_tablet or "touchpad" in surfaces or has_joystick)
+        kinds = {
+            "MOUSE": "mouse" in surfaces or is_plain_mouse,
+            "TOUCHPAD": "touchpad" in surfaces,
+            "TOUCHSCREEN": "touchscreen" in surfaces,
+            "JOYSTICK": has_joystick and not self.is_no_joystick(),
+            "TABLET": is_tablet,
+            "TABLET_PAD": is_wheel_pad or (is_tablet and self.has_pad_buttons),
+            "POINTINGSTICK": POINTING_STICK in self.properties or (is_plain_mouse and self.bus == BUS_I2C),
+        }
+        return [name for name, is_one in kinds.items() if is_one]
 
     def names(self) -> List[str]:
         """The names of what it is."""
-        kinds = ["ACCELEROMETER"] if self.is_accelerometer() else pointer_names(self.pointer())
-        if count_of(self.keys, range(1, FIRST_BUTTON)) or count_of(self.keys, HIGH_KEYS):
-            kinds.append("KEY")
-        if has_all(self.keys, FULL_KEYBOARD):
-            kinds.append("KEYBOARD")
-        if not kinds and self.has_wheel:
-            kinds.append("KEY")
+        kinds = ["ACCELEROMETER"] if self.is_accelerometer() else self.pointer()
+        kinds += [] if self.keys.isdisjoint((*range(1, FIRST_BUTTON), *HIGH_KEYS)) else ["KEY"]
+        kinds += ["KEYBOARD"] if self.keys.issuperset(FULL_KEYBOARD) else []
+        kinds += ["KEY"] if self.has_wheel and not kinds else []
         return kinds + (["SWITCH"] if self.has_switches else [])
-
-
-def pointer_names(pointer: Pointer) -> List[str]:
-    names = ("MOUSE", "TOUCHPAD", "TOUCHSCREEN", "JOYSTICK", "TABLET", "TABLET_PAD", "POINTINGSTICK")
-    return [name for name, is_one in zip(names, pointer) if is_one]
 
 
 def size_of(axis: Axis) -> int:

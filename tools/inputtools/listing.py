@@ -83,7 +83,7 @@ def take_values(device: Device, listing: Device) -> None:
 
 
 def complete(device: Device, listing: Device) -> None:
-    """Has each axis of a description, also one without ranges, and takes over what a listing beside it tells."""
+    """Has each axis of a description, also one without ranges, and takes over what the listing tells."""
     for code in device.codes.get(ABS, ()):
         device.axes.setdefault(code, Axis())
     if device.axes:

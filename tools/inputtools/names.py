@@ -23,7 +23,8 @@ def _take_row(first: str, *words: str) -> None:
         GREATEST.update({int(number): int(each, 0) for each in greatest})
         return
     kind, begin, prefix, *names = words
-    CODES.setdefault(TYPES[kind], {}).update({prefix + name: int(begin, 0) + i for i, name in enumerate(names)})
+    codes = CODES.setdefault(TYPES[kind], {})
+    codes.update({prefix + name: code for code, name in enumerate(names, int(begin, 0))})
 
 
 for _row in TABLE.read_text(encoding="ascii").splitlines():

@@ -5,6 +5,7 @@ oldest is lost, and nothing tells of it (docs/RULES.md, "Devices made by request
 second record's answer (`inputtools.devicestate`).
 """
 
+from itertools import islice
 from typing import List, NamedTuple
 
 from inputtools.belief import Thing
@@ -27,8 +28,8 @@ class Asked(NamedTuple):
 
 
 class Owner:
-    """An owner: its feedback calls; what was lost and what waits at the end; and the things in which what it was told
-    last is not what was sent last."""
+    """An owner: its feedback calls; what was lost and what waits at the end; and the things in which what it
+    was told last is not what was sent last."""
 
     role = "owner"
 
@@ -45,14 +46,13 @@ class Owner:
 
     def follow(self) -> None:
         """Goes through the calls, with what was sent before each."""
-        sent, fed = 0, [entry.event for entry in self.part.all_of(Fed)]
+        sent, fed = 0, (entry.event for entry in self.part.all_of(Fed))
         for call in self.part.all_of(Feedback):
             sent, count = self.send(sent, call.place), call.count
             taken, self.waiting = self.waiting[:count], self.waiting[count:]
-            if [each.event for each in taken] != fed[:count]:
+            if [each.event for each in taken] != list(islice(fed, count)):
                 raise Wrong(f"{self.name}: what it was told is not what was sent to its device")
             self.calls.append(Asked(call.place, taken))
-            fed = fed[count:]
         self.send(sent, len(self.state.history))
 
     def send(self, first: int, end: int) -> int:

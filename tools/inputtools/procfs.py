@@ -72,7 +72,7 @@ def take_line(device: Device, line: str, index: int, size: int) -> None:
 
 
 def take_identity(identity: Identity, line: str) -> bool:
-    """Takes a line of ids, or of where the device is plugged in or its serial number; False for another line."""
+    """Takes a line of ids, of where the device is plugged in, or of its serial number; False for another."""
     ids, place = IDS.match(line), PLACE.match(line)
     if ids:
         identity.ids = ids_of(" ".join(ids.groups()))

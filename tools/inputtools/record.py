@@ -1,8 +1,8 @@
 """Reads a record's text: its devices with their descriptions, its actors, and its actions.
 
-The forms of the lines are in docs/FORMATS.md. `Record` takes the text for one that the program has accepted: what
-is wrong in it is for the program to say. `descriptions_of` reads the lines that `tools/describe` or somebody wrote,
-and says what is wrong in them.
+The forms of the lines are in docs/FORMATS.md. `Record` takes the text for one that the program has accepted:
+what is wrong in it is for the program to say. `descriptions_of` reads the lines that `tools/describe` or
+somebody wrote, and says what is wrong in them.
 
 What a description has no place for stands in comments of the form `# state TYPE CODE VALUE`: what was on
 when the device was described, the slot that was announced, and settings of the autorepeat.

@@ -42,18 +42,8 @@ def server_words(compiler: str, library: Path, out: Path, more: Sequence[str] = 
 def shim_words(compiler: str, out: Path, more: Sequence[str] = ()) -> List[str]:
     """The words that compile the shim."""
     shared = ["-fPIC", "-shared", "-fvisibility=hidden", "-Wl,-z,relro,-z,now,-z,defs"]
-    return [
-        compiler,
-        *FLAGS,
-        *shared,
-        *more,
-        "-I",
-        str(SOURCES),
-        *sources("shim"),
-        "-o",
-        str(out / SHIM),
-        "-ldl",
-    ]
+    more = [*shared, *more, "-I", str(SOURCES), *sources("shim")]
+    return [compiler, *FLAGS, *more, "-o", str(out / SHIM), "-ldl"]
 
 
 def compile_by(words: Sequence[str]) -> None:

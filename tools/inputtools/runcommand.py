@@ -4,7 +4,7 @@ from __future__ import annotations
 
 import argparse
 import os
-from typing import List, NoReturn, Optional, Tuple
+from typing import Any, Dict, List, NoReturn, Optional, Tuple
 
 from inputtools import running
 from inputtools.command import Words, Wrong, name_of, say
@@ -25,6 +25,9 @@ tools/check --help) is judged over what the program did.
 A program that is statically linked, sets itself more rights or makes system calls by itself is not reached.
 tools/build --run builds what this needs; docs/RUN.md says what is served and what is not."""
 
+USAGE = """%(prog)s [OPTIONS] RECORD -- PROGRAM [ARGS]
+       %(prog)s --server FOLDER [OPTIONS] [RECORD] [-- PROGRAM [ARGS]]"""
+
 STATUSES = """The status is the program's: 128 and the number of the signal where one ended it, and 0 where
 that was the signal of --end. These are run's own, each with a line on standard error: 125 what the record
 expects did not come; 126 wrong words or a wrong record, or the run could not go on; 127 PROGRAM cannot be
@@ -36,78 +39,6 @@ class RunWords(Words):
 
     def error(self, message: str) -> NoReturn:
         raise Wrong(f"{message}; see {name_of('run')} --help")
-
-
-def words() -> RunWords:
-    told = RunWords(
-        prog="run",
-        description=HELP,
-        epilog=STATUSES,
-        usage="%(prog)s [OPTIONS] RECORD -- PROGRAM [ARGS]\n"
-        "       %(prog)s --server FOLDER [OPTIONS] [RECORD] [-- PROGRAM [ARGS]]",
-    )
-    told.add_argument("record", metavar="RECORD", nargs="?", help="a record; - is standard input")
-    told.add_argument(
-        "--as",
-        dest="actor",
-        metavar="NAME",
-        help="the program is this client of the record, whose lines are left out (*: each that reads)",
-    )
-    told.add_argument(
-        "--frames", metavar="N", type=count, help="play N frames whenever all programs have read all and wait"
-    )
-    told.add_argument(
-        "--first-loss",
-        metavar="PLACE",
-        type=count,
-        help="from this place of the history on programs read nothing until one has lost events (frames: 1)",
-    )
-    told.add_argument("--speed", metavar="X", help="play the record's times X times as fast")
-    told.add_argument(
-        "--end",
-        choices=("stay", "gone", "int", "term"),
-        default="stay",
-        help="behind the last line: nothing, an unplug, or this signal to the programs",
-    )
-    told.add_argument("--clock", choices=("now", "record"), default="now", help="which times events have")
-    told.add_argument(
-        "--virtual",
-        action="store_true",
-        help="programs' clocks, sleeps and timeouts go by the record's times, as fast as they can (frames: 1)",
-    )
-    told.add_argument("--joysticks", action="store_true", help="each device is /dev/input/jsN too")
-    told.add_argument("--repeats", action="store_true", help="keys repeat by a timer")
-    told.add_argument(
-        "--quiet", metavar="MS", type=count, help="begin when nothing was asked for so long (100)"
-    )
-    told.add_argument(
-        "--patience",
-        metavar="MS",
-        type=count,
-        help="by frames a program that has asked nothing for so long, and does not run, waits (3000)",
-    )
-    told.add_argument(
-        "--clients", metavar="N", type=count, help="begin when nodes have been opened N times (1)"
-    )
-    told.add_argument("--first", metavar="N", type=count, default=0, help="the number of the first node (0)")
-    told.add_argument(
-        "--history", metavar="FILE", help="write what programs did as a record, for the other tools"
-    )
-    told.add_argument("--draw", metavar="FILE", help="write a page that shows it")
-    told.add_argument("--timeout", metavar="SECONDS", type=seconds, help="end the program after so long")
-    told.add_argument(
-        "--sys",
-        choices=("auto", "none"),
-        default="auto",
-        help="whether programs find /sys and udev's data of the devices, by umockdev-run",
-    )
-    told.add_argument(
-        "--server",
-        metavar="FOLDER",
-        help="with RECORD: start a server that stays, for programs that start later; without: use it",
-    )
-    told.add_argument("--stop", action="store_true", help="end the server of --server")
-    return told
 
 
 def count(text: str) -> int:
@@ -126,28 +57,60 @@ def seconds(text: str) -> float:
     return value
 
 
+# The options, each with what is told of it and how argparse takes it.
+FLAG, FILE = {"action": "store_true"}, {"metavar": "FILE"}
+COUNT, MILLISECONDS = {"metavar": "N", "type": count}, {"metavar": "MS", "type": count}
+OPTIONS: Tuple[Tuple[str, str, Dict[str, Any]], ...] = (
+    ("--as", "the program is this client of the record, whose lines are left out (*: each that reads)",
+     {"dest": "actor", "metavar": "NAME"}),
+    ("--frames", "play N frames whenever all programs have read all and wait", COUNT),
+    ("--first-loss", "from this place of the history on programs read nothing until one has lost events "
+     "(frames: 1)", {"metavar": "PLACE", "type": count}),
+    ("--speed", "play the record's times X times as fast", {"metavar": "X"}),
+    ("--end", "behind the last line: nothing, an unplug, or this signal to the programs",
+     {"choices": ("stay", "gone", "int", "term"), "default": "stay"}),
+    ("--clock", "which times events have", {"choices": ("now", "record"), "default": "now"}),
+    ("--virtual", "programs' clocks, sleeps and timeouts go by the record's times, as fast as they can "
+     "(frames: 1)", FLAG),
+    ("--joysticks", "each device is /dev/input/jsN too", FLAG),
+    ("--repeats", "keys repeat by a timer", FLAG),
+    ("--quiet", "begin when nothing was asked for so long (100)", MILLISECONDS),
+    ("--patience", "by frames a program that has asked nothing for so long, and does not run, waits (3000)",
+     MILLISECONDS),
+    ("--clients", "begin when nodes have been opened N times (1)", COUNT),
+    ("--first", "the number of the first node (0)", {**COUNT, "default": 0}),
+    ("--history", "write what programs did as a record, for the other tools", FILE),
+    ("--draw", "write a page that shows it", FILE),
+    ("--timeout", "end the program after so long", {"metavar": "SECONDS", "type": seconds}),
+    ("--sys", "whether programs find /sys and udev's data of the devices, by umockdev-run",
+     {"choices": ("auto", "none"), "default": "auto"}),
+    ("--server", "with RECORD: start a server that stays, for programs that start later; without: use it",
+     {"metavar": "FOLDER"}),
+    ("--stop", "end the server of --server", FLAG),
+)
+# Those that the server is handed on.
+NAMED = "as frames first-loss speed end clock quiet patience clients first history".split()
+FLAGS = ("joysticks", "repeats", "virtual")
+
+
+def words() -> RunWords:
+    told = RunWords(prog="run", description=HELP, epilog=STATUSES, usage=USAGE)
+    told.add_argument("record", metavar="RECORD", nargs="?", help="a record; - is standard input")
+    for word, text, how in OPTIONS:
+        told.add_argument(word, help=text, **how)
+    return told
+
+
 def wants_history(asked: argparse.Namespace) -> bool:
     return bool(asked.history or asked.draw or asked.actor)
 
 
 def server_words(asked: argparse.Namespace, record: Given, history: Optional[str]) -> List[str]:
     """The words of the server."""
-    named = {
-        "--as": asked.actor,
-        "--frames": asked.frames,
-        "--first-loss": asked.first_loss,
-        "--speed": asked.speed,
-        "--end": asked.end,
-        "--clock": asked.clock,
-        "--quiet": asked.quiet,
-        "--patience": asked.patience,
-        "--clients": asked.clients,
-        "--first": asked.first,
-        "--history": history,
-    }
-    given = [word for name, value in named.items() if value is not None for word in (name, str(value))]
-    flags = [f"--{name}" for name in ("joysticks", "repeats", "virtual") if getattr(asked, name)]
-    return [*given, *flags, "--", os.path.abspath(record.path)]
+    values = {**vars(asked), "as": asked.actor, "history": history}
+    named = ((name, values[name.replace("-", "_")]) for name in NAMED)
+    given = [word for name, value in named if value is not None for word in (f"--{name}", str(value))]
+    return [*given, *(f"--{name}" for name in FLAGS if values[name]), "--", os.path.abspath(record.path)]
 
 
 def settings_of(asked: argparse.Namespace) -> Settings:
@@ -188,12 +151,8 @@ def run_alone(asked: argparse.Namespace, program: List[str]) -> int:
     record, folder = Given(asked.record), running.new_folder()
     history = os.path.join(folder, running.HISTORY)
     try:
-        run = running.start_server(
-            folder,
-            settings_of(asked),
-            server_words(asked, record, history if wants_history(asked) else None),
-            is_kept=False,
-        )
+        own = server_words(asked, record, history if wants_history(asked) else None)
+        run = running.start_server(folder, settings_of(asked), own, is_kept=False)
         assert run.server is not None
         try:
             status = run_program(run, asked, program, record)
@@ -215,7 +174,8 @@ def start_kept(asked: argparse.Namespace, folder: str, record: Given) -> Run:
     history = os.path.join(folder, running.HISTORY)
     run = running.start_server(folder, settings_of(asked), server_words(asked, record, history), is_kept=True)
     running.keep(run)
-    say("run", f"the server stays: {name_of('run')} --server {asked.server} -- PROGRAM uses it, and --stop ends it")
+    use = f"{name_of('run')} --server {asked.server} -- PROGRAM"
+    say("run", f"the server stays: {use} uses it, and --stop ends it")
     return run
 
 
@@ -244,10 +204,8 @@ def checked_words(asked: argparse.Namespace, program: List[str]) -> None:
     if asked.stop and (asked.server is None or asked.record is not None or program):
         raise Wrong("--stop wants --server FOLDER, and nothing else")
     if asked.server is not None and (asked.history or asked.draw):
-        raise Wrong(
-            "--history and --draw are of a run alone; "
-            f"--server writes its history to {running.HISTORY} in its folder"
-        )
+        where = f"--server writes its history to {running.HISTORY} in its folder"
+        raise Wrong(f"--history and --draw are of a run alone; {where}")
 
 
 def command(arguments: List[str]) -> int:

@@ -19,16 +19,13 @@ from inputtools.source import Given, read_text
 
 def expected_of(text: str, name: str) -> List[Tuple[int, str]]:
     """The lines of a record that expect something of an actor, with their numbers."""
-    found = []
-    for number, line in enumerate(text.split("\n"), 1):
-        words = words_of(line)
-        if words and words[0] == name:
-            found.append((number, line.strip()))
-    return found
+    rows = ((number, line, words_of(line)) for number, line in enumerate(text.split("\n"), 1))
+    return [(number, line.strip()) for number, line, words in rows if words and words[0] == name]
 
 
 class History:
-    """What the program did that was an actor of a record, as a record with what the first one expects of it."""
+    """What the program did that was an actor of a record, as a record with what the first one expects of
+    it."""
 
     def __init__(self, record: Given, name: Optional[str], path: str) -> None:
         self.record, self.path = record, path
@@ -39,7 +36,8 @@ class History:
                 file.write("\n".join([first, *(line for _, line in self.expected), rest]))
 
     def judged(self) -> Tuple[str, bool]:
-        """What is said of the expectations, and whether all of them hold. Nothing is said where none is there."""
+        """What is said of the expectations, and whether all of them hold. Nothing is said where there is
+        none."""
         if not self.expected:
             return "", True
         try:

@@ -13,7 +13,7 @@ import tempfile
 import time
 from dataclasses import asdict, dataclass
 from types import FrameType
-from typing import Dict, List, Optional
+from typing import Dict, List, Optional, Tuple
 
 from inputtools.command import Wrong
 from inputtools.runbuild import SERVER, SHIM, TOP
@@ -78,14 +78,8 @@ def start_server(folder: str, settings: Settings, words: List[str], is_kept: boo
     """Starts a server on a folder, and waits until programs may begin."""
     command = [built(SERVER), "--folder", folder, *(["--keep"] if is_kept else []), *words]
     log = open(os.path.join(folder, LOG), "w", encoding="utf-8") if is_kept else None
-    server = subprocess.Popen(
-        command,
-        stdin=subprocess.DEVNULL,
-        stdout=subprocess.PIPE,
-        stderr=log,
-        text=True,
-        start_new_session=is_kept,
-    )
+    server = subprocess.Popen(command, stdin=subprocess.DEVNULL, stdout=subprocess.PIPE, stderr=log,
+                              text=True, start_new_session=is_kept)
     if log is not None:
         log.close()
     assert server.stdout is not None
@@ -124,43 +118,32 @@ def remove_folder(folder: str) -> None:
     shutil.rmtree(folder, ignore_errors=True)
 
 
-@dataclass(frozen=True)
-class Kept:
-    """What a folder keeps of its run, for programs that start later."""
-
-    server: int
-    first: int
-    is_by_frames: bool
-    end: str
-    is_virtual: bool
-
-
 def keep(run: Run) -> None:
     """Writes what programs that start later have to know: for this command, and for a shell."""
     assert run.server is not None
-    settings = run.settings
-    kept = Kept(run.server.pid, settings.first, settings.is_by_frames, settings.end, settings.is_virtual)
     with open(run.path(SETTINGS), "w", encoding="utf-8") as file:
-        json.dump(asdict(kept), file)
+        json.dump({"server": run.server.pid, **asdict(run.settings)}, file)
     with open(run.path(ENVIRONMENT), "w", encoding="utf-8") as file:
         for name, value in environment(run).items():
             file.write(f"export {name}={shlex.quote(value)}\n")
 
 
-def kept_in(folder: str) -> Kept:
+def kept_in(folder: str) -> Tuple[int, Settings]:
+    """The server of a folder, and the settings of its run."""
     try:
         with open(os.path.join(folder, SETTINGS), encoding="utf-8") as file:
-            return Kept(**json.load(file))
-    except (OSError, ValueError, TypeError):
+            kept = json.load(file)
+        return kept.pop("server"), Settings(**kept)
+    except (OSError, ValueError, TypeError, LookupError, AttributeError):
         raise Wrong(f"{folder}: no server was started here; give a RECORD to start one") from None
 
 
 def join(folder: str) -> Run:
     """A run whose server an earlier command started."""
-    kept = kept_in(folder)
-    if not is_alive(kept.server):
+    server, settings = kept_in(folder)
+    if not is_alive(server):
         raise Wrong(f"{folder}: its server has ended; {said_by(folder) or 'remove the folder'}")
-    return Run(folder, Settings(kept.first, kept.is_by_frames, kept.end, kept.is_virtual))
+    return Run(folder, settings)
 
 
 def is_alive(process: int) -> bool:
@@ -173,7 +156,7 @@ def is_alive(process: int) -> bool:
 
 def stop(folder: str) -> None:
     """Ends the server of a folder, and waits until its history is written."""
-    process = kept_in(folder).server
+    process, _ = kept_in(folder)
     deadline = time.monotonic() + SECONDS_TO_END
     if is_alive(process):
         os.kill(process, signal.SIGTERM)

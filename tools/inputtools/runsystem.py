@@ -7,8 +7,8 @@ import os
 import shutil
 from typing import List
 
-from inputtools.command import Wrong, say
-from inputtools.source import read_text
+from inputtools.command import say
+from inputtools.source import read_text, write_bytes
 from inputtools.umockdev import umockdev_text
 
 RUNNER, DESCRIPTION = "umockdev-run", "devices.umockdev"
@@ -28,10 +28,5 @@ def with_system_files(program: List[str], record: str, folder: str, first: int) 
         say("run", MISSING)
         return program
     path = os.path.join(folder, DESCRIPTION)
-    try:
-        text = umockdev_text(read_text(record), first)
-        with open(path, "w", encoding="utf-8") as file:
-            file.write(text)
-    except OSError as fault:
-        raise Wrong(f"{path}: {fault.strerror}") from None
+    write_bytes(path, umockdev_text(read_text(record), first).encode())
     return [RUNNER, "-d", path, "--", *AS_A_SHELL, *program]

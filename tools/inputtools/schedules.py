@@ -153,25 +153,23 @@ class OrderRecord(NamedTuple):
     units: Tuple[Tuple[str, Tuple[str, ...]], ...]
 
 
-def record_of(
-    problem: Problem, turns: Sequence[Turn], target: str, expectation: Optional[str] = None
-) -> OrderRecord:
+def record_of(problem: Problem, turns: Sequence[Turn], target: str,
+              expectation: Optional[str] = None) -> OrderRecord:
     """The record that plays in an order, and whose target reads all that waits at its end."""
-    replay = Replay(problem, turns)
-    lines = (
-        action_lines(problem, replay)
-        if problem.asked.grain != "call"
-        else call_lines(problem, replay, target)
-    )
-    if problem.asked.grain != "call":
+    replay, head = Replay(problem, turns), problem.record.head
+    if problem.asked.grain == "call":
+        lines, head = call_lines(problem, replay, target), [as_tap(line) for line in head]
+    else:
         role = problem.actors[problem.names.index(target)].role
-        lines += [" ".join(("do", target, *words)) for words in READS[role]]
-    head = [as_tap(line) if problem.asked.grain == "call" else line for line in problem.record.head]
+        lines = action_lines(problem, replay) + [do_line(target, words) for words in READS[role]]
     head = ["inputrecord 2", *(line for line in head if not line.startswith("inputrecord"))]
     head[1:1] = [] if expectation is None else [f"#= {expectation}"]
-    return OrderRecord(
-        "".join(line + "\n" for line in head + lines), tuple(lines), units_shown(problem, replay)
-    )
+    text = "".join(line + "\n" for line in head + lines)
+    return OrderRecord(text, tuple(lines), units_shown(problem, replay))
+
+
+def do_line(name: str, words: Sequence[str]) -> str:
+    return " ".join(("do", name, *words))
 
 
 def as_tap(line: str) -> str:
@@ -189,23 +187,20 @@ def action_lines(problem: Problem, replay: Replay) -> List[str]:
             lines.append(MARK)
         if unit.first.is_guarded:
             lines.append(" ".join((MARK, *GUARD)))
-        lines += [" ".join(("do", problem.names[turn.actor], *line.words)) for line in unit.lines]
+        lines += [do_line(problem.names[turn.actor], line.words) for line in unit.lines]
     return lines
 
 
 def call_lines(problem: Problem, replay: Replay, target: str) -> List[str]:
     """The lines that make the calls of an order, those of the end among them."""
-    rows = [
-        " ".join(("do", problem.names[actor], *words)) for actor, words in replay.rows if words != ("end",)
-    ]
+    rows = [do_line(problem.names[actor], words) for actor, words in replay.rows if words != ("end",)]
     number = problem.names.index(target)
-    if problem.actors[number].role in ("source", "owner"):
-        return rows + [
-            " ".join(("do", target, *words)) for words in READS.get(problem.actors[number].role, ())
-        ]
+    role = problem.actors[number].role
+    if role in ("source", "owner"):
+        return rows + [do_line(target, words) for words in READS.get(role, ())]
     log: List[Step] = []
     drained(replay.state, number, log)
-    return rows + [" ".join(("do", target, *words_of_call(step, ()))) for step in log]
+    return rows + [do_line(target, words_of_call(step, ())) for step in log]
 
 
 def units_shown(problem: Problem, replay: Replay) -> Tuple[Tuple[str, Tuple[str, ...]], ...]:
@@ -219,13 +214,10 @@ def units_shown(problem: Problem, replay: Replay) -> Tuple[Tuple[str, Tuple[str,
 
 
 def shown_rows(problem: Problem, replay: Replay) -> List[Tuple[str, str]]:
-    if problem.asked.grain == "call":
-        return [(problem.names[actor], shown_line(words)) for actor, words in replay.rows]
-    return [
-        (problem.names[turn.actor], shown_line(line.words))
-        for turn in replay.units
-        for line in problem.units[turn.actor][turn.unit].lines
-    ]
+    rows, units = replay.rows, problem.units
+    if problem.asked.grain != "call":
+        rows = [(actor, line.words) for actor, unit in replay.units for line in units[actor][unit].lines]
+    return [(problem.names[actor], shown_line(words)) for actor, words in rows]
 
 
 def shown_line(words: Sequence[str]) -> str:
