@@ -1,114 +1,34 @@
-"""What is drawn of a played device: rows of marks, bars and lines over the places of its history.
-
-A row says what is to be seen and not where it stands on the paper: `inputtools.picture` lays the rows out. Each
-mark and bar has a text, which is shown where the pointer rests on it. Places have their times beside them.
+"""What is drawn of a played device: the rows of its sources, of the device and of its readers. Places have their times
+beside them in each text.
 """
 
-import bisect
-from typing import Callable, Dict, Generic, Iterable, List, NamedTuple, Optional, Sequence, Tuple, TypeVar
+from typing import Callable, Dict, List, NamedTuple, Optional, Sequence, Tuple
 
-from inputtools.belief import BIT_KINDS, TRACKING_ID, Thing
+from inputtools.belief import BIT_KINDS, CURRENT, TRACKING_ID, Thing
+from inputtools.command import counted
 from inputtools.devicestate import Changes
+from inputtools.divergences import Divergence
 from inputtools.joysticks import STARTUP, JoyWalk
 from inputtools.moments import Moments
 from inputtools.owners import Owner
 from inputtools.played import Client, PlayedDevice, Reader
 from inputtools.report import Again, Call, JoyRecord, Took
+from inputtools.rows import Bar, Line, Mark, Ordered, Row, Section, Stretch, Value
+from inputtools.still_down import still_down_of
 from inputtools.stuck_text import name_of
-
-MOST_ROWS = 20
+from inputtools.summary import CAUSES, first_of, kind_of, lasting_of, names_text
 
 # What stands before a joystick's records in a text, and how long that is at most, about.
 HANDED, LONGEST = ": it was handed ", 240
 
-
-class Mark(NamedTuple):
-    """A mark of a row: where it stands, maybe between two places, its kind, and its text."""
-
-    place: float
-    kind: str
-    text: str
-
-
-class Bar(NamedTuple):
-    """A bar of a row, from a place to another one."""
-
-    begin: int
-    end: int
-    kind: str
-    text: str
-
-
-class Value(NamedTuple):
-    """The value that a line has from a place on."""
-
-    place: int
-    value: int
-
-
-Placed = TypeVar("Placed", Mark, Value)
-
-
-class Ordered(Generic[Placed]):
-    """Things in the order of their places, so that those between two places are found at once."""
-
-    def __init__(self, things: Iterable[Placed]) -> None:
-        self.things: List[Placed] = sorted(things, key=lambda thing: thing.place)
-        self.places: List[float] = [thing.place for thing in self.things]
-
-    def between(self, begin: float, end: float) -> List[Placed]:
-        return self.things[bisect.bisect_left(self.places, begin) : bisect.bisect_left(self.places, end)]
-
-    def before(self, begin: float) -> List[Placed]:
-        """The last one before a place, or none, as a list."""
-        index = bisect.bisect_left(self.places, begin)
-        return self.things[max(index - 1, 0) : index]
-
-
-class Stretch(NamedTuple):
-    """A stretch of places in which a line has values."""
-
-    begin: int
-    end: int
-    values: "Ordered[Value]"
-
-
-class Line:
-    """A line: its name, its kind, and its stretches, ordered and apart from one another.
-
-    An axis has one stretch; the position of a slot has one for each contact, and is nothing between them.
-    """
-
-    def __init__(self, name: str, kind: str, stretches: Sequence[Stretch]) -> None:
-        self.name, self.kind, self.stretches = name, kind, stretches
-        values = [point.value for stretch in stretches for point in stretch.values.things]
-        self.least, self.greatest = min(values), max(values)
-
-    def between(self, begin: int, end: int) -> List[Stretch]:
-        """The stretches that have anything between two places."""
-        return [stretch for stretch in self.stretches if stretch.begin < end and stretch.end >= begin]
-
-    def moves_between(self, begin: int, end: int) -> bool:
-        return any(stretch.values.between(begin, end) for stretch in self.stretches)
-
-
-class Row:
-    """A row: its label, its marks, bars and lines. `told` names the row where its label alone would not."""
-
-    def __init__(self, label: str, kind: str = "row", marks: Iterable[Mark] = (), bars: Iterable[Bar] = (),
-                 lines: Iterable[Line] = (), told: Optional[str] = None) -> None:
-        self.label, self.kind, self.told = label, kind, told or label
-        self.marks, self.bars, self.lines = Ordered(marks), list(bars), list(lines)
-
-
-class Section(NamedTuple):
-    """Rows below a heading."""
-
-    heading: str
-    rows: List[Row]
-
-
 TextOf = Callable[[int], Optional[str]]
+
+
+class Rank(NamedTuple):
+    """How grave a thing is, 0 the most, and since which place."""
+
+    grave: int
+    since: int
 
 
 def on_text(thing: Thing) -> TextOf:
@@ -120,13 +40,23 @@ def contact_text(value: int) -> Optional[str]:
     return f"contact {value}" if value >= 0 else None
 
 
+def is_held_down(thing: Thing) -> bool:
+    """Is it a key or a contact, which somebody holds?"""
+    return thing.kind == "EV_KEY" or thing.code == TRACKING_ID
+
+
+def lane_of(thing: Thing) -> Thing:
+    """The thing whose row shows it: for all values of a slot that of its contacts."""
+    return thing if thing.slot is None else Thing("EV_ABS", TRACKING_ID, thing.slot)
+
+
 class Lanes:
     """The rows of one played device."""
 
     def __init__(self, played: PlayedDevice) -> None:
         self.played, self.state = played, played.state
         self.moments = Moments(played.report.history)
-        self.end = len(played.report.history)
+        self.end, self.walked = len(played.report.history), played.clients + played.joysticks
 
     def at(self, place: int) -> str:
         return self.state.at.text(place)
@@ -138,12 +68,17 @@ class Lanes:
         return "from the start " + ("on" if end is None else f"to {self.at(end)}")
 
     def sections(self) -> List[Section]:
-        """The headings and their rows: the sources, the device, each client, joystick and owner."""
-        found = [Section("sources", self.source_rows()), Section(f"device {self.played.name}", self.device_rows())]
+        """The headings and their rows: the sources, the device, each client, joystick and owner. Where things part or are
+        held at the end, all else of the device stands last."""
+        grave, rest = self.thing_rows()
+        readers = []
         for reader in self.played.readers():
             rows = self.owner_rows(reader) if isinstance(reader, Owner) else self.client_rows(reader)
-            found.append(Section(f"{reader.role} {reader.name}", rows))
-        return found
+            readers.append(Section(f"{reader.role} {reader.name}", rows))
+        device, is_calm = f"device {self.played.name}", not grave and all(len(rows) == 1 for _, rows in readers)
+        first = self.frame_rows() + (rest if is_calm else grave)
+        found = [Section("sources", self.source_rows()), Section(device, first), *readers]
+        return found if is_calm or not rest else [*found, Section(f"{device}: all else", rest)]
 
     # Sources
 
@@ -160,9 +95,41 @@ class Lanes:
 
     # The device
 
-    def device_rows(self) -> List[Row]:
-        rows = [self.frame_row()] + ([self.filter_row()] if self.state.description.filters else [])
-        return rows + self.bit_rows() + self.axis_rows() + self.slot_rows()
+    def frame_rows(self) -> List[Row]:
+        return [self.frame_row()] + ([self.filter_row()] if self.state.description.filters else [])
+
+    def thing_rows(self) -> Tuple[List[Row], List[Row]]:
+        """The rows of the things that part for a client or are held at the end, the gravest first, each with the
+        clients' rows of it below; and those of all other things that were on, moved or were touched."""
+        beside, ranks = self.rows_beside(), self.ranks()
+        lanes = {lane_of(thing) for thing in self.state.changes} - {CURRENT} | set(beside)
+        rows = {lane: self.thing_row(lane, beside.get(lane, [])) for lane in sorted(lanes, key=order_of)}
+        grave = sorted((lane for lane in ranks if lane in rows), key=lambda lane: (ranks[lane], order_of(lane)))
+        rest = [row for lane, row in rows.items() if lane not in ranks]
+        return [rows[lane] for lane in grave], [row for row in rest if row.below or row.is_told()]
+
+    def rows_beside(self) -> Dict[Thing, List[Row]]:
+        """The rows of what parts for clients and joysticks, by the thing whose row they stand beside."""
+        found: Dict[Thing, List[Row]] = {}
+        for client in self.walked:
+            for thing, row in self.divergence_rows(client, f"{client.name}: ").items():
+                found.setdefault(lane_of(thing), []).append(row)
+        return found
+
+    def ranks(self) -> Dict[Thing, Rank]:
+        """How grave the things are that part or are held at the end, and since when: the least is told first. With 0 a
+        client ends apart, with 1 it is held on the device."""
+        found: List[Tuple[Thing, Rank]] = []
+        for client in self.walked:
+            lasting = lasting_of(client)
+            for each in client.divergences:
+                if each.cause.kind not in lasting:
+                    found.append((each.thing, Rank(0 if each.met_by is None else 2, each.since or 0)))
+        found += [(held.thing, Rank(1, held.since or 0)) for held in still_down_of(self.state)]
+        ranks: Dict[Thing, Rank] = {}
+        for thing, rank in found:
+            ranks[lane_of(thing)] = min(rank, ranks.get(lane_of(thing), rank))
+        return ranks
 
     def frame_row(self) -> Row:
         marks = []
@@ -187,7 +154,7 @@ class Lanes:
         last = self.end if end is None else end
         return Bar(begin or 0, last, kind, f"{text} {self.span_text(begin, end)}")
 
-    def span_bars(self, changes: Changes, kind: str, text_of: TextOf) -> List[Bar]:
+    def span_bars(self, thing: Thing, changes: Changes, kind: str, text_of: TextOf) -> List[Bar]:
         """Bars for the spans of places in which a thing is on. `text_of` gives None for an off value. What was on from
         the start has no first place, and what is on at the end no last one."""
         bars: List[Bar] = []
@@ -197,40 +164,24 @@ class Lanes:
             place, text = self.state.place_of(frame), text_of(value)
             bars += [] if shown is None else [self.span_bar(since, place, kind, shown)]
             since, shown = place, text
-        return bars + ([] if shown is None else [self.span_bar(since, None, kind, shown)])
-
-    def bit_rows(self) -> List[Row]:
-        """A row for each key, switch and LED that was on at any time."""
-        things = sorted(thing for thing in self.state.changes if thing.kind in BIT_KINDS)
-        rows = []
-        for thing in things:
-            bars = self.span_bars(self.state.changes[thing], "on", on_text(thing))
-            rows += [Row(thing.code, bars=bars)] if bars else []
-        return rows
+        last = [] if shown is None else [self.span_bar(since, None, kind, shown)]
+        return bars + [bar._replace(is_held=is_held_down(thing)) for bar in last]
 
     def points_of(self, changes: Changes) -> "Ordered[Value]":
         places = (self.state.place_of(frame) or 0 for frame in changes.frames)
         return Ordered(Value(*each) for each in zip(places, changes.values))
 
-    def axis_rows(self) -> List[Row]:
-        """A row with a line for each axis that moved."""
-        things = sorted(thing for thing in self.state.changes if thing.kind == "EV_ABS" and not thing.is_of_slots)
-        moved = [thing for thing in things if len(self.state.changes[thing].frames) > 1]
-        rows = []
-        for thing in moved:
-            stretch = Stretch(0, self.end, self.points_of(self.state.changes[thing]))
-            rows.append(Row(thing.code, "line", lines=[Line(thing.code, "first", [stretch])]))
-        return rows
-
-    def slot_rows(self) -> List[Row]:
-        """A row for each slot that had a contact: its contacts as bars, and where they were as lines."""
-        rows = []
-        for slot in range(self.state.description.slots):
-            contacts = self.state.changes.get(Thing("EV_ABS", TRACKING_ID, slot))
-            bars = self.span_bars(contacts, "contact", contact_text) if contacts else []
-            if bars:
-                rows.append(Row(f"slot {slot}", "line", bars=bars, lines=self.contact_lines(slot, bars)))
-        return rows
+    def thing_row(self, thing: Thing, below: Sequence[Row]) -> Row:
+        """The device's row of a key, switch or LED, of an axis, or of a slot: its contacts as bars, and where they were as
+        lines."""
+        changes = self.state.changes.get(thing) or Changes(thing.first_value)
+        if thing.kind in BIT_KINDS:
+            return Row(thing.code, bars=self.span_bars(thing, changes, "on", on_text(thing)), below=below)
+        if thing.slot is None:
+            stretch = Stretch(0, self.end, self.points_of(changes))
+            return Row(thing.text(), "line", lines=[Line(thing.code, "first", [stretch])], below=below)
+        bars = self.span_bars(thing, changes, "contact", contact_text)
+        return Row(f"slot {thing.slot}", "line", bars=bars, lines=self.contact_lines(thing.slot, bars), below=below)
 
     def contact_lines(self, slot: int, bars: Sequence[Bar]) -> List[Line]:
         """The lines of a slot's positions, during its contacts alone."""
@@ -281,21 +232,44 @@ class Lanes:
                     bars.append(self.span_bar(grab.begin, grab.end, "grab", f"grab of {client.name}"))
         return bars
 
-    def divergence_rows(self, reader: Reader) -> List[Row]:
-        """A row for each thing in which a client's belief was not the device's state."""
-        rows: Dict[Thing, Row] = {}
+    def divergence_rows(self, reader: Reader, before: str = "") -> Dict[Thing, Row]:
+        """For each thing in which a reader's belief was not the device's state a row, but for those that are told as
+        one. `before` stands before its name."""
+        bars: Dict[Thing, List[Bar]] = {}
+        lasting = lasting_of(reader)
         for divergence in reader.divergences:
-            name = name_of(reader, divergence.thing)
-            if divergence.thing not in rows:
-                shown = name.replace("ABS_MT_", "MT_").replace(" (", ", ").rstrip(")")
-                rows[divergence.thing] = Row(shown, "parted", told=f"{reader.name}, {name}")
-            since = 0 if divergence.since is None else divergence.since
-            met = self.end if divergence.met_at is None else divergence.met_at
-            span = self.span_text(divergence.since, divergence.met_at)
-            text = (f"{name} differs {span}: {divergence.believed_text} for it, {divergence.present_text} on the device: "
-                    f"{divergence.cause.text}")
-            rows[divergence.thing].bars.append(Bar(min(since, met), max(since, met), "parted", text))
-        return list(rows.values())
+            if divergence.cause.kind not in lasting:
+                bar = self.divergence_bar(divergence, name_of(reader, divergence.thing))
+                bars.setdefault(divergence.thing, []).append(bar)
+        rows = {}
+        for thing, found in bars.items():
+            name = name_of(reader, thing)
+            shown = name.split(" ABS_MT_")[-1] if before else name.replace("ABS_MT_", "MT_")
+            shown = before + shown.replace(" (", ", ").rstrip(")")
+            rows[thing] = Row(shown, "parted", bars=found, told=f"{reader.name}, {name}")
+        return rows
+
+    def divergence_bar(self, divergence: Divergence, name: str) -> Bar:
+        since = 0 if divergence.since is None else divergence.since
+        met = self.end if divergence.met_at is None else divergence.met_at
+        span, kind = self.span_text(divergence.since, divergence.met_at), kind_of(divergence)
+        text = (f"{name} differs {span}: {divergence.believed_text} for it, {divergence.present_text} on the device: "
+                f"{divergence.cause.text}")
+        is_held = divergence.met_by is None and kind == "stuck" and is_held_down(divergence.thing)
+        return Bar(min(since, met), max(since, met), kind, text, is_held)
+
+    def lasting_rows(self, reader: Reader) -> List[Row]:
+        """A row for each cause that lasts and keeps several things from a reader, with one bar."""
+        rows = []
+        for kind, group in lasting_of(reader).items():
+            names = sorted({name_of(reader, divergence.thing) for divergence in group})
+            ends = [self.end if divergence.met_at is None else divergence.met_at for divergence in group]
+            last, things = None if self.end in ends else max(ends), counted(len(names), "thing")
+            text = f"{things} differ at times: {CAUSES[kind]}: {names_text(names)}:"
+            kinds = {kind_of(divergence) for divergence in group}
+            bar = self.span_bar(first_of(group).since, last, kinds.pop() if len(kinds) == 1 else "parted", text)
+            rows.append(Row(f"{things}: {kind}", "parted", bars=[bar], told=f"{reader.name}, {CAUSES[kind]}"))
+        return rows
 
     # Owners
 
@@ -308,7 +282,7 @@ class Lanes:
             text = f"asked at {self.at(place)}: " + (f"told {told}" if events else "nothing was there")
             marks.append(Mark(max(place - 0.5, 0), "read" if events else "again", text))
         sent = Row("sent to the device", marks=self.sent_marks(owner), told=f"sent to {self.played.name}")
-        return [Row(owner.name, "client", marks), sent] + self.divergence_rows(owner)
+        return [Row(owner.name, "client", marks), sent, *self.divergence_rows(owner).values()]
 
     def sent_marks(self, owner: Owner) -> List[Mark]:
         """The events that were sent, each with what became of it."""
@@ -327,7 +301,12 @@ class Lanes:
 
     def client_rows(self, client: Client) -> List[Row]:
         row = Row(client.name, "client", self.call_marks(client), self.handle_bars(client))
-        return [row] + self.divergence_rows(client)
+        return [row] + self.lasting_rows(client)
+
+
+def order_of(thing: Thing) -> Tuple[bool, Tuple[bool, bool, int, str, str]]:
+    """Keys, switches and LEDs come before axes, and axes before slots."""
+    return thing.kind == "EV_ABS", thing.order
 
 
 def during(points: "Ordered[Value]", begin: int, end: int) -> "Ordered[Value]":
@@ -366,25 +345,3 @@ def cut(text: str) -> str:
 
 
 # All
-
-
-def is_seen(row: Row, begin: int, end: int) -> bool:
-    """Does a row have anything between two places?"""
-    if row.kind == "client" or row.marks.between(begin, end):
-        return True
-    if any(bar.begin < end and bar.end >= begin for bar in row.bars):
-        return True
-    return any(line.moves_between(begin, end) for line in row.lines)
-
-
-def fewer(rows: Sequence[Row], begin: int, end: int) -> List[Row]:
-    """The rows that have anything to show, and no more than a picture can hold."""
-    seen = [row for row in rows if is_seen(row, begin, end)]
-    more = len(seen) - MOST_ROWS
-    return seen if more <= 0 else seen[:MOST_ROWS] + [Row(f"and {more} rows more", "note")]
-
-
-def sections_between(found: Sequence[Section], begin: int, end: int) -> List[Section]:
-    """Of sections the rows that have anything between two places."""
-    kept = [section._replace(rows=fewer(section.rows, begin, end)) for section in found]
-    return [section for section in kept if section.rows]

@@ -4,8 +4,23 @@ const said = document.getElementById('said');
 for (const choice of document.querySelectorAll('input[name=by]'))
   choice.onchange = () => { document.body.className = choice.value; tell(null) };
 
-function show() { const part = document.getElementById(location.hash.slice(1)); if (part) part.open = true }
+function show() {
+  const part = document.getElementById(location.hash.slice(1));
+  if (part && 'open' in part) part.open = true;
+  return part;
+}
 window.onhashchange = show; show();
+
+// The sentence on top leads to its range, and there to the bar that it tells of: the last one of its row.
+for (const link of document.querySelectorAll('a[data-shows]'))
+  link.onclick = event => {
+    event.preventDefault();
+    location.hash = link.hash;
+    const rows = [...show().querySelectorAll('[data-row]')].filter(row => row.dataset.row == link.dataset.shows);
+    const item = rows.filter(row => row.getClientRects().length).flatMap(items).pop();
+    tell(item);
+    if (item) item.scrollIntoView({block: 'center', inline: 'center'});
+  };
 
 let closed = [];
 window.onbeforeprint = () => {
