@@ -2,11 +2,12 @@
 beside them in each text.
 """
 
+from functools import partial
 from typing import Callable, Dict, List, NamedTuple, Optional, Sequence, Tuple
 
 from inputtools.belief import BIT_KINDS, CURRENT, TRACKING_ID, Thing
 from inputtools.command import counted
-from inputtools.devicestate import Changes
+from inputtools.devicestate import Changes, Frame
 from inputtools.divergences import Divergence
 from inputtools.joysticks import STARTUP, JoyWalk
 from inputtools.moments import Moments
@@ -61,6 +62,15 @@ class Lanes:
     def at(self, place: int) -> str:
         return self.state.at.text(place)
 
+    def told_at(self, place: int, text: str) -> str:
+        return f"{self.at(place)}: {text}"
+
+    def again_text(self, place: int) -> str:
+        return f"nothing left to read at {self.at(place)}"
+
+    def loss_text(self, place: int) -> str:
+        return f"loss at {self.at(place)}: SYN_DROPPED"
+
     def span_text(self, begin: Optional[int], end: Optional[int]) -> str:
         """From which place to which. None is the start, or no end."""
         if begin is not None:
@@ -86,12 +96,14 @@ class Lanes:
         """For each source a row of the steps that it made."""
         marks: Dict[str, List[Mark]] = {part.name: [] for part in self.played.report.parts if part.role == "source"}
         for place, name in self.played.source_steps:
-            step = self.played.report.history[place]
-            is_report = step.words[-3:-1] == ("EV_SYN", "SYN_REPORT")
-            kind = "report" if is_report else "event" if step.name == "inject" else "timer"
-            # (the moment of a step stands beside its place already)
-            marks[name].append(Mark(place, kind, f"{self.at(place)}: {' '.join(step.without_moment())}"))
+            event = self.played.report.history[place].event
+            kind = "timer" if event is None else "report" if event.is_report else "event"
+            marks[name].append(Mark(place, kind, partial(self.step_text, place)))
         return [Row(name, marks=found) for name, found in marks.items()]
+
+    def step_text(self, place: int) -> str:
+        # (the moment of a step stands beside its place already)
+        return f"{self.at(place)}: {' '.join(self.played.report.history[place].without_moment())}"
 
     # The device
 
@@ -132,12 +144,12 @@ class Lanes:
         return ranks
 
     def frame_row(self) -> Row:
-        marks = []
-        for frame in self.state.frames:
-            events = ", ".join(event.text() for event in frame.events[:6])
-            more = f" and {len(frame.events) - 6} more" if len(frame.events) > 6 else ""
-            marks.append(Mark(frame.place, "frame", f"frame of {self.at(frame.place)}: {events}{more}"))
-        return Row("frames", marks=marks)
+        return Row("frames", marks=[Mark(each.place, "frame", partial(self.frame_text, each)) for each in self.state.frames])
+
+    def frame_text(self, frame: Frame) -> str:
+        events = ", ".join(event.text() for event in frame.events[:6])
+        more = f" and {len(frame.events) - 6} more" if len(frame.events) > 6 else ""
+        return f"frame of {self.at(frame.place)}: {events}{more}"
 
     def filter_row(self) -> Row:
         """What the device's filters ate of its frames."""
@@ -145,8 +157,8 @@ class Lanes:
         for frame in self.state.frames:
             for event, by in zip(frame.events, frame.eaten):
                 if by is not None:
-                    text = f"{self.at(frame.place)}: {event.text()} is eaten by filter {by} ({filters[by - 1].text})"
-                    marks.append(Mark(frame.place, "eaten", text))
+                    text = f"{event.text()} is eaten by filter {by} ({filters[by - 1].text})"
+                    marks.append(Mark(frame.place, "eaten", partial(self.told_at, frame.place, text)))
         return Row("eaten by filters", marks=marks)
 
     def span_bar(self, begin: Optional[int], end: Optional[int], kind: str, text: str) -> Bar:
@@ -203,16 +215,17 @@ class Lanes:
         stand the records that it was handed."""
         marks: List[Mark] = []
         for entry in client.part.sight:
-            if isinstance(entry, Again):
-                text = f"nothing left to read at {self.at(entry.place)}"
-                marks.append(Mark(max(entry.place - 0.5, 0), "again", text))
-            elif isinstance(entry, Took) and entry.event.is_loss:
-                marks.append(Mark(entry.place, "loss", f"loss at {self.at(entry.place)}: SYN_DROPPED"))
+            if isinstance(entry, Took):
+                if entry.event.is_loss:
+                    marks.append(Mark(entry.place, "loss", partial(self.loss_text, entry.place)))
+            elif isinstance(entry, Again):
+                marks.append(Mark(max(entry.place - 0.5, 0), "again", partial(self.again_text, entry.place)))
             elif isinstance(entry, Call) and not entry.reply.is_refused:
                 said, place = call_mark(client.role, entry), entry.reply.place
-                marks += [Mark(place, said.kind, f"{self.at(place)}: {said.text}")] if said else []
+                marks += [Mark(place, said.kind, partial(self.told_at, place, said.text))] if said else []
             elif isinstance(entry, JoyRecord) and marks and isinstance(client.walk, JoyWalk):
-                marks[-1] = marks[-1]._replace(text=with_record(marks[-1].text, client.walk, entry))
+                text = with_record(marks[-1].text, client.walk, entry)
+                marks[-1] = marks[-1]._replace(tell=partial(str, text))
         return marks
 
     def handle_bars(self, client: Client) -> List[Bar]:
@@ -280,7 +293,7 @@ class Lanes:
         for place, events in owner.calls:
             told = ", ".join(each.event.text() for each in events)
             text = f"asked at {self.at(place)}: " + (f"told {told}" if events else "nothing was there")
-            marks.append(Mark(max(place - 0.5, 0), "read" if events else "again", text))
+            marks.append(Mark(max(place - 0.5, 0), "read" if events else "again", partial(str, text)))
         sent = Row("sent to the device", marks=self.sent_marks(owner), told=f"sent to {self.played.name}")
         return [Row(owner.name, "client", marks), sent, *self.divergence_rows(owner).values()]
 
@@ -294,7 +307,7 @@ class Lanes:
         marks = []
         for sent in self.state.sent:
             kind, word = became[sent.place]
-            marks.append(Mark(sent.place, kind, f"{self.at(sent.place)}: {sent.event.text()}: {word}"))
+            marks.append(Mark(sent.place, kind, partial(self.told_at, sent.place, f"{sent.event.text()}: {word}")))
         return marks
 
     # All clients

@@ -1,6 +1,7 @@
 """The page of a played record: what is wrong at the end, and for each device a picture of all places, and pictures
 of ranges of them."""
 
+from functools import cached_property
 from html import escape
 from typing import List, Optional, Sequence, Tuple
 
@@ -41,9 +42,6 @@ PATHS = (
 
 HOW = """What a mark or bar stands for is shown where the pointer rests on it, where it is touched, and by the
 arrow keys in a picture."""
-
-# Where the legend goes.
-LEGEND = "<!-- legend -->"
 
 # What a range is shown for.
 HAPPENS = "parts, meets, is held, is grabbed or is lost"
@@ -142,13 +140,19 @@ class DevicePart:
             return [f"<p>{told}</p>"] + [self.range_part(*each) for each in self.ranges]
         return [] if between(self.found, self.begin, self.end) else [f"<p>Nothing {HAPPENS} here. {any_other}.</p>"]
 
-    def text(self) -> str:
+    @cached_property
+    def whole(self) -> str:
+        """The picture of all places that are drawn, or nothing where there are none."""
+        why = why_nothing(self.played, self.first)
+        return "" if why else self.both_ways(self.begin, self.end, self.ranges)
+
+    def text(self, legend: str) -> str:
         head = f'<section id="{self.ident}"><h2>device {escape(self.played.name)}: {counted(self.steps, "step")}'
         why = why_nothing(self.played, self.first)
         if why:
             return f"{head}</h2><p>{escape(why)}</p></section>"
-        parts = [f"{head}, {self.moments.range_text(self.begin, self.end)}</h2>"]
-        parts += [self.both_ways(self.begin, self.end, self.ranges), LEGEND, *self.ranges_part()]
+        parts = [f"{head}, {self.moments.range_text(self.begin, self.end)}</h2>", self.whole]
+        parts += [legend, *self.ranges_part()]
         said = escape("\n".join(device_lines(self.played)))
         return "\n".join(parts) + (
             f'<details open id="{self.ident}-told"><summary>where beliefs and device part</summary>'
@@ -189,8 +193,8 @@ def page(name: str, devices: Sequence[PlayedDevice], first: Optional[int] = None
          last: Optional[int] = None) -> str:
     """The text of the page."""
     drawn = [DevicePart(played, number, first, last) for number, played in enumerate(devices)]
-    text = "\n".join(part.text() for part in drawn)
-    text = text.replace(LEGEND, legend(text), 1).replace(LEGEND, "")
+    explained = legend("".join(part.whole for part in drawn))
+    first_drawn = next((part for part in drawn if part.whole), None)
     title = plain(name)
     return "\n".join([
         '<!doctype html>\n<html lang="en"><head><meta charset="utf-8">',
@@ -201,7 +205,7 @@ def page(name: str, devices: Sequence[PlayedDevice], first: Optional[int] = None
         sentence(devices, drawn),
         '<p class="how">Over <label><input type="radio" name="by" value="by-place" checked> places</label> ',
         f'<label><input type="radio" name="by" value="by-time"> time</label> {HOW}</p>',
-        text,
+        *(part.text(explained if part is first_drawn else "") for part in drawn),
         '<p id="said" role="status" hidden></p>',
         f"<script>\n{read_rules('page.js')}</script></body></html>\n",
     ])

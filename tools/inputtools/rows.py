@@ -6,17 +6,22 @@ and bar has a text, which is shown where the pointer rests on it.
 
 import bisect
 from itertools import accumulate
-from typing import Generic, Iterable, List, NamedTuple, Optional, Sequence, Tuple, TypeVar
+from typing import Callable, Generic, Iterable, List, NamedTuple, Optional, Sequence, Tuple, TypeVar
 
 MOST_ROWS = 60
 
 
 class Mark(NamedTuple):
-    """A mark of a row: where it stands, maybe between two places, its kind, and its text."""
+    """A mark of a row: where it stands, maybe between two places, its kind, and what makes its text. (Of very many marks
+    few texts are shown.)"""
 
     place: float
     kind: str
-    text: str
+    tell: Callable[[], str]
+
+    @property
+    def text(self) -> str:
+        return self.tell()
 
 
 class Bar(NamedTuple):
@@ -47,6 +52,7 @@ class Ordered(Generic[Placed]):
         self.places: List[float] = [thing.place for thing in self.things]
 
     def between(self, begin: float, end: float) -> List[Placed]:
+        """Those from a place on, up to another one."""
         return self.things[bisect.bisect_left(self.places, begin) : bisect.bisect_left(self.places, end)]
 
     def before(self, begin: float) -> List[Placed]:

@@ -5,13 +5,14 @@ stands for. Where there are very many, they are drawn as one, and strips of the 
 """
 
 from html import escape
-from typing import Dict, Iterable, List, Tuple
+from heapq import nsmallest
+from typing import Dict, Iterable, List, Tuple, Union
 
-from inputtools.rows import Bar, Row, Stretch
+from inputtools.rows import Bar, Mark, Row, Stretch
 from inputtools.scale import GUTTER, PLOT, Scale
 
-# Marks on one point of the paper: where each stands, and its text.
-Points = List[Tuple[float, str]]
+# Marks or bars on one point of the paper, and where each stands.
+Points = List[Tuple[float, Union[Mark, Bar]]]
 
 # In which order marks are drawn, and how many of one kind in a row are drawn each with its text.
 MARK_KINDS = ("event", "timer", "report", "frame", "again", "read", "ask", "eaten", "loss")
@@ -55,12 +56,11 @@ def mark_shape(kind: str, x: float, y: float, height: float) -> str:
 def marks(row: Row, scale: Scale, y: int, height: int) -> List[str]:
     """The marks of a row, each point of the paper once for each kind."""
     kinds: Dict[str, Dict[int, Points]] = {kind: {} for kind in MARK_KINDS}
-    for mark in row.marks.between(scale.begin, scale.end):
-        x = scale.x(mark.place)
-        kinds[mark.kind].setdefault(round(x), []).append((x, mark.text))
+    for mark, x in scale.on_paper(row.marks.between(scale.begin, scale.end)):
+        kinds[mark.kind].setdefault(round(x), []).append((x, mark))
     dense = {kind: points for kind, points in kinds.items() if len(points) > DENSE}
     shapes = [dense_marks(kind, sorted(points), y, height) for kind, points in dense.items()]
-    shapes += strips([point for points in dense.values() for point in points.values()], y, height)
+    shapes += strips([point for points in dense.values() for point in points.items()], y, height)
     for kind in MARK_KINDS:
         for found in kinds[kind].values() if kind not in dense else ():
             shapes.append(titled(mark_shape(kind, found[0][0], y, height), several_text(found, 1)))
@@ -69,9 +69,9 @@ def marks(row: Row, scale: Scale, y: int, height: int) -> List[str]:
 
 def several_text(found: Points, told: int) -> str:
     """The texts of marks on one point of the paper: the first ones, and how many more there are."""
-    texts = [text for _, text in found[:told]]
-    more = len(found) - len(texts)
-    return "; ".join(texts) + (f" (and {more} more here)" if more else "")
+    first = found if len(found) <= told else nsmallest(told, found, key=lambda each: each[0])
+    more = len(found) - len(first)
+    return "; ".join(told.text for _, told in first) + (f" (and {more} more here)" if more else "")
 
 
 def dense_marks(kind: str, points: List[int], y: int, height: int) -> str:
@@ -81,17 +81,16 @@ def dense_marks(kind: str, points: List[int], y: int, height: int) -> str:
     return f'<path class="dense {kind}" d="{path}"/>'
 
 
-def strips(points: List[Points], y: int, height: int) -> List[str]:
-    """Strips of the paper, each with the texts of the first dense marks in it."""
+def strips(points: Iterable[Tuple[int, Points]], y: int, height: int) -> List[str]:
+    """Strips of the paper, each with the texts of the first dense marks in it. `points` are those on each point of the
+    paper."""
     found: Dict[int, Points] = {}
-    for marks_there in points:
-        for x, text in marks_there:
-            found.setdefault(int(x - GUTTER) // STRIP, []).append((x, text))
+    for x, there in points:
+        found.setdefault(min(x - GUTTER, PLOT - 1) // STRIP, []).extend(there)
     shapes = []
     for number, there in sorted(found.items()):
         box = f'x="{GUTTER + number * STRIP}" y="{y}" width="{STRIP}" height="{height}"'
-        text = several_text(sorted(there), TOLD)
-        shapes.append(titled(f'<rect class="hit" {box}', text))
+        shapes.append(titled(f'<rect class="hit" {box}', several_text(there, TOLD)))
     return shapes
 
 
@@ -99,7 +98,8 @@ class Stroke:
     """Bars of one kind on the paper: one, or several that are narrower and nearer to one another than can be seen."""
 
     def __init__(self, left: float, right: float, bar: Bar) -> None:
-        self.left, self.right, self.bar, self.points = left, right, bar, [(left, bar.text)]
+        self.left, self.right, self.bar = left, right, bar
+        self.points: Points = [(left, bar)]
 
     def joins(self, other: "Stroke") -> bool:
         """Is the other one, which is behind it, told with it as one of many?"""
@@ -138,7 +138,8 @@ def bar_shapes(stroke: Stroke, scale: Scale, y: int, height: int) -> List[str]:
     bar, (top, less) = stroke.bar, BAR_HEIGHTS.get(stroke.bar.kind, (5, 10))
     if len(stroke.points) > 1:
         columns = sorted({round(x) // HATCH * HATCH for x, _ in stroke.points})
-        return [dense_marks(bar.kind, columns, y, height), *strips([stroke.points], y, height)]
+        points = [(round(x), [(x, bar)]) for x, bar in stroke.points]
+        return [dense_marks(bar.kind, columns, y, height), *strips(points, y, height)]
     is_held = bar.is_held and bar.end <= scale.end
     right = stroke.right - HELD if is_held and bar.kind != "contact" else stroke.right
     box = f'y="{y + top}" width="{max(right - stroke.left, 2):.1f}" height="{height - less}"'

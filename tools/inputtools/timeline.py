@@ -2,6 +2,7 @@
 where events are lost. The page draws the ranges of places in which any of this is.
 """
 
+from bisect import bisect_left
 from itertools import groupby
 from typing import List, NamedTuple, Sequence, Tuple
 
@@ -85,8 +86,9 @@ def timeline(played: PlayedDevice) -> List[Entry]:
     return sorted(one._replace(place=min(one.place, last)) for one in found)
 
 
-def between(found: Sequence[Entry], begin: int, end: int) -> List[Entry]:
-    return [one for one in found if begin <= one.place < end]
+def between(found: Sequence[Entry], begin: int, end: int) -> Sequence[Entry]:
+    """What happens from a place on, up to another one. `found` is in order."""
+    return found[bisect_left(found, Entry(begin, "", "")) : bisect_left(found, Entry(end, "", ""))]
 
 
 def ranges_of(found: Sequence[Entry], begin: int, end: int) -> List[Tuple[int, int]]:
