@@ -1,5 +1,5 @@
-"""The pages of tools/draw in Debian's headless Chromium: what their sentence leads to, keys, a tap, the button, narrow
-screens and paper. `tests/page_browser.py` looks at them."""
+"""The pages of tools/draw in Debian's headless Chromium: what their sentence leads to, keys, a tap, the
+button, narrow screens and paper. `tests/page_browser.py` looks at them."""
 
 import json
 import shutil
@@ -7,8 +7,9 @@ import subprocess
 from pathlib import Path
 from typing import Any, Dict, Iterable, Optional
 
-from tests.desk_cases import TOP, DeskCase
+from tests.desk_cases import DeskCase
 from tests.drawn_records import KEYS, MORE_KEYS, typed
+from tests.playing import TOP
 
 PYTHON, BROWSER = "/usr/bin/python3", TOP / "tests" / "page_browser.py"
 EXAMPLES = sorted((TOP / "examples").glob("*.rec"))
@@ -21,9 +22,10 @@ def lacking() -> Optional[str]:
     for program, package in PROGRAMS:
         if shutil.which(program) is None:
             return package
-    has_selenium = [PYTHON, "-c", "import selenium"]
-    is_there = shutil.which(PYTHON) and subprocess.run(has_selenium, capture_output=True, check=False).returncode == 0
-    return None if is_there else "python3-selenium"
+    if shutil.which(PYTHON) is None:
+        return "python3"
+    done = subprocess.run([PYTHON, "-c", "import selenium"], capture_output=True, check=False)
+    return "python3-selenium" if done.returncode else None
 
 
 class Drawn(DeskCase):
@@ -34,8 +36,8 @@ class Drawn(DeskCase):
             self.skipTest(f"Debian's {package} is not there")
 
     def looked_at(self, records: Iterable[Path]) -> Dict[str, Any]:
-        """What is found on the page of each record, by its name. No page scrolls sideways, none has an error in the
-        console, and the whole picture is on the first page of paper."""
+        """What is found on the page of each record, by its name. No page scrolls sideways, none has an error
+        in the console, and the whole picture is on the first page of paper."""
         pages = []
         for record in records:
             pages.append(self.folder / f"{record.stem}.html")
@@ -53,17 +55,18 @@ class Drawn(DeskCase):
         return found
 
     def test_a_held_key(self) -> None:
-        """Of 39 keys and of 70 with one that is held the sentence leads to its bar, the arrow keys and a tap tell marks,
-        and the button opens all rows."""
+        """Of 39 keys and of 70 with one that is held the sentence leads to its bar, the arrow keys and a tap
+        tell marks, and the button opens all rows."""
         records = [self.file("keys.rec", typed(KEYS, "W")), self.file("more.rec", typed(MORE_KEYS, "W"))]
         found = self.looked_at(records)
         said = "KEY_W: KEY_W down from place 75 (1.04 s) on"
         for each in found.values():
             self.assertEqual({"open": ["d0-0", "d0-told"], "said": said, "seen": True}, each["sentence"])
-            keys = ["usb: place 2 (0.08 s): inject EV_KEY KEY_ESC 1", "usb: place 3 (0.08 s): inject EV_SYN SYN_REPORT 0"]
-            frame = "frames: frame of place 3 (0.08 s): EV_KEY KEY_ESC 1, EV_SYN SYN_REPORT 0"
-            self.assertEqual([*keys, frame, None], each["keys"])
-            self.assertRegex(each["tapped"], "^desktop: (place 4 .*: read 2 events|nothing left to read at place 5 .*)$")
+            press, report = "EV_KEY KEY_ESC 1", "EV_SYN SYN_REPORT 0"
+            keys = [f"usb: place 2 (0.08 s): inject {press}", f"usb: place 3 (0.08 s): inject {report}"]
+            keys += [f"frames: frame of place 3 (0.08 s): {press}, {report}"]
+            self.assertEqual([*keys, None], each["keys"])
+            self.assertRegex(each["tapped"], "^desktop: (place 4 .*: read 2|nothing left to read at place 5)")
         self.assertEqual([None, [60, 73]], [each["rows"] for each in found.values()])
 
     def test_examples(self) -> None:

@@ -5,7 +5,7 @@ from typing import Iterable, List, Optional
 # 39 keys, as a keyboard has them.
 KEYS = "ESC 1 2 3 4 5 6 7 8 9 0 Q W E R T Y U I O P A S D F G H J K L Z X C V B N M SPACE ENTER".split()
 # More keys than a picture has rows for.
-MORE_KEYS = [*KEYS, *(f"F{number}" for number in range(1, 25)), "TAB", "UP", "DOWN", "LEFT", "RIGHT", "HOME", "END"]
+MORE_KEYS = [*KEYS, *(f"F{number}" for number in range(1, 25)), *"TAB UP DOWN LEFT RIGHT HOME END".split()]
 
 
 def stroke(key: str, value: int, time: int) -> List[str]:

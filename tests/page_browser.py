@@ -26,8 +26,10 @@ OPEN_RANGES = "return [...document.querySelectorAll('details[id][open]')].map(pa
 IN_SIGHT = """const item = document.querySelector('.now'), box = item && item.getBoundingClientRect();
 return item !== null && box.top >= 0 && box.bottom <= innerHeight && box.right > 0 && box.left < innerWidth"""
 MARK = "return document.querySelector(arguments[0])"
-MIDDLE = """const mark = document.querySelector(arguments[0]); mark.scrollIntoView({block: 'center', inline: 'center'});
-const box = mark.getBoundingClientRect(); return [box.x + box.width / 2, box.y + box.height / 2].map(Math.round)"""
+MIDDLE = """const mark = document.querySelector(arguments[0]);
+mark.scrollIntoView({block: 'center', inline: 'center'});
+const box = mark.getBoundingClientRect();
+return [box.x + box.width / 2, box.y + box.height / 2].map(Math.round)"""
 
 
 class Browser:
@@ -51,7 +53,8 @@ class Browser:
         self.driver.get(f"file://{page}")
 
     def follow_sentence(self) -> Dict[str, Any]:
-        """What the sentence on top leads to: the ranges that are open then, what is told, and whether that is seen."""
+        """What the sentence on top leads to: the ranges that are open then, what is told, and whether that is
+        seen."""
         self.driver.find_element("css selector", "#sentence a").click()
         return {"open": self.run(OPEN_RANGES), "said": self.run(SAID), "seen": self.run(IN_SIGHT)}
 

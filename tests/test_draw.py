@@ -64,7 +64,8 @@ class DrawCase(DeskCase):
         """The picture. Where the play was cut its description says so, and the status is 6."""
         status, text, lines = self.tool("draw", "--svg", *words, record)
         picture = ElementTree.fromstring(text)
-        cuts = re.findall("the play was cut: [^.]*", "".join(about.text for about in picture.iter(SVG + "desc")))
+        told = "".join(about.text for about in picture.iter(SVG + "desc"))
+        cuts = re.findall("the play was cut: [^.]*", told)
         self.assertEqual((6 if cuts else 0, [f"draw: note: {cut}" for cut in cuts]), (status, lines))
         return picture
 
@@ -73,7 +74,8 @@ class DrawCase(DeskCase):
         return re.findall(r'<g data-row="([^"]*)">', re.split('<div class="time">|<details', text)[0])
 
     def sentence(self, page):
-        """What is said on top of a page: the text, the link's target and the row that it shows, where it is a link."""
+        """What is said on top of a page: the text, the link's target and the row that it shows, where it is a
+        link."""
         ((said),) = re.findall('<p id="sentence">(.*?)</p>', page)
         link = re.match('<a href="#([^"]*)" data-shows="([^"]*)">', said)
         return re.sub("<.*?>", "", said), *(link.groups() if link else ())
@@ -254,19 +256,20 @@ class Pages(DrawCase):
 
     def test_each_kind_of_mark_is_explained(self):
         """Each class that a picture uses is in the legend, or is text and paper."""
-        others = set("legend place time paper faint ink differs heading grid rule how chart labels number hit".split())
+        others = "legend place time paper faint ink differs heading grid rule how chart labels number hit"
+        others = set(others.split())
         for name in ("views", "touchpad", "mouse"):
             text = self.page(EXAMPLES / f"{name}.rec")
             before, shown, behind = re.split('(<p class="legend">.*?</p>)', text)
-            explained, *used = (set(re.findall(r'class="([a-z ]+)"', each)) for each in (shown, before, behind))
+            explained, used = (set(re.findall('class="([a-z ]+)"', each)) for each in (shown, before + behind))
             with self.subTest(name):
-                self.assertEqual(set(), {kind.removeprefix("dense ") for kind in used[0] | used[1]} - explained - others)
-                self.assertEqual(set(), explained - used[0] - used[1] - others)
+                self.assertEqual(set(), {kind.removeprefix("dense ") for kind in used} - explained - others)
+                self.assertEqual(set(), explained - used - others)
 
     def test_names_are_text(self):
         """Any name of a file is text of the page, which is ASCII, whatever characters the name has."""
-        names = {"a<b>&.rec": "a&lt;b&gt;&amp;.rec", "\"'.rec": "&quot;&#x27;.rec", "Töne.rec": "T&#246;ne.rec",
-                 "a\x01\x1b\n.rec": "a\\x01\\x1b\\n.rec", "\udcff\u202e\ufffe.rec": "\\udcff\\u202e\\ufffe.rec"}
+        names = {"a<b>&.rec": "a&lt;b&gt;&amp;.rec", "\"'.rec": "&quot;&#x27;.rec", "ä.rec": "&#228;.rec",
+                 "a\x01\x1b\n.rec": "a\\x01\\x1b\\n.rec", "\udcff\u202e.rec": "\\udcff\\u202e.rec"}
         for name, shown in names.items():
             with self.subTest(repr(name)):
                 page = self.page(self.file(name, (EXAMPLES / "one_key.rec").read_text()))
@@ -280,7 +283,7 @@ class Pages(DrawCase):
         self.assertEqual("", self.written("draw", "--output", to, record))
         self.assertEqual(self.page(record), to.read_text())
         self.refused("draw", record, "--output", record, because="would be written over the record")
-        self.refused("draw", record, "--output", self.folder / "none" / "x", because="No such file or directory")
+        self.refused("draw", record, "--output", self.folder / "none" / "x", because="No such file or")
 
     def test_a_record_without_steps(self):
         """Both forms say that there is nothing, and why."""
@@ -335,11 +338,13 @@ class Pages(DrawCase):
         self.assertEqual([("3000", "parts"), ("6000", "loses")], boxes[:2])
 
     def test_no_more_than_forty_ranges(self):
-        page = self.page(self.file("many.rec", many_events(lambda n: ["do c open", "do c grab", "do c close"])))
+        text = many_events(lambda number: ["do c open", "do c grab", "do c close"])
+        page = self.page(self.file("many.rec", text))
         self.assertTrue(10 < page.count("<details id=") <= 40, page.count("<details id="))
 
     def test_a_narrow_screen_and_a_printed_page(self):
-        """The page fits its screen, each picture scrolls by itself and keeps its labels, and paper has all."""
+        """The page fits its screen, each picture scrolls by itself and keeps its labels, and paper has
+        all."""
         text = self.page(EXAMPLES / "touchpad.rec")
         self.assertIn('<meta name="viewport" content="width=device-width, initial-scale=1">', text)
         self.assertIn(".chart { display: flex; overflow-x: auto", text)
@@ -360,7 +365,8 @@ class Pages(DrawCase):
         for label, plot in plots:
             self.assertIn("the arrow keys go from mark to mark", label)
             ((title, about),) = re.findall('role="img" aria-labelledby="([^" ]*) ([^" ]*)"', plot)
-            self.assertIn(f'<title id="{title}">device kbd, places 0 to 12 (0.001 s to 0.002 s)</title>', plot)
+            told = "device kbd, places 0 to 12 (0.001 s to 0.002 s)"
+            self.assertIn(f'<title id="{title}">{told}</title>', plot)
             ((said),) = re.findall(f'<desc id="{about}">(.*?)</desc>', plot)
             self.assertIn("desktop parts from the device in KEY_LEFTCTRL at place 9 (0.002 s)", said)
             self.assertIn("remapper grabs the device at place 7 (0.001 s)", said)
@@ -387,8 +393,9 @@ class Sticks(DrawCase):
     """What sticks is on top: in words, and among the rows."""
 
     def labels(self, picture):
-        texts = [shape for shape in picture.iter(SVG + "text") if shape.get("text-anchor") == "end" and float(shape.get("x")) < 168]
-        return [shape.text for shape in texts if shape.get("class") in ("ink", "differs", "faint")]
+        texts = [shape for shape in picture.iter(SVG + "text") if shape.get("text-anchor") == "end"]
+        texts = [shape for shape in texts if shape.get("class") in ("ink", "differs", "faint")]
+        return [shape.text for shape in texts if float(shape.get("x")) < 168]
 
     def test_a_held_key_among_many(self):
         """Of 39 keys the one that is held is first, and ends in a mark; all others are there."""
@@ -408,16 +415,19 @@ class Sticks(DrawCase):
     def test_nothing_is_held(self):
         record = self.file("keys.rec", typed(KEYS))
         page = self.page(record)
-        self.assertEqual(("Nobody ends apart from the device, and nothing is held on it.",), self.sentence(page))
+        said = "Nobody ends apart from the device, and nothing is held on it."
+        self.assertEqual((said,), self.sentence(page))
         self.assertIn("Nothing parts, meets, is held, is grabbed or is lost here.", page)
         self.assertEqual(sorted(f"KEY_{key}" for key in KEYS), self.labels(self.picture(record))[2:-1])
 
     def test_more_rows_are_behind_a_button(self):
-        """Of 70 keys the picture has those that it has room for, and the lane of the client; the button has the rest."""
+        """Of 70 keys the picture has those that it has room for, and the lane of the client; the button has
+        the rest."""
         record = self.file("keys.rec", typed(MORE_KEYS, "W"))
         shown, *behind = self.page(record).split('<summary class="button">')
-        self.assertEqual("and 13 rows more</summary>", behind[0].split("<div")[0])
-        first, rest = self.rows(shown), re.findall('data-row="(.*?)"', re.split('<div class="(?:time|place)">', behind[0])[0])
+        self.assertTrue(behind[0].startswith("and 13 rows more</summary>"), behind[0][:80])
+        behind = re.split('<div class="(?:time|place)">', behind[0])[0]
+        first, rest = self.rows(shown), re.findall('data-row="(.*?)"', behind)
         self.assertEqual(["usb", "frames", "KEY_W", "desktop"], first[:4])
         self.assertEqual({"usb", "frames", "desktop", *(f"KEY_{key}" for key in MORE_KEYS)}, {*first, *rest})
         self.assertEqual((60, 13), (len(first), len(rest)))
@@ -426,15 +436,18 @@ class Sticks(DrawCase):
     def test_who_ends_apart(self):
         """Each sentence is that of `stuck --summary`, and leads to what it tells."""
         cases = {
-            "keyboard": ("client desktop ends apart in KEY_LEFTCTRL since place 38 (4.2 s), down for it, up on the device: "
-                         "grab of remapper from place 35 (4.0 s) to 40 (4.2 s).", "d0", "desktop, KEY_LEFTCTRL"),
-            "mouse": ("client desktop ends apart in BTN_LEFT since place 37 (4.1 s), down for it, up on the device: "
-                      "it was revoked at place 34 (4.0 s).", "d0", "desktop, BTN_LEFT"),
-            "touchpad": ("tap probe ends apart in ABS_PRESSURE, ABS_Y since place 23 (1764255600.0 s): it opened the "
-                         "device later, at place 796 (1764255601.35 s), and has not asked since; and 4 more.", "d0-0",
-                         "probe, ABS_Y"),
-            "stuck_key": ("client desktop was apart in KEY_LEFTCTRL since place 9 (0.002 s) until place 12 (0.002 s): "
-                          "grab of remapper from place 7 (0.001 s) to 10 (0.002 s).", "d0", "desktop, KEY_LEFTCTRL"),
+            "keyboard": ("client desktop ends apart in KEY_LEFTCTRL since place 38 (4.2 s), down for it, up on "
+                         "the device: grab of remapper from place 35 (4.0 s) to 40 (4.2 s).",
+                         "d0", "desktop, KEY_LEFTCTRL"),
+            "mouse": ("client desktop ends apart in BTN_LEFT since place 37 (4.1 s), down for it, up on the "
+                      "device: it was revoked at place 34 (4.0 s).", "d0", "desktop, BTN_LEFT"),
+            "touchpad": ("tap probe ends apart in ABS_PRESSURE, ABS_Y since place 23 (1764255600.0 s): it "
+                         "opened the device later, at place 796 (1764255601.35 s), and has not asked since; "
+                         "and 4 more.",
+                         "d0-0", "probe, ABS_Y"),
+            "stuck_key": ("client desktop was apart in KEY_LEFTCTRL since place 9 (0.002 s) until place 12 "
+                          "(0.002 s): grab of remapper from place 7 (0.001 s) to 10 (0.002 s).",
+                          "d0", "desktop, KEY_LEFTCTRL"),
         }
         for name, wanted in cases.items():
             with self.subTest(name):
@@ -459,15 +472,15 @@ class Sticks(DrawCase):
     def test_clients_stand_beside_the_device(self):
         """Below the device's row of a thing are the clients' rows of it; who ends apart comes first."""
         cases = {
-            "gamepad": ["xpad", "frames", "ABS_Y", "overlay, ABS_Y", "tester, ABS_Y", "ABS_Z", "overlay, ABS_Z", "tester, ABS_Z",
-                        "ABS_HAT0X", "overlay, ABS_HAT0X", "game, ABS_HAT0X", "tester, ABS_HAT0X", "BTN_SOUTH",
-                        "overlay, BTN_SOUTH", "ABS_X", "overlay, ABS_X", "tester, ABS_X", "overlay", "game", "tester"],
-            "keyboard": ["usb", "frames", "KEY_LEFTCTRL", "desktop, KEY_LEFTCTRL", "KEY_CAPSLOCK", "indicator, KEY_CAPSLOCK",
-                         "desktop", "remapper", "indicator", "KEY_A", "KEY_ESC", "LED_CAPSL"],
+            "gamepad": "xpad; frames; ABS_Y; overlay, ABS_Y; tester, ABS_Y; ABS_Z; overlay, ABS_Z; tester, "
+                       "ABS_Z; ABS_HAT0X; overlay, ABS_HAT0X; game, ABS_HAT0X; tester, ABS_HAT0X; BTN_SOUTH; "
+                       "overlay, BTN_SOUTH; ABS_X; overlay, ABS_X; tester, ABS_X; overlay; game; tester",
+            "keyboard": "usb; frames; KEY_LEFTCTRL; desktop, KEY_LEFTCTRL; KEY_CAPSLOCK; indicator, "
+                        "KEY_CAPSLOCK; desktop; remapper; indicator; KEY_A; KEY_ESC; LED_CAPSL",
         }
         for name, wanted in cases.items():
             with self.subTest(name):
-                self.assertEqual(wanted, self.rows(self.page(EXAMPLES / f"{name}.rec")))
+                self.assertEqual(wanted, "; ".join(self.rows(self.page(EXAMPLES / f"{name}.rec"))))
 
     def test_both_ways_to_be_wrong(self):
         """Each has its colour and its name."""
@@ -484,35 +497,44 @@ class Sticks(DrawCase):
         """A client that masks keys has one row for all of them, and one range."""
         text = typed(MORE_KEYS).replace("client desktop\n", "client desktop\nclient deaf\n")
         text = text.replace("do desktop open\n", f"do desktop open\ndo deaf open\n{MASKED}", 1)
-        page = self.page(self.file("masked.rec", text.replace("do desktop follow\n", "do desktop follow\ndo deaf follow\n")))
-        self.assertEqual(["deaf", "deaf, its own mask"], [row for row in self.rows(page) if row.startswith("deaf")])
+        text = text.replace("do desktop follow\n", "do desktop follow\ndo deaf follow\n")
+        page = self.page(self.file("masked.rec", text))
+        self.assertEqual(["deaf", "deaf, mask"], [row for row in self.rows(page) if row.startswith("deaf")])
         self.assertEqual(["0"], re.findall(r'<details id="d0-(\d+)"', page))
-        wanted = "70 things differ at times: its own mask: KEY_0, KEY_1, KEY_2 and 67 things more: from place 17 (0.08 s) to "
-        ((title,),) = [set(re.findall(f"<title>{re.escape(wanted)}([^<]*)</title>", page))]
-        self.assertEqual("434 (5.65 s)", title)
+        wanted = ("70 things differ at times: its own mask: KEY_0, KEY_1, KEY_2 and 67 things more: "
+                  "from place 17 (0.08 s) to 434 (5.65 s)")
+        self.assertEqual({wanted}, set(re.findall("<title>(70 things differ [^<]*)</title>", page)))
+        self.assertIn('<rect class="missed"', page)
 
     def test_strokes_are_no_held_key(self):
-        """2,000 strokes on 1,000 points of the paper are a line for each three points, and tell how many they are; where
-        there is room each stroke is a bar, and between two bars paper is seen."""
+        """2,000 strokes on 1,000 points of the paper are a line for each three points, and tell how many they
+        are; where there is room each stroke is a bar, and between two bars paper is seen."""
         lines = ["inputrecord 1", "device d", "cap EV_KEY KEY_A", "source s"]
-        for time in range(2000):
-            lines += [f"do s event {time} EV_KEY KEY_A {value}\ndo s event {time} EV_SYN SYN_REPORT 0" for value in (1, 0)]
-        record = self.file("strokes.rec", "\n".join(lines) + "\n")
+        for number in range(4000):
+            key = f"EV_KEY KEY_A {1 - number % 2}"
+            lines += [f"do s event {number // 2} {event}" for event in (key, "EV_SYN SYN_REPORT 0")]
+        text = "\n".join(lines) + "\n"
+        record = self.file("strokes.rec", text)
         picture = self.picture(record)
         self.assertEqual([], self.found(picture, "on"))
-        (path,) = (shape.get("d") for shape in picture.iter(SVG + "path") if shape.get("class") == "dense on"
-                   and len(shape.get("d")) > 200)
-        columns = [int(x) for x in re.findall(r"M(\d+) ", path)]
+        paths = [shape.get("d") for shape in picture.iter(SVG + "path") if shape.get("class") == "dense on"]
+        columns = [int(x) for x in re.findall(r"M(\d+) ", max(paths, key=len))]
         self.assertEqual({3}, {one - other for one, other in zip(columns[1:], columns)})
-        self.assertEqual(125, len(re.findall("KEY_A down from [^<]* more here", ElementTree.tostring(picture).decode())))
+        titles = [title.text for title in picture.iter(SVG + "title")]
+        self.assertEqual(125, sum(bool(re.match("KEY_A down from .* more here", title)) for title in titles))
         bars = self.found(self.picture(record, "--from", "100", "--to", "900"), "on")
         self.assertEqual(200, len(bars))
         self.assertTrue(all(other[0] - one[1] >= 1 for one, other in zip(bars, bars[1:])))
+        # What is held behind them all is none of them.
+        events = "".join(f"do s event 3000 {event}\n" for event in ("EV_KEY KEY_A 1", "EV_SYN SYN_REPORT 0"))
+        ((_, _, held),) = self.found(self.picture(self.file("held.rec", text + events)), "held", "path")
+        self.assertEqual("held at the end: KEY_A down from place 8001 (0.003 s) on", held)
 
     def test_a_play_that_was_cut(self):
         """The page says so in its first line, and the status is 6; so does the picture's description."""
-        record = self.file("cut.rec", (EXAMPLES / "stuck_key.rec").read_text().replace("hint 8", "hint 8\nlog 6"))
-        cut = "the play was cut: source usb, client desktop, client remapper stopped, as kbd keeps 6 steps at most"
+        text = (EXAMPLES / "stuck_key.rec").read_text().replace("hint 8", "hint 8\nlog 6")
+        record = self.file("cut.rec", text)
+        cut = "the play was cut: usb stopped, since the history was full at place 6"
         self.assertIn(f'</h1>\n<p class="cut">{cut}</p>', self.page(record))
         self.picture(record)
 
@@ -523,7 +545,8 @@ MASKED = "".join(f"do deaf mask EV_KEY {word} 0\n" for word in range(12))
 
 class Axes(DrawCase):
     def ticks(self, picture):
-        """The ticks' texts, upper and lower, and where each begins and ends on the paper, as it is reckoned."""
+        """The ticks' texts, upper and lower, and where each begins and ends on the paper, as it is
+        reckoned."""
         rows = {"16": [], "31": []}
         for shape in picture.iter(SVG + "text"):
             if shape.get("y") in rows and shape.get("class") == "faint" and shape.get("x") != "10":
@@ -570,7 +593,8 @@ class Axes(DrawCase):
 
 class Paper(DrawCase):
     def test_contrast(self):
-        """Marks have 3 to 1 at least and texts 4.5 to 1, on both papers and on the bars that they stand on."""
+        """Marks have 3 to 1 at least and texts 4.5 to 1, on both papers and on the bars that they stand
+        on."""
         texts = ("ink", "faint", "device", "second", "parted")
         for paper, marks in UPON.items():
             for mark in marks:
@@ -605,7 +629,8 @@ class Input(DrawCase):
             done = subprocess.run(command, stdin=file, capture_output=True, text=True, env=ENV)
         self.assertEqual((0, ""), (done.returncode, done.stderr))
         self.assertIn("<h1>standard input</h1>", done.stdout)
-        self.assertEqual(self.page(EXAMPLES / "stuck_key.rec").split("</h1>")[1], done.stdout.split("</h1>")[1])
+        wanted = self.page(EXAMPLES / "stuck_key.rec")
+        self.assertEqual(wanted.split("</h1>")[1], done.stdout.split("</h1>")[1])
 
 
 class Refusals(DrawCase):

@@ -1,5 +1,5 @@
-"""Each command that docs/STUCK.md, EXPLORE.md and CI.md show writes what the page says; and tests/drawn_pages.py: the pages
-of tools/draw in a browser."""
+"""Each command that docs/STUCK.md, EXPLORE.md and CI.md show writes what the page says; and
+tests/drawn_pages.py: the pages of tools/draw in a browser."""
 
 import os
 import subprocess

@@ -1,5 +1,5 @@
-"""What is drawn of a played device: the rows of its sources, of the device and of its readers. Places have their times
-beside them in each text.
+"""What is drawn of a played device: the rows of its sources, of the device and of its readers. Places have
+their times beside them in each text.
 """
 
 from functools import partial
@@ -9,6 +9,7 @@ from inputtools.belief import BIT_KINDS, CURRENT, TRACKING_ID, Thing
 from inputtools.command import counted
 from inputtools.devicestate import Changes, Frame
 from inputtools.divergences import Divergence
+from inputtools.endings import apart_of, first_of, kind_of, lasting_of, names_text
 from inputtools.joysticks import STARTUP, JoyWalk
 from inputtools.moments import Moments
 from inputtools.owners import Owner
@@ -17,7 +18,7 @@ from inputtools.report import Again, Call, JoyRecord, Took
 from inputtools.rows import Bar, Line, Mark, Ordered, Row, Section, Stretch, Value
 from inputtools.still_down import still_down_of
 from inputtools.stuck_text import name_of
-from inputtools.summary import CAUSES, first_of, kind_of, lasting_of, names_text
+from inputtools.summary import CAUSES
 
 # What stands before a joystick's records in a text, and how long that is at most, about.
 HANDED, LONGEST = ": it was handed ", 240
@@ -26,7 +27,8 @@ TextOf = Callable[[int], Optional[str]]
 
 
 class Rank(NamedTuple):
-    """How grave a thing is, 0 the most, and since which place."""
+    """How grave a thing is, and since which place: 0 where a client ends apart in it, 1 where it is held on
+    the device at the end, and 2 where a client was apart in it before."""
 
     grave: int
     since: int
@@ -62,14 +64,8 @@ class Lanes:
     def at(self, place: int) -> str:
         return self.state.at.text(place)
 
-    def told_at(self, place: int, text: str) -> str:
-        return f"{self.at(place)}: {text}"
-
-    def again_text(self, place: int) -> str:
-        return f"nothing left to read at {self.at(place)}"
-
-    def loss_text(self, place: int) -> str:
-        return f"loss at {self.at(place)}: SYN_DROPPED"
+    def told(self, before: str, place: int, behind: str = "") -> str:
+        return f"{before}{self.at(place)}{behind}"
 
     def span_text(self, begin: Optional[int], end: Optional[int]) -> str:
         """From which place to which. None is the start, or no end."""
@@ -78,15 +74,15 @@ class Lanes:
         return "from the start " + ("on" if end is None else f"to {self.at(end)}")
 
     def sections(self) -> List[Section]:
-        """The headings and their rows: the sources, the device, each client, joystick and owner. Where things part or are
-        held at the end, all else of the device stands last."""
+        """The headings and their rows: the sources, the device, each client, joystick and owner. Where
+        anything parts or is held at the end, all else of the device stands last."""
         grave, rest = self.thing_rows()
         readers = []
         for reader in self.played.readers():
             rows = self.owner_rows(reader) if isinstance(reader, Owner) else self.client_rows(reader)
             readers.append(Section(f"{reader.role} {reader.name}", rows))
-        device, is_calm = f"device {self.played.name}", not grave and all(len(rows) == 1 for _, rows in readers)
-        first = self.frame_rows() + (rest if is_calm else grave)
+        is_calm = not grave and all(row.kind != "parted" for _, rows in readers for row in rows)
+        device, first = f"device {self.played.name}", self.frame_rows() + (rest if is_calm else grave)
         found = [Section("sources", self.source_rows()), Section(device, first), *readers]
         return found if is_calm or not rest else [*found, Section(f"{device}: all else", rest)]
 
@@ -94,7 +90,8 @@ class Lanes:
 
     def source_rows(self) -> List[Row]:
         """For each source a row of the steps that it made."""
-        marks: Dict[str, List[Mark]] = {part.name: [] for part in self.played.report.parts if part.role == "source"}
+        sources = [part.name for part in self.played.report.parts if part.role == "source"]
+        marks: Dict[str, List[Mark]] = {name: [] for name in sources}
         for place, name in self.played.source_steps:
             event = self.played.report.history[place].event
             kind = "timer" if event is None else "report" if event.is_report else "event"
@@ -107,18 +104,15 @@ class Lanes:
 
     # The device
 
-    def frame_rows(self) -> List[Row]:
-        return [self.frame_row()] + ([self.filter_row()] if self.state.description.filters else [])
-
     def thing_rows(self) -> Tuple[List[Row], List[Row]]:
-        """The rows of the things that part for a client or are held at the end, the gravest first, each with the
-        clients' rows of it below; and those of all other things that were on, moved or were touched."""
+        """The rows of the things that part for a client or are held at the end, the gravest first, each with
+        the clients' rows of it below; and those of all other things that were on, moved or were touched."""
         beside, ranks = self.rows_beside(), self.ranks()
         lanes = {lane_of(thing) for thing in self.state.changes} - {CURRENT} | set(beside)
         rows = {lane: self.thing_row(lane, beside.get(lane, [])) for lane in sorted(lanes, key=order_of)}
-        grave = sorted((lane for lane in ranks if lane in rows), key=lambda lane: (ranks[lane], order_of(lane)))
-        rest = [row for lane, row in rows.items() if lane not in ranks]
-        return [rows[lane] for lane in grave], [row for row in rest if row.below or row.is_told()]
+        grave = sorted(lanes & set(ranks), key=lambda lane: (ranks[lane], order_of(lane)))
+        rest = [row for lane, row in rows.items() if lane not in ranks and row.is_told()]
+        return [rows[lane] for lane in grave], rest
 
     def rows_beside(self) -> Dict[Thing, List[Row]]:
         """The rows of what parts for clients and joysticks, by the thing whose row they stand beside."""
@@ -129,22 +123,21 @@ class Lanes:
         return found
 
     def ranks(self) -> Dict[Thing, Rank]:
-        """How grave the things are that part or are held at the end, and since when: the least is told first. With 0 a
-        client ends apart, with 1 it is held on the device."""
-        found: List[Tuple[Thing, Rank]] = []
+        """How grave the things are that part or are held at the end, by the thing whose row shows them."""
+        found = [(held.thing, Rank(1, held.since or 0)) for held in still_down_of(self.state)]
         for client in self.walked:
-            lasting = lasting_of(client)
-            for each in client.divergences:
-                if each.cause.kind not in lasting:
-                    found.append((each.thing, Rank(0 if each.met_by is None else 2, each.since or 0)))
-        found += [(held.thing, Rank(1, held.since or 0)) for held in still_down_of(self.state)]
+            for each in apart_of(client):
+                found.append((each.thing, Rank(0 if each.met_by is None else 2, each.since or 0)))
         ranks: Dict[Thing, Rank] = {}
         for thing, rank in found:
             ranks[lane_of(thing)] = min(rank, ranks.get(lane_of(thing), rank))
         return ranks
 
-    def frame_row(self) -> Row:
-        return Row("frames", marks=[Mark(each.place, "frame", partial(self.frame_text, each)) for each in self.state.frames])
+    def frame_rows(self) -> List[Row]:
+        """A row of the frames, and one of what the device's filters ate of them."""
+        frames = self.state.frames
+        marks = [Mark(frame.place, "frame", partial(self.frame_text, frame)) for frame in frames]
+        return [Row("frames", marks=marks)] + ([self.filter_row()] if self.state.description.filters else [])
 
     def frame_text(self, frame: Frame) -> str:
         events = ", ".join(event.text() for event in frame.events[:6])
@@ -152,13 +145,12 @@ class Lanes:
         return f"frame of {self.at(frame.place)}: {events}{more}"
 
     def filter_row(self) -> Row:
-        """What the device's filters ate of its frames."""
         filters, marks = self.state.description.filters, []
         for frame in self.state.frames:
             for event, by in zip(frame.events, frame.eaten):
                 if by is not None:
-                    text = f"{event.text()} is eaten by filter {by} ({filters[by - 1].text})"
-                    marks.append(Mark(frame.place, "eaten", partial(self.told_at, frame.place, text)))
+                    text = f": {event.text()} is eaten by filter {by} ({filters[by - 1].text})"
+                    marks.append(Mark(frame.place, "eaten", partial(self.told, "", frame.place, text)))
         return Row("eaten by filters", marks=marks)
 
     def span_bar(self, begin: Optional[int], end: Optional[int], kind: str, text: str) -> Bar:
@@ -167,8 +159,8 @@ class Lanes:
         return Bar(begin or 0, last, kind, f"{text} {self.span_text(begin, end)}")
 
     def span_bars(self, thing: Thing, changes: Changes, kind: str, text_of: TextOf) -> List[Bar]:
-        """Bars for the spans of places in which a thing is on. `text_of` gives None for an off value. What was on from
-        the start has no first place, and what is on at the end no last one."""
+        """Bars for the spans of places in which a thing is on. `text_of` gives None for an off value. What
+        was on from the start has no first place, and what is on at the end no last one."""
         bars: List[Bar] = []
         since: Optional[int] = None
         shown: Optional[str] = None
@@ -184,8 +176,8 @@ class Lanes:
         return Ordered(Value(*each) for each in zip(places, changes.values))
 
     def thing_row(self, thing: Thing, below: Sequence[Row]) -> Row:
-        """The device's row of a key, switch or LED, of an axis, or of a slot: its contacts as bars, and where they were as
-        lines."""
+        """The device's row of a key, switch or LED, of an axis, or of a slot: its contacts as bars, and where
+        they were as lines."""
         changes = self.state.changes.get(thing) or Changes(thing.first_value)
         if thing.kind in BIT_KINDS:
             return Row(thing.code, bars=self.span_bars(thing, changes, "on", on_text(thing)), below=below)
@@ -193,7 +185,8 @@ class Lanes:
             stretch = Stretch(0, self.end, self.points_of(changes))
             return Row(thing.text(), "line", lines=[Line(thing.code, "first", [stretch])], below=below)
         bars = self.span_bars(thing, changes, "contact", contact_text)
-        return Row(f"slot {thing.slot}", "line", bars=bars, lines=self.contact_lines(thing.slot, bars), below=below)
+        lines = self.contact_lines(thing.slot, bars)
+        return Row(f"slot {thing.slot}", "line", bars=bars, lines=lines, below=below)
 
     def contact_lines(self, slot: int, bars: Sequence[Bar]) -> List[Line]:
         """The lines of a slot's positions, during its contacts alone."""
@@ -217,12 +210,15 @@ class Lanes:
         for entry in client.part.sight:
             if isinstance(entry, Took):
                 if entry.event.is_loss:
-                    marks.append(Mark(entry.place, "loss", partial(self.loss_text, entry.place)))
+                    tell = partial(self.told, "loss at ", entry.place, ": SYN_DROPPED")
+                    marks.append(Mark(entry.place, "loss", tell))
             elif isinstance(entry, Again):
-                marks.append(Mark(max(entry.place - 0.5, 0), "again", partial(self.again_text, entry.place)))
+                tell = partial(self.told, "nothing left to read at ", entry.place)
+                marks.append(Mark(max(entry.place - 0.5, 0), "again", tell))
             elif isinstance(entry, Call) and not entry.reply.is_refused:
                 said, place = call_mark(client.role, entry), entry.reply.place
-                marks += [Mark(place, said.kind, partial(self.told_at, place, said.text))] if said else []
+                if said:
+                    marks.append(Mark(place, said.kind, partial(self.told, "", place, f": {said.text}")))
             elif isinstance(entry, JoyRecord) and marks and isinstance(client.walk, JoyWalk):
                 text = with_record(marks[-1].text, client.walk, entry)
                 marks[-1] = marks[-1]._replace(tell=partial(str, text))
@@ -246,14 +242,12 @@ class Lanes:
         return bars
 
     def divergence_rows(self, reader: Reader, before: str = "") -> Dict[Thing, Row]:
-        """For each thing in which a reader's belief was not the device's state a row, but for those that are told as
-        one. `before` stands before its name."""
+        """For each thing in which a reader's belief was not the device's state a row, but for those that are
+        told as one. `before` stands before its name."""
         bars: Dict[Thing, List[Bar]] = {}
-        lasting = lasting_of(reader)
-        for divergence in reader.divergences:
-            if divergence.cause.kind not in lasting:
-                bar = self.divergence_bar(divergence, name_of(reader, divergence.thing))
-                bars.setdefault(divergence.thing, []).append(bar)
+        for divergence in apart_of(reader):
+            bar = self.divergence_bar(divergence, name_of(reader, divergence.thing))
+            bars.setdefault(divergence.thing, []).append(bar)
         rows = {}
         for thing, found in bars.items():
             name = name_of(reader, thing)
@@ -266,8 +260,8 @@ class Lanes:
         since = 0 if divergence.since is None else divergence.since
         met = self.end if divergence.met_at is None else divergence.met_at
         span, kind = self.span_text(divergence.since, divergence.met_at), kind_of(divergence)
-        text = (f"{name} differs {span}: {divergence.believed_text} for it, {divergence.present_text} on the device: "
-                f"{divergence.cause.text}")
+        values = f"{divergence.believed_text} for it, {divergence.present_text} on the device"
+        text = f"{name} differs {span}: {values}: {divergence.cause.text}"
         is_held = divergence.met_by is None and kind == "stuck" and is_held_down(divergence.thing)
         return Bar(min(since, met), max(since, met), kind, text, is_held)
 
@@ -279,9 +273,9 @@ class Lanes:
             ends = [self.end if divergence.met_at is None else divergence.met_at for divergence in group]
             last, things = None if self.end in ends else max(ends), counted(len(names), "thing")
             text = f"{things} differ at times: {CAUSES[kind]}: {names_text(names)}:"
-            kinds = {kind_of(divergence) for divergence in group}
-            bar = self.span_bar(first_of(group).since, last, kinds.pop() if len(kinds) == 1 else "parted", text)
-            rows.append(Row(f"{things}: {kind}", "parted", bars=[bar], told=f"{reader.name}, {CAUSES[kind]}"))
+            ways = {kind_of(divergence) for divergence in group}
+            bar = self.span_bar(first_of(group).since, last, ways.pop() if len(ways) == 1 else "parted", text)
+            rows.append(Row(f"{things}: {kind}", "parted", bars=[bar], told=f"{reader.name}, {kind}"))
         return rows
 
     # Owners
@@ -302,12 +296,14 @@ class Lanes:
         became: Dict[int, Tuple[str, str]] = {}
         for place, events in owner.calls:
             became.update({sent.place: ("event", f"told at {self.at(place)}") for sent in events})
-        became.update({sent.place: ("loss", "lost, since it was not asked for in time") for sent in owner.lost})
+        lost = "lost, since it was not asked for in time"
+        became.update({sent.place: ("loss", lost) for sent in owner.lost})
         became.update({sent.place: ("timer", "not asked for until the end") for sent in owner.waiting})
         marks = []
         for sent in self.state.sent:
             kind, word = became[sent.place]
-            marks.append(Mark(sent.place, kind, partial(self.told_at, sent.place, f"{sent.event.text()}: {word}")))
+            tell = partial(self.told, "", sent.place, f": {sent.event.text()}: {word}")
+            marks.append(Mark(sent.place, kind, tell))
         return marks
 
     # All clients
@@ -350,7 +346,9 @@ def with_record(text: str, walk: JoyWalk, record: JoyRecord) -> str:
     """The text of a joystick's call and of one more record that it was handed."""
     word = "startup " if record.kind >= STARTUP else ""
     behind = ", " if HANDED in text else HANDED
-    return f"{text}{behind}{word}{walk.thing_of(record).code} {record.value}" if len(text) < LONGEST else cut(text)
+    if len(text) >= LONGEST:
+        return cut(text)
+    return f"{text}{behind}{word}{walk.thing_of(record).code} {record.value}"
 
 
 def cut(text: str) -> str:

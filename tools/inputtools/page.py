@@ -1,5 +1,5 @@
-"""The page of a played record: what is wrong at the end, and for each device a picture of all places, and pictures
-of ranges of them."""
+"""The page of a played record: what is wrong at the end, and for each device a picture of all places, and
+pictures of ranges of them."""
 
 from functools import cached_property
 from html import escape
@@ -15,7 +15,7 @@ from inputtools.rows import MOST_ROWS, Row, Section, parted_at, sections_between
 from inputtools.scale import WIDTH, Scale
 from inputtools.shapes import mark_shape
 from inputtools.stuck_text import device_lines
-from inputtools.summary import cuts_of, endings_of, passed_of
+from inputtools.endings import NAMED, cuts_of, endings_of, passed_of
 from inputtools.timeline import between, gravest, lines_of, ranges_of, text_of, timeline
 
 Range = Tuple[int, int]
@@ -30,13 +30,15 @@ BAR, THIN = 'y="4" height="8"', 'y="6" height="4"'
 BARS = (
     ("on", BAR, "down, or on"), ("contact", BAR, "contact"), ("open", BAR, "open"), ("grab", BAR, "grab"),
     ("mask", BAR, "mask"), ("revoked", BAR, "revoked"), ("stuck", BAR, "down for it, up on the device"),
-    ("missed", BAR, "up for it, down on the device"), ("parted", THIN, "another value for it than on the device"),
+    ("missed", BAR, "up for it, down on the device"),
+    ("parted", THIN, "another value for it than on the device"),
     ("pick parts", BAR, "a range in which a belief and the device part or meet"),
     ("pick held", BAR, "one from which on something is held to the end"),
     ("pick loses", BAR, "one with a loss, or a revocation"), ("pick grabs", BAR, "one with a grab"),
 )
 PATHS = (
-    ("first", "M1 12H6V5H15", "axis, or X"), ("second", "M1 12H6V5H15", "Y"), ("held", "M4 2l9 6l-9 6z", "held at the end"),
+    ("first", "M1 12H6V5H15", "axis, or X"), ("second", "M1 12H6V5H15", "Y"),
+    ("held", "M4 2l9 6l-9 6z", "held at the end"),
     ("dense on", "M2 4V12M5 4V12M8 4V12M11 4V12M14 4V12", "many, closer than can be drawn"),
 )
 
@@ -54,7 +56,8 @@ def plain(name: str) -> str:
 
 
 def legend_parts(shown: str) -> List[Tuple[str, str]]:
-    """What the marks, bars and lines stand for that are shown: of each a shape without its end, 16 by 16, and its text."""
+    """What the marks, bars and lines stand for that are shown: of each a shape without its end, 16 by 16, and
+    its text."""
     parts = [(kind, mark_shape(kind, 8, 1, 14), text) for kind, text in MARKS]
     parts += [(kind, f'<rect class="{kind}" x="1" {box} width="14"', text) for kind, box, text in BARS]
     parts += [(kind, f'<path class="{kind}" d="{path}"', text) for kind, path, text in PATHS]
@@ -71,7 +74,7 @@ def legend(shown: str) -> str:
 class DevicePart:
     """The part of a device between two places."""
 
-    def __init__(self, played: PlayedDevice, number: int, first: Optional[int] = None, last: Optional[int] = None) -> None:
+    def __init__(self, played: PlayedDevice, number: int, first: Optional[int], last: Optional[int]) -> None:
         self.played, self.ident, self.first = played, f"d{number}", first
         self.lanes, self.found = Lanes(played), timeline(played)
         self.sections, self.moments = self.lanes.sections(), self.lanes.moments
@@ -89,8 +92,8 @@ class DevicePart:
         return title, f"{cuts}Lanes for {', '.join(names) or 'the device'}. {happens}."
 
     def both_ways(self, begin: int, end: int, ranges: Sequence[Range] = ()) -> str:
-        """A picture over places and one over moments; the page shows one of them. Rows beyond the first ones are behind
-        a button."""
+        """A picture over places and one over moments; the page shows one of them. Rows beyond the first ones
+        are behind a button."""
         said = self.said(begin, end)
         progress.tell(f"{said[0]} is drawn")
         shown, rest = parted_at(sections_between(self.sections, begin, end), MOST_ROWS)
@@ -138,7 +141,8 @@ class DevicePart:
         if self.ranges:
             told = f"The boxes below the axis lead to the ranges in which something {HAPPENS}; {any_other}."
             return [f"<p>{told}</p>"] + [self.range_part(*each) for each in self.ranges]
-        return [] if between(self.found, self.begin, self.end) else [f"<p>Nothing {HAPPENS} here. {any_other}.</p>"]
+        is_calm = not between(self.found, self.begin, self.end)
+        return [f"<p>Nothing {HAPPENS} here. {any_other}.</p>"] if is_calm else []
 
     @cached_property
     def whole(self) -> str:
@@ -147,7 +151,8 @@ class DevicePart:
         return "" if why else self.both_ways(self.begin, self.end, self.ranges)
 
     def text(self, legend: str) -> str:
-        head = f'<section id="{self.ident}"><h2>device {escape(self.played.name)}: {counted(self.steps, "step")}'
+        head = f'<section id="{self.ident}"><h2>device {escape(self.played.name)}: '
+        head += counted(self.steps, "step")
         why = why_nothing(self.played, self.first)
         if why:
             return f"{head}</h2><p>{escape(why)}</p></section>"
@@ -170,18 +175,20 @@ def why_nothing(played: PlayedDevice, first: Optional[int]) -> Optional[str]:
     if not steps:
         return f"device {played.name} has no step: nothing was injected, and nobody opened it"
     if first is not None and first >= steps:
-        return f"the history of device {played.name} ends with place {steps - 1}, which is before place {first}"
+        ends = f"the history of device {played.name} ends with place {steps - 1}"
+        return f"{ends}, which is before place {first}"
     return None
 
 
 def sentence(devices: Sequence[PlayedDevice], parts: Sequence[DevicePart]) -> str:
-    """What is wrong at the end, the gravest first, as a link to the range in which it begins; or what was wrong before."""
-    endings = endings_of(devices)
+    """What is wrong at the end, the gravest first, as a link to the range in which it begins; or what was
+    wrong before."""
+    endings = endings_of(devices, NAMED)
     first = (endings or passed_of(devices))[:1]
     if not first:
         return '<p id="sentence">Nobody ends apart from the device, and nothing is held on it.</p>'
     part = next(part for part in parts if part.played is first[0].device)
-    ident, shown = part.ident_of(first[0].since or 0), escape(first[0].short)
+    ident, shown = part.ident_of(first[0].since), escape(first[0].text)
     row = escape(first[0].row)
     told = f'<a href="#{ident}" data-shows="{row}">{shown}</a>' if ident else shown
     more = len(endings) - 1

@@ -101,9 +101,10 @@ def svg_element(left: int, width: int, height: int, said: Optional[Said], ident:
     return f'{head} role="img" aria-labelledby="{ident}-title {ident}-about">{title}{about}{paper}'
 
 
-def picture(sections: Sequence[Section], scale: Scale, said: Said, legend_of: Callable[[str, int], Legend]) -> str:
-    """One SVG of sections, with its own style and below them a legend, which is made of what is shown and for where it
-    begins."""
+def picture(sections: Sequence[Section], scale: Scale, said: Said,
+            legend_of: Callable[[str, int], Legend]) -> str:
+    """One SVG of sections, with its own style and below them a legend, which is made of what is shown and for
+    where it begins."""
     sheet, height = drawn(sections, scale), height_of(sections)
     shown = "\n".join(sheet.labels + sheet.plot)
     legend = legend_of(shown, height)
@@ -116,14 +117,14 @@ def with_style(head: str) -> str:
 
 
 def panes(sections: Sequence[Section], scale: Scale, said: Said, ident: str, picks: str = "") -> str:
-    """Two SVGs of sections beside one another, the labels and the plot, in a box that the arrow keys reach. On paper it
-    is no higher than its page."""
+    """Two SVGs of sections beside one another, the labels and the plot, in a box that the arrow keys reach.
+    On paper it is no higher than its page."""
     sheet, height = drawn(sections, scale), height_of(sections)
     labels = [svg_element(0, EDGE, height, None, ident), *sheet.labels, "</svg>"]
     plot = [svg_element(EDGE, WIDTH - EDGE, height, said, ident), *sheet.plot, picks + "</svg>"]
     label = f"{escape(said[0])}: the arrow keys go from mark to mark"
-    box = f'<div class="chart" tabindex="0" role="group" aria-label="{label}" style="--ratio: {WIDTH / height:.3f}">'
-    return "\n".join([box, *labels, *plot]) + "</div>"
+    box = f'tabindex="0" role="group" aria-label="{label}" style="--ratio: {WIDTH / height:.3f}"'
+    return "\n".join([f'<div class="chart" {box}>', *labels, *plot]) + "</div>"
 
 
 def no_picture(text: str) -> str:

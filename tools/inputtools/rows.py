@@ -1,7 +1,7 @@
 """The rows of a picture: marks, bars and lines over the places of a history.
 
-A row says what is to be seen and not where it stands on the paper: `inputtools.picture` lays the rows out. Each mark
-and bar has a text, which is shown where the pointer rests on it.
+A row says what is to be seen and not where it stands on the paper: `inputtools.picture` lays the rows out.
+Each mark and bar has a text, which is shown where the pointer rests on it.
 """
 
 import bisect
@@ -12,8 +12,8 @@ MOST_ROWS = 60
 
 
 class Mark(NamedTuple):
-    """A mark of a row: where it stands, maybe between two places, its kind, and what makes its text. (Of very many marks
-    few texts are shown.)"""
+    """A mark of a row: where it stands, maybe between two places, its kind, and what makes its text. (Of very
+    many marks few texts are shown.)"""
 
     place: float
     kind: str
@@ -73,7 +73,8 @@ Spanned = TypeVar("Spanned", Bar, Stretch)
 
 
 class Spans(Generic[Spanned]):
-    """Bars or stretches in the order in which they begin, so that those between two places are found at once."""
+    """Bars or stretches in the order in which they begin, so that those between two places are found at
+    once."""
 
     def __init__(self, spans: Iterable[Spanned]) -> None:
         self.all: List[Spanned] = sorted(spans, key=lambda span: span.begin)
@@ -102,8 +103,8 @@ class Line:
 
 
 class Row:
-    """A row: its label, its marks, bars and lines. `told` names the row where its label alone would not, and `below`
-    are the rows that go with it: those of the clients, below the device's."""
+    """A row: its label, its marks, bars and lines. `told` names the row where its label alone would not, and
+    `below` are the rows that go with it: those of the clients, below the device's."""
 
     def __init__(self, label: str, kind: str = "row", marks: Iterable[Mark] = (), bars: Iterable[Bar] = (),
                  lines: Iterable[Line] = (), told: Optional[str] = None, below: "Sequence[Row]" = ()) -> None:
@@ -135,8 +136,8 @@ class Section(NamedTuple):
 
 def sections_between(found: Sequence[Section], begin: int, end: int) -> List[Section]:
     """Of sections the rows that have anything between two places."""
-    kept = [Section(heading, [one for row in rows for one in row.seen(begin, end)]) for heading, rows in found]
-    return [section for section in kept if section.rows]
+    kept = [(heading, [one for row in rows for one in row.seen(begin, end)]) for heading, rows in found]
+    return [Section(heading, rows) for heading, rows in kept if rows]
 
 
 def parted_at(found: Sequence[Section], most: int) -> Tuple[List[Section], List[Section]]:
@@ -145,6 +146,6 @@ def parted_at(found: Sequence[Section], most: int) -> Tuple[List[Section], List[
     for heading, rows in found:
         first = max(most, sum(row.kind == "client" for row in rows))
         most = max(most - len(rows), 0)
-        shown.append(Section(heading, rows[:first]))
-        rest.append(Section(heading, rows[first:]))
-    return [section for section in shown if section.rows], [section for section in rest if section.rows]
+        shown += [Section(heading, rows[:first])] if first else []
+        rest += [Section(heading, rows[first:])] if rows[first:] else []
+    return shown, rest

@@ -21,13 +21,15 @@ DENSE = 250
 # How wide a strip of dense marks is that has a text, and how many of its marks the text tells.
 STRIP, TOLD = 8, 3
 
-# In which order bars are drawn. Bars narrower than so many points of the paper, with less than one between them, are
-# drawn as many: a line for each so many points. How long the mark is in which the bar of what is held ends.
+# In which order bars are drawn. Bars narrower than so many points of the paper, with less than one between
+# them, are drawn as many: a line for each so many points. How long the mark is in which the bar of what is
+# held ends.
 BAR_KINDS = ("open", "revoked", "mask", "grab", "on", "contact", "parted", "stuck", "missed")
 NARROW, HATCH, HELD = 2, 3, 9
 
 # How far from a row's top a bar begins, and how much lower than the row it is.
-BAR_HEIGHTS = {"open": (2, 5), "contact": (2, 5), "mask": (2, 5), "revoked": (2, 5), "grab": (2, 19), "parted": (6, 12)}
+BAR_HEIGHTS = {"open": (2, 5), "contact": (2, 5), "mask": (2, 5), "revoked": (2, 5), "grab": (2, 19),
+               "parted": (6, 12)}
 
 
 def titled(shape: str, text: str) -> str:
@@ -82,8 +84,8 @@ def dense_marks(kind: str, points: List[int], y: int, height: int) -> str:
 
 
 def strips(points: Iterable[Tuple[int, Points]], y: int, height: int) -> List[str]:
-    """Strips of the paper, each with the texts of the first dense marks in it. `points` are those on each point of the
-    paper."""
+    """Strips of the paper, each with the texts of the first dense marks in it. `points` are those on each
+    point of the paper."""
     found: Dict[int, Points] = {}
     for x, there in points:
         found.setdefault(min(x - GUTTER, PLOT - 1) // STRIP, []).extend(there)
@@ -95,16 +97,18 @@ def strips(points: Iterable[Tuple[int, Points]], y: int, height: int) -> List[st
 
 
 class Stroke:
-    """Bars of one kind on the paper: one, or several that are narrower and nearer to one another than can be seen."""
+    """Bars of one kind on the paper: one, or several that are narrower and nearer to one another than can be
+    seen."""
 
     def __init__(self, left: float, right: float, bar: Bar) -> None:
         self.left, self.right, self.bar = left, right, bar
         self.points: Points = [(left, bar)]
 
     def joins(self, other: "Stroke") -> bool:
-        """Is the other one, which is behind it, told with it as one of many?"""
-        is_narrow = other.right - other.left < NARROW and (len(self.points) > 1 or self.right - self.left < NARROW)
-        return is_narrow and other.left - self.right < 1
+        """Is the other one, which is behind it, told with it as one of many? What is held never is."""
+        is_narrow = len(self.points) > 1 or self.right - self.left < NARROW
+        are_near = other.right - other.left < NARROW and other.left - self.right < 1
+        return is_narrow and are_near and not other.bar.is_held
 
     def take(self, other: "Stroke") -> None:
         self.right = max(self.right, other.right)

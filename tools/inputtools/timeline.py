@@ -12,7 +12,7 @@ from inputtools.places import Places
 from inputtools.played import Client, PlayedDevice, Reader
 from inputtools.still_down import still_down_of
 from inputtools.stuck_text import name_of
-from inputtools.summary import first_of, lasting_of, names_text
+from inputtools.endings import apart_of, first_of, lasting_of, names_text
 
 LEAST_RANGE = 200
 MOST_RANGES = 40
@@ -64,14 +64,12 @@ def entries_of_reader(played: PlayedDevice, reader: Reader) -> List[Entry]:
 
 def partings_of(reader: Reader) -> List[Entry]:
     """Where a reader parts from its device and meets it again. What lasts is told where it begins."""
-    lasting, found = lasting_of(reader), []
-    for group in lasting.values():
-        first = first_of(group).since or 0
-        found += [Entry(first, "parts", reader.name, name_of(reader, divergence.thing)) for divergence in group]
-    for divergence in reader.divergences:
+    found = []
+    for group in lasting_of(reader).values():
+        first, names = first_of(group).since or 0, {name_of(reader, divergence.thing) for divergence in group}
+        found += [Entry(first, "parts", reader.name, name) for name in names]
+    for divergence in apart_of(reader):
         name = name_of(reader, divergence.thing)
-        if divergence.cause.kind in lasting:
-            continue
         found.append(Entry(divergence.since or 0, "parts", reader.name, name))
         if divergence.met_at is not None:
             found.append(Entry(divergence.met_at, "meets", reader.name, name))
@@ -82,7 +80,8 @@ def timeline(played: PlayedDevice) -> List[Entry]:
     """All that happens on a device, by place. (What is told of the history's end is of its last place.)"""
     last = max(len(played.report.history) - 1, 0)
     found = [one for reader in played.readers() for one in entries_of_reader(played, reader)]
-    found += [Entry(held.since or 0, "held", played.name, held.thing.text()) for held in still_down_of(played.state)]
+    for held in still_down_of(played.state):
+        found.append(Entry(held.since or 0, "held", played.name, held.thing.text()))
     return sorted(one._replace(place=min(one.place, last)) for one in found)
 
 
