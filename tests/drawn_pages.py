@@ -70,10 +70,11 @@ class Drawn(DeskCase):
         self.assertEqual([None, [60, 73]], [each["rows"] for each in found.values()])
 
     def test_examples(self) -> None:
-        """Each sentence leads to a bar that is seen, and tells it."""
+        """Each sentence leads to a bar that is seen, and tells it. A narrow screen shows it at once."""
         found = self.looked_at(EXAMPLES)
         self.assertIn("grab of remapper", found["keyboard"]["sentence"]["said"])
         for name, each in found.items():
             if "sentence" in each:
                 with self.subTest(name):
                     self.assertTrue(each["sentence"]["said"] and each["sentence"]["seen"], each["sentence"])
+                    self.assertTrue(each["sight"], "the bar is not on a screen of 390 pixels")

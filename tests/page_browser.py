@@ -22,6 +22,12 @@ SIDEWAYS = "return document.documentElement.scrollWidth - document.documentEleme
 SHOWN_ROWS = "return [...document.querySelectorAll('[data-row]')].filter(row => row.checkVisibility()).length"
 BOTTOM = "return document.querySelector('.chart').getBoundingClientRect().bottom"
 OPEN_RANGES = "return [...document.querySelectorAll('details[id][open]')].map(part => part.id)"
+# Is the bar of the sentence on the screen, in the picture of all places? (It is the last of its row.)
+IN_PICTURE = """const link = document.querySelector('#sentence a'), chart = document.querySelector('.chart');
+const row = [...chart.querySelectorAll('[data-row]')].find(row => row.dataset.row == link.dataset.shows);
+const bars = [...row.children].filter(item => !item.classList.contains('held'));
+const left = Math.max(...bars.map(item => item.getBoundingClientRect().left));
+return left >= chart.querySelector('.labels').getBoundingClientRect().right && left < innerWidth"""
 # Is what is told now on the screen?
 IN_SIGHT = """const item = document.querySelector('.now'), box = item && item.getBoundingClientRect();
 return item !== null && box.top >= 0 && box.bottom <= innerHeight && box.right > 0 && box.left < innerWidth"""
@@ -89,6 +95,8 @@ class Browser:
         for width in (1280, 390):
             self.open(page, width, 800)
             found["sideways"][width] = self.run(SIDEWAYS)
+        if self.run(MARK, "#sentence a"):
+            found["sight"] = self.run(IN_PICTURE)
         found["tapped"] = self.tap(".chart .read") if self.run(MARK, ".chart .read") else None
         if self.run(MARK, "#sentence a"):
             found["sentence"] = self.follow_sentence()
