@@ -28,9 +28,11 @@ const row = [...chart.querySelectorAll('[data-row]')].find(row => row.dataset.ro
 const bars = [...row.children].filter(item => !item.classList.contains('held'));
 const left = Math.max(...bars.map(item => item.getBoundingClientRect().left));
 return left >= chart.querySelector('.labels').getBoundingClientRect().right && left < innerWidth"""
-# Is what is told now on the screen?
+# Is the begin of what is told now on the screen?
 IN_SIGHT = """const item = document.querySelector('.now'), box = item && item.getBoundingClientRect();
-return item !== null && box.top >= 0 && box.bottom <= innerHeight && box.right > 0 && box.left < innerWidth"""
+if (!item) return false;
+const labels = item.closest('.chart').querySelector('.labels').getBoundingClientRect();
+return box.top >= 0 && box.bottom <= innerHeight && box.left >= labels.right && box.left < innerWidth"""
 MARK = "return document.querySelector(arguments[0])"
 MIDDLE = """const mark = document.querySelector(arguments[0]);
 mark.scrollIntoView({block: 'center', inline: 'center'});

@@ -19,11 +19,14 @@ function bar(part) {
   const found = rows.filter(row => row.getClientRects().length).flatMap(items);
   return found.filter(item => !item.classList.contains('held')).pop();
 }
+function begin(item) {
+  const chart = item.closest('.chart'), labels = chart.querySelector('.labels').getBoundingClientRect().right;
+  chart.scrollLeft += item.getBoundingClientRect().left - labels - 30;
+}
 function bring() {
   const part = link && document.querySelector(link.hash.split('-')[0]);
   const chart = part && part.querySelector(`.${document.body.className.slice(3)} .chart`), item = chart && bar(chart);
-  const labels = item && chart.querySelector('.labels').getBoundingClientRect().right;
-  if (item) chart.scrollLeft += item.getBoundingClientRect().left - labels - 30;
+  if (item) begin(item);
 }
 bring();
 if (link) link.onclick = event => {
@@ -31,7 +34,9 @@ if (link) link.onclick = event => {
   location.hash = link.hash;
   const item = bar(show());
   tell(item);
-  if (item) item.scrollIntoView({block: 'center', inline: 'center'});
+  if (!item) return;
+  item.scrollIntoView({block: 'center', inline: 'nearest'});
+  begin(item);
 };
 
 let closed = [];
