@@ -7,6 +7,7 @@ import xml.etree.ElementTree as ElementTree
 from html.parser import HTMLParser
 
 from tests.desk_cases import PROGRAM, TOP, DeskCase, needs_program
+from tests.drawn_records import KEYS, MORE_KEYS, typed
 
 from inputtools.colours import COLOURS, RULES
 
@@ -19,9 +20,9 @@ ENV = {**os.environ, "INPUTPLAY": PROGRAM}
 # What a rule draws with, and what it is drawn upon. (Bars of `open` and `contact` have marks upon them.)
 UPON = {
     "paper": ("faint", "ink", "device", "second", "held", "read", "ask", "loss", "grab", "mask", "revoked",
-              "parted", "eaten"),
+              "parted", "missed", "eaten"),
     "open": ("read", "ask", "loss", "grab", "mask", "ink", "eaten"),
-    "contact": ("device", "second"),
+    "contact": ("device", "second", "ink"),
 }
 
 
@@ -47,8 +48,10 @@ class Balanced(HTMLParser):
 
 class DrawCase(DeskCase):
     def page(self, record, *words):
-        """A page that ends all that it begins, and loads nothing."""
-        text = self.written("draw", *words, record)
+        """A page that ends all that it begins, and loads nothing. Where the play was cut the status is 6."""
+        status, text, lines = self.tool("draw", *words, record)
+        cuts = re.findall('<p class="cut">(.*?)</p>', text)
+        self.assertEqual((6 if cuts else 0, [f"draw: note: {cut}" for cut in cuts]), (status, lines))
         read = Balanced(text)
         self.assertEqual([], read.wrong)
         self.assertEqual(len(set(read.ids)), len(read.ids))
@@ -58,7 +61,24 @@ class DrawCase(DeskCase):
         return text
 
     def picture(self, record, *words):
-        return ElementTree.fromstring(self.written("draw", "--svg", *words, record))
+        """The picture. Where the play was cut its description says so, and the status is 6."""
+        status, text, lines = self.tool("draw", "--svg", *words, record)
+        picture = ElementTree.fromstring(text)
+        told = "".join(about.text for about in picture.iter(SVG + "desc"))
+        cuts = re.findall("the play was cut: [^.]*", told)
+        self.assertEqual((6 if cuts else 0, [f"draw: note: {cut}" for cut in cuts]), (status, lines))
+        return picture
+
+    def rows(self, text):
+        """The rows of a page's or a picture's first plot that have anything, from above."""
+        return re.findall(r'<g data-row="([^"]*)">', re.split('<div class="time">|<details', text)[0])
+
+    def sentence(self, page):
+        """What is said on top of a page: the text, the link's target and the row that it shows, where it is a
+        link."""
+        ((said),) = re.findall('<p id="sentence">(.*?)</p>', page)
+        link = re.match('<a href="#([^"]*)" data-shows="([^"]*)">', said)
+        return re.sub("<.*?>", "", said), *(link.groups() if link else ())
 
     def found(self, picture, kind, tag="rect"):
         """The shapes of a kind: for each the left end, the right end and the text."""
@@ -74,7 +94,7 @@ class Pictures(DrawCase):
         picture = self.picture(EXAMPLES / "stuck_key.rec")
         (on,) = self.found(picture, "on")
         (grab,) = self.found(picture, "grab")
-        (parted,) = self.found(picture, "parted")
+        (parted,) = self.found(picture, "stuck")
         frames = self.found(picture, "frame")
         self.assertEqual("KEY_LEFTCTRL down from place 5 (0.001 s) to 9 (0.002 s)", on[2])
         self.assertEqual("grab of remapper from place 7 (0.001 s) to 10 (0.002 s)", grab[2])
@@ -135,7 +155,7 @@ class Pictures(DrawCase):
         paths = [path for path in paths if path.find(SVG + "title") is not None]
         slots = [path for path in paths if path.find(SVG + "title").text.startswith("ABS_MT_POSITION")]
         self.assertEqual("ABS_MT_POSITION_X from 3000 to 4200", slots[0].find(SVG + "title").text)
-        # (slot 0 has two contacts, slots 1 and 2 have one)
+        # (slot 0 has two contacts, the last of which is held; slots 1 and 2 have one)
         for path, spans in zip(slots, [contacts[:2]] * 2 + [contacts[2:3]] * 2 + [contacts[3:]] * 2):
             starts = [float(word.split()[0]) for word in path.get("d").split("M")[1:]]
             ends = [float(part.split("H")[-1]) for part in path.get("d").split("M")[1:]]
@@ -147,10 +167,10 @@ class Pictures(DrawCase):
         picture = self.picture(EXAMPLES / "touchpad.rec")
         labels = [shape for shape in picture.iter(SVG + "text") if shape.get("class") in ("number", "second")]
         texts = [(shape.get("class"), shape.text) for shape in labels]
-        axes = [("number", "70"), ("number", "0"), ("number", "4200"), ("number", "0"), ("number", "3000")]
+        axes = [("number", "3000"), ("number", "0"), ("number", "70"), ("number", "0"), ("number", "4200")]
         self.assertEqual(axes, texts[:5])
         for text in (("number", "4200"), ("number", "3000"), ("second", "3000"), ("second", "1540")):
-            self.assertIn(text, texts[6:])
+            self.assertIn(text, texts[4:])
 
     def texts(self, picture, kind, tag="path"):
         return [text for *_, text in self.found(picture, kind, tag)]
@@ -162,7 +182,7 @@ class Pictures(DrawCase):
         by = "is eaten by filter 1 (chord KEY_A KEY_B)"
         wanted = [f"place 5 (0.002 s): EV_KEY KEY_B 1 {by}", f"place 13 (0.005 s): EV_KEY KEY_B 1 {by}"]
         self.assertEqual(wanted + [f"place 19 (0.008 s): EV_KEY KEY_B 0 {by}"], eaten)
-        parted = self.texts(picture, "parted", "rect")
+        parted = self.texts(picture, "missed", "rect")
         cause = "up for it, down on the device: eaten by filter 1 (chord KEY_A KEY_B)"
         self.assertEqual([f"KEY_B differs from place 13 (0.005 s) to 21 (0.009 s): {cause}"] * 2, parted)
 
@@ -175,12 +195,13 @@ class Pictures(DrawCase):
         startup = ": it was handed startup BTN_TRIGGER 0, startup ABS_X 5"
         self.assertEqual([f"place 0: opened{startup}"], self.texts(picture, "ask"))
         headings = [shape.text for shape in picture.iter(SVG + "text") if shape.get("class") == "heading"]
-        self.assertEqual(["sources", "device stick", "joy j"], headings)
+        self.assertEqual(["sources", "device stick", "joy j", "device stick: all else"], headings)
         picture = self.picture(RECORDS / "joystick_start_is_refused.rec")
         parted = self.texts(picture, "parted", "rect")
         self.assertEqual("ABS_X (axis 0) differs from place 7 (0.002 s) on: 7 for it, 8 on the device: "
                          "its frame has not ended: no report followed", parted[0])
-        self.assertTrue(parted[2].startswith("BTN_TRIGGER (button 0) differs from place 5 (0.001 s) on"))
+        (missed,) = self.texts(picture, "missed", "rect")
+        self.assertTrue(missed.startswith("BTN_TRIGGER (button 0) differs from place 5 (0.001 s) on"))
 
     def test_an_owner(self):
         """Its lane has its calls with what it was told, and what became of all that was sent."""
@@ -235,17 +256,34 @@ class Pages(DrawCase):
 
     def test_each_kind_of_mark_is_explained(self):
         """Each class that a picture uses is in the legend, or is text and paper."""
-        text = self.page(EXAMPLES / "views.rec") + self.page(EXAMPLES / "touchpad.rec")
-        shown = text.split('<p class="legend">')[1].split("</p>")[0]
-        used = set(re.findall(r'class="([a-z ]+)"', text))
-        used = {kind.removeprefix("dense ") for kind in used} - set(re.findall(r'class="([a-z ]+)"', shown))
-        others = set("legend place time paper faint ink differs heading grid rule".split())
-        others |= set("chart labels number hit".split())
-        self.assertEqual(others, {kind for kind in used if not kind.startswith("pick ")})
+        others = "legend place time paper faint ink differs heading grid rule how chart labels number hit"
+        others = set(others.split())
+        for name in ("views", "touchpad", "mouse"):
+            text = self.page(EXAMPLES / f"{name}.rec")
+            before, shown, behind = re.split('(<p class="legend">.*?</p>)', text)
+            explained, used = (set(re.findall('class="([a-z ]+)"', each)) for each in (shown, before + behind))
+            with self.subTest(name):
+                self.assertEqual(set(), {kind.removeprefix("dense ") for kind in used} - explained - others)
+                self.assertEqual(set(), explained - used - others)
 
     def test_names_are_text(self):
-        record = self.file("a<b>&.rec", (EXAMPLES / "one_key.rec").read_text())
-        self.assertIn("<h1>a&lt;b&gt;&amp;.rec</h1>", self.page(record))
+        """Any name of a file is text of the page, which is ASCII, whatever characters the name has."""
+        names = {"a<b>&.rec": "a&lt;b&gt;&amp;.rec", "\"'.rec": "&quot;&#x27;.rec", "ä.rec": "&#228;.rec",
+                 "a\x01\x1b\n.rec": "a\\x01\\x1b\\n.rec", "\udcff\u202e.rec": "\\udcff\\u202e.rec"}
+        for name, shown in names.items():
+            with self.subTest(repr(name)):
+                page = self.page(self.file(name, (EXAMPLES / "one_key.rec").read_text()))
+                self.assertIn(f"<h1>{shown}</h1>", page)
+                self.assertTrue(page.isascii())
+                ElementTree.fromstring(f"<h1>{shown}</h1>")
+
+    def test_a_file_of_its_own(self):
+        """With --output the page is in a file, and never over the record."""
+        record, to = self.file("one.rec", (EXAMPLES / "one_key.rec").read_text()), self.folder / "one.html"
+        self.assertEqual("", self.written("draw", "--output", to, record))
+        self.assertEqual(self.page(record), to.read_text())
+        self.refused("draw", record, "--output", record, because="would be written over the record")
+        self.refused("draw", record, "--output", self.folder / "none" / "x", because="No such file or")
 
     def test_a_record_without_steps(self):
         """Both forms say that there is nothing, and why."""
@@ -268,7 +306,7 @@ class Pages(DrawCase):
         each part of the paper."""
         page = self.page(self.file("many.rec", many_events(lambda number: ["do c follow"])))
         self.assertEqual(0, page.count("<details id="))
-        self.assertIn("Nothing parts, meets, is grabbed or is lost here.", page)
+        self.assertIn("Nothing parts, meets, is held, is grabbed or is lost here.", page)
         self.assertLess(len(page), 1_000_000)
         (row,) = re.findall(r'<g data-row="s">(.*?)</g>', page.split('<div class="time">')[0], re.DOTALL)
         hits = re.findall(r'<rect class="hit" x="(\d+)" [^>]*width="(\d+)"[^>]*><title>([^<]*)</title>', row)
@@ -300,11 +338,13 @@ class Pages(DrawCase):
         self.assertEqual([("3000", "parts"), ("6000", "loses")], boxes[:2])
 
     def test_no_more_than_forty_ranges(self):
-        page = self.page(self.file("many.rec", many_events(lambda n: ["do c open", "do c grab", "do c close"])))
+        text = many_events(lambda number: ["do c open", "do c grab", "do c close"])
+        page = self.page(self.file("many.rec", text))
         self.assertTrue(10 < page.count("<details id=") <= 40, page.count("<details id="))
 
     def test_a_narrow_screen_and_a_printed_page(self):
-        """The page fits its screen, each picture scrolls by itself and keeps its labels, and paper has all."""
+        """The page fits its screen, each picture scrolls by itself and keeps its labels, and paper has
+        all."""
         text = self.page(EXAMPLES / "touchpad.rec")
         self.assertIn('<meta name="viewport" content="width=device-width, initial-scale=1">', text)
         self.assertIn(".chart { display: flex; overflow-x: auto", text)
@@ -319,13 +359,14 @@ class Pages(DrawCase):
     def test_pictures_are_told_to_those_who_do_not_see_them(self):
         """Each is an image with a title and a description, and is reached by keys."""
         text = self.page(EXAMPLES / "stuck_key.rec")
-        chart = '<div class="chart" tabindex="0" role="group" aria-label="([^"]*)">(.*?)</div>'
+        chart = '<div class="chart" tabindex="0" role="group" aria-label="([^"]*)"[^>]*>(.*?)</div>'
         plots = re.findall(chart, text, re.DOTALL)
         self.assertEqual(2, len(plots))
         for label, plot in plots:
             self.assertIn("the arrow keys go from mark to mark", label)
             ((title, about),) = re.findall('role="img" aria-labelledby="([^" ]*) ([^" ]*)"', plot)
-            self.assertIn(f'<title id="{title}">device kbd, places 0 to 12 (0.001 s to 0.002 s)</title>', plot)
+            told = "device kbd, places 0 to 12 (0.001 s to 0.002 s)"
+            self.assertIn(f'<title id="{title}">{told}</title>', plot)
             ((said),) = re.findall(f'<desc id="{about}">(.*?)</desc>', plot)
             self.assertIn("desktop parts from the device in KEY_LEFTCTRL at place 9 (0.002 s)", said)
             self.assertIn("remapper grabs the device at place 7 (0.001 s)", said)
@@ -348,9 +389,164 @@ def many_events(lines_behind, actors=""):
     return "\n".join(lines) + "\n"
 
 
+class Sticks(DrawCase):
+    """What sticks is on top: in words, and among the rows."""
+
+    def labels(self, picture):
+        texts = [shape for shape in picture.iter(SVG + "text") if shape.get("text-anchor") == "end"]
+        texts = [shape for shape in texts if shape.get("class") in ("ink", "differs", "faint")]
+        return [shape.text for shape in texts if float(shape.get("x")) < 168]
+
+    def test_a_held_key_among_many(self):
+        """Of 39 keys the one that is held is first, and ends in a mark; all others are there."""
+        record = self.file("keys.rec", typed(KEYS, "W"))
+        rows = self.labels(self.picture(record))
+        others = sorted(f"KEY_{key}" for key in KEYS if key != "W")
+        self.assertEqual(["usb", "frames", "KEY_W", "desktop", *others], rows)
+        page = self.page(record)
+        self.assertNotIn("Nothing parts", page)
+        said = "KEY_W: down on the device itself since place 75 (1.04 s): no release followed."
+        self.assertEqual((said, "d0-0", "KEY_W"), self.sentence(page))
+        self.assertIn("<li>KEY_W, which is held to the end, begins at place 75 (1.04 s)</li>", page)
+        marks = re.findall(r'<path class="held" [^>]*><title>([^<]*)</title>', page)
+        self.assertEqual({"held at the end: KEY_W down from place 75 (1.04 s) on"}, set(marks))
+        self.assertIn('<rect class="pick held"', page)
+
+    def test_nothing_is_held(self):
+        record = self.file("keys.rec", typed(KEYS))
+        page = self.page(record)
+        said = "Nobody ends apart from the device, and nothing is held on it."
+        self.assertEqual((said,), self.sentence(page))
+        self.assertIn("Nothing parts, meets, is held, is grabbed or is lost here.", page)
+        self.assertEqual(sorted(f"KEY_{key}" for key in KEYS), self.labels(self.picture(record))[2:-1])
+
+    def test_more_rows_are_behind_a_button(self):
+        """Of 70 keys the picture has those that it has room for, and the lane of the client; the button has
+        the rest."""
+        record = self.file("keys.rec", typed(MORE_KEYS, "W"))
+        shown, *behind = self.page(record).split('<summary class="button">')
+        self.assertTrue(behind[0].startswith("and 13 rows more</summary>"), behind[0][:80])
+        behind = re.split('<div class="(?:time|place)">', behind[0])[0]
+        first, rest = self.rows(shown), re.findall('data-row="(.*?)"', behind)
+        self.assertEqual(["usb", "frames", "KEY_W", "desktop"], first[:4])
+        self.assertEqual({"usb", "frames", "desktop", *(f"KEY_{key}" for key in MORE_KEYS)}, {*first, *rest})
+        self.assertEqual((60, 13), (len(first), len(rest)))
+        self.assertEqual("and 13 rows more", self.labels(self.picture(record))[-1])
+
+    def test_who_ends_apart(self):
+        """Each sentence is that of `stuck --summary`, and leads to what it tells."""
+        cases = {
+            "keyboard": ("client desktop ends apart in KEY_LEFTCTRL since place 38 (4.2 s), down for it, up on "
+                         "the device: grab of remapper from place 35 (4.0 s) to 40 (4.2 s).",
+                         "d0", "desktop, KEY_LEFTCTRL"),
+            "mouse": ("client desktop ends apart in BTN_LEFT since place 37 (4.1 s), down for it, up on the "
+                      "device: it was revoked at place 34 (4.0 s).", "d0", "desktop, BTN_LEFT"),
+            "touchpad": ("tap probe ends apart in ABS_PRESSURE, ABS_Y since place 23 (1764255600.0 s): it "
+                         "opened the device later, at place 796 (1764255601.35 s), and has not asked since; "
+                         "and 4 more.",
+                         "d0-0", "probe, ABS_Y"),
+            "stuck_key": ("client desktop was apart in KEY_LEFTCTRL since place 9 (0.002 s) until place 12 "
+                          "(0.002 s): grab of remapper from place 7 (0.001 s) to 10 (0.002 s).",
+                          "d0", "desktop, KEY_LEFTCTRL"),
+        }
+        for name, wanted in cases.items():
+            with self.subTest(name):
+                page, record = self.page(EXAMPLES / f"{name}.rec"), EXAMPLES / f"{name}.rec"
+                self.assertEqual(wanted, self.sentence(page))
+                self.assertIn(f'id="{wanted[1]}"', page)
+                self.assertIn(f'<g data-row="{wanted[2]}">', page)
+                if " ends apart" in wanted[0]:
+                    told = re.split(r"\.$|; and \d+ more\.$", wanted[0])[0]
+                    self.assertIn(f"\n  {told}\n", self.written("stuck", "--summary", record))
+
+    def test_a_range_without_it(self):
+        """Where the place is not drawn the sentence is no link."""
+        page = self.page(EXAMPLES / "keyboard.rec", "--to", "20")
+        self.assertEqual(1, len(self.sentence(page)))
+
+    def test_what_waits_to_be_read_is_no_fault(self):
+        """A key that is held on the device goes before what no client has read yet."""
+        said, *_ = self.sentence(self.page(EXAMPLES / "views.rec"))
+        self.assertTrue(said.startswith("KEY_A: down on the device itself since place 111 (0.009 s)"), said)
+
+    def test_clients_stand_beside_the_device(self):
+        """Below the device's row of a thing are the clients' rows of it; who ends apart comes first."""
+        cases = {
+            "gamepad": "xpad; frames; ABS_Y; overlay, ABS_Y; tester, ABS_Y; ABS_Z; overlay, ABS_Z; tester, "
+                       "ABS_Z; ABS_HAT0X; overlay, ABS_HAT0X; game, ABS_HAT0X; tester, ABS_HAT0X; BTN_SOUTH; "
+                       "overlay, BTN_SOUTH; ABS_X; overlay, ABS_X; tester, ABS_X; overlay; game; tester",
+            "keyboard": "usb; frames; KEY_LEFTCTRL; desktop, KEY_LEFTCTRL; KEY_CAPSLOCK; indicator, "
+                        "KEY_CAPSLOCK; desktop; remapper; indicator; KEY_A; KEY_ESC; LED_CAPSL",
+        }
+        for name, wanted in cases.items():
+            with self.subTest(name):
+                self.assertEqual(wanted, "; ".join(self.rows(self.page(EXAMPLES / f"{name}.rec"))))
+
+    def test_both_ways_to_be_wrong(self):
+        """Each has its colour and its name."""
+        for name, kind, text in (("mouse", "stuck", "down for it, up on the device"),
+                                 ("lid", "missed", "up for it, down on the device"),
+                                 ("gamepad", "parted", "another value for it than on the device")):
+            with self.subTest(kind):
+                picture = self.picture(EXAMPLES / f"{name}.rec")
+                self.assertTrue(self.found(picture, kind))
+                self.assertIn(text, [shape.text for shape in picture.iter(SVG + "text")])
+        self.assertEqual(2, len({COLOURS[kind] for kind in ("parted", "missed")}))
+
+    def test_a_mask_is_told_once(self):
+        """A client that masks keys has one row for all of them, and one range."""
+        text = typed(MORE_KEYS).replace("client desktop\n", "client desktop\nclient deaf\n")
+        text = text.replace("do desktop open\n", f"do desktop open\ndo deaf open\n{MASKED}", 1)
+        text = text.replace("do desktop follow\n", "do desktop follow\ndo deaf follow\n")
+        page = self.page(self.file("masked.rec", text))
+        self.assertEqual(["deaf", "deaf, mask"], [row for row in self.rows(page) if row.startswith("deaf")])
+        self.assertEqual(["0"], re.findall(r'<details id="d0-(\d+)"', page))
+        wanted = ("70 things differ at times: its own mask: KEY_0, KEY_1, KEY_2 and 67 things more: "
+                  "from place 17 (0.08 s) to 434 (5.65 s)")
+        self.assertEqual({wanted}, set(re.findall("<title>(70 things differ [^<]*)</title>", page)))
+        self.assertIn('<rect class="missed"', page)
+
+    def test_strokes_are_no_held_key(self):
+        """2,000 strokes on 1,000 points of the paper are a line for each three points, and tell how many they
+        are; where there is room each stroke is a bar, and between two bars paper is seen."""
+        lines = ["inputrecord 1", "device d", "cap EV_KEY KEY_A", "source s"]
+        for number in range(4000):
+            key = f"EV_KEY KEY_A {1 - number % 2}"
+            lines += [f"do s event {number // 2} {event}" for event in (key, "EV_SYN SYN_REPORT 0")]
+        text = "\n".join(lines) + "\n"
+        record = self.file("strokes.rec", text)
+        picture = self.picture(record)
+        self.assertEqual([], self.found(picture, "on"))
+        paths = [shape.get("d") for shape in picture.iter(SVG + "path") if shape.get("class") == "dense on"]
+        columns = [int(x) for x in re.findall(r"M(\d+) ", max(paths, key=len))]
+        self.assertEqual({3}, {one - other for one, other in zip(columns[1:], columns)})
+        titles = [title.text for title in picture.iter(SVG + "title")]
+        self.assertEqual(125, sum(bool(re.match("KEY_A down from .* more here", title)) for title in titles))
+        bars = self.found(self.picture(record, "--from", "100", "--to", "900"), "on")
+        self.assertEqual(200, len(bars))
+        self.assertTrue(all(other[0] - one[1] >= 1 for one, other in zip(bars, bars[1:])))
+        # What is held behind them all is none of them.
+        events = "".join(f"do s event 3000 {event}\n" for event in ("EV_KEY KEY_A 1", "EV_SYN SYN_REPORT 0"))
+        ((_, _, held),) = self.found(self.picture(self.file("held.rec", text + events)), "held", "path")
+        self.assertEqual("held at the end: KEY_A down from place 8001 (0.003 s) on", held)
+
+    def test_a_play_that_was_cut(self):
+        """The page says so in its first line, and the status is 6; so does the picture's description."""
+        text = (EXAMPLES / "stuck_key.rec").read_text().replace("hint 8", "hint 8\nlog 6")
+        record = self.file("cut.rec", text)
+        cut = "the play was cut: usb stopped, since the history was full at place 6"
+        self.assertIn(f'</h1>\n<p class="cut">{cut}</p>', self.page(record))
+        self.picture(record)
+
+
+# All words of the mask of EV_KEY, with no bit set.
+MASKED = "".join(f"do deaf mask EV_KEY {word} 0\n" for word in range(12))
+
+
 class Axes(DrawCase):
     def ticks(self, picture):
-        """The ticks' texts, upper and lower, and where each begins and ends on the paper, as it is reckoned."""
+        """The ticks' texts, upper and lower, and where each begins and ends on the paper, as it is
+        reckoned."""
         rows = {"16": [], "31": []}
         for shape in picture.iter(SVG + "text"):
             if shape.get("y") in rows and shape.get("class") == "faint" and shape.get("x") != "10":
@@ -397,7 +593,8 @@ class Axes(DrawCase):
 
 class Paper(DrawCase):
     def test_contrast(self):
-        """Marks have 3 to 1 at least and texts 4.5 to 1, on both papers and on the bars that they stand on."""
+        """Marks have 3 to 1 at least and texts 4.5 to 1, on both papers and on the bars that they stand
+        on."""
         texts = ("ink", "faint", "device", "second", "parted")
         for paper, marks in UPON.items():
             for mark in marks:
@@ -432,7 +629,8 @@ class Input(DrawCase):
             done = subprocess.run(command, stdin=file, capture_output=True, text=True, env=ENV)
         self.assertEqual((0, ""), (done.returncode, done.stderr))
         self.assertIn("<h1>standard input</h1>", done.stdout)
-        self.assertEqual(self.page(EXAMPLES / "stuck_key.rec").split("</h1>")[1], done.stdout.split("</h1>")[1])
+        wanted = self.page(EXAMPLES / "stuck_key.rec")
+        self.assertEqual(wanted.split("</h1>")[1], done.stdout.split("</h1>")[1])
 
 
 class Refusals(DrawCase):

@@ -1,4 +1,5 @@
-"""Each command that docs/STUCK.md, EXPLORE.md and CI.md show writes what the page says."""
+"""Each command that docs/STUCK.md, EXPLORE.md and CI.md show writes what the page says; and
+tests/drawn_pages.py: the pages of tools/draw in a browser."""
 
 import os
 import subprocess
@@ -6,6 +7,7 @@ from pathlib import Path
 from typing import Iterator, List, Tuple
 
 from tests.desk_cases import DeskCase
+from tests.drawn_pages import Drawn as Drawn
 from tests.playing import PROGRAM, TOP, needs_program
 
 PROMPT, MORE = "    $ ", "    > "

@@ -682,7 +682,8 @@ class Ends(StuckCase):
         said = without_times(self.written("stuck", "--summary", self.file("apart.rec", self.apart)))
         wanted = """summary: 1 of 2 readers apart from the device at the end
   a grab of another: 1 parting: KEY_A 1
-  client c ends apart in KEY_A
+  client c ends apart in KEY_A since place 5, up for it, down on the device: grab of g from place 3 on
+  KEY_A: down on the device itself since place 5: no release followed
 device kbd steps """
         self.assertTrue(said.startswith(wanted), said)
 

@@ -18,7 +18,7 @@ COLOURS = {
     "contact": ("#dbe8f6", "#223a55"), "open": ("#eaeee8", "#262c26"), "held": ("#6b7a68", "#84947f"),
     "read": ("#1d7a3e", "#5ecb85"), "ask": ("#7a3fb0", "#c397f2"), "loss": ("#c4161c", "#ff7474"),
     "grab": ("#a86a00", "#e0a526"), "mask": ("#806230", "#cbb07a"), "revoked": ("#6f7580", "#9096a1"),
-    "parted": ("#c92a61", "#f47ba4"), "eaten": ("#0b7285", "#4fc4d6"),
+    "parted": ("#c92a61", "#f47ba4"), "missed": ("#5b4fcf", "#a59cff"), "eaten": ("#0b7285", "#4fc4d6"),
 }
 
 RULES = read_rules("picture.css")

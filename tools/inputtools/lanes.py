@@ -1,114 +1,37 @@
-"""What is drawn of a played device: rows of marks, bars and lines over the places of its history.
-
-A row says what is to be seen and not where it stands on the paper: `inputtools.picture` lays the rows out. Each
-mark and bar has a text, which is shown where the pointer rests on it. Places have their times beside them.
+"""What is drawn of a played device: the rows of its sources, of the device and of its readers. Places have
+their times beside them in each text.
 """
 
-import bisect
-from typing import Callable, Dict, Generic, Iterable, List, NamedTuple, Optional, Sequence, Tuple, TypeVar
+from functools import partial
+from typing import Callable, Dict, List, NamedTuple, Optional, Sequence, Tuple
 
-from inputtools.belief import BIT_KINDS, TRACKING_ID, Thing
-from inputtools.devicestate import Changes
+from inputtools.belief import BIT_KINDS, CURRENT, TRACKING_ID, Thing
+from inputtools.command import counted
+from inputtools.devicestate import Changes, Frame
+from inputtools.divergences import Divergence
+from inputtools.endings import apart_of, first_of, kind_of, lasting_of, names_text
 from inputtools.joysticks import STARTUP, JoyWalk
 from inputtools.moments import Moments
 from inputtools.owners import Owner
 from inputtools.played import Client, PlayedDevice, Reader
 from inputtools.report import Again, Call, JoyRecord, Took
+from inputtools.rows import Bar, Line, Mark, Ordered, Row, Section, Stretch, Value
+from inputtools.still_down import still_down_of
 from inputtools.stuck_text import name_of
-
-MOST_ROWS = 20
+from inputtools.summary import CAUSES
 
 # What stands before a joystick's records in a text, and how long that is at most, about.
 HANDED, LONGEST = ": it was handed ", 240
 
-
-class Mark(NamedTuple):
-    """A mark of a row: where it stands, maybe between two places, its kind, and its text."""
-
-    place: float
-    kind: str
-    text: str
-
-
-class Bar(NamedTuple):
-    """A bar of a row, from a place to another one."""
-
-    begin: int
-    end: int
-    kind: str
-    text: str
-
-
-class Value(NamedTuple):
-    """The value that a line has from a place on."""
-
-    place: int
-    value: int
-
-
-Placed = TypeVar("Placed", Mark, Value)
-
-
-class Ordered(Generic[Placed]):
-    """Things in the order of their places, so that those between two places are found at once."""
-
-    def __init__(self, things: Iterable[Placed]) -> None:
-        self.things: List[Placed] = sorted(things, key=lambda thing: thing.place)
-        self.places: List[float] = [thing.place for thing in self.things]
-
-    def between(self, begin: float, end: float) -> List[Placed]:
-        return self.things[bisect.bisect_left(self.places, begin) : bisect.bisect_left(self.places, end)]
-
-    def before(self, begin: float) -> List[Placed]:
-        """The last one before a place, or none, as a list."""
-        index = bisect.bisect_left(self.places, begin)
-        return self.things[max(index - 1, 0) : index]
-
-
-class Stretch(NamedTuple):
-    """A stretch of places in which a line has values."""
-
-    begin: int
-    end: int
-    values: "Ordered[Value]"
-
-
-class Line:
-    """A line: its name, its kind, and its stretches, ordered and apart from one another.
-
-    An axis has one stretch; the position of a slot has one for each contact, and is nothing between them.
-    """
-
-    def __init__(self, name: str, kind: str, stretches: Sequence[Stretch]) -> None:
-        self.name, self.kind, self.stretches = name, kind, stretches
-        values = [point.value for stretch in stretches for point in stretch.values.things]
-        self.least, self.greatest = min(values), max(values)
-
-    def between(self, begin: int, end: int) -> List[Stretch]:
-        """The stretches that have anything between two places."""
-        return [stretch for stretch in self.stretches if stretch.begin < end and stretch.end >= begin]
-
-    def moves_between(self, begin: int, end: int) -> bool:
-        return any(stretch.values.between(begin, end) for stretch in self.stretches)
-
-
-class Row:
-    """A row: its label, its marks, bars and lines. `told` names the row where its label alone would not."""
-
-    def __init__(self, label: str, kind: str = "row", marks: Iterable[Mark] = (), bars: Iterable[Bar] = (),
-                 lines: Iterable[Line] = (), told: Optional[str] = None) -> None:
-        self.label, self.kind, self.told = label, kind, told or label
-        self.marks, self.bars, self.lines = Ordered(marks), list(bars), list(lines)
-
-
-class Section(NamedTuple):
-    """Rows below a heading."""
-
-    heading: str
-    rows: List[Row]
-
-
 TextOf = Callable[[int], Optional[str]]
+
+
+class Rank(NamedTuple):
+    """How grave a thing is, and since which place: 0 where a client ends apart in it, 1 where it is held on
+    the device at the end, and 2 where a client was apart in it before."""
+
+    grave: int
+    since: int
 
 
 def on_text(thing: Thing) -> TextOf:
@@ -120,16 +43,29 @@ def contact_text(value: int) -> Optional[str]:
     return f"contact {value}" if value >= 0 else None
 
 
+def is_held_down(thing: Thing) -> bool:
+    """Is it a key or a contact, which somebody holds?"""
+    return thing.kind == "EV_KEY" or thing.code == TRACKING_ID
+
+
+def lane_of(thing: Thing) -> Thing:
+    """The thing whose row shows it: for all values of a slot that of its contacts."""
+    return thing if thing.slot is None else Thing("EV_ABS", TRACKING_ID, thing.slot)
+
+
 class Lanes:
     """The rows of one played device."""
 
     def __init__(self, played: PlayedDevice) -> None:
         self.played, self.state = played, played.state
         self.moments = Moments(played.report.history)
-        self.end = len(played.report.history)
+        self.end, self.walked = len(played.report.history), played.clients + played.joysticks
 
     def at(self, place: int) -> str:
         return self.state.at.text(place)
+
+    def told(self, before: str, place: int, behind: str = "") -> str:
+        return f"{before}{self.at(place)}{behind}"
 
     def span_text(self, begin: Optional[int], end: Optional[int]) -> str:
         """From which place to which. None is the start, or no end."""
@@ -138,48 +74,83 @@ class Lanes:
         return "from the start " + ("on" if end is None else f"to {self.at(end)}")
 
     def sections(self) -> List[Section]:
-        """The headings and their rows: the sources, the device, each client, joystick and owner."""
-        found = [Section("sources", self.source_rows()), Section(f"device {self.played.name}", self.device_rows())]
+        """The headings and their rows: the sources, the device, each client, joystick and owner. Where
+        anything parts or is held at the end, all else of the device stands last."""
+        grave, rest = self.thing_rows()
+        readers = []
         for reader in self.played.readers():
             rows = self.owner_rows(reader) if isinstance(reader, Owner) else self.client_rows(reader)
-            found.append(Section(f"{reader.role} {reader.name}", rows))
-        return found
+            readers.append(Section(f"{reader.role} {reader.name}", rows))
+        is_calm = not grave and all(row.kind != "parted" for _, rows in readers for row in rows)
+        device, first = f"device {self.played.name}", self.frame_rows() + (rest if is_calm else grave)
+        found = [Section("sources", self.source_rows()), Section(device, first), *readers]
+        return found if is_calm or not rest else [*found, Section(f"{device}: all else", rest)]
 
     # Sources
 
     def source_rows(self) -> List[Row]:
         """For each source a row of the steps that it made."""
-        marks: Dict[str, List[Mark]] = {part.name: [] for part in self.played.report.parts if part.role == "source"}
+        sources = [part.name for part in self.played.report.parts if part.role == "source"]
+        marks: Dict[str, List[Mark]] = {name: [] for name in sources}
         for place, name in self.played.source_steps:
-            step = self.played.report.history[place]
-            is_report = step.words[-3:-1] == ("EV_SYN", "SYN_REPORT")
-            kind = "report" if is_report else "event" if step.name == "inject" else "timer"
-            # (the moment of a step stands beside its place already)
-            marks[name].append(Mark(place, kind, f"{self.at(place)}: {' '.join(step.without_moment())}"))
+            event = self.played.report.history[place].event
+            kind = "timer" if event is None else "report" if event.is_report else "event"
+            marks[name].append(Mark(place, kind, partial(self.step_text, place)))
         return [Row(name, marks=found) for name, found in marks.items()]
+
+    def step_text(self, place: int) -> str:
+        # (the moment of a step stands beside its place already)
+        return f"{self.at(place)}: {' '.join(self.played.report.history[place].without_moment())}"
 
     # The device
 
-    def device_rows(self) -> List[Row]:
-        rows = [self.frame_row()] + ([self.filter_row()] if self.state.description.filters else [])
-        return rows + self.bit_rows() + self.axis_rows() + self.slot_rows()
+    def thing_rows(self) -> Tuple[List[Row], List[Row]]:
+        """The rows of the things that part for a client or are held at the end, the gravest first, each with
+        the clients' rows of it below; and those of all other things that were on, moved or were touched."""
+        beside, ranks = self.rows_beside(), self.ranks()
+        lanes = {lane_of(thing) for thing in self.state.changes} - {CURRENT} | set(beside)
+        rows = {lane: self.thing_row(lane, beside.get(lane, [])) for lane in sorted(lanes, key=order_of)}
+        grave = sorted(lanes & set(ranks), key=lambda lane: (ranks[lane], order_of(lane)))
+        rest = [row for lane, row in rows.items() if lane not in ranks and row.is_told()]
+        return [rows[lane] for lane in grave], rest
 
-    def frame_row(self) -> Row:
-        marks = []
-        for frame in self.state.frames:
-            events = ", ".join(event.text() for event in frame.events[:6])
-            more = f" and {len(frame.events) - 6} more" if len(frame.events) > 6 else ""
-            marks.append(Mark(frame.place, "frame", f"frame of {self.at(frame.place)}: {events}{more}"))
-        return Row("frames", marks=marks)
+    def rows_beside(self) -> Dict[Thing, List[Row]]:
+        """The rows of what parts for clients and joysticks, by the thing whose row they stand beside."""
+        found: Dict[Thing, List[Row]] = {}
+        for client in self.walked:
+            for thing, row in self.divergence_rows(client, f"{client.name}: ").items():
+                found.setdefault(lane_of(thing), []).append(row)
+        return found
+
+    def ranks(self) -> Dict[Thing, Rank]:
+        """How grave the things are that part or are held at the end, by the thing whose row shows them."""
+        found = [(held.thing, Rank(1, held.since or 0)) for held in still_down_of(self.state)]
+        for client in self.walked:
+            for each in apart_of(client):
+                found.append((each.thing, Rank(0 if each.met_by is None else 2, each.since or 0)))
+        ranks: Dict[Thing, Rank] = {}
+        for thing, rank in found:
+            ranks[lane_of(thing)] = min(rank, ranks.get(lane_of(thing), rank))
+        return ranks
+
+    def frame_rows(self) -> List[Row]:
+        """A row of the frames, and one of what the device's filters ate of them."""
+        frames = self.state.frames
+        marks = [Mark(frame.place, "frame", partial(self.frame_text, frame)) for frame in frames]
+        return [Row("frames", marks=marks)] + ([self.filter_row()] if self.state.description.filters else [])
+
+    def frame_text(self, frame: Frame) -> str:
+        events = ", ".join(event.text() for event in frame.events[:6])
+        more = f" and {len(frame.events) - 6} more" if len(frame.events) > 6 else ""
+        return f"frame of {self.at(frame.place)}: {events}{more}"
 
     def filter_row(self) -> Row:
-        """What the device's filters ate of its frames."""
         filters, marks = self.state.description.filters, []
         for frame in self.state.frames:
             for event, by in zip(frame.events, frame.eaten):
                 if by is not None:
-                    text = f"{self.at(frame.place)}: {event.text()} is eaten by filter {by} ({filters[by - 1].text})"
-                    marks.append(Mark(frame.place, "eaten", text))
+                    text = f": {event.text()} is eaten by filter {by} ({filters[by - 1].text})"
+                    marks.append(Mark(frame.place, "eaten", partial(self.told, "", frame.place, text)))
         return Row("eaten by filters", marks=marks)
 
     def span_bar(self, begin: Optional[int], end: Optional[int], kind: str, text: str) -> Bar:
@@ -187,9 +158,9 @@ class Lanes:
         last = self.end if end is None else end
         return Bar(begin or 0, last, kind, f"{text} {self.span_text(begin, end)}")
 
-    def span_bars(self, changes: Changes, kind: str, text_of: TextOf) -> List[Bar]:
-        """Bars for the spans of places in which a thing is on. `text_of` gives None for an off value. What was on from
-        the start has no first place, and what is on at the end no last one."""
+    def span_bars(self, thing: Thing, changes: Changes, kind: str, text_of: TextOf) -> List[Bar]:
+        """Bars for the spans of places in which a thing is on. `text_of` gives None for an off value. What
+        was on from the start has no first place, and what is on at the end no last one."""
         bars: List[Bar] = []
         since: Optional[int] = None
         shown: Optional[str] = None
@@ -197,40 +168,25 @@ class Lanes:
             place, text = self.state.place_of(frame), text_of(value)
             bars += [] if shown is None else [self.span_bar(since, place, kind, shown)]
             since, shown = place, text
-        return bars + ([] if shown is None else [self.span_bar(since, None, kind, shown)])
-
-    def bit_rows(self) -> List[Row]:
-        """A row for each key, switch and LED that was on at any time."""
-        things = sorted(thing for thing in self.state.changes if thing.kind in BIT_KINDS)
-        rows = []
-        for thing in things:
-            bars = self.span_bars(self.state.changes[thing], "on", on_text(thing))
-            rows += [Row(thing.code, bars=bars)] if bars else []
-        return rows
+        last = [] if shown is None else [self.span_bar(since, None, kind, shown)]
+        return bars + [bar._replace(is_held=is_held_down(thing)) for bar in last]
 
     def points_of(self, changes: Changes) -> "Ordered[Value]":
         places = (self.state.place_of(frame) or 0 for frame in changes.frames)
         return Ordered(Value(*each) for each in zip(places, changes.values))
 
-    def axis_rows(self) -> List[Row]:
-        """A row with a line for each axis that moved."""
-        things = sorted(thing for thing in self.state.changes if thing.kind == "EV_ABS" and not thing.is_of_slots)
-        moved = [thing for thing in things if len(self.state.changes[thing].frames) > 1]
-        rows = []
-        for thing in moved:
-            stretch = Stretch(0, self.end, self.points_of(self.state.changes[thing]))
-            rows.append(Row(thing.code, "line", lines=[Line(thing.code, "first", [stretch])]))
-        return rows
-
-    def slot_rows(self) -> List[Row]:
-        """A row for each slot that had a contact: its contacts as bars, and where they were as lines."""
-        rows = []
-        for slot in range(self.state.description.slots):
-            contacts = self.state.changes.get(Thing("EV_ABS", TRACKING_ID, slot))
-            bars = self.span_bars(contacts, "contact", contact_text) if contacts else []
-            if bars:
-                rows.append(Row(f"slot {slot}", "line", bars=bars, lines=self.contact_lines(slot, bars)))
-        return rows
+    def thing_row(self, thing: Thing, below: Sequence[Row]) -> Row:
+        """The device's row of a key, switch or LED, of an axis, or of a slot: its contacts as bars, and where
+        they were as lines."""
+        changes = self.state.changes.get(thing) or Changes(thing.first_value)
+        if thing.kind in BIT_KINDS:
+            return Row(thing.code, bars=self.span_bars(thing, changes, "on", on_text(thing)), below=below)
+        if thing.slot is None:
+            stretch = Stretch(0, self.end, self.points_of(changes))
+            return Row(thing.text(), "line", lines=[Line(thing.code, "first", [stretch])], below=below)
+        bars = self.span_bars(thing, changes, "contact", contact_text)
+        lines = self.contact_lines(thing.slot, bars)
+        return Row(f"slot {thing.slot}", "line", bars=bars, lines=lines, below=below)
 
     def contact_lines(self, slot: int, bars: Sequence[Bar]) -> List[Line]:
         """The lines of a slot's positions, during its contacts alone."""
@@ -252,16 +208,20 @@ class Lanes:
         stand the records that it was handed."""
         marks: List[Mark] = []
         for entry in client.part.sight:
-            if isinstance(entry, Again):
-                text = f"nothing left to read at {self.at(entry.place)}"
-                marks.append(Mark(max(entry.place - 0.5, 0), "again", text))
-            elif isinstance(entry, Took) and entry.event.is_loss:
-                marks.append(Mark(entry.place, "loss", f"loss at {self.at(entry.place)}: SYN_DROPPED"))
+            if isinstance(entry, Took):
+                if entry.event.is_loss:
+                    tell = partial(self.told, "loss at ", entry.place, ": SYN_DROPPED")
+                    marks.append(Mark(entry.place, "loss", tell))
+            elif isinstance(entry, Again):
+                tell = partial(self.told, "nothing left to read at ", entry.place)
+                marks.append(Mark(max(entry.place - 0.5, 0), "again", tell))
             elif isinstance(entry, Call) and not entry.reply.is_refused:
                 said, place = call_mark(client.role, entry), entry.reply.place
-                marks += [Mark(place, said.kind, f"{self.at(place)}: {said.text}")] if said else []
+                if said:
+                    marks.append(Mark(place, said.kind, partial(self.told, "", place, f": {said.text}")))
             elif isinstance(entry, JoyRecord) and marks and isinstance(client.walk, JoyWalk):
-                marks[-1] = marks[-1]._replace(text=with_record(marks[-1].text, client.walk, entry))
+                text = with_record(marks[-1].text, client.walk, entry)
+                marks[-1] = marks[-1]._replace(tell=partial(str, text))
         return marks
 
     def handle_bars(self, client: Client) -> List[Bar]:
@@ -281,21 +241,42 @@ class Lanes:
                     bars.append(self.span_bar(grab.begin, grab.end, "grab", f"grab of {client.name}"))
         return bars
 
-    def divergence_rows(self, reader: Reader) -> List[Row]:
-        """A row for each thing in which a client's belief was not the device's state."""
-        rows: Dict[Thing, Row] = {}
-        for divergence in reader.divergences:
-            name = name_of(reader, divergence.thing)
-            if divergence.thing not in rows:
-                shown = name.replace("ABS_MT_", "MT_").replace(" (", ", ").rstrip(")")
-                rows[divergence.thing] = Row(shown, "parted", told=f"{reader.name}, {name}")
-            since = 0 if divergence.since is None else divergence.since
-            met = self.end if divergence.met_at is None else divergence.met_at
-            span = self.span_text(divergence.since, divergence.met_at)
-            text = (f"{name} differs {span}: {divergence.believed_text} for it, {divergence.present_text} on the device: "
-                    f"{divergence.cause.text}")
-            rows[divergence.thing].bars.append(Bar(min(since, met), max(since, met), "parted", text))
-        return list(rows.values())
+    def divergence_rows(self, reader: Reader, before: str = "") -> Dict[Thing, Row]:
+        """For each thing in which a reader's belief was not the device's state a row, but for those that are
+        told as one. `before` stands before its name."""
+        bars: Dict[Thing, List[Bar]] = {}
+        for divergence in apart_of(reader):
+            bar = self.divergence_bar(divergence, name_of(reader, divergence.thing))
+            bars.setdefault(divergence.thing, []).append(bar)
+        rows = {}
+        for thing, found in bars.items():
+            name = name_of(reader, thing)
+            shown = name.split(" ABS_MT_")[-1] if before else name.replace("ABS_MT_", "MT_")
+            shown = before + shown.replace(" (", ", ").rstrip(")")
+            rows[thing] = Row(shown, "parted", bars=found, told=f"{reader.name}, {name}")
+        return rows
+
+    def divergence_bar(self, divergence: Divergence, name: str) -> Bar:
+        since = 0 if divergence.since is None else divergence.since
+        met = self.end if divergence.met_at is None else divergence.met_at
+        span, kind = self.span_text(divergence.since, divergence.met_at), kind_of(divergence)
+        values = f"{divergence.believed_text} for it, {divergence.present_text} on the device"
+        text = f"{name} differs {span}: {values}: {divergence.cause.text}"
+        is_held = divergence.met_by is None and kind == "stuck" and is_held_down(divergence.thing)
+        return Bar(min(since, met), max(since, met), kind, text, is_held)
+
+    def lasting_rows(self, reader: Reader) -> List[Row]:
+        """A row for each cause that lasts and keeps several things from a reader, with one bar."""
+        rows = []
+        for kind, group in lasting_of(reader).items():
+            names = sorted({name_of(reader, divergence.thing) for divergence in group})
+            ends = [self.end if divergence.met_at is None else divergence.met_at for divergence in group]
+            last, things = None if self.end in ends else max(ends), counted(len(names), "thing")
+            text = f"{things} differ at times: {CAUSES[kind]}: {names_text(names)}:"
+            ways = {kind_of(divergence) for divergence in group}
+            bar = self.span_bar(first_of(group).since, last, ways.pop() if len(ways) == 1 else "parted", text)
+            rows.append(Row(f"{things}: {kind}", "parted", bars=[bar], told=f"{reader.name}, {kind}"))
+        return rows
 
     # Owners
 
@@ -306,28 +287,35 @@ class Lanes:
         for place, events in owner.calls:
             told = ", ".join(each.event.text() for each in events)
             text = f"asked at {self.at(place)}: " + (f"told {told}" if events else "nothing was there")
-            marks.append(Mark(max(place - 0.5, 0), "read" if events else "again", text))
+            marks.append(Mark(max(place - 0.5, 0), "read" if events else "again", partial(str, text)))
         sent = Row("sent to the device", marks=self.sent_marks(owner), told=f"sent to {self.played.name}")
-        return [Row(owner.name, "client", marks), sent] + self.divergence_rows(owner)
+        return [Row(owner.name, "client", marks), sent, *self.divergence_rows(owner).values()]
 
     def sent_marks(self, owner: Owner) -> List[Mark]:
         """The events that were sent, each with what became of it."""
         became: Dict[int, Tuple[str, str]] = {}
         for place, events in owner.calls:
             became.update({sent.place: ("event", f"told at {self.at(place)}") for sent in events})
-        became.update({sent.place: ("loss", "lost, since it was not asked for in time") for sent in owner.lost})
+        lost = "lost, since it was not asked for in time"
+        became.update({sent.place: ("loss", lost) for sent in owner.lost})
         became.update({sent.place: ("timer", "not asked for until the end") for sent in owner.waiting})
         marks = []
         for sent in self.state.sent:
             kind, word = became[sent.place]
-            marks.append(Mark(sent.place, kind, f"{self.at(sent.place)}: {sent.event.text()}: {word}"))
+            tell = partial(self.told, "", sent.place, f": {sent.event.text()}: {word}")
+            marks.append(Mark(sent.place, kind, tell))
         return marks
 
     # All clients
 
     def client_rows(self, client: Client) -> List[Row]:
         row = Row(client.name, "client", self.call_marks(client), self.handle_bars(client))
-        return [row] + self.divergence_rows(client)
+        return [row] + self.lasting_rows(client)
+
+
+def order_of(thing: Thing) -> Tuple[bool, Tuple[bool, bool, int, str, str]]:
+    """Keys, switches and LEDs come before axes, and axes before slots."""
+    return thing.kind == "EV_ABS", thing.order
 
 
 def during(points: "Ordered[Value]", begin: int, end: int) -> "Ordered[Value]":
@@ -358,7 +346,9 @@ def with_record(text: str, walk: JoyWalk, record: JoyRecord) -> str:
     """The text of a joystick's call and of one more record that it was handed."""
     word = "startup " if record.kind >= STARTUP else ""
     behind = ", " if HANDED in text else HANDED
-    return f"{text}{behind}{word}{walk.thing_of(record).code} {record.value}" if len(text) < LONGEST else cut(text)
+    if len(text) >= LONGEST:
+        return cut(text)
+    return f"{text}{behind}{word}{walk.thing_of(record).code} {record.value}"
 
 
 def cut(text: str) -> str:
@@ -366,25 +356,3 @@ def cut(text: str) -> str:
 
 
 # All
-
-
-def is_seen(row: Row, begin: int, end: int) -> bool:
-    """Does a row have anything between two places?"""
-    if row.kind == "client" or row.marks.between(begin, end):
-        return True
-    if any(bar.begin < end and bar.end >= begin for bar in row.bars):
-        return True
-    return any(line.moves_between(begin, end) for line in row.lines)
-
-
-def fewer(rows: Sequence[Row], begin: int, end: int) -> List[Row]:
-    """The rows that have anything to show, and no more than a picture can hold."""
-    seen = [row for row in rows if is_seen(row, begin, end)]
-    more = len(seen) - MOST_ROWS
-    return seen if more <= 0 else seen[:MOST_ROWS] + [Row(f"and {more} rows more", "note")]
-
-
-def sections_between(found: Sequence[Section], begin: int, end: int) -> List[Section]:
-    """Of sections the rows that have anything between two places."""
-    kept = [section._replace(rows=fewer(section.rows, begin, end)) for section in found]
-    return [section for section in kept if section.rows]

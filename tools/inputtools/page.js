@@ -2,10 +2,42 @@
 // pointer, a touch and the arrow keys bring up. Printed pages show closed parts too.
 const said = document.getElementById('said');
 for (const choice of document.querySelectorAll('input[name=by]'))
-  choice.onchange = () => { document.body.className = choice.value; tell(null) };
+  choice.onchange = () => { document.body.className = choice.value; tell(null); bring() };
 
-function show() { const part = document.getElementById(location.hash.slice(1)); if (part) part.open = true }
+function show() {
+  const part = document.getElementById(location.hash.slice(1));
+  if (part && 'open' in part) part.open = true;
+  return part;
+}
 window.onhashchange = show; show();
+
+// The sentence on top leads to its range, and there to the bar that it tells of: the last one of its row. On a narrow
+// screen the picture begins there too.
+const link = document.querySelector('#sentence a[data-shows]');
+function bar(part) {
+  const rows = [...part.querySelectorAll('[data-row]')].filter(row => row.dataset.row == link.dataset.shows);
+  const found = rows.filter(row => row.getClientRects().length).flatMap(items);
+  return found.filter(item => !item.classList.contains('held')).pop();
+}
+function begin(item) {
+  const chart = item.closest('.chart'), labels = chart.querySelector('.labels').getBoundingClientRect().right;
+  chart.scrollLeft += item.getBoundingClientRect().left - labels - 30;
+}
+function bring() {
+  const part = link && document.querySelector(link.hash.split('-')[0]);
+  const chart = part && part.querySelector(`.${document.body.className.slice(3)} .chart`), item = chart && bar(chart);
+  if (item) begin(item);
+}
+bring();
+if (link) link.onclick = event => {
+  event.preventDefault();
+  location.hash = link.hash;
+  const item = bar(show());
+  tell(item);
+  if (!item) return;
+  item.scrollIntoView({block: 'center', inline: 'nearest'});
+  begin(item);
+};
 
 let closed = [];
 window.onbeforeprint = () => {

@@ -1,17 +1,22 @@
-"""The page of a played record: for each device a picture of all places, and pictures of ranges of them."""
+"""The page of a played record: what is wrong at the end, and for each device a picture of all places, and
+pictures of ranges of them."""
 
+from functools import cached_property
 from html import escape
 from typing import List, Optional, Sequence, Tuple
 
-from inputtools.played import PlayedDevice
-from inputtools.timeline import between, gravest, lines_of, ranges_of, text_of, timeline
-from inputtools.lanes import Lanes, sections_between
 from inputtools.colours import read_rules, style
-from inputtools.picture import AXIS, height_of, no_picture, panes, picture
+from inputtools.command import counted
+from inputtools.lanes import Lanes
+from inputtools.picture import AXIS, Legend, no_picture, panes, picture
+from inputtools.played import PlayedDevice
 from inputtools.progress import progress
+from inputtools.rows import MOST_ROWS, Row, Section, parted_at, sections_between
 from inputtools.scale import WIDTH, Scale
 from inputtools.shapes import mark_shape
 from inputtools.stuck_text import device_lines
+from inputtools.endings import NAMED, cuts_of, endings_of, passed_of
+from inputtools.timeline import between, gravest, lines_of, ranges_of, text_of, timeline
 
 Range = Tuple[int, int]
 
@@ -21,62 +26,85 @@ MARKS = (
     ("again", "nothing left to read"), ("ask", "opened, or asked anew"), ("eaten", "eaten by a filter"),
     ("loss", "loss (SYN_DROPPED)"),
 )
+BAR, THIN = 'y="4" height="8"', 'y="6" height="4"'
 BARS = (
-    ("on", "down, or on"), ("contact", "contact"), ("open", "open"), ("grab", "grab"), ("mask", "mask"),
-    ("revoked", "revoked"), ("parted", "the client's belief is not the device's state"),
+    ("on", BAR, "down, or on"), ("contact", BAR, "contact"), ("open", BAR, "open"), ("grab", BAR, "grab"),
+    ("mask", BAR, "mask"), ("revoked", BAR, "revoked"), ("stuck", BAR, "down for it, up on the device"),
+    ("missed", BAR, "up for it, down on the device"),
+    ("parted", THIN, "another value for it than on the device"),
+    ("pick parts", BAR, "a range in which a belief and the device part or meet"),
+    ("pick held", BAR, "one from which on something is held to the end"),
+    ("pick loses", BAR, "one with a loss, or a revocation"), ("pick grabs", BAR, "one with a grab"),
 )
-LINES = (("first", "axis, or X"), ("second", "Y"))
-BOXES = (
-    ("parts", "a range in which a belief and the device part or meet"),
-    ("loses", "one with a loss, or a revocation"), ("grabs", "one with a grab"),
+PATHS = (
+    ("first", "M1 12H6V5H15", "axis, or X"), ("second", "M1 12H6V5H15", "Y"),
+    ("held", "M4 2l9 6l-9 6z", "held at the end"),
+    ("dense on", "M2 4V12M5 4V12M8 4V12M11 4V12M14 4V12", "many, closer than can be drawn"),
 )
 
 HOW = """What a mark or bar stands for is shown where the pointer rests on it, where it is touched, and by the
 arrow keys in a picture."""
 
-
-def legend_parts() -> List[Tuple[str, str]]:
-    """What the marks, bars and lines stand for: of each a shape without its end, 16 by 16, and its text."""
-    parts = [(mark_shape(kind, 8, 1, 14), text) for kind, text in MARKS]
-    parts += [(f'<rect class="{kind}" x="1" y="4" width="14" height="8"', text) for kind, text in BARS]
-    return parts + [(f'<path class="{kind}" d="M1 12H6V5H15"', text) for kind, text in LINES]
+# What a range is shown for.
+HAPPENS = "parts, meets, is held, is grabbed or is lost"
 
 
-def legend() -> str:
+def plain(name: str) -> str:
+    """A file's name as text of a page, whatever characters it has."""
+    shown = "".join(one if one.isprintable() else one.encode("unicode_escape").decode() for one in name)
+    return escape(shown).encode("ascii", "xmlcharrefreplace").decode()
+
+
+def legend_parts(shown: str) -> List[Tuple[str, str]]:
+    """What the marks, bars and lines stand for that are shown: of each a shape without its end, 16 by 16, and
+    its text."""
+    parts = [(kind, mark_shape(kind, 8, 1, 14), text) for kind, text in MARKS]
+    parts += [(kind, f'<rect class="{kind}" x="1" {box} width="14"', text) for kind, box, text in BARS]
+    parts += [(kind, f'<path class="{kind}" d="{path}"', text) for kind, path, text in PATHS]
+    return [(shape, text) for kind, shape, text in parts
+            if any(f'class="{before}{kind}"' in shown for before in ("", "dense "))]
+
+
+def legend(shown: str) -> str:
     icon = '<svg width="16" height="16" viewBox="0 0 16 16" aria-hidden="true">{}/></svg>'
-    boxes = [(f'<rect class="pick {kind}" x="1" y="5" width="14" height="6"', text) for kind, text in BOXES]
-    parts = (f"<span>{icon.format(shape)}{text}</span>" for shape, text in legend_parts() + boxes)
+    parts = (f"<span>{icon.format(shape)}{text}</span>" for shape, text in legend_parts(shown))
     return '<p class="legend">' + " ".join(parts) + "</p>"
 
 
 class DevicePart:
     """The part of a device between two places."""
 
-    def __init__(self, played: PlayedDevice, number: int) -> None:
-        self.played, self.ident = played, f"d{number}"
+    def __init__(self, played: PlayedDevice, number: int, first: Optional[int], last: Optional[int]) -> None:
+        self.played, self.ident, self.first = played, f"d{number}", first
         self.lanes, self.found = Lanes(played), timeline(played)
         self.sections, self.moments = self.lanes.sections(), self.lanes.moments
         self.at, self.steps = played.state.at, len(played.report.history)
+        self.begin, self.end = first or 0, min(self.steps if last is None else last + 1, self.steps)
+        self.ranges = ranges_of(self.found, self.begin, self.end)
 
     def said(self, begin: int, end: int) -> Tuple[str, str]:
         """The title and the description of a picture."""
         title = f"device {self.played.name}, {self.moments.range_text(begin, end)}"
         names = [f"source {part.name}" for part in self.played.report.parts if part.role == "source"]
         names += [f"{reader.role} {reader.name}" for reader in self.played.readers()]
-        happens = text_of(between(self.found, begin, end), self.at)
-        return title, f"Lanes for {', '.join(names) or 'the device'}. {happens or 'Nothing parts, is grabbed or is lost'}."
+        happens = text_of(between(self.found, begin, end), self.at) or f"Nothing {HAPPENS}"
+        cuts = "".join(f"{line}. " for line in cuts_of([self.played]))
+        return title, f"{cuts}Lanes for {', '.join(names) or 'the device'}. {happens}."
 
     def both_ways(self, begin: int, end: int, ranges: Sequence[Range] = ()) -> str:
-        """A picture over places and one over moments; the page shows one of them."""
-        rows, said = sections_between(self.sections, begin, end), self.said(begin, end)
+        """A picture over places and one over moments; the page shows one of them. Rows beyond the first ones
+        are behind a button."""
+        said = self.said(begin, end)
         progress.tell(f"{said[0]} is drawn")
+        shown, rest = parted_at(sections_between(self.sections, begin, end), MOST_ROWS)
         parts = []
         for kind, is_over_time in (("place", False), ("time", True)):
             scale, ident = Scale(begin, end, self.moments, is_over_time), f"{self.ident}-{begin}-{end}-{kind}"
-            drawn = panes(rows, scale, said, ident, self.picks(ranges, scale))
-            label = f"{escape(said[0])}: the arrow keys go from mark to mark"
-            chart = f'<div class="chart" tabindex="0" role="group" aria-label="{label}">{drawn}</div>'
-            parts.append(f'<div class="{kind}">{chart}</div>')
+            charts = panes(shown, scale, said, ident, self.picks(ranges, scale))
+            if rest:
+                button = f'<summary class="button">{more_rows(rest)}</summary>'
+                charts += f'\n<details>{button}{panes(rest, scale, said, f"{ident}-rest")}</details>'
+            parts.append(f'<div class="{kind}">{charts}</div>')
         return "\n".join(parts)
 
     def picks(self, ranges: Sequence[Range], scale: Scale) -> str:
@@ -91,6 +119,13 @@ class DevicePart:
             shapes.append(f'<a href="#{self.ident}-{begin}" tabindex="-1">{shape}</a>')
         return "".join(shapes)
 
+    def ident_of(self, place: int) -> Optional[str]:
+        """What shows a place: its range, or the device's picture where that has all of them."""
+        if not self.begin <= place < self.end:
+            return None
+        found = (begin for begin, end in self.ranges if begin <= place < end)
+        return next((f"{self.ident}-{begin}" for begin in found), self.ident)
+
     def range_part(self, begin: int, end: int) -> str:
         """A range in which something happens, which is opened to be seen."""
         lines = lines_of(between(self.found, begin, end), self.at)
@@ -99,34 +134,39 @@ class DevicePart:
         head = f'<details id="{self.ident}-{begin}"><summary>{summary}</summary>'
         return head + self.both_ways(begin, end) + "</details>"
 
-    def ranges_part(self, ranges: Sequence[Range], begin: int, end: int) -> List[str]:
-        if end - begin <= 1 or self.steps < 2:
+    def ranges_part(self) -> List[str]:
+        if self.end - self.begin <= 1 or self.steps < 2:
             return []
         any_other = "<code>tools/draw --from PLACE --to PLACE FILE</code> draws any other range"
-        if not ranges and not between(self.found, begin, end):
-            return [f"<p>Nothing parts, meets, is grabbed or is lost here. {any_other}.</p>"]
-        if not ranges:
-            return []
-        told = "The boxes below the axis lead to the ranges in which something parts, meets, is grabbed or is lost"
-        return [f"<p>{told}; {any_other}.</p>"] + [self.range_part(*each) for each in ranges]
+        if self.ranges:
+            told = f"The boxes below the axis lead to the ranges in which something {HAPPENS}; {any_other}."
+            return [f"<p>{told}</p>"] + [self.range_part(*each) for each in self.ranges]
+        is_calm = not between(self.found, self.begin, self.end)
+        return [f"<p>Nothing {HAPPENS} here. {any_other}.</p>"] if is_calm else []
 
-    def text(self, first: Optional[int], last: Optional[int]) -> str:
-        begin, end = first or 0, min(self.steps if last is None else last + 1, self.steps)
-        head = f"<h2>device {escape(self.played.name)}: {steps_text(self.steps)}"
-        why = why_nothing(self.played, first)
+    @cached_property
+    def whole(self) -> str:
+        """The picture of all places that are drawn, or nothing where there are none."""
+        why = why_nothing(self.played, self.first)
+        return "" if why else self.both_ways(self.begin, self.end, self.ranges)
+
+    def text(self, legend: str) -> str:
+        head = f'<section id="{self.ident}"><h2>device {escape(self.played.name)}: '
+        head += counted(self.steps, "step")
+        why = why_nothing(self.played, self.first)
         if why:
-            return f"{head}</h2><p>{escape(why)}</p>"
-        ranges = ranges_of(self.found, begin, end)
-        parts = [f"{head}, {self.moments.range_text(begin, end)}</h2>", self.both_ways(begin, end, ranges)]
-        parts += self.ranges_part(ranges, begin, end)
+            return f"{head}</h2><p>{escape(why)}</p></section>"
+        parts = [f"{head}, {self.moments.range_text(self.begin, self.end)}</h2>", self.whole]
+        parts += [legend, *self.ranges_part()]
         said = escape("\n".join(device_lines(self.played)))
         return "\n".join(parts) + (
-            f"<details open><summary>where beliefs and device part</summary><pre>{said}</pre></details>"
+            f'<details open id="{self.ident}-told"><summary>where beliefs and device part</summary>'
+            f"<pre>{said}</pre></details></section>"
         )
 
 
-def steps_text(steps: int) -> str:
-    return "1 step" if steps == 1 else f"{steps} steps"
+def more_rows(rest: Sequence[Section]) -> str:
+    return f"and {counted(sum(len(rows) for _, rows in rest), 'row')} more"
 
 
 def why_nothing(played: PlayedDevice, first: Optional[int]) -> Optional[str]:
@@ -135,51 +175,69 @@ def why_nothing(played: PlayedDevice, first: Optional[int]) -> Optional[str]:
     if not steps:
         return f"device {played.name} has no step: nothing was injected, and nobody opened it"
     if first is not None and first >= steps:
-        return f"the history of device {played.name} ends with place {steps - 1}, which is before place {first}"
+        ends = f"the history of device {played.name} ends with place {steps - 1}"
+        return f"{ends}, which is before place {first}"
     return None
+
+
+def sentence(devices: Sequence[PlayedDevice], parts: Sequence[DevicePart]) -> str:
+    """What is wrong at the end, the gravest first, as a link to the range in which it begins; or what was
+    wrong before."""
+    endings = endings_of(devices, NAMED)
+    first = (endings or passed_of(devices))[:1]
+    if not first:
+        return '<p id="sentence">Nobody ends apart from the device, and nothing is held on it.</p>'
+    part = next(part for part in parts if part.played is first[0].device)
+    ident, shown = part.ident_of(first[0].since), escape(first[0].text)
+    row = escape(first[0].row)
+    told = f'<a href="#{ident}" data-shows="{row}">{shown}</a>' if ident else shown
+    more = len(endings) - 1
+    also = f'; <a href="#{part.ident}-told">and {more} more</a>' if more > 0 else ""
+    return f'<p id="sentence">{told}{also}.</p>'
 
 
 def page(name: str, devices: Sequence[PlayedDevice], first: Optional[int] = None,
          last: Optional[int] = None) -> str:
     """The text of the page."""
-    parts = [
+    drawn = [DevicePart(played, number, first, last) for number, played in enumerate(devices)]
+    explained = legend("".join(part.whole for part in drawn))
+    first_drawn = next((part for part in drawn if part.whole), None)
+    title = plain(name)
+    return "\n".join([
         '<!doctype html>\n<html lang="en"><head><meta charset="utf-8">',
         '<meta name="viewport" content="width=device-width, initial-scale=1">',
-        f"<title>{escape(name)}</title>\n<style>{style()}\n{read_rules('page.css')}</style></head>",
-        f'<body class="by-place"><h1>{escape(name)}</h1>',
-        '<p>Over <label><input type="radio" name="by" value="by-place" checked> places</label> '
-        '<label><input type="radio" name="by" value="by-time"> time</label></p>',
-        f"<p>{HOW}</p>",
-        legend(),
-    ]
-    parts += [DevicePart(played, number).text(first, last) for number, played in enumerate(devices)]
-    parts.append('<p id="said" role="status" hidden></p>')
-    return "\n".join(parts) + f"\n<script>\n{read_rules('page.js')}</script></body></html>\n"
+        f"<title>{title}</title>\n<style>{style()}\n{read_rules('page.css')}</style></head>",
+        f'<body class="by-place"><h1>{title}</h1>',
+        *(f'<p class="cut">{escape(line)}</p>' for line in cuts_of(devices)),
+        sentence(devices, drawn),
+        '<p class="how">Over <label><input type="radio" name="by" value="by-place" checked> places</label> ',
+        f'<label><input type="radio" name="by" value="by-time"> time</label> {HOW}</p>',
+        *(part.text(explained if part is first_drawn else "") for part in drawn),
+        '<p id="said" role="status" hidden></p>',
+        f"<script>\n{read_rules('page.js')}</script></body></html>\n",
+    ])
 
 
-def svg_legend(shown: str, y: int) -> Tuple[str, int]:
-    """What a picture's shapes stand for, as rows of the picture from y on; and how high they are."""
+def svg_legend(shown: str, y: int) -> Legend:
+    """What a picture's shapes stand for, as rows of the picture from y on."""
     shapes, x, top, y = [], 10, y, y + 8
-    for shape, text in legend_parts():
-        kind = shape.split('class="')[1].split('"')[0]
-        if f'class="{kind}"' not in shown and f'class="dense {kind}"' not in shown:
-            continue
+    for shape, text in legend_parts(shown):
         width = 30 + 6 * len(text)
         if x + width > WIDTH:
             x, y = 10, y + 20
         told = f'<text x="20" y="12" class="faint">{text}</text>'
         shapes.append(f'<g transform="translate({x} {y})">{shape}/>{told}</g>')
         x += width
-    return "\n".join(shapes), y + 24 - top
+    return Legend("\n".join(shapes), y + 24 - top)
 
 
 def svg(played: PlayedDevice, first: Optional[int] = None, last: Optional[int] = None) -> str:
     """The picture of one device alone, with its own style and a legend."""
     if not played.report.history:
         return no_picture(why_nothing(played, first) or "")
-    part = DevicePart(played, 0)
-    begin, end = first or 0, min(part.steps if last is None else last + 1, part.steps)
-    rows, scale = sections_between(part.sections, begin, end), Scale(begin, end, part.moments)
-    said = part.said(begin, end)
-    shapes, height = svg_legend(picture(rows, scale, said), height_of(rows))
-    return picture(rows, scale, said, shapes, height) + "\n"
+    part = DevicePart(played, 0, first, last)
+    scale = Scale(part.begin, part.end, part.moments)
+    shown, rest = parted_at(sections_between(part.sections, part.begin, part.end), MOST_ROWS)
+    if rest:
+        shown[-1].rows.append(Row(more_rows(rest), "note"))
+    return picture(shown, scale, part.said(part.begin, part.end), svg_legend) + "\n"

@@ -5,16 +5,23 @@ plot, which is moved where the paper is narrow.
 """
 
 from html import escape
-from typing import List, Optional, Sequence, Tuple
+from typing import Callable, List, NamedTuple, Optional, Sequence, Tuple
 
 from inputtools.colours import style
-from inputtools.lanes import Row, Section
-from inputtools.scale import EDGE, GUTTER, WIDTH
-from inputtools.scale import Scale
+from inputtools.rows import Row, Section
+from inputtools.scale import EDGE, GUTTER, WIDTH, Scale
 from inputtools.shapes import bars, lines, marks, numbers
 
 # A title, and a description.
 Said = Tuple[str, str]
+
+
+class Legend(NamedTuple):
+    """What a picture's shapes stand for, as shapes below it, and how high they are."""
+
+    shapes: str
+    height: int
+
 
 AXIS, HEADING, FOOT = 52, 22, 10
 HEIGHTS = {"row": 16, "client": 24, "line": 38, "parted": 16, "note": 14}
@@ -94,24 +101,33 @@ def svg_element(left: int, width: int, height: int, said: Optional[Said], ident:
     return f'{head} role="img" aria-labelledby="{ident}-title {ident}-about">{title}{about}{paper}'
 
 
-def picture(sections: Sequence[Section], scale: Scale, said: Said, legend: str = "",
-            legend_height: int = 0) -> str:
-    """One SVG of sections, with its own style and a legend below."""
-    sheet, height = drawn(sections, scale), height_of(sections) + legend_height
-    head = svg_element(0, WIDTH, height, said, "picture").replace("<rect", f"<style>{style()}</style><rect", 1)
-    return "\n".join([head, *sheet.labels, *sheet.plot, legend + "</svg>"])
+def picture(sections: Sequence[Section], scale: Scale, said: Said,
+            legend_of: Callable[[str, int], Legend]) -> str:
+    """One SVG of sections, with its own style and below them a legend, which is made of what is shown and for
+    where it begins."""
+    sheet, height = drawn(sections, scale), height_of(sections)
+    shown = "\n".join(sheet.labels + sheet.plot)
+    legend = legend_of(shown, height)
+    head = svg_element(0, WIDTH, height + legend.height, said, "picture")
+    return "\n".join([with_style(head), shown, legend.shapes + "</svg>"])
+
+
+def with_style(head: str) -> str:
+    return head.replace("<rect", f"<style>{style()}</style><rect", 1)
 
 
 def panes(sections: Sequence[Section], scale: Scale, said: Said, ident: str, picks: str = "") -> str:
-    """Two SVGs of sections beside one another: the labels and the plot."""
+    """Two SVGs of sections beside one another, the labels and the plot, in a box that the arrow keys reach.
+    On paper it is no higher than its page."""
     sheet, height = drawn(sections, scale), height_of(sections)
     labels = [svg_element(0, EDGE, height, None, ident), *sheet.labels, "</svg>"]
     plot = [svg_element(EDGE, WIDTH - EDGE, height, said, ident), *sheet.plot, picks + "</svg>"]
-    return "\n".join(labels + plot)
+    label = f"{escape(said[0])}: the arrow keys go from mark to mark"
+    box = f'tabindex="0" role="group" aria-label="{label}" style="--ratio: {WIDTH / height:.3f}"'
+    return "\n".join([f'<div class="chart" {box}>', *labels, *plot]) + "</div>"
 
 
 def no_picture(text: str) -> str:
     """An SVG that says why there is nothing to draw."""
     head = svg_element(0, WIDTH, 60, (text, "There is nothing to draw."), "picture")
-    head = head.replace("<rect", f"<style>{style()}</style><rect", 1)
-    return f'{head}\n<text x="10" y="34">{escape(text)}</text></svg>\n'
+    return f'{with_style(head)}\n<text x="10" y="34">{escape(text)}</text></svg>\n'

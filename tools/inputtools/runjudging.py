@@ -14,7 +14,7 @@ from inputtools.page import page
 from inputtools.played import play
 from inputtools.program import find_player
 from inputtools.results import Checked, lines_for_people
-from inputtools.source import Given, read_text
+from inputtools.source import Given, read_text, write_bytes
 
 
 def expected_of(text: str, name: str) -> List[Tuple[int, str]]:
@@ -54,12 +54,7 @@ class History:
     def draw(self, to: str) -> None:
         """Draws it as one page."""
         devices = play(Given(self.path), find_player())
-        text = page(os.path.basename(self.record.name), devices, None, None)
-        try:
-            with open(to, "w", encoding="utf-8") as file:
-                file.write(text)
-        except OSError as fault:
-            raise Wrong(f"{to}: {fault.strerror}") from None
+        write_bytes(to, page(os.path.basename(self.record.name), devices).encode("ascii"))
 
     def copy(self, to: str) -> None:
         try:

@@ -4,10 +4,11 @@ Each tick has two texts: over the places a place and the time there, over time a
 """
 
 import bisect
-from typing import Iterator, List, Tuple
+from typing import Iterator, List, Sequence, Tuple
 
 from inputtools.moments import Moments
 from inputtools.places import seconds_text
+from inputtools.rows import Mark
 
 GUTTER, PLOT, RIGHT = 176, 1000, 44
 WIDTH = GUTTER + PLOT + RIGHT
@@ -54,6 +55,14 @@ class Scale:
         if place >= self.end:
             return GUTTER + PLOT
         return self.x_of_moment(self.moments.all[int(place)])
+
+    def on_paper(self, found: Sequence[Mark]) -> Iterator[Tuple[Mark, float]]:
+        """Marks before the end, each with where it stands."""
+        if self.is_over_time:
+            return ((mark, self.x_of_moment(self.moments.all[int(mark.place)])) for mark in found)
+        room = PLOT / max(self.end - self.begin, 1)
+        first = GUTTER + room * (0.5 - self.begin)
+        return ((mark, first + room * mark.place) for mark in found)
 
     def x_of_moment(self, moment: int) -> float:
         return GUTTER + PLOT * 0.99 * (moment - self.first) / self.length

@@ -5,14 +5,14 @@ stands for. Where there are very many, they are drawn as one, and strips of the 
 """
 
 from html import escape
-from typing import Dict, List, Tuple
+from heapq import nsmallest
+from typing import Dict, Iterable, List, Tuple, Union
 
-from inputtools.lanes import Row, Stretch
-from inputtools.scale import GUTTER, PLOT
-from inputtools.scale import Scale
+from inputtools.rows import Bar, Mark, Row, Stretch
+from inputtools.scale import GUTTER, PLOT, Scale
 
-# Marks on one point of the paper: where each stands, and its text.
-Points = List[Tuple[float, str]]
+# Marks or bars on one point of the paper, and where each stands.
+Points = List[Tuple[float, Union[Mark, Bar]]]
 
 # In which order marks are drawn, and how many of one kind in a row are drawn each with its text.
 MARK_KINDS = ("event", "timer", "report", "frame", "again", "read", "ask", "eaten", "loss")
@@ -21,8 +21,15 @@ DENSE = 250
 # How wide a strip of dense marks is that has a text, and how many of its marks the text tells.
 STRIP, TOLD = 8, 3
 
+# In which order bars are drawn. Bars narrower than so many points of the paper, with less than one between
+# them, are drawn as many: a line for each so many points. How long the mark is in which the bar of what is
+# held ends.
+BAR_KINDS = ("open", "revoked", "mask", "grab", "on", "contact", "parted", "stuck", "missed")
+NARROW, HATCH, HELD = 2, 3, 9
+
 # How far from a row's top a bar begins, and how much lower than the row it is.
-BAR_HEIGHTS = {"open": (2, 5), "contact": (2, 5), "mask": (2, 5), "revoked": (2, 5), "grab": (2, 19)}
+BAR_HEIGHTS = {"open": (2, 5), "contact": (2, 5), "mask": (2, 5), "revoked": (2, 5), "grab": (2, 19),
+               "parted": (6, 12)}
 
 
 def titled(shape: str, text: str) -> str:
@@ -51,12 +58,11 @@ def mark_shape(kind: str, x: float, y: float, height: float) -> str:
 def marks(row: Row, scale: Scale, y: int, height: int) -> List[str]:
     """The marks of a row, each point of the paper once for each kind."""
     kinds: Dict[str, Dict[int, Points]] = {kind: {} for kind in MARK_KINDS}
-    for mark in row.marks.between(scale.begin, scale.end):
-        x = scale.x(mark.place)
-        kinds[mark.kind].setdefault(round(x), []).append((x, mark.text))
+    for mark, x in scale.on_paper(row.marks.between(scale.begin, scale.end)):
+        kinds[mark.kind].setdefault(round(x), []).append((x, mark))
     dense = {kind: points for kind, points in kinds.items() if len(points) > DENSE}
     shapes = [dense_marks(kind, sorted(points), y, height) for kind, points in dense.items()]
-    shapes += strips([point for points in dense.values() for point in points.values()], y, height)
+    shapes += strips([point for points in dense.values() for point in points.items()], y, height)
     for kind in MARK_KINDS:
         for found in kinds[kind].values() if kind not in dense else ():
             shapes.append(titled(mark_shape(kind, found[0][0], y, height), several_text(found, 1)))
@@ -65,9 +71,9 @@ def marks(row: Row, scale: Scale, y: int, height: int) -> List[str]:
 
 def several_text(found: Points, told: int) -> str:
     """The texts of marks on one point of the paper: the first ones, and how many more there are."""
-    texts = [text for _, text in found[:told]]
-    more = len(found) - len(texts)
-    return "; ".join(texts) + (f" (and {more} more here)" if more else "")
+    first = found if len(found) <= told else nsmallest(told, found, key=lambda each: each[0])
+    more = len(found) - len(first)
+    return "; ".join(told.text for _, told in first) + (f" (and {more} more here)" if more else "")
 
 
 def dense_marks(kind: str, points: List[int], y: int, height: int) -> str:
@@ -77,37 +83,81 @@ def dense_marks(kind: str, points: List[int], y: int, height: int) -> str:
     return f'<path class="dense {kind}" d="{path}"/>'
 
 
-def strips(points: List[Points], y: int, height: int) -> List[str]:
-    """Strips of the paper, each with the texts of the first dense marks in it."""
+def strips(points: Iterable[Tuple[int, Points]], y: int, height: int) -> List[str]:
+    """Strips of the paper, each with the texts of the first dense marks in it. `points` are those on each
+    point of the paper."""
     found: Dict[int, Points] = {}
-    for marks_there in points:
-        for x, text in marks_there:
-            found.setdefault(int(x - GUTTER) // STRIP, []).append((x, text))
+    for x, there in points:
+        found.setdefault(min(x - GUTTER, PLOT - 1) // STRIP, []).extend(there)
     shapes = []
     for number, there in sorted(found.items()):
         box = f'x="{GUTTER + number * STRIP}" y="{y}" width="{STRIP}" height="{height}"'
-        text = several_text(sorted(there), TOLD)
-        shapes.append(titled(f'<rect class="hit" {box}', text))
+        shapes.append(titled(f'<rect class="hit" {box}', several_text(there, TOLD)))
     return shapes
+
+
+class Stroke:
+    """Bars of one kind on the paper: one, or several that are narrower and nearer to one another than can be
+    seen."""
+
+    def __init__(self, left: float, right: float, bar: Bar) -> None:
+        self.left, self.right, self.bar = left, right, bar
+        self.points: Points = [(left, bar)]
+
+    def joins(self, other: "Stroke") -> bool:
+        """Is the other one, which is behind it, told with it as one of many? What is held never is."""
+        is_narrow = len(self.points) > 1 or self.right - self.left < NARROW
+        are_near = other.right - other.left < NARROW and other.left - self.right < 1
+        return is_narrow and are_near and not other.bar.is_held
+
+    def take(self, other: "Stroke") -> None:
+        self.right = max(self.right, other.right)
+        self.points += other.points
+
+
+def strokes(found: Iterable[Bar], scale: Scale) -> List[Stroke]:
+    """The strokes of bars of one kind, in order. Between two of them paper is to be seen."""
+    shown: List[Stroke] = []
+    for bar in found:
+        stroke = Stroke(scale.x(bar.begin), scale.x(bar.end), bar)
+        before = shown[-1] if shown else None
+        if before and before.joins(stroke):
+            before.take(stroke)
+            continue
+        if before and before.right - before.left > NARROW and abs(stroke.left - before.right) < 1:
+            before.right = stroke.left - 1
+        shown.append(stroke)
+    return shown
+
+
+def held_mark(stroke: Stroke, y: int, height: int) -> str:
+    """The mark in which the bar of what is held ends."""
+    x, middle = stroke.right, y + height / 2
+    shape = f'<path class="held" d="M{x - HELD:.1f} {middle - 6:.1f}l{HELD} 6l-{HELD} 6z"'
+    return titled(shape, f"held at the end: {stroke.bar.text}")
+
+
+def bar_shapes(stroke: Stroke, scale: Scale, y: int, height: int) -> List[str]:
+    """The shapes of a stroke: those of many bars, or its one bar and maybe the mark in which that ends."""
+    bar, (top, less) = stroke.bar, BAR_HEIGHTS.get(stroke.bar.kind, (5, 10))
+    if len(stroke.points) > 1:
+        columns = sorted({round(x) // HATCH * HATCH for x, _ in stroke.points})
+        points = [(round(x), [(x, bar)]) for x, bar in stroke.points]
+        return [dense_marks(bar.kind, columns, y, height), *strips(points, y, height)]
+    is_held = bar.is_held and bar.end <= scale.end
+    right = stroke.right - HELD if is_held and bar.kind != "contact" else stroke.right
+    box = f'y="{y + top}" width="{max(right - stroke.left, 2):.1f}" height="{height - less}"'
+    shapes = [titled(f'<rect class="{bar.kind}" x="{stroke.left:.1f}" {box}', bar.text)]
+    return shapes + ([held_mark(stroke, y, height)] if is_held else [])
 
 
 def bars(row: Row, scale: Scale, y: int, height: int) -> List[str]:
-    """The bars of a row. Those that end where the next begins, on one point of the paper, are drawn as
-    one."""
-    shapes: List[str] = []
-    drawn: Dict[str, float] = {}
-    for begin, end, kind, text in row.bars:
-        if begin >= scale.end or end < scale.begin:
-            continue
-        left, right = scale.x(begin), scale.x(end)
-        if right - left < 1 and drawn.get(kind, -9) >= left - 1:
-            continue
-        drawn[kind] = right
-        top, size = BAR_HEIGHTS.get(kind, (5, 10))
-        box = f'y="{y + top}" width="{max(right - left, 2):.1f}" height="{height - size}"'
-        shape = f'<rect class="{kind}" x="{left:.1f}" {box}'
-        shapes.append(titled(shape, text))
-    return shapes
+    """The bars of a row."""
+    kinds: Dict[str, List[Bar]] = {kind: [] for kind in BAR_KINDS}
+    for bar in row.bars.between(scale.begin, scale.end):
+        kinds[bar.kind].append(bar)
+    found = (stroke for each in kinds.values() for stroke in strokes(each, scale))
+    return [shape for stroke in found for shape in bar_shapes(stroke, scale, y, height)]
 
 
 def columns(stretch: Stretch, scale: Scale) -> List[Tuple[int, int]]:
@@ -142,7 +192,7 @@ def lines(row: Row, scale: Scale, y: int, height: int) -> List[str]:
     for line in row.lines:
         room = (height - 10) / max(line.greatest - line.least, 1)
         path = []
-        for stretch in line.between(scale.begin, scale.end):
+        for stretch in line.stretches.between(scale.begin, scale.end):
             kept = columns(stretch, scale)
             kept = [(x, round(y + height - 5 - room * (value - line.least))) for x, value in kept]
             path += [stepped(kept, scale.x(min(stretch.end, scale.end)))] if kept else []

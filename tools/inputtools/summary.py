@@ -1,12 +1,12 @@
-"""The count that `tools/stuck --summary` writes first: who ends apart from its device, and the divergences by
-their causes and keys."""
+"""The count that `tools/stuck --summary` writes first: the divergences by their causes and keys; and who ends
+apart from its device, in what, since when and why."""
 
 from collections import Counter
 from typing import Counter as Counts
 from typing import List, Sequence, Tuple
 
 from inputtools.command import counted
-from inputtools.owners import Owner
+from inputtools.endings import endings_of, readers_of
 from inputtools.played import PlayedDevice, Reader
 
 CAUSES = {
@@ -34,12 +34,6 @@ CAUSES = {
 }
 
 
-def readers_of(devices: Sequence[PlayedDevice]) -> List[Reader]:
-    """All who may part from their device: who never opened it has nothing to part from."""
-    readers = (reader for device in devices for reader in device.readers())
-    return [reader for reader in readers if isinstance(reader, Owner) or reader.walk.clients]
-
-
 def ends_apart(devices: Sequence[PlayedDevice]) -> List[Reader]:
     """The readers that end apart from their device."""
     return [reader for reader in readers_of(devices) if reader.at_end]
@@ -64,7 +58,4 @@ def summary_lines(devices: Sequence[PlayedDevice]) -> List[str]:
     for kind, count in ordered(causes):
         things = Counter(divergence.thing.text() for divergence in divergences if divergence.cause.kind == kind)
         lines.append(f"  {CAUSES[kind]}: {counted(count, 'parting')}: {things_text(things)}")
-    for reader in ends_apart(devices):
-        things = Counter(divergence.thing.text() for divergence in reader.at_end)
-        lines.append(f"  {reader.role} {reader.name} ends apart in {', '.join(sorted(things))}")
-    return lines
+    return lines + [f"  {ending.text}" for ending in endings_of(devices)]

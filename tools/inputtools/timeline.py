@@ -2,15 +2,17 @@
 where events are lost. The page draws the ranges of places in which any of this is.
 """
 
+from bisect import bisect_left
 from itertools import groupby
 from typing import List, NamedTuple, Sequence, Tuple
 
-from inputtools.command import counted
 from inputtools.joysticks import JoyWalk
 from inputtools.owners import Owner
 from inputtools.places import Places
 from inputtools.played import Client, PlayedDevice, Reader
+from inputtools.still_down import still_down_of
 from inputtools.stuck_text import name_of
+from inputtools.endings import apart_of, first_of, lasting_of, names_text
 
 LEAST_RANGE = 200
 MOST_RANGES = 40
@@ -18,6 +20,7 @@ MOST_RANGES = 40
 # The kinds, the gravest first, and what is said of one.
 KINDS = {
     "parts": "{who} parts from the device in {what}",
+    "held": "{what}, which is held to the end, begins",
     "loses": "{who} loses events",
     "revoked": "{who} is revoked",
     "grabs": "{who} grabs the device",
@@ -25,8 +28,8 @@ KINDS = {
     "meets": "{who} meets the device again in {what}",
 }
 
-# How many things are named, and how many entries a text tells at most.
-NAMED, TOLD = 3, 12
+# How many entries a text tells at most.
+TOLD = 12
 
 
 class Entry(NamedTuple):
@@ -56,7 +59,16 @@ def entries_of_reader(played: PlayedDevice, reader: Reader) -> List[Entry]:
         found = [Entry(sent.place, "loses", reader.name) for sent in reader.lost]
     else:
         found = entries_of_client(played, reader)
-    for divergence in reader.divergences:
+    return found + partings_of(reader)
+
+
+def partings_of(reader: Reader) -> List[Entry]:
+    """Where a reader parts from its device and meets it again. What lasts is told where it begins."""
+    found = []
+    for group in lasting_of(reader).values():
+        first, names = first_of(group).since or 0, {name_of(reader, divergence.thing) for divergence in group}
+        found += [Entry(first, "parts", reader.name, name) for name in names]
+    for divergence in apart_of(reader):
         name = name_of(reader, divergence.thing)
         found.append(Entry(divergence.since or 0, "parts", reader.name, name))
         if divergence.met_at is not None:
@@ -68,11 +80,14 @@ def timeline(played: PlayedDevice) -> List[Entry]:
     """All that happens on a device, by place. (What is told of the history's end is of its last place.)"""
     last = max(len(played.report.history) - 1, 0)
     found = [one for reader in played.readers() for one in entries_of_reader(played, reader)]
+    for held in still_down_of(played.state):
+        found.append(Entry(held.since or 0, "held", played.name, held.thing.text()))
     return sorted(one._replace(place=min(one.place, last)) for one in found)
 
 
-def between(found: Sequence[Entry], begin: int, end: int) -> List[Entry]:
-    return [one for one in found if begin <= one.place < end]
+def between(found: Sequence[Entry], begin: int, end: int) -> Sequence[Entry]:
+    """What happens from a place on, up to another one. `found` is in order."""
+    return found[bisect_left(found, Entry(begin, "", "")) : bisect_left(found, Entry(end, "", ""))]
 
 
 def ranges_of(found: Sequence[Entry], begin: int, end: int) -> List[Tuple[int, int]]:
@@ -102,14 +117,11 @@ def lines_of(found: Sequence[Entry], at: Places) -> List[str]:
     for _, entries in groupby(sorted(found, key=order), order):
         group = list(entries)
         names = sorted({one.what for one in group})
-        what = ", ".join(names[:NAMED])
-        if len(names) > NAMED:
-            what += " and " + counted(len(names) - NAMED, "thing") + " more"
         places = sorted({one.place for one in group})
         where = f"at {at.text(places[0])}"
         if len(places) > 1:
             where = f"at {len(places)} places from {at.bare(places[0])} to {at.bare(places[-1])}"
-        lines.append(KINDS[group[0].kind].format(who=group[0].who, what=what) + " " + where)
+        lines.append(KINDS[group[0].kind].format(who=group[0].who, what=names_text(names)) + " " + where)
     return lines
 
 
