@@ -5,6 +5,7 @@ seconds, with as many digits as it has.
 """
 
 import bisect
+from functools import lru_cache
 from typing import Optional, Sequence
 
 from inputtools.report import MOMENT_AT, Step
@@ -28,6 +29,7 @@ class Places:
         index = bisect.bisect_right(self.places, place) - 1
         return self.history[self.places[index]].moment if index >= 0 else None
 
+    @lru_cache(maxsize=None)
     def bare(self, place: int) -> str:
         """A place and its time: `12 (12.3 s)`."""
         moment = self.moment(place)
