@@ -13,10 +13,11 @@ import sys
 import unittest
 
 from tests.library import declared, stamp
-from tests.playing import TOP, FolderCase, needs, said
+from tests.playing import TOP, FolderCase, loaded
 
 HEADER = (TOP / "include" / "inputplay.h").read_text()
 CRATE = TOP / "crates" / "inp_c"
+PYTHON = TOP / "bindings" / "python"
 C_SOURCES = ["tests/library", "examples/c", "checks", "bench"]
 SECONDS = 120
 
@@ -73,14 +74,88 @@ class Sources(FolderCase):
         self.compiled(needs(self, "g++", "g++"), "c++11", self.write("calls.cpp", calls))
 
     def test_python(self):
-        shutil.copytree(TOP / "bindings" / "python", self.folder / "python")
-        self.runs(sys.executable, "-m", "compileall", "-q", self.folder / "python")
+        shutil.copytree(PYTHON, self.folder / "python")
+        self.compiled([sys.executable, "-m", "compileall", "-q", self.folder / "python"])
 
     def test_rust(self):
         cargo, rust = needs(self, "cargo", "cargo"), self.folder / "rust"
         shutil.copytree(TOP / "bindings" / "rust", rust, ignore=shutil.ignore_patterns("target"))
         env = {**os.environ, "CARGO_TARGET_DIR": str(self.folder / "target")}
         self.runs(cargo, "check", "--offline", "-q", "--all-targets", cwd=rust, env=env)
+
+
+FAKE_FUNCTION = """uint32_t {name}(void) {{
+    return {answer};
+}}
+"""
+
+
+class Python(FolderCase):
+    """The package over a shared object that has each function and does nothing: what needs no device."""
+
+    def test_numbers_and_names(self):
+        needs("gcc")
+        source, fake = self.folder / "fake.c", self.folder / "libfake.so"
+        names = re.findall(r"^(?:uint32_t|void) (inputplay_\w+)\(", HEADER, re.M)
+        functions = (FAKE_FUNCTION.format(name=name, answer=int(name == "inputplay_abi")) for name in names)
+        source.write_text("#include <stdint.h>\n" + "".join(functions))
+        subprocess.run(["gcc", "-shared", "-fPIC", "-o", fake, source], check=True, timeout=SECONDS)
+        variables = {**os.environ, "INPUTPLAY_LIBRARY": str(fake), "PYTHONPATH": str(PYTHON)}
+        words = [sys.executable, "-B", PYTHON / "tests" / "check_package.py", "Numbers", "Names"]
+        done = subprocess.run(words, env=variables, capture_output=True, text=True, timeout=SECONDS, check=False)
+        self.assertEqual(0, done.returncode, done.stderr[-2000:])
+
+
+SMALL_HEADER = """#ifndef _INPUT_EVENT_CODES_H
+#define EV_KEY\t\t0x01
+#define BTN_MOUSE 0x110
+#define BTN_LEFT\t0x110 /* the left one */
+#define KEY_OLD BTN_LEFT
+#define KEY_BRIGHTNESS_MAX\t0x251
+#define KEY_MAX\t0x2ff
+#define KEY_CNT\t(KEY_MAX+1)
+"""
+SMALL_TABLE = """- EV_KEY 1
+1 BTN_LEFT 272
+1 KEY_BRIGHTNESS_MAX 593
+- KEY_MAX 767
+- KEY_CNT 768
+1 BTN_MOUSE 272
+1 KEY_OLD 272
+"""
+
+
+class EventCodes(FolderCase):
+    """The numbers and names that the packages know, and the script that makes them of the system's header."""
+
+    script = TOP / "bindings" / "make_event_codes"
+
+    def made(self, *words):
+        done = subprocess.run([self.script, *words], capture_output=True, text=True, timeout=SECONDS, check=False)
+        return done.returncode, done.stdout, done.stderr
+
+    def test_they_are_the_system_s(self):
+        """All, where its header is of the same release; of another one the names that both have."""
+        module = loaded(self.script)
+        if not module.HEADER.is_file():
+            self.skipTest("linux-libc-dev is not there")
+        kept, (_status, made, _said) = (PYTHON / "inputplay" / "event_codes.txt").read_text(), self.made()
+        if kept.splitlines()[0] == made.splitlines()[0]:
+            self.assertEqual(kept, made)
+        ours, theirs = (dict(re.findall(r"^\d+ (\w+) (\d+)$", text, re.M)) for text in (kept, made))
+        self.assertEqual({name: ours[name] for name in ours if name in theirs}, {name: theirs[name] for name in theirs if name in ours})
+
+    def test_a_small_header(self):
+        header = self.folder / "input-event-codes.h"
+        header.write_text(SMALL_HEADER)
+        status, made, said = self.made(header)
+        self.assertEqual((0, SMALL_TABLE, ""), (status, re.sub("^#.*\n", "", made, flags=re.M), said))
+        self.assertIn(", of an unknown release. ", made)
+
+    def test_wrong_input(self):
+        (self.folder / "none.h").write_text("int i;\n")
+        for header, why in ((self.folder / "none.h", "it has no event codes"), (self.folder / "gone.h", "No such file or directory")):
+            self.assertEqual((2, "", f"bindings/make_event_codes: {header}: {why}\n"), self.made(header))
 
 
 class Stamp(FolderCase):
