@@ -17,7 +17,9 @@ from tests.playing import TOP, FolderCase, loaded
 
 HEADER = (TOP / "include" / "inputplay.h").read_text()
 CRATE = TOP / "crates" / "inp_c"
-PYTHON = TOP / "bindings" / "python"
+BINDINGS = TOP / "bindings"
+PYTHON = BINDINGS / "python"
+EVENT_CODES = PYTHON / "inputplay" / "event_codes.txt"
 C_SOURCES = ["tests/library", "examples/c", "checks", "bench"]
 SECONDS = 120
 
@@ -37,6 +39,34 @@ class Header(unittest.TestCase):
                 wanted = declared.numbers_of_crate((CRATE / file).read_text(), form)
                 self.assertEqual(wanted, declared.numbers_of_header(HEADER, about))
 
+    def test_a_number_is_the_packages_too(self):
+        for about, file, begin, form in declared.PACKAGED:
+            with self.subTest(f"{file}: {about}"):
+                part = declared.part_of((BINDINGS / file).read_text(), begin)
+                self.assertEqual(declared.numbers_of_header(HEADER, about), declared.numbers_of_crate(part, form))
+
+    def test_a_cause_s_text_is_its_name(self):
+        for function, about in (("cause", "a record is refused"), ("why", "a step was refused")):
+            with self.subTest(function):
+                words = declared.words_of_header(HEADER, f"inputplay_{function}_text")
+                came = {declared.plain(word.replace("-", "_")): place for place, word in words if place}
+                self.assertEqual(declared.numbers_of_header(HEADER, about), came)
+
+    def test_each_status_has_a_text(self):
+        words = declared.words_of_header(HEADER, "inputplay_status_text")
+        told = {place for place, word in words if word != "unknown status"}
+        self.assertEqual(set(declared.numbers_of_header(HEADER, "statuses of calls").values()), told)
+
+    def test_the_codes_that_have_a_name(self):
+        """Those of keys and switches that the header says are those that the program has."""
+        said = re.sub(r"\n \* ", " ", re.search(r" \* Of EV_KEY they are (.*?) of the other types", HEADER, re.S)[1])
+        numbers = {name: int(number) for name, number in re.findall(r"^\d+ (\w+) (\d+)$", EVENT_CODES.read_text(), re.M)}
+        for kind, prefix in (("1", "KEY_|BTN_"), ("5", "SW_")):
+            ranges = re.findall(rf"\b((?:{prefix})\w+)(?: to (\w+))?", said)
+            told = {code for first, last in ranges for code in range(numbers[first], numbers[last or first] + 1)}
+            rows = (line.split() for line in (TOP / "tests" / "data" / "codes.txt").read_text().splitlines())
+            self.assertEqual({int(row[1]) for row in rows if len(row) == 3 and row[0] == kind}, told)
+
     def test_a_limit_is_the_crate_s(self):
         for name, file in declared.LIMITS.items():
             with self.subTest(name):
@@ -54,13 +84,11 @@ class Header(unittest.TestCase):
 class Sources(FolderCase):
     """Each source over the library is taken by its compiler beside the header. Nothing is linked."""
 
-    def runs(self, *words, **more):
-        status, text, errors = said(*words, timeout=SECONDS, **more)
-        self.assertEqual(0, status, text + errors)
-
-    def compiled(self, compiler, standard, source):
-        words = ("-fsyntax-only", f"-std={standard}", "-Wall", "-Wextra", "-Werror", f"-I{TOP / 'include'}")
-        self.runs(compiler, *words, source)
+    def compiled(self, command, **more):
+        words = [str(word) for word in command]
+        done = subprocess.run(words, capture_output=True, text=True, timeout=SECONDS, check=False, **more)
+        self.assertEqual(0, done.returncode, done.stdout + done.stderr)
+        return done.stderr
 
     def test_c(self):
         compiler = needs(self, "gcc", "gcc")
@@ -73,15 +101,29 @@ class Sources(FolderCase):
         calls = (TOP / "tests" / "library" / "calls.c").read_text()
         self.compiled(needs(self, "g++", "g++"), "c++11", self.write("calls.cpp", calls))
 
+    def test_the_comments_of_the_header(self):
+        needs("clang")
+        for name in ("beside.c", "beside.cpp"):
+            source = self.folder / name
+            source.write_text('#include "inputplay.h"\nint main(void) { return (int)inputplay_nothing().kind; }\n')
+            flags = ["-Wall", "-Wextra", "-Wconversion", "-Wshadow", "-Wdocumentation", "-Wdocumentation-pedantic", "-Werror"]
+            with self.subTest(name):
+                self.compiled(["clang", "-fsyntax-only", *flags, f"-I{TOP / 'include'}", source])
+
     def test_python(self):
         shutil.copytree(PYTHON, self.folder / "python")
         self.compiled([sys.executable, "-m", "compileall", "-q", self.folder / "python"])
 
     def test_rust(self):
-        cargo, rust = needs(self, "cargo", "cargo"), self.folder / "rust"
-        shutil.copytree(TOP / "bindings" / "rust", rust, ignore=shutil.ignore_patterns("target"))
-        env = {**os.environ, "CARGO_TARGET_DIR": str(self.folder / "target")}
-        self.runs(cargo, "check", "--offline", "-q", "--all-targets", cwd=rust, env=env)
+        needs("cargo")
+        package = declared.copy_of_bindings(self.folder) / "rust"
+        variables = {**os.environ, "CARGO_TARGET_DIR": str(self.folder / "target"), "INPUTPLAY_LIB_DIR": str(self.folder)}
+        self.compiled(["cargo", "check", "--offline", "-q", "--all-targets"], cwd=package, env=variables)
+        # with no archive it says how one is made, and with one its pages are made without a word
+        done = self.compiled(["cargo", "check", "--offline"], cwd=package, env=variables)
+        self.assertIn(f"{self.folder}/libinputplay.a is not there, so nothing can be linked: make it by `tools/build --library`", done)
+        (self.folder / "libinputplay.a").write_bytes(b"!<arch>\n")
+        self.assertEqual("", self.compiled(["cargo", "doc", "--offline", "--no-deps", "-q"], cwd=package, env=variables))
 
 
 FAKE_FUNCTION = """uint32_t {name}(void) {{
@@ -139,7 +181,7 @@ class EventCodes(FolderCase):
         module = loaded(self.script)
         if not module.HEADER.is_file():
             self.skipTest("linux-libc-dev is not there")
-        kept, (_status, made, _said) = (PYTHON / "inputplay" / "event_codes.txt").read_text(), self.made()
+        kept, (_status, made, _said) = EVENT_CODES.read_text(), self.made()
         if kept.splitlines()[0] == made.splitlines()[0]:
             self.assertEqual(kept, made)
         ours, theirs = (dict(re.findall(r"^\d+ (\w+) (\d+)$", text, re.M)) for text in (kept, made))

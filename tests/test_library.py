@@ -134,9 +134,9 @@ class Rust(Library):
     tool = "cargo"
 
     def test_the_crate_s_tests(self):
-        shutil.copytree(TOP / "bindings" / "rust", self.folder / "rust", ignore=shutil.ignore_patterns("target"))
+        package = declared.copy_of_bindings(self.folder) / "rust"
         variables = {**os.environ, "INPUTPLAY_LIB_DIR": str(BUILT), "CARGO_TARGET_DIR": str(self.folder / "target")}
-        done = run(["cargo", "test", "--offline", "-q"], cwd=self.folder / "rust", env=variables)
+        done = run(["cargo", "test", "--offline", "-q"], cwd=package, env=variables)
         self.assertEqual(0, done.returncode, done.stdout + done.stderr)
         self.assertIn("10 passed; 0 failed", done.stdout)
 
@@ -164,9 +164,9 @@ class Pip(Library):
     tool = "pip"
 
     def test_it_installs_offline_from_its_folder(self):
-        shutil.copytree(PYTHON, self.folder / "python", ignore=shutil.ignore_patterns("__pycache__", "build"))
+        package = declared.copy_of_bindings(self.folder) / "python"
         where = self.folder / "site"
-        done = run([sys.executable, "-m", "pip", "install", "--no-index", "-q", "--target", where, self.folder / "python"])
+        done = run([sys.executable, "-m", "pip", "install", "--no-index", "-q", "--target", where, package])
         self.assertEqual(0, done.returncode, done.stderr)
         variables = {**os.environ, "INPUTPLAY_LIBRARY": str(BUILT / "libinputplay.so"), "PYTHONPATH": str(where)}
         self.says("30\n", [sys.executable, "-B", "-c", "import inputplay; print(inputplay.code_of('KEY_A')[1])"], env=variables)
