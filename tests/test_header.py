@@ -20,6 +20,8 @@ CRATE = TOP / "crates" / "inp_c"
 BINDINGS = TOP / "bindings"
 PYTHON = BINDINGS / "python"
 EVENT_CODES = PYTHON / "inputplay" / "event_codes.txt"
+LIBRARY = TOP / "tests" / "library"
+SYNTAX = ["-fsyntax-only", "-Wall", "-Wextra", "-Werror", f"-I{TOP / 'include'}", f"-I{LIBRARY}"]
 C_SOURCES = ["tests/library", "examples/c", "checks", "bench"]
 SECONDS = 120
 
@@ -95,20 +97,23 @@ class Sources(FolderCase):
         for source in sorted(path for folder in C_SOURCES for path in (TOP / folder).glob("*.c")):
             if '"inputplay.h"' in source.read_text():
                 with self.subTest(source.name):
-                    self.compiled(compiler, "c11", source)
+                    self.compiled(["gcc", "-std=c11", *SYNTAX, source])
 
     def test_c_plus_plus(self):
-        calls = (TOP / "tests" / "library" / "calls.c").read_text()
-        self.compiled(needs(self, "g++", "g++"), "c++11", self.write("calls.cpp", calls))
+        needs("g++")
+        for name in ("calls", "owner", "nothing"):
+            with self.subTest(name):
+                source = self.folder / f"{name}.cpp"
+                shutil.copy(LIBRARY / f"{name}.c", source)
+                self.compiled(["g++", "-std=c++11", *SYNTAX, source])
 
     def test_the_comments_of_the_header(self):
         needs("clang")
         for name in ("beside.c", "beside.cpp"):
             source = self.folder / name
             source.write_text('#include "inputplay.h"\nint main(void) { return (int)inputplay_nothing().kind; }\n')
-            flags = ["-Wall", "-Wextra", "-Wconversion", "-Wshadow", "-Wdocumentation", "-Wdocumentation-pedantic", "-Werror"]
             with self.subTest(name):
-                self.compiled(["clang", "-fsyntax-only", *flags, f"-I{TOP / 'include'}", source])
+                self.compiled(["clang", "-Wdocumentation", "-Wdocumentation-pedantic", "-Wconversion", "-Wshadow", *SYNTAX, source])
 
     def test_python(self):
         shutil.copytree(PYTHON, self.folder / "python")

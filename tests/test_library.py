@@ -45,7 +45,7 @@ class Library(FolderCase):
     def built(self, source, compiler, *flags):
         """A program of a source that is linked with the static library."""
         program = self.folder / source.stem
-        words = [compiler, *flags, "-Wall", "-Wextra", "-Werror", f"-I{TOP / 'include'}"]
+        words = [compiler, *flags, "-Wall", "-Wextra", "-Werror", f"-I{TOP / 'include'}", f"-I{HERE}"]
         done = run([*words, source, BUILT / "libinputplay.a", "-o", program])
         self.assertEqual((0, ""), (done.returncode, done.stderr))
         return program
@@ -83,6 +83,11 @@ class Header(Library):
             came = re.findall(r"^[0-9a-f]+ T (\w+)$", run(["nm", flag, "--defined-only", BUILT / file]).stdout, re.M)
             self.assertEqual(sorted(names), sorted(came), file)
 
+    def test_what_the_archive_wants_is_what_the_page_says(self):
+        said = re.search(r"They want ([^.]*) of the C library", (TOP / "docs" / "LIBRARY.md").read_text())[1]
+        wanted = re.findall(r"^ +U (\w+)$", run(["nm", "-u", BUILT / "libinputplay.a"]).stdout, re.M)
+        self.assertEqual(sorted(re.findall(r"`(\w+)`", said)), sorted(wanted))
+
 
 class C(Library):
     tool = "gcc"
@@ -93,6 +98,9 @@ class C(Library):
 
     def test_a_reader_and_a_joystick_take_nothing_from_the_owner(self):
         self.says("", [self.built(HERE / "owner.c", "gcc", "-std=c99")])
+
+    def test_null_beside_a_count_of_none_and_the_header_s_own(self):
+        self.says("", [self.built(HERE / "nothing.c", "gcc", "-std=c99")])
 
     def test_a_naive_reader_keeps_a_key_down_and_a_right_one_does_not(self):
         self.says(STUCK_KEY, [self.built(EXAMPLES / "c" / "stuck_key.c", "gcc", "-std=c99")])
@@ -115,7 +123,7 @@ class Valgrind(Library):
 
     def test_no_byte_is_lost_or_read_wrongly(self):
         checks = ["valgrind", "-q", "--leak-check=full", "--error-exitcode=9"]
-        for source in (HERE / "calls.c", HERE / "owner.c", EXAMPLES / "c" / "stuck_key.c"):
+        for source in (HERE / "calls.c", HERE / "owner.c", HERE / "nothing.c", EXAMPLES / "c" / "stuck_key.c"):
             with self.subTest(source.name):
                 done = run([*checks, self.built(source, "gcc", "-std=c99", "-g")])
                 self.assertEqual((0, ""), (done.returncode, done.stderr))
@@ -125,9 +133,11 @@ class CPlusPlus(Library):
     tool = "g++"
 
     def test_each_call_once(self):
-        source = self.folder / "calls.cpp"
-        shutil.copy(HERE / "calls.c", source)
-        self.says("", [self.built(source, "g++", "-std=c++11")])
+        for name in ("calls", "nothing"):
+            with self.subTest(name):
+                source = self.folder / f"{name}.cpp"
+                shutil.copy(HERE / f"{name}.c", source)
+                self.says("", [self.built(source, "g++", "-std=c++11")])
 
 
 class Rust(Library):
@@ -138,7 +148,7 @@ class Rust(Library):
         variables = {**os.environ, "INPUTPLAY_LIB_DIR": str(BUILT), "CARGO_TARGET_DIR": str(self.folder / "target")}
         done = run(["cargo", "test", "--offline", "-q"], cwd=package, env=variables)
         self.assertEqual(0, done.returncode, done.stdout + done.stderr)
-        self.assertIn("10 passed; 0 failed", done.stdout)
+        self.assertIn("13 passed; 0 failed", done.stdout)
 
 
 class Python(Library):

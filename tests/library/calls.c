@@ -1,20 +1,9 @@
 /* Each call of the library once, and each status that it has. It is C and C++, and says where something else came. */
 #include "inputplay.h"
+#include "same.h"
 
-#include <stdio.h>
 #include <stdlib.h>
 #include <string.h>
-
-static int failures = 0;
-
-static void same_at(int line, const char *what, long long wanted, long long came) {
-    if (wanted != came) {
-        printf("line %d: %s: %lld was wanted, and %lld came\n", line, what, wanted, came);
-        failures++;
-    }
-}
-
-#define SAME(wanted, came) same_at(__LINE__, #came, (long long)(wanted), (long long)(came))
 
 static const char *const PAD = "inputrecord 1\ndevice pad\ncap EV_KEY KEY_A\ncap EV_SW SW_LID\ncap EV_LED LED_CAPSL\n"
                                "axis ABS_X 7 0 255 0 0 0\naxis ABS_MT_POSITION_X 0 0 99 0 0 0\nslots 2\nlog 2000\nsource s\n";

@@ -3,24 +3,14 @@
  * joystick client. It is C and C++, and says where something else came.
  */
 #include "inputplay.h"
+#include "same.h"
 
-#include <stdio.h>
 #include <string.h>
 
 enum { LOG = 300, LED_TYPE = 0x11, LED_CODE = 1, WRITER = 0 };
 
-static int failures = 0;
 static inputplay_event_t no_events[1];
 static int32_t no_cells[1];
-
-static void same_at(int line, const char *what, long long wanted, long long came) {
-    if (wanted != came) {
-        printf("line %d: %s: %lld was wanted, and %lld came\n", line, what, wanted, came);
-        failures++;
-    }
-}
-
-#define SAME(wanted, came) same_at(__LINE__, #came, (long long)(wanted), (long long)(came))
 
 static const char *const PAD = "inputrecord 1\ndevice pad\ncap EV_KEY BTN_TRIGGER\ncap EV_LED LED_CAPSL\n"
                                "axis ABS_X 7 0 255 0 0 0\nlog 300\nsource s\n";

@@ -36,7 +36,7 @@ def files_of(top: Path) -> Iterator[Path]:
     for crate in crates_below(top, LIBRARY):
         yield from sorted((top / "crates" / crate / "src").rglob("*.rt"))
     yield top / "include" / "inputplay.h"
-    for folder, ends in (("bindings", (".py", ".rs", ".toml", ".txt")), ("examples/c", (".c",)), ("tests/library", (".c", ".py"))):
+    for folder, ends in (("bindings", (".py", ".rs", ".toml", ".txt")), ("examples/c", (".c",)), ("tests/library", (".c", ".h", ".py"))):
         yield from sorted(path for path in (top / folder).rglob("*") if path.suffix in ends and "target" not in path.parts)
     yield top / "tests" / "test_library.py"
 
