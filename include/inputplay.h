@@ -1,5 +1,6 @@
-/*
- * inputplay.h: an input device and its reader, in memory.
+/**
+ * @file inputplay.h
+ * An input device and its reader, in memory.
  *
  * A device answers each call as evdev does: what it passes, queues, loses, grabs and masks. A reader stands beside it that
  * keeps a state and synchronises after a loss, as libevdev does. That each answer is the right one is proved; what C owes in
@@ -162,8 +163,8 @@ enum {
  * What is kept: a device with its reader and joystick client, or a record with its text. It begins as INPUTPLAY_NOTHING.
  */
 typedef struct inputplay_handle_t {
-    uint32_t kind;
-    void *at;
+    uint32_t kind; /**< 0 nothing, 1 a device, 2 a record. */
+    void *at; /**< The library's own. */
 } inputplay_handle_t;
 
 /** A handle that keeps nothing, where a handle is declared: `inputplay_handle_t h = INPUTPLAY_NOTHING;`. */
@@ -181,65 +182,70 @@ static inline inputplay_handle_t inputplay_nothing(void) {
 
 /** An axis (struct input_absinfo). */
 typedef struct inputplay_info_t {
-    int32_t value, minimum, maximum, fuzz, flat, resolution;
+    int32_t value; /**< Its value. */
+    int32_t minimum; /**< The least one. */
+    int32_t maximum; /**< The greatest one. */
+    int32_t fuzz; /**< How small a change is that is filtered out. */
+    int32_t flat; /**< What a joystick takes for the middle. */
+    int32_t resolution; /**< Units a millimetre, or a radian. */
 } inputplay_info_t;
 
 /** A step: its number, and what it takes. Fields that it does not read may have any value, but now. */
 typedef struct inputplay_step_t {
-    uint32_t step;
-    uint32_t client;
-    uint16_t type;
-    uint16_t code;
-    int32_t value;
-    uint64_t now;
-    uint32_t count;
-    uint32_t clock;
-    uint64_t bits;
-    inputplay_info_t info;
+    uint32_t step; /**< From INPUTPLAY_INJECT on. */
+    uint32_t client; /**< A client's number. */
+    uint16_t type; /**< An event's type, or a mask's. */
+    uint16_t code; /**< An event's code, or an axis, or which word of a mask. */
+    int32_t value; /**< An event's value. */
+    uint64_t now; /**< The moment. */
+    uint32_t count; /**< How many events are read at most. */
+    uint32_t clock; /**< 0, 1 or 7. */
+    uint64_t bits; /**< A word of a mask. */
+    inputplay_info_t info; /**< What an axis is set to. */
 } inputplay_step_t;
 
 /** A reply. `at` is the step's place in the history, or where it was not entered the history's length. */
 typedef struct inputplay_reply_t {
-    uint32_t reply;
-    uint32_t at;
-    uint32_t client;
-    uint32_t count;
-    int32_t slot;
-    uint32_t why;
-    uint64_t words[12];
-    inputplay_info_t info;
+    uint32_t reply; /**< From INPUTPLAY_DONE on. */
+    uint32_t at; /**< A place in the history. */
+    uint32_t client; /**< The number of the client that was opened. */
+    uint32_t count; /**< How many there are. */
+    int32_t slot; /**< The slot that was announced last. */
+    uint32_t why; /**< Why the step was refused, from INPUTPLAY_BAD_CLIENT on. */
+    uint64_t words[12]; /**< Bits. */
+    inputplay_info_t info; /**< An axis. */
 } inputplay_reply_t;
 
 /** An event as a client reads it: when its frame ended, and the place in the history of the step that ended it. */
 typedef struct inputplay_event_t {
-    uint16_t type;
-    uint16_t code;
-    int32_t value;
-    uint64_t time;
-    uint32_t place;
+    uint16_t type; /**< Its type. */
+    uint16_t code; /**< Its code. */
+    int32_t value; /**< Its value. */
+    uint64_t time; /**< When its frame ended. */
+    uint32_t place; /**< The place of the step that ended its frame. */
 } inputplay_event_t;
 
 /** An event with its moment. */
 typedef struct inputplay_stamped_t {
-    uint16_t type;
-    uint16_t code;
-    int32_t value;
-    uint64_t now;
+    uint16_t type; /**< Its type. */
+    uint16_t code; /**< Its code. */
+    int32_t value; /**< Its value. */
+    uint64_t now; /**< The moment. */
 } inputplay_stamped_t;
 
 /** How the buttons and axes of a joystick client stand: bit k of the 64 for button k, and the value of each axis. */
 typedef struct inputplay_picture_t {
-    uint64_t buttons;
-    int16_t axes[64];
+    uint64_t buttons; /**< Bit k for button k. */
+    int16_t axes[64]; /**< The value of each axis. */
 } inputplay_picture_t;
 
-/* Before 30 November 2026 these structs had no _t. The names stand for sources of that time. */
-typedef inputplay_handle_t inputplay_handle;
-typedef inputplay_info_t inputplay_info;
-typedef inputplay_reply_t inputplay_reply;
-typedef inputplay_event_t inputplay_event;
-typedef inputplay_stamped_t inputplay_stamped;
-typedef inputplay_picture_t inputplay_picture;
+/* Before 30 November 2026 these structs had no _t. Their older names stand for sources of that time. */
+typedef inputplay_handle_t inputplay_handle; /**< Its older name. */
+typedef inputplay_info_t inputplay_info; /**< Its older name. */
+typedef inputplay_reply_t inputplay_reply; /**< Its older name. */
+typedef inputplay_event_t inputplay_event; /**< Its older name. */
+typedef inputplay_stamped_t inputplay_stamped; /**< Its older name. */
+typedef inputplay_picture_t inputplay_picture; /**< Its older name. */
 
 /**
  * What a status says, for people.

@@ -60,14 +60,16 @@ class Header(unittest.TestCase):
         self.assertEqual(set(declared.numbers_of_header(HEADER, "statuses of calls").values()), told)
 
     def test_the_codes_that_have_a_name(self):
-        """Those of keys and switches that the header says are those that the program has."""
-        said = re.sub(r"\n \* ", " ", re.search(r" \* Of EV_KEY they are (.*?) of the other types", HEADER, re.S)[1])
-        numbers = {name: int(number) for name, number in re.findall(r"^\d+ (\w+) (\d+)$", EVENT_CODES.read_text(), re.M)}
-        for kind, prefix in (("1", "KEY_|BTN_"), ("5", "SW_")):
-            ranges = re.findall(rf"\b((?:{prefix})\w+)(?: to (\w+))?", said)
-            told = {code for first, last in ranges for code in range(numbers[first], numbers[last or first] + 1)}
-            rows = (line.split() for line in (TOP / "tests" / "data" / "codes.txt").read_text().splitlines())
-            self.assertEqual({int(row[1]) for row in rows if len(row) == 3 and row[0] == kind}, told)
+        """Those that the header says are those that the program has."""
+        text = HEADER.replace("\n *", "")
+        keys, others = re.search(r" Of EV_KEY they are (.*?) of the other types all but (.*?)\.", text).groups()
+        numbers = {name: (kind, int(code)) for kind, name, code in re.findall(r"^(\d+) (\w+) (\d+)$", EVENT_CODES.read_text(), re.M)}
+        told = {pair for name, pair in numbers.items() if pair[0] not in ("1", "5") and name not in re.findall(r"\w+", others)}
+        for first, last in re.findall(r"\b((?:KEY|BTN|SW)_\w+)(?: to (\w+))?", keys):
+            (kind, low), (_kind, high) = numbers[first], numbers[last or first]
+            told.update((kind, code) for code in range(low, high + 1))
+        rows = (line.split() for line in (TOP / "tests" / "data" / "codes.txt").read_text().splitlines())
+        self.assertEqual({(row[0], int(row[1])) for row in rows if len(row) == 3}, told)
 
     def test_a_limit_is_the_crate_s(self):
         for name, file in declared.LIMITS.items():

@@ -68,7 +68,8 @@ RENAMED = {
 
 def fields_of_header(header, struct):
     """The types and names of a struct of the header, in order."""
-    body = re.search(rf"typedef struct {struct} \{{(.*?)\}}", header, re.S).group(1)
+    bare = re.sub(r"/\*.*?\*/", "", header, flags=re.S)
+    body = re.search(rf"typedef struct {struct} \{{(.*?)\}}", bare, re.S).group(1)
     for kind, names in re.findall(r"(\w+) ([^;]+);", body):
         for name in names.split(", "):
             yield (f"{kind}{name[name.index('['):]}", name[: name.index("[")]) if "[" in name else (kind, name)
