@@ -6,7 +6,7 @@
  * keeps a state and synchronises after a loss, as libevdev does. That each answer is the right one is proved; what C owes in
  * return is not checked, and is this:
  *
- * - No pointer is NULL, but that beside a count of 0 may be. Each other is aligned and points to as much as the count says.
+ * - A pointer is NULL only where the count beside it is 0. Each other is aligned and points to as much as the count says.
  * - Two pointers of one call never overlap.
  * - A handle begins as INPUTPLAY_NOTHING. It is not copied, and only the calls below change it.
  * - A handle is used by one call at a time, and on the thread that made what it keeps.

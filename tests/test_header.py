@@ -44,8 +44,9 @@ class Header(unittest.TestCase):
     def test_a_number_is_the_packages_too(self):
         for about, file, begin, form in declared.PACKAGED:
             with self.subTest(f"{file}: {about}"):
+                wanted = declared.numbers_of_header(HEADER, about)
                 part = declared.part_of((BINDINGS / file).read_text(), begin)
-                self.assertEqual(declared.numbers_of_header(HEADER, about), declared.numbers_of_crate(part, form))
+                self.assertEqual(wanted, declared.numbers_of_crate(part, form))
 
     def test_a_cause_s_text_is_its_name(self):
         for function, about in (("cause", "a record is refused"), ("why", "a step was refused")):
@@ -61,10 +62,11 @@ class Header(unittest.TestCase):
 
     def test_the_codes_that_have_a_name(self):
         """Those that the header says are those that the program has."""
-        text = HEADER.replace("\n *", "")
-        keys, others = re.search(r" Of EV_KEY they are (.*?) of the other types all but (.*?)\.", text).groups()
-        numbers = {name: (kind, int(code)) for kind, name, code in re.findall(r"^(\d+) (\w+) (\d+)$", EVENT_CODES.read_text(), re.M)}
-        told = {pair for name, pair in numbers.items() if pair[0] not in ("1", "5") and name not in re.findall(r"\w+", others)}
+        said = re.search(r" Of EV_KEY they are (.*?) of the other types all but (.*?)\.", HEADER.replace("\n *", ""))
+        keys, others = said[1], re.findall(r"\w+", said[2])
+        rows = re.findall(r"^(\d+) (\w+) (\d+)$", EVENT_CODES.read_text(), re.M)
+        numbers = {name: (kind, int(code)) for kind, name, code in rows}
+        told = {pair for name, pair in numbers.items() if pair[0] not in ("1", "5") and name not in others}
         for first, last in re.findall(r"\b((?:KEY|BTN|SW)_\w+)(?: to (\w+))?", keys):
             (kind, low), (_kind, high) = numbers[first], numbers[last or first]
             told.update((kind, code) for code in range(low, high + 1))
@@ -113,9 +115,9 @@ class Sources(FolderCase):
         needs("clang")
         for name in ("beside.c", "beside.cpp"):
             source = self.folder / name
-            source.write_text('#include "inputplay.h"\nint main(void) { return (int)inputplay_nothing().kind; }\n')
+            source.write_text('#include "inputplay.h"\nint main(void) { return inputplay_nothing().kind != 0; }\n')
             with self.subTest(name):
-                self.compiled(["clang", "-Wdocumentation", "-Wdocumentation-pedantic", "-Wconversion", "-Wshadow", *SYNTAX, source])
+                self.compiled(["clang", "-Wdocumentation", "-Wdocumentation-pedantic", "-Wconversion", *SYNTAX, source])
 
     def test_python(self):
         shutil.copytree(PYTHON, self.folder / "python")
@@ -124,13 +126,15 @@ class Sources(FolderCase):
     def test_rust(self):
         needs("cargo")
         package = declared.copy_of_bindings(self.folder) / "rust"
-        variables = {**os.environ, "CARGO_TARGET_DIR": str(self.folder / "target"), "INPUTPLAY_LIB_DIR": str(self.folder)}
-        self.compiled(["cargo", "check", "--offline", "-q", "--all-targets"], cwd=package, env=variables)
+        archive = self.folder / "libinputplay.a"
+        made = {"CARGO_TARGET_DIR": str(self.folder / "target"), "INPUTPLAY_LIB_DIR": str(archive.parent)}
+        more = {"cwd": package, "env": {**os.environ, **made}}
+        self.compiled(["cargo", "check", "--offline", "-q", "--all-targets"], **more)
         # with no archive it says how one is made, and with one its pages are made without a word
-        done = self.compiled(["cargo", "check", "--offline"], cwd=package, env=variables)
-        self.assertIn(f"{self.folder}/libinputplay.a is not there, so nothing can be linked: make it by `tools/build --library`", done)
-        (self.folder / "libinputplay.a").write_bytes(b"!<arch>\n")
-        self.assertEqual("", self.compiled(["cargo", "doc", "--offline", "--no-deps", "-q"], cwd=package, env=variables))
+        said = self.compiled(["cargo", "check", "--offline"], **more)
+        self.assertIn(f"{archive} is not there, so nothing can be linked: make it by `tools/build --library`", said)
+        archive.write_bytes(b"!<arch>\n")
+        self.assertEqual("", self.compiled(["cargo", "doc", "--offline", "--no-deps", "-q"], **more))
 
 
 FAKE_FUNCTION = """uint32_t {name}(void) {{
@@ -192,7 +196,8 @@ class EventCodes(FolderCase):
         if kept.splitlines()[0] == made.splitlines()[0]:
             self.assertEqual(kept, made)
         ours, theirs = (dict(re.findall(r"^\d+ (\w+) (\d+)$", text, re.M)) for text in (kept, made))
-        self.assertEqual({name: ours[name] for name in ours if name in theirs}, {name: theirs[name] for name in theirs if name in ours})
+        for name in ours.keys() & theirs.keys():
+            self.assertEqual(ours[name], theirs[name], name)
 
     def test_a_small_header(self):
         header = self.folder / "input-event-codes.h"
@@ -203,7 +208,8 @@ class EventCodes(FolderCase):
 
     def test_wrong_input(self):
         (self.folder / "none.h").write_text("int i;\n")
-        for header, why in ((self.folder / "none.h", "it has no event codes"), (self.folder / "gone.h", "No such file or directory")):
+        for name, why in (("none.h", "it has no event codes"), ("gone.h", "No such file or directory")):
+            header = self.folder / name
             self.assertEqual((2, "", f"bindings/make_event_codes: {header}: {why}\n"), self.made(header))
 
 

@@ -1,5 +1,5 @@
-"""bin/inputplay, tools/install and tools/build: the program by its name, built where it is not there, and the library; in a
-tree of its own."""
+"""bin/inputplay, tools/install and tools/build: the program by its name, built where it is not there, and the
+library; in a tree of its own."""
 
 import contextlib
 import os
@@ -21,13 +21,15 @@ echo "$(basename "$PWD"): $*" >> "$ASKED"
 case "$1" in
 run) mkdir -p out; printf '#!/bin/sh\\necho "played: $*"\\nexit 6\\n' > out/inp_main; chmod +x out/inp_main;;
 lib) test "$(basename "$PWD")" != "$FAILS" || { echo 'error: it is not proved'; exit 1; }
-    test "$(basename "$PWD")" != inp_c || { mkdir -p out; echo 'int made;' | cc -x c -c -o out/made.o - && ar rcs out/libinp_c.a out/made.o; }
+    test "$(basename "$PWD")" != inp_c || mkdir -p out
+    test ! -d out || { echo 'int made;' | cc -x c -c -o out/made.o - && ar rcs out/libinp_c.a out/made.o; }
     echo 'run=ended status=0'; echo 'rt: a line of its own' >&2; test -z "$SLEEPS" || exec sleep 30;;
 doc) mkdir -p kit/c; ar rcs kit/c/liblibc_c.a; echo "$PWD/kit/START-HERE.md";;
 try) echo 'device d steps 0'; echo 'run=ended status=0 runners=1 proved=no' >&2;;
 esac
 """
-CRATES = "# the crates\nlow:\nmiddle: low bitflags\naside: low\ntests_other: middle\ninp_main: middle aside\nhigh: inp_main\ninp_c staticlib: middle\n"
+CRATES = ("# the crates\nlow:\nmiddle: low bitflags\naside: low\ntests_other: middle\ninp_main: middle aside\n"
+          "high: inp_main\ninp_c staticlib: middle\n")
 
 
 def all_of(terminal: int) -> str:
@@ -224,10 +226,11 @@ class Inputplay(TreeCase):
 
 
 class Library(TreeCase):
-    """tools/build --library: how many crates are to be proved, which one is at work and how far; and no line of the toolchain."""
+    """tools/build --library: how many crates are to be proved, which one is at work and how far; and no line of the
+    toolchain."""
 
-    BEGUN = (f"tools/build: 3 crates are to be proved and built, one after the other: from nothing in {RECKONED}; what an earlier run "
-             "kept is taken")
+    BEGUN = (f"tools/build: 3 crates are to be proved and built, one after the other: from nothing in {RECKONED}; "
+             "what is kept is taken")
 
     def setUp(self):
         super().setUp()
@@ -241,27 +244,34 @@ class Library(TreeCase):
         status, written, lines = self.run_tree("tools/build", "--library")
         self.assertEqual(0, status, lines)
         self.assertEqual(["low: lib", "middle: lib", "inp_c: lib"], self.asked_for()[:3])
-        told = [f"tools/build: {done} of 3 crates are built, TIME: {name}" for done, name in enumerate(("low", "middle", "inp_c"))]
+        crates = enumerate(("low", "middle", "inp_c"))
+        told = [f"tools/build: {done} of 3 crates are built, TIME: {name}" for done, name in crates]
         lines = [re.sub(r"\d+:\d\d|\d+ s$", "TIME", line) for line in lines]
         self.assertEqual([self.BEGUN, *told, "tools/build: that took TIME"], lines)
         made = [f"{self.tree}/out/library/{name}" for name in ("libinputplay.a", "libinputplay.so.1.0.0")]
         self.assertEqual(made, [line.partition(": ")[0] for line in written.splitlines()])
+        # where an archive is there no time is told
+        _, _, lines = self.run_tree("tools/build", "--library")
+        self.assertEqual("tools/build: 3 crates are to be proved and built, where they changed, one after the other", lines[0])
         # what is made already is linked, and nothing is proved
         status, _, lines = self.run_tree("tools/build", "--library", "--made")
-        self.assertEqual((0, [], 3), (status, lines, len([line for line in self.asked_for() if line.endswith(": lib")])))
+        self.assertEqual((0, [], 6), (status, lines, sum(line.endswith(": lib") for line in self.asked_for())))
 
     def test_a_crate_that_fails(self):
         status, written, lines = self.run_tree("tools/build", "--library", FAILS="middle")
         self.assertEqual((1, "", 4), (status, written, len(lines)), lines)
-        self.assertIn("tools/build: middle was not built (rt ended with 1): error: it is not proved; all that was said is in ", lines[3])
-        self.addCleanup(shutil.rmtree, os.path.dirname(lines[3].rsplit(" in ", 1)[1]))
+        said, log = lines[3].rsplit(" in ", 1)
+        self.addCleanup(shutil.rmtree, os.path.dirname(log))
+        why = "error: it is not proved; all that was said is"
+        self.assertEqual(f"tools/build: middle was not built (rt ended with 1): {why}", said)
 
     def test_a_terminal_and_a_stop(self):
         terminal, other = pty.openpty()
         self.addCleanup(os.close, terminal)
         env = {**os.environ, "PATH": self.path, "ASKED": str(self.asked), "FAILS": "", "SLEEPS": "1"}
-        build = subprocess.Popen([self.tree / "tools" / "build", "--library"], env=env, cwd=self.folder, stdin=subprocess.DEVNULL,
-                                 stdout=subprocess.PIPE, stderr=other, preexec_fn=heed_stops)
+        words = [self.tree / "tools" / "build", "--library"]
+        build = subprocess.Popen(words, env=env, cwd=self.folder, stdin=subprocess.DEVNULL, stdout=subprocess.PIPE,
+                                 stderr=other, preexec_fn=heed_stops)
         os.close(other)
         said = ""
         while "crates are built" not in said:

@@ -123,7 +123,7 @@ class Valgrind(Library):
 
     def test_no_byte_is_lost_or_read_wrongly(self):
         checks = ["valgrind", "-q", "--leak-check=full", "--error-exitcode=9"]
-        for source in (HERE / "calls.c", HERE / "owner.c", HERE / "nothing.c", EXAMPLES / "c" / "stuck_key.c"):
+        for source in (*(HERE / f"{name}.c" for name in ("calls", "owner", "nothing")), EXAMPLES / "c" / "stuck_key.c"):
             with self.subTest(source.name):
                 done = run([*checks, self.built(source, "gcc", "-std=c99", "-g")])
                 self.assertEqual((0, ""), (done.returncode, done.stderr))

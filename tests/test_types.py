@@ -1,4 +1,5 @@
-"""Every function of the tools, the second program, the package for Python and the scripts in checks/ has types, and mypy finds them right."""
+"""Every function of the tools, the second program, the package for Python and the scripts in checks/ has types, and mypy
+finds them right."""
 
 import shutil
 import subprocess

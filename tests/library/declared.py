@@ -1,11 +1,14 @@
-"""What the header declares, and what the crate and the packages have: structs field by field, and numbers by name."""
+"""What the header declares, and what the crate and the packages have: structs by fields, and numbers by name."""
 
 import re
 import shutil
 from pathlib import Path
 
 BINDINGS = Path(__file__).resolve().parents[2] / "bindings"
-TOP_TYPES = {"u16": "uint16_t", "u32": "uint32_t", "u64": "uint64_t", "i16": "int16_t", "i32": "int32_t", "AxisInfo": "inputplay_info_t"}
+TOP_TYPES = {
+    "u16": "uint16_t", "u32": "uint32_t", "u64": "uint64_t", "i16": "int16_t", "i32": "int32_t",
+    "AxisInfo": "inputplay_info_t",
+}
 
 # The header's struct, and the crate and the file that have it.
 STRUCTS = {
@@ -109,7 +112,8 @@ def part_of(text, begin):
 
 def words_of_header(header, function):
     """The words of the table that a function of the header has, each with its place."""
-    return list(enumerate(re.findall(r'"([^"]+)"', part_of(header, f"{function}(uint32_t").partition("return")[0])))
+    table = part_of(header, f"{function}(uint32_t").partition("return")[0]
+    return list(enumerate(re.findall(r'"([^"]+)"', table)))
 
 
 def numbers_of_crate(text, form):
@@ -122,5 +126,6 @@ def numbers_of_crate(text, form):
 
 
 def copy_of_bindings(folder):
-    """The packages, copied below a folder as they stand here: that for Rust reads a file of that for Python."""
-    return shutil.copytree(BINDINGS, folder / "bindings", ignore=shutil.ignore_patterns("target", "__pycache__", "build"))
+    """The packages, copied below a folder as they stand here: one reads a file of the other."""
+    made = shutil.ignore_patterns("target", "__pycache__", "build")
+    return shutil.copytree(BINDINGS, folder / "bindings", ignore=made)

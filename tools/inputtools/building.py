@@ -23,6 +23,7 @@ from inputtools.program import BUILT, REPOSITORY
 
 PROGRAM, LIBRARY = "inp_main", "inp_c"
 CRATES = os.path.join(REPOSITORY, "crates")
+ARCHIVE = os.path.join(CRATES, LIBRARY, "out", f"lib{LIBRARY}.a")
 GATE_COST = os.path.join(REPOSITORY, "bench", "gate_cost")
 COST_PAGE = os.path.join(REPOSITORY, "bench", "COST.md")
 LAST_LINES = 20
@@ -153,7 +154,7 @@ def stop(process: "subprocess.Popen[bytes]") -> None:
 
 
 class Teller:
-    """Says how far a build is: on a terminal in one line that is written over, else not at all, or by a line a crate."""
+    """Says how far a build is: on a terminal in one line that is written over, else not at all or a line a crate."""
 
     def __init__(self, program: str, stream: TextIO, has_lines: bool = False) -> None:
         self.program, self.stream, self.begun, self.told = program, stream, time.monotonic(), 0.0
@@ -197,12 +198,14 @@ def build_crates(crates: List[str], teller: Teller) -> None:
 
 
 def build_library(program: str, stream: TextIO) -> None:
-    """Proves the crates of the library for C, and makes its archive; `program` is who says so, to the stream."""
+    """Proves the crates of the library for C, and makes its archive; `program` is who says so."""
     crates = in_order(needed_crates(read(os.path.join(REPOSITORY, "crates.txt")), LIBRARY))
     if not crates:
         raise Wrong(f"crates.txt has no {LIBRARY}, or cannot be read")
-    say(program, f"{len(crates)} crates are to be proved and built, one after the other: from nothing in "
-                 f"{time_text(read(COST_PAGE), crates, measured())}; what an earlier run kept is taken")
+    when = "where they changed, one after the other"
+    if not os.path.isfile(ARCHIVE):
+        when = f"one after the other: from nothing in {time_text(read(COST_PAGE), crates, measured())}; what is kept is taken"
+    say(program, f"{len(crates)} crates are to be proved and built, {when}")
     build_crates(crates, Teller(program, stream, has_lines=True))
 
 

@@ -45,14 +45,14 @@ _read()
 
 
 def number_of(name: str) -> int:
-    """The number of any name of the header, as 1 for EV_KEY, 272 for BTN_MOUSE, 2 for INPUT_PROP_BUTTONPAD or 768 for KEY_CNT."""
+    """The number of any name of the header, as 272 for BTN_MOUSE, 1 for EV_KEY or 768 for KEY_CNT."""
     if name not in NUMBERS:
         raise ValueError(f"no number has the name {name}")
     return NUMBERS[name]
 
 
 def code_of(name: str) -> Tuple[Type, int]:
-    """The type and the code of a name, as (EV_KEY, 30) for KEY_A. A code may have several names: BTN_A is BTN_SOUTH."""
+    """The type and the code of a name, as (EV_KEY, 30) for KEY_A. Two names may have one: BTN_A, BTN_SOUTH."""
     if name not in CODES:
         raise ValueError(f"no code has the name {name}")
     return CODES[name]

@@ -250,7 +250,7 @@ class Device(Kept):
     def feedback(self, count: int = FEEDBACK_MAX) -> List[Event]:
         """The first of the events that wait for the device's owner, at most so many (a read of /dev/uinput)."""
         raw, at, taken, full = (RawEvent * FEEDBACK_MAX)(), c_uint32(), c_uint32(), c_uint32()
-        room = min(count, FEEDBACK_MAX)
+        room = min(fits("count", c_size_t, count), FEEDBACK_MAX)
         check(
             library.inputplay_feedback(byref(self._handle), raw, room, byref(at), byref(taken), byref(full))
         )
@@ -263,7 +263,8 @@ class Device(Kept):
         at, taken, why = c_uint32(), c_uint32(), c_uint32()
         room = min(fits("count", c_size_t, count), READ_MAX)
         raw = (RawEvent * max(room, 1))()
-        check(library.inputplay_read(byref(self._handle), client, raw, room, byref(at), byref(taken), byref(why)))
+        told = byref(at), byref(taken), byref(why)
+        check(library.inputplay_read(byref(self._handle), client, raw, room, *told))
         if why.value:
             raise StepRefused(why.value, at.value)
         return [event_of(event) for event in raw[: taken.value]]

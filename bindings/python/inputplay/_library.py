@@ -158,7 +158,7 @@ def _opened() -> ctypes.CDLL:
 def _declared() -> Any:
     """The functions, each by its name."""
     opened = _opened()
-    library = SimpleNamespace(**{name: Function(opened[name], parameters) for name, parameters in PARAMETERS.items()})
+    library = SimpleNamespace(**{name: Function(opened[name], takes) for name, takes in PARAMETERS.items()})
     # (it answers nothing)
     library.inputplay_free.function.restype = None
     if library.inputplay_abi() != ABI:

@@ -5,7 +5,8 @@ import unittest
 
 import inputplay
 from inputplay import (
-    Answer, Axis, Cause, Device, Event, JoyAnswer, Phase, Record, RefusedRecord, Status, StepRefused, Steps, Type, Why,
+    Answer, Axis, Cause, Device, Event, JoyAnswer, Phase, Record, RefusedRecord, Status, StepRefused, Steps,
+    Type, Why,
 )
 from inputplay._library import library
 
@@ -47,6 +48,7 @@ WIDE = [
       for field in Axis._fields),
     ("client", lambda case, number: case.pad.read(number)),
     ("count", lambda case, number: case.pad.read(0, number)),
+    ("count", lambda case, number: case.pad.feedback(number)),
     ("first", lambda case, number: case.pad.history(number)),
     ("number", lambda case, number: Device(PAD, number)),
     ("type", lambda case, number: case.reader.value(number, 30)),
@@ -74,9 +76,9 @@ class Numbers(unittest.TestCase):
     def test_a_number_out_of_its_range(self):
         for place, (name, call) in enumerate(WIDE):
             for number in (2**64, -(2**31) - 1):
-                with self.subTest(name, place=place, number=number):
-                    with self.assertRaisesRegex(OverflowError, f"^{name} is {number}, and goes from -?[0-9]+ to [0-9]+$"):
-                        call(self, number)
+                said = f"^{name} is {number}, and goes from -?[0-9]+ to [0-9]+$"
+                with self.subTest(name, place=place, number=number), self.assertRaisesRegex(OverflowError, said):
+                    call(self, number)
         self.assertEqual(self.before, len(self.pad.history()))
 
     def test_a_number_that_is_one_too_many(self):
@@ -114,9 +116,11 @@ class Names(unittest.TestCase):
 
     def test_second_names_and_all_numbers(self):
         for name, code, first in (
-            ("BTN_A", 0x130, "BTN_SOUTH"), ("BTN_GAMEPAD", 0x130, "BTN_SOUTH"), ("BTN_MOUSE", 0x110, "BTN_LEFT"),
-            ("BTN_MISC", 0x100, "BTN_0"), ("KEY_SCREENLOCK", 152, "KEY_COFFEE"), ("KEY_OK", 0x160, "KEY_OK"),
-            ("BTN_TRIGGER_HAPPY40", 0x2E7, "BTN_TRIGGER_HAPPY40"), ("KEY_BRIGHTNESS_MAX", 0x251, "KEY_BRIGHTNESS_MAX"),
+            ("BTN_A", 0x130, "BTN_SOUTH"), ("BTN_GAMEPAD", 0x130, "BTN_SOUTH"),
+            ("BTN_MOUSE", 0x110, "BTN_LEFT"), ("BTN_MISC", 0x100, "BTN_0"),
+            ("KEY_SCREENLOCK", 152, "KEY_COFFEE"), ("KEY_OK", 0x160, "KEY_OK"),
+            ("BTN_TRIGGER_HAPPY40", 0x2E7, "BTN_TRIGGER_HAPPY40"),
+            ("KEY_BRIGHTNESS_MAX", 0x251, "KEY_BRIGHTNESS_MAX"),
         ):
             with self.subTest(name):
                 self.assertEqual((Type.EV_KEY, code), inputplay.code_of(name))

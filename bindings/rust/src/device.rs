@@ -264,7 +264,8 @@ impl Device {
         self.must(&Step::close(client)).map(|_| ())
     }
 
-    /// Opens a client for the reader and asks for its whole state; gives the client's number.
+    /// Opens a client for the reader and asks for its whole state; gives the client's number, of which `Client::from` makes
+    /// what a step takes.
     pub fn start_reader(&mut self) -> Result<u32, Error> {
         let (mut client, mut why) = (0, 0);
         // SAFETY: all are places of their own.
