@@ -67,7 +67,9 @@ def code_pair(kind: Union[int, str], code: Union[int, str, None]) -> Tuple[int, 
     """The type and the code that two numbers or names are; a code's name alone tells both."""
     if code is None:
         return code_of(str(kind))
-    number = number_of(kind) if isinstance(kind, str) else kind
+    if isinstance(kind, str) and kind not in Type.__members__:
+        raise ValueError(f"no type has the name {kind}")
+    number = Type[kind] if isinstance(kind, str) else kind
     if isinstance(code, str):
         found, code = code_of(code)
         if found != number:

@@ -182,8 +182,8 @@ class Devices(unittest.TestCase):
         self.pad.inject(Type.EV_ABS, "ABS_X", 4)
         self.pad.frame()
         self.assertEqual(["KEY_A", "KEY_A", "ABS_X", "SYN_REPORT"], [event.name for event in client.read()])
-        for event in (("EV_ABS", "KEY_A", 1), ("EV_NONE", "KEY_A", 1)):
-            with self.assertRaises(ValueError):
+        for event in (("EV_ABS", "KEY_A", 1), ("EV_NONE", "KEY_A", 1), ("KEY_A", 3, 1), ("EV_MAX", 3, 1)):
+            with self.subTest(event), self.assertRaises(ValueError):
                 self.pad.inject(*event)
 
     def test_a_history_is_full_at_its_limit(self):
