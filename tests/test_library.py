@@ -3,6 +3,9 @@
 `rt ci` builds no static library, so these checks are made where `tools/build --library` made one, or where they are asked
 for by name: `tests/run library` then builds it first. A check whose tool is not there is left out by its name. Where all
 pass, `tests/run library` keeps over which sources they did (`tests/library/passed.json`), which the gate compares.
+
+Where the variable INPUTPLAY_LIB_DIR names a folder, the libraries that lie there are checked. Nothing is built then, and
+nothing is kept, since they may be of other sources.
 """
 
 import os
@@ -12,11 +15,13 @@ import subprocess
 import sys
 import unittest
 from importlib.util import find_spec
+from pathlib import Path
 
 from tests.library import declared, stamp
 from tests.playing import EXAMPLES, RECORDS, TOP, FolderCase
 
-BUILT = TOP / "out" / "library"
+NAMED = os.environ.get("INPUTPLAY_LIB_DIR")
+BUILT = Path(NAMED or TOP / "out" / "library").resolve()
 ARCHIVE = TOP / "crates" / "inp_c" / "out" / "libinp_c.a"
 HERE = TOP / "tests" / "library"
 HEADER = (TOP / "include" / "inputplay.h").read_text()
@@ -200,6 +205,9 @@ def is_there(tool):
 
 def make_library(is_asked):
     """Links the libraries of the archive that is there; builds it too where that is asked for. Says why they are not there, or None."""
+    if NAMED:
+        missing = [name for name in ("libinputplay.a", "libinputplay.so") if not (BUILT / name).is_file()]
+        return f"{BUILT / missing[0]} is not there" if missing else None
     if not ARCHIVE.is_file() and not is_asked:
         return "the library is not built"
     words = ["--made"] if ARCHIVE.is_file() and not is_asked else []
@@ -209,7 +217,8 @@ def make_library(is_asked):
 
 def passed(counts):
     """Keeps that all checks passed; `tests/run library` calls this where none failed."""
-    stamp.write(counts.passed, counts.told_left_out().strip())
+    if not NAMED:
+        stamp.write(counts.passed, counts.told_left_out().strip())
 
 
 class Build(unittest.TestCase):
