@@ -77,14 +77,16 @@ int main(int count, char **words) {
     if (!text)
         return 3;
     uint32_t status = inputplay_record_new(text, len, &record, &line, &cause);
-    if (status == INPUTPLAY_REFUSED)
-        fprintf(stderr, "play_record: line %u is refused, by cause %u\n", line, cause);
     if (status == INPUTPLAY_OK)
         status = load_all(&record, text, len);
     if (status == INPUTPLAY_OK)
         status = inputplay_record_play(&record, (uint32_t)history, &len);
     if (status == INPUTPLAY_OK)
         print_text(&record);
+    else if (status == INPUTPLAY_REFUSED)
+        fprintf(stderr, "play_record: line %u: %s\n", line, inputplay_cause_text(cause));
+    else
+        fprintf(stderr, "play_record: %s\n", inputplay_status_text(status));
     inputplay_free(&record);
     free(text);
     return (int)status;
