@@ -62,7 +62,8 @@ class Header(unittest.TestCase):
 
     def test_the_codes_that_have_a_name(self):
         """Those that the header says are those that the program has."""
-        said = re.search(r" Of EV_KEY they are (.*?) of the other types all but (.*?)\.", HEADER.replace("\n *", ""))
+        text = HEADER.replace("\n *", "")
+        said = re.search(r" Of EV_KEY they are (.*?) of the other types all but (.*?)\.", text)
         keys, others = said[1], re.findall(r"\w+", said[2])
         rows = re.findall(r"^(\d+) (\w+) (\d+)$", EVENT_CODES.read_text(), re.M)
         numbers = {name: (kind, int(code)) for kind, name, code in rows}
@@ -87,14 +88,19 @@ class Header(unittest.TestCase):
         self.assertEqual(set(re.findall(r"pub extern \"C\" fn (\w+)", text)), names)
 
 
-class Sources(FolderCase):
-    """Each source over the library is taken by its compiler beside the header. Nothing is linked."""
+class CommandCase(FolderCase):
+    """A test of what commands say."""
 
     def compiled(self, command, **more):
+        """A command ends with status 0; what it wrote on standard error."""
         words = [str(word) for word in command]
         done = subprocess.run(words, capture_output=True, text=True, timeout=SECONDS, check=False, **more)
         self.assertEqual(0, done.returncode, done.stdout + done.stderr)
         return done.stderr
+
+
+class Sources(CommandCase):
+    """Each source over the library is taken by its compiler beside the header. Nothing is linked."""
 
     def test_c(self):
         compiler = needs(self, "gcc", "gcc")
@@ -115,9 +121,10 @@ class Sources(FolderCase):
         needs("clang")
         for name in ("beside.c", "beside.cpp"):
             source = self.folder / name
-            source.write_text('#include "inputplay.h"\nint main(void) { return inputplay_nothing().kind != 0; }\n')
+            source.write_text('#include "inputplay.h"\nint main(void) { return (int)inputplay_abi(); }\n')
             with self.subTest(name):
-                self.compiled(["clang", "-Wdocumentation", "-Wdocumentation-pedantic", "-Wconversion", *SYNTAX, source])
+                more = ["-Wdocumentation", "-Wdocumentation-pedantic", "-Wconversion"]
+                self.compiled(["clang", *more, *SYNTAX, source])
 
     def test_python(self):
         shutil.copytree(PYTHON, self.folder / "python")
@@ -132,7 +139,8 @@ class Sources(FolderCase):
         self.compiled(["cargo", "check", "--offline", "-q", "--all-targets"], **more)
         # with no archive it says how one is made, and with one its pages are made without a word
         said = self.compiled(["cargo", "check", "--offline"], **more)
-        self.assertIn(f"{archive} is not there, so nothing can be linked: make it by `tools/build --library`", said)
+        why = "is not there, so nothing can be linked: make it by `tools/build --library`"
+        self.assertIn(f"{archive} {why}", said)
         archive.write_bytes(b"!<arch>\n")
         self.assertEqual("", self.compiled(["cargo", "doc", "--offline", "--no-deps", "-q"], **more))
 
@@ -143,7 +151,7 @@ FAKE_FUNCTION = """uint32_t {name}(void) {{
 """
 
 
-class Python(FolderCase):
+class Python(CommandCase):
     """The package over a shared object that has each function and does nothing: what needs no device."""
 
     def test_numbers_and_names(self):
@@ -152,11 +160,10 @@ class Python(FolderCase):
         names = re.findall(r"^(?:uint32_t|void) (inputplay_\w+)\(", HEADER, re.M)
         functions = (FAKE_FUNCTION.format(name=name, answer=int(name == "inputplay_abi")) for name in names)
         source.write_text("#include <stdint.h>\n" + "".join(functions))
-        subprocess.run(["gcc", "-shared", "-fPIC", "-o", fake, source], check=True, timeout=SECONDS)
+        self.compiled(["gcc", "-shared", "-fPIC", "-o", fake, source])
         variables = {**os.environ, "INPUTPLAY_LIBRARY": str(fake), "PYTHONPATH": str(PYTHON)}
         words = [sys.executable, "-B", PYTHON / "tests" / "check_package.py", "Numbers", "Names"]
-        done = subprocess.run(words, env=variables, capture_output=True, text=True, timeout=SECONDS, check=False)
-        self.assertEqual(0, done.returncode, done.stderr[-2000:])
+        self.compiled(words, env=variables)
 
 
 SMALL_HEADER = """#ifndef _INPUT_EVENT_CODES_H
@@ -184,7 +191,7 @@ class EventCodes(FolderCase):
     script = TOP / "bindings" / "make_event_codes"
 
     def made(self, *words):
-        done = subprocess.run([self.script, *words], capture_output=True, text=True, timeout=SECONDS, check=False)
+        done = subprocess.run([self.script, *words], capture_output=True, text=True, check=False)
         return done.returncode, done.stdout, done.stderr
 
     def test_they_are_the_system_s(self):

@@ -1,4 +1,4 @@
-"""What the header declares, and what the crate and the packages have: structs by fields, and numbers by name."""
+"""What the header declares, and what the crate and the packages have: structs by fields, numbers by name."""
 
 import re
 import shutil
