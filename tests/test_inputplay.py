@@ -12,6 +12,7 @@ import unittest.mock
 
 from tests.desk_cases import PROGRAM, TOOLS, TOP, DeskCase, heed_stops, needs_program
 from inputtools.building import RECKONED, in_order, needed_crates, time_text
+from inputtools.command import counted
 from inputtools.program import SecondProgram
 from inputtools.unproved import file_of
 
@@ -229,8 +230,8 @@ class Library(TreeCase):
     """tools/build --library: how many crates are to be proved, which one is at work and how far; and no line of the
     toolchain."""
 
-    BEGUN = (f"tools/build: 3 crates are to be proved and built, one after the other: from nothing in {RECKONED}; "
-             "what is kept is taken")
+    BEGUN = (f"tools/build: 3 crates to be proved and built, one after the other: from nothing in {RECKONED}; what is "
+             "kept is taken")
 
     def setUp(self):
         super().setUp()
@@ -250,9 +251,16 @@ class Library(TreeCase):
         self.assertEqual([self.BEGUN, *told, "tools/build: that took TIME"], lines)
         made = [f"{self.tree}/out/library/{name}" for name in ("libinputplay.a", "libinputplay.so.1.0.0")]
         self.assertEqual(made, [line.partition(": ")[0] for line in written.splitlines()])
-        # where an archive is there no time is told
-        _, _, lines = self.run_tree("tools/build", "--library")
-        self.assertEqual("tools/build: 3 crates are to be proved and built, where they changed, one after the other", lines[0])
+        # what changed then, and what stands on it; the toolchain looks at the last one each time
+        for crates in (["inp_c"], ["middle", "inp_c"]):
+            _, _, lines = self.run_tree("tools/build", "--library")
+            begun = f"tools/build: {counted(len(crates), 'crate')} to be proved and built, one after the other: "
+            self.assertEqual(f"{begun}what changed since the last build", lines[0])
+            self.assertEqual([f"{name}: lib" for name in crates], self.asked_for()[-1 - len(crates):-1])
+            (self.tree / "crates" / "middle" / "src").mkdir(exist_ok=True)
+            source = self.tree / "crates" / "middle" / "src" / "lib.rt"
+            source.write_text("")
+            os.utime(source, (2**32, 2**32))
         # what is made already is linked, and nothing is proved
         status, _, lines = self.run_tree("tools/build", "--library", "--made")
         self.assertEqual((0, [], 6), (status, lines, sum(line.endswith(": lib") for line in self.asked_for())))

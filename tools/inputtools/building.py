@@ -18,7 +18,7 @@ import tempfile
 import time
 from typing import Dict, List, Optional, TextIO
 
-from inputtools.command import Wrong, say
+from inputtools.command import Wrong, counted, say
 from inputtools.program import BUILT, REPOSITORY
 
 PROGRAM, LIBRARY = "inp_main", "inp_c"
@@ -197,15 +197,33 @@ def build_crates(crates: List[str], teller: Teller) -> None:
         teller.end()
 
 
+def changed_at(name: str) -> float:
+    """When a file of a crate changed last."""
+    files = [os.path.join(folder, file) for part in ("src", "specs", "proofs")
+             for folder, _, names in os.walk(os.path.join(CRATES, name, part)) for file in names]
+    return max(map(os.path.getmtime, files), default=0.0)
+
+
+def changed_crates(crates: Dict[str, List[str]], since: float) -> List[str]:
+    """The crates that changed since then, those that stand on one that did, and the last one."""
+    changed: List[str] = []
+    for name in in_order(crates):
+        if name == LIBRARY or set(crates[name]) & set(changed) or changed_at(name) > since:
+            changed.append(name)
+    return changed
+
+
 def build_library(program: str, stream: TextIO) -> None:
     """Proves the crates of the library for C, and makes its archive; `program` is who says so."""
-    crates = in_order(needed_crates(read(os.path.join(REPOSITORY, "crates.txt")), LIBRARY))
-    if not crates:
+    needed = needed_crates(read(os.path.join(REPOSITORY, "crates.txt")), LIBRARY)
+    if not needed:
         raise Wrong(f"crates.txt has no {LIBRARY}, or cannot be read")
-    when = "where they changed, one after the other"
-    if not os.path.isfile(ARCHIVE):
-        when = f"one after the other: from nothing in {time_text(read(COST_PAGE), crates, measured())}; what is kept is taken"
-    say(program, f"{len(crates)} crates are to be proved and built, {when}")
+    if os.path.isfile(ARCHIVE):
+        crates, told = changed_crates(needed, os.path.getmtime(ARCHIVE)), "what changed since the last build"
+    else:
+        crates = in_order(needed)
+        told = f"from nothing in {time_text(read(COST_PAGE), crates, measured())}; what is kept is taken"
+    say(program, f"{counted(len(crates), 'crate')} to be proved and built, one after the other: {told}")
     build_crates(crates, Teller(program, stream, has_lines=True))
 
 
