@@ -13,7 +13,7 @@ import sys
 import unittest
 
 from tests.library import declared, stamp
-from tests.playing import TOP, FolderCase, loaded
+from tests.playing import TOP, FolderCase, loaded, needs, said
 
 HEADER = (TOP / "include" / "inputplay.h").read_text()
 CRATE = TOP / "crates" / "inp_c"
@@ -21,7 +21,7 @@ BINDINGS = TOP / "bindings"
 PYTHON = BINDINGS / "python"
 EVENT_CODES = PYTHON / "inputplay" / "event_codes.txt"
 LIBRARY = TOP / "tests" / "library"
-SYNTAX = ["-fsyntax-only", "-Wall", "-Wextra", "-Werror", f"-I{TOP / 'include'}", f"-I{LIBRARY}"]
+SCRIPT = "bindings/make_event_codes"
 C_SOURCES = ["tests/library", "examples/c", "checks", "bench"]
 SECONDS = 120
 
@@ -91,79 +91,69 @@ class Header(unittest.TestCase):
 class CommandCase(FolderCase):
     """A test of what commands say."""
 
-    def compiled(self, command, **more):
+    def runs(self, *words, **more):
         """A command ends with status 0; what it wrote on standard error."""
-        words = [str(word) for word in command]
-        done = subprocess.run(words, capture_output=True, text=True, timeout=SECONDS, check=False, **more)
-        self.assertEqual(0, done.returncode, done.stdout + done.stderr)
-        return done.stderr
+        status, text, errors = said(*words, timeout=SECONDS, **more)
+        self.assertEqual(0, status, text + errors)
+        return errors
 
 
 class Sources(CommandCase):
     """Each source over the library is taken by its compiler beside the header. Nothing is linked."""
+
+    def compiled(self, compiler, standard, source, *more):
+        paths = (f"-I{TOP / 'include'}", f"-I{LIBRARY}")
+        words = ("-fsyntax-only", f"-std={standard}", "-Wall", "-Wextra", "-Werror", *paths, *more)
+        self.runs(compiler, *words, source)
 
     def test_c(self):
         compiler = needs(self, "gcc", "gcc")
         for source in sorted(path for folder in C_SOURCES for path in (TOP / folder).glob("*.c")):
             if '"inputplay.h"' in source.read_text():
                 with self.subTest(source.name):
-                    self.compiled(["gcc", "-std=c11", *SYNTAX, source])
+                    self.compiled(compiler, "c11", source)
 
     def test_c_plus_plus(self):
-        needs("g++")
+        compiler = needs(self, "g++", "g++")
         for name in ("calls", "owner", "nothing"):
             with self.subTest(name):
-                source = self.folder / f"{name}.cpp"
-                shutil.copy(LIBRARY / f"{name}.c", source)
-                self.compiled(["g++", "-std=c++11", *SYNTAX, source])
+                source = self.write(f"{name}.cpp", (LIBRARY / f"{name}.c").read_text())
+                self.compiled(compiler, "c++11", source)
 
     def test_the_comments_of_the_header(self):
-        needs("clang")
-        for name in ("beside.c", "beside.cpp"):
-            source = self.folder / name
-            source.write_text('#include "inputplay.h"\nint main(void) { return (int)inputplay_abi(); }\n')
+        compiler, text = needs(self, "clang", "clang"), '#include "inputplay.h"\n'
+        for name, standard in (("beside.c", "c11"), ("beside.cpp", "c++11")):
             with self.subTest(name):
-                more = ["-Wdocumentation", "-Wdocumentation-pedantic", "-Wconversion"]
-                self.compiled(["clang", *more, *SYNTAX, source])
+                more = ("-Wdocumentation", "-Wdocumentation-pedantic", "-Wconversion")
+                self.compiled(compiler, standard, self.write(name, text), *more)
 
     def test_python(self):
         shutil.copytree(PYTHON, self.folder / "python")
-        self.compiled([sys.executable, "-m", "compileall", "-q", self.folder / "python"])
+        self.runs(sys.executable, "-m", "compileall", "-q", self.folder / "python")
 
     def test_rust(self):
-        needs("cargo")
-        package = declared.copy_of_bindings(self.folder) / "rust"
-        archive = self.folder / "libinputplay.a"
-        made = {"CARGO_TARGET_DIR": str(self.folder / "target"), "INPUTPLAY_LIB_DIR": str(archive.parent)}
-        more = {"cwd": package, "env": {**os.environ, **made}}
-        self.compiled(["cargo", "check", "--offline", "-q", "--all-targets"], **more)
+        cargo, rust = needs(self, "cargo", "cargo"), declared.copy_of_bindings(self.folder) / "rust"
+        made = {"CARGO_TARGET_DIR": str(self.folder / "target"), "INPUTPLAY_LIB_DIR": str(self.folder)}
+        more = {"cwd": rust, "env": {**os.environ, **made}}
+        self.runs(cargo, "check", "--offline", "-q", "--all-targets", **more)
         # with no archive it says how one is made, and with one its pages are made without a word
-        said = self.compiled(["cargo", "check", "--offline"], **more)
         why = "is not there, so nothing can be linked: make it by `tools/build --library`"
-        self.assertIn(f"{archive} {why}", said)
-        archive.write_bytes(b"!<arch>\n")
-        self.assertEqual("", self.compiled(["cargo", "doc", "--offline", "--no-deps", "-q"], **more))
-
-
-FAKE_FUNCTION = """uint32_t {name}(void) {{
-    return {answer};
-}}
-"""
+        self.assertIn(f"{self.folder}/libinputplay.a {why}", self.runs(cargo, "check", "--offline", **more))
+        self.write("libinputplay.a", "!<arch>\n")
+        self.assertEqual("", self.runs(cargo, "doc", "--offline", "--no-deps", "-q", **more))
 
 
 class Python(CommandCase):
     """The package over a shared object that has each function and does nothing: what needs no device."""
 
     def test_numbers_and_names(self):
-        needs("gcc")
-        source, fake = self.folder / "fake.c", self.folder / "libfake.so"
+        compiler, fake = needs(self, "gcc", "gcc"), self.folder / "libfake.so"
         names = re.findall(r"^(?:uint32_t|void) (inputplay_\w+)\(", HEADER, re.M)
-        functions = (FAKE_FUNCTION.format(name=name, answer=int(name == "inputplay_abi")) for name in names)
-        source.write_text("#include <stdint.h>\n" + "".join(functions))
-        self.compiled(["gcc", "-shared", "-fPIC", "-o", fake, source])
+        functions = (f"int {name}(void) {{ return {int(name == 'inputplay_abi')}; }}\n" for name in names)
+        self.runs(compiler, "-shared", "-fPIC", "-o", fake, self.write("fake.c", "".join(functions)))
         variables = {**os.environ, "INPUTPLAY_LIBRARY": str(fake), "PYTHONPATH": str(PYTHON)}
-        words = [sys.executable, "-B", PYTHON / "tests" / "check_package.py", "Numbers", "Names"]
-        self.compiled(words, env=variables)
+        tests = (PYTHON / "tests" / "check_package.py", "Numbers", "Names")
+        self.runs(sys.executable, "-B", *tests, env=variables)
 
 
 SMALL_HEADER = """#ifndef _INPUT_EVENT_CODES_H
@@ -188,18 +178,11 @@ SMALL_TABLE = """- EV_KEY 1
 class EventCodes(FolderCase):
     """The numbers and names that the packages know, and the script that makes them of the system's header."""
 
-    script = TOP / "bindings" / "make_event_codes"
-
-    def made(self, *words):
-        done = subprocess.run([self.script, *words], capture_output=True, text=True, check=False)
-        return done.returncode, done.stdout, done.stderr
-
     def test_they_are_the_system_s(self):
         """All, where its header is of the same release; of another one the names that both have."""
-        module = loaded(self.script)
-        if not module.HEADER.is_file():
-            self.skipTest("linux-libc-dev is not there")
-        kept, (_status, made, _said) = EVENT_CODES.read_text(), self.made()
+        if not loaded(TOP / SCRIPT).HEADER.is_file():
+            self.skipTest("the kernel's header is not installed (Debian: linux-libc-dev)")
+        kept, made = EVENT_CODES.read_text(), said(SCRIPT).text
         if kept.splitlines()[0] == made.splitlines()[0]:
             self.assertEqual(kept, made)
         ours, theirs = (dict(re.findall(r"^\d+ (\w+) (\d+)$", text, re.M)) for text in (kept, made))
@@ -207,17 +190,15 @@ class EventCodes(FolderCase):
             self.assertEqual(ours[name], theirs[name], name)
 
     def test_a_small_header(self):
-        header = self.folder / "input-event-codes.h"
-        header.write_text(SMALL_HEADER)
-        status, made, said = self.made(header)
-        self.assertEqual((0, SMALL_TABLE, ""), (status, re.sub("^#.*\n", "", made, flags=re.M), said))
+        status, made, errors = said(SCRIPT, self.write("input-event-codes.h", SMALL_HEADER))
+        self.assertEqual((0, SMALL_TABLE, ""), (status, re.sub("^#.*\n", "", made, flags=re.M), errors))
         self.assertIn(", of an unknown release. ", made)
 
     def test_wrong_input(self):
-        (self.folder / "none.h").write_text("int i;\n")
+        self.write("none.h", "int i;\n")
         for name, why in (("none.h", "it has no event codes"), ("gone.h", "No such file or directory")):
             header = self.folder / name
-            self.assertEqual((2, "", f"bindings/make_event_codes: {header}: {why}\n"), self.made(header))
+            self.assertEqual((2, "", f"{SCRIPT}: {header}: {why}\n"), said(SCRIPT, header))
 
 
 class Stamp(FolderCase):
