@@ -53,17 +53,17 @@ static void ask(inputplay_handle_t *device, program *p) {
     p->a_is_down = (int)(reply.words[KEY_A / 64] >> (KEY_A % 64) & 1);
 }
 
-static void take(inputplay_handle_t *device, program *p, const inputplay_event_t *event) {
-    if (event->type == EV_SYN && event->code == SYN_DROPPED) {
+/* Whether it asked: then the keys are newer than all that it had read before. */
+static int take(inputplay_handle_t *device, program *p, const inputplay_event_t *event) {
+    int is_asked = p->drops && event->type == EV_SYN && event->code == SYN_REPORT;
+    if (event->type == EV_SYN && event->code == SYN_DROPPED)
         p->drops = p->is_right;
-    } else if (p->drops) {
-        if (event->type == EV_SYN && event->code == SYN_REPORT) {
-            p->drops = 0;
-            ask(device, p);
-        }
-    } else if (event->type == EV_KEY && event->code == KEY_A) {
+    else if (is_asked)
+        ask(device, p);
+    else if (!p->drops && event->type == EV_KEY && event->code == KEY_A)
         p->a_is_down = event->value != 0;
-    }
+    p->drops = p->drops && !is_asked;
+    return is_asked;
 }
 
 /* Reads until nothing is there. */
@@ -73,7 +73,8 @@ static void follow(inputplay_handle_t *device, program *p) {
     inputplay_reply_t reply;
     while ((reply = step(device, read, events, 16)).reply == INPUTPLAY_TOOK)
         for (uint32_t i = 0; i < reply.count; i++)
-            take(device, p, &events[i]);
+            if (take(device, p, &events[i]))
+                break;
 }
 
 static void key(inputplay_handle_t *device, uint16_t code, int32_t value) {
