@@ -10,6 +10,7 @@ from tests.desk_cases import PROGRAM, TOP, DeskCase, needs_program
 from tests.drawn_records import KEYS, MORE_KEYS, typed
 
 from inputtools.colours import COLOURS, RULES
+from inputtools.page import plain
 
 EXAMPLES = TOP / "examples"
 RECORDS = TOP / "tests" / "records"
@@ -272,10 +273,13 @@ class Pages(DrawCase):
                  "a\x01\x1b\n.rec": "a\\x01\\x1b\\n.rec", "\udcff\u202e.rec": "\\udcff\\u202e.rec"}
         for name, shown in names.items():
             with self.subTest(repr(name)):
-                page = self.page(self.file(name, (EXAMPLES / "one_key.rec").read_text()))
-                self.assertIn(f"<h1>{shown}</h1>", page)
-                self.assertTrue(page.isascii())
+                self.assertEqual(shown, plain(name))
                 ElementTree.fromstring(f"<h1>{shown}</h1>")
+        for name in list(names)[:4]:
+            with self.subTest(repr(name)):
+                page = self.page(self.file(name, (EXAMPLES / "one_key.rec").read_text()))
+                self.assertIn(f"<h1>{names[name]}</h1>", page)
+                self.assertTrue(page.isascii())
 
     def test_a_file_of_its_own(self):
         """With --output the page is in a file, and never over the record."""
