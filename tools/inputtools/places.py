@@ -46,7 +46,7 @@ class Places:
         """Places of one kind, the first three and the last of many."""
         if len(places) == 1:
             return f"{one} {self.bare(places[0])}"
-        shown = [self.bare(place) for place in places]
-        if len(shown) > 4:
-            shown = shown[:3] + [f".. {shown[-1]}, {len(places)} in all"]
+        shown = [self.bare(place) for place in (places if len(places) <= 4 else places[:3])]
+        if len(places) > 4:
+            shown.append(f".. {self.bare(places[-1])}, {len(places)} in all")
         return f"{more} {', '.join(shown)}"
