@@ -9,6 +9,7 @@ from inputtools.capture import Capture, seconds
 from inputtools.command import Wrong, counted
 from inputtools.description import comments, description_lines, hint_of, slots_of, version_of
 from inputtools.evtest import WHY_GRABBED
+from inputtools.identity import moment_of
 from inputtools.likely_slot import Guess, guess_of
 from inputtools.names import ABS, SYN, TRACKING_ID
 from inputtools.progress import progress
@@ -267,6 +268,7 @@ def record_of(recording: Recording, name: str, readers: List[Reader], options: O
     progress.tell(f"the record of {name} is made, of {len(recording.events)} events")
     assert recording.device is not None
     device = copy.deepcopy(recording.device)
+    device.identity.began = moment_of([min(event.time for event in recording.events) if base is None else base])
     capture = Capture(recording, device, options.hidden_keys, base)
     if options.hide_keys:
         hide_keys(device, capture)
