@@ -3,7 +3,7 @@
 import json
 import random
 
-from tests.desk_cases import DATA, TOP, DeskCase, needs_program
+from tests.desk_cases import DATA, TOP, DeskCase, needs_program, raw_capture, raw_events
 from inputtools.comparing import longest_ascending, pairs_of
 
 EXAMPLES = TOP / "examples"
@@ -148,6 +148,72 @@ class Records(CompareCase):
     def test_wrong_records(self):
         record = EXAMPLES / "stuck_key.rec"
         self.refused("compare", record, self.file("bad.rec", "inputrecord 1\nkeys\n"), because="line 2: bad-line")
+
+
+class Captures(CompareCase):
+    """What a client of a record reads, and what a program read."""
+
+    def setUp(self):
+        super().setUp()
+        needs_program(self)
+        words = [word for reader in ("reader", "desk", "g:grab=2-4", "leds:mask=EV_LED", "late:open=5", "gone:revoke=1",
+                                     "slow:slow") for word in ("--reader", reader)]
+        self.text = self.written("record", DATA / "keyboard.evtest", *words)
+        self.record = self.file("kbd.rec", self.text)
+        self.events = raw_events((DATA / "keyboard.bin").read_bytes())
+
+    def told(self, record, client, events, *words):
+        """The status, and the lines of a comparison."""
+        status, written, notes = self.tool("compare", f"{record}:{client}", self.file("c.bin", raw_capture(events)), *words)
+        return status, written.splitlines() + notes
+
+    def test_the_capture_of_the_record(self):
+        for form in ("evtest", "bin", "evemu", "libinput.yml"):
+            with self.subTest(form):
+                note = f"428 events of {DATA / 'keyboard'}.{form} as g reads them"
+                self.written("compare", f"{self.record}:g", DATA / f"keyboard.{form}", notes=[note])
+
+    def test_causes(self):
+        all_of, lost = self.events, [(0, 0, 3, 0), (0, 0, 0, 0)]
+        later = [(time + 5000 * (time > 3000000), *event) for time, *event in all_of]
+        eaten = self.text.replace("inputrecord 1", "inputrecord 2").replace("type EV_REP", "type EV_REP\nfilter eat EV_KEY KEY_H")
+        for record, client, events, what, likely in (
+            (self.record, "desk", all_of, "only in the second: nothing before the report of", "grab of g from place"),
+            (self.record, "leds", all_of, "", "its mask of types from place"),
+            (self.record, "late", all_of, "", "it opened the device later, at place"),
+            (self.record, "gone", all_of, "", "it was revoked at place"),
+            (self.record, "slow", all_of, "", "loss at place"),
+            (self.file("eaten.rec", eaten), "g", all_of, "", "eaten by filter 1 (eat KEY_H)"),
+            (self.record, "g", all_of[:200], "| nothing before the end", "the capture ends there"),
+            (self.record, "g", all_of[200:], "| nothing before", "the capture begins there"),
+            (self.record, "g", [event for event in all_of if event[1] != 4], "MSC_SCAN", "the program reads no MSC_SCAN at all"),
+            (self.record, "g", all_of[:40] + lost + all_of[60:], "", "the program's ring was full there: it read later"),
+            (self.record, "g", all_of[:40] + all_of[60:], "only in the first", "another program had grabbed the device"),
+            (self.record, "g", [(*all_of[0][:3], 7), *all_of[1:]], "MSC_SCAN 7", "the values differ: another run"),
+            (self.record, "g", all_of[:5] + [(9, 1, 98, 1)] + all_of[5:], "KEY_KPSLASH 1", "the record's device does not"),
+            (self.record, "g", later, "another time by +5000", "the clocks went apart"),
+        ):
+            with self.subTest(likely):
+                status, (first, second, *_) = self.told(record, client, events)
+                self.assertEqual((1, f"  likely: {likely}"), (status, second[: 10 + len(likely)]), first)
+                self.assertRegex(first, rf"^{client}, event \d+, place \d+: ")
+                self.assertIn(what, first)
+        self.assertEqual(0, self.told(self.record, "g", later, "--ignore", "times")[0])
+
+    def test_as_json(self):
+        _, (line, *_) = self.told(self.record, "desk", self.events, "--json")
+        told = json.loads(line)
+        self.assertEqual(("desk", None, {"line": 93, "text": "took EV_MSC MSC_SCAN 458765"}),
+                         (told["actor"], told["first"], told["second"]))
+        self.assertIn("grab of g", told["cause"])
+        self.assertIn("| `cause` |", (TOP / "docs" / "JSON.md").read_text())
+
+    def test_wrong_words(self):
+        capture = DATA / "keyboard.bin"
+        self.refused("compare", f"{self.record}:usb", capture, because="no client or tap is named usb; there are reader, desk")
+        self.refused("compare", f"{self.record}:g", DATA / "keyboard.udevadm", because="it has no events")
+        self.refused("compare", f"{self.folder / 'none'}:g", capture, because="none: No such file")
+        self.refused("compare", self.record, capture, "--16", because="--device and --16 are of a capture")
 
 
 class Wrongly(CompareCase):

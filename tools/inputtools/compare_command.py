@@ -1,15 +1,23 @@
 """Compares two reports, or the results of two records."""
 
+import argparse
 import json
-from typing import Callable, List, Optional, Sequence
+import os
+from dataclasses import replace
+from typing import Callable, List, Optional, Sequence, Tuple
 
-from inputtools.command import Result, Words, Wrong
+from inputtools import files
+from inputtools.command import Result, Words, Wrong, counted
 from inputtools.comparing import Difference, compare
+from inputtools.comparing_capture import END, Captured
+from inputtools.comparing_capture import Compared as Reading
+from inputtools.description import is_name
+from inputtools.places import seconds_text
 from inputtools.program import PLAYED, Player, find_player
 from inputtools.progress import progress
 from inputtools.refusal_hints import refusal_text
 from inputtools.report import Entry, Report, is_report
-from inputtools.source import Given, read_text
+from inputtools.source import Given, read_text, shown
 
 HELP = """Compares two reports, and says where they differ first. A and B are reports of the program, with or
 without a history; what is none is taken for a record, and is played first.
@@ -23,7 +31,11 @@ entries that come later by the same time is one difference.
 
 Each difference is one line: the actor, the number of the entry in its part of the report, the place in the device's
 history, what differs, and the line of each report, or the one before which it would stand. They stand actor by actor,
-and of a device's actors the one that differs at the first place is in front."""
+and of a device's actors the one that differs at the first place is in front.
+
+With RECORD:CLIENT as A the second one is a capture of what a real program read: raw, or as evtest, evemu or libinput
+record write it. The events that the client of the record reads are compared with it. A second line tells the likely
+cause of the difference: a grab, a mask, a loss, the capture's begin or end .."""
 
 STATUSES = """Status 0: no difference. 1: they differ. 2: wrong words, or a file that is neither a report nor a record that
 can be played. 4: standard output failed. 130: stopped from the keyboard."""
@@ -81,24 +93,69 @@ def difference_text(each: Difference, first: Compared, second: Compared) -> str:
     return f"{who}{where}: {each.what}" + ("" if each.first is each.second else f": {' | '.join(lines)}")
 
 
-def difference_json(each: Difference) -> str:
+def difference_json(each: Difference, **more: str) -> str:
     told = {"device": each.device, "actor": each.actor, "entry": each.entry, "place": each.place, "what": each.what}
     lines = {"first": each.first, "second": each.second, "before": each.before}
     sides = {side: line and {"line": line.number, "text": line.text} for side, line in lines.items()}
-    return json.dumps({**told, **sides})
+    return json.dumps({**told, **sides, **more})
+
+
+def client_of(path: str) -> Optional[Tuple[str, str]]:
+    """The record and the client that a word names, or None where it names a file."""
+    record, colon, name = path.rpartition(":")
+    return (record, name) if colon and is_name(name) and not os.path.exists(path) else None
+
+
+def side_text(name: str, line: Optional[Entry], before: Optional[Entry], base: int) -> str:
+    """A line of the report, or an event of a capture."""
+    if line is None:
+        return "nothing" + (f" before {side_text(name, before, None, base)}" if before else "")
+    if isinstance(line, Captured):
+        return f"{name}, event {line.number} at {seconds_text(line.time - base)}: {line.event.text()}"
+    return line.text if line.text == END else f"{name}:{line.number}: {line.text}"
+
+
+def compare_with_capture(asked: argparse.Namespace, record: str, client: str) -> Result:
+    """What a client of a record reads, and what a program read."""
+    given, recording = Given(record), files.read(asked.second, asked.device, 16 if asked.is_16 else None)
+    if not recording.events:
+        raise Wrong(f"{shown(asked.second)}: it has no events")
+    both = Reading(given, client, recording.events, find_player())
+    base = min(event.time for event in recording.events)
+    texts, found = [], both.differences(asked.ignore == "times")
+    for each in found if asked.all else found[:1]:
+        cause, each = both.cause_of(each), replace(each, place=both.place_of(each))
+        if asked.json:
+            texts.append(difference_json(each, cause=cause))
+            continue
+        names = [(f"the report of {given.name}", each.first), (shown(asked.second), each.second)]
+        sides = [side_text(name, line, each.before, base) for name, line in names]
+        entry = "" if each.entry is None else f", event {each.entry}"
+        texts += [f"{client}{entry}, place {each.place}: {each.what}: {' | '.join(sides)}", f"  likely: {cause}"]
+    count = counted(len(recording.events), "event")
+    notes = [f"{count} of {shown(asked.second)} as {client} reads them"] if not found else []
+    notes += [f"{len(found)} differences; --all writes them all"] if len(found) > 1 and not asked.all else []
+    return Result("".join(text + "\n" for text in texts), notes, int(bool(found)))
 
 
 def command(arguments: List[str]) -> Result:
     words = Words(prog="compare", description=HELP, epilog=STATUSES)
-    words.add_argument("first", metavar="A", help="a report or a record; - is standard input")
-    words.add_argument("second", metavar="B", help="another one")
+    words.add_argument("first", metavar="A", help="a report or a record; - is standard input; or RECORD:CLIENT")
+    words.add_argument("second", metavar="B", help="another one; with RECORD:CLIENT a capture")
     words.add_argument("--all", action="store_true", help="write all differences, not only the first")
     words.add_argument("--ignore", choices=["times"], help="leave the times of events out")
     words.add_argument("--json", action="store_true", help="write JSON, one object a line (docs/JSON.md)")
+    words.add_argument("--device", metavar="N", help="of several devices of a capture the N-th, or the one of this name")
+    words.add_argument("--16", dest="is_16", action="store_true", help="the capture is raw, of 16 bytes an event")
     asked = words.parse_args(arguments)
+    client = client_of(asked.first)
+    if client:
+        return compare_with_capture(asked, *client)
+    if asked.device is not None or asked.is_16:
+        raise Wrong("--device and --16 are of a capture, which goes with RECORD:CLIENT")
     first, second = reports_of([asked.first, asked.second])
     found = compare(first.report(), second.report(), asked.ignore == "times")
-    shown = found if asked.all else found[:1]
-    texts = [difference_json(each) if asked.json else difference_text(each, first, second) for each in shown]
-    notes = [f"{len(found)} differences; --all writes them all"] if len(found) > len(shown) else []
+    shown_ones = found if asked.all else found[:1]
+    texts = [difference_json(each) if asked.json else difference_text(each, first, second) for each in shown_ones]
+    notes = [f"{len(found)} differences; --all writes them all"] if len(found) > len(shown_ones) else []
     return Result("".join(text + "\n" for text in texts), notes, int(bool(found)))

@@ -252,7 +252,7 @@ class Parts:
 
     def difference(self, what: str, one: Optional[Item], other: Optional[Item], before: Optional[Item] = None) -> Difference:
         items = [item for item in (one, other) if item]
-        place = min((item.place for item in items if item.place is not None), default=None)
+        place = min((item.place for item in items if item.place is not None), default=before.place if before else None)
         first, second, third = (item.line if item else None for item in (one, other, before))
         return Difference(what, self.device, self.name, items[0].number, place, first, second, third)
 
