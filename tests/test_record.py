@@ -151,6 +151,11 @@ class RoundTrip(DeskCase):
         self.assertEqual(raw_events((DATA / "keyboard.bin").read_bytes())[:32], came)
 
 
+    def test_a_byte_order_mark(self):
+        for form in ("evtest", "evemu", "libinput.yml"):
+            marked = self.file("marked", b"\xef\xbb\xbf" + (DATA / f"lid.{form}").read_bytes())
+            self.assertEqual(self.written("record", DATA / f"lid.{form}"), self.written("record", marked))
+
     def test_what_a_terminal_shows_besides(self):
         """A list of devices before a tool's first line, `^C` after its last one, a fault that it met."""
         noise = "Available devices:\n/dev/input/event0:\tKeyboard\nSelect the device event number [0-1]: "
@@ -772,6 +777,10 @@ class WrongInput(DeskCase):
             (keyboard[:24] + bad_record(code=0x300), "record 2 of this raw capture, of 24 bytes from byte 24 on, is no event: EV_KEY has no code 768"),
             (GRABBED, "it has no events: evtest says that another process has grabbed the device"),
             (b"hello\n", "not in a form that is known"),
+            (KEYS.encode("utf-16"), "this text is in UTF-16, as PowerShell's > and some editors write it: iconv"),
+            (KEYS.encode("utf-16-be"), "this text is in UTF-16"),
+            (re.sub("^", "> ", KEYS, flags=re.MULTILINE), "its lines begin with >, as a mail quotes them: sed"),
+            (keyboard[:48] + (DATA / "mouse.bin").read_bytes()[:96], "lacks: 3 of 5 events are of such: are two devices in"),
             ((DATA / "mouse.bin").read_bytes(), "EV_REL REL_X 1 at 0.000000 s, is of a code that the desc"),
             ((DATA / "keyboard.proc").read_bytes(), "2 devices"),
             ((DATA / "two.libinput.yml").read_bytes(), "2 devices"),
@@ -782,7 +791,7 @@ class WrongInput(DeskCase):
             ("E: 0.000001 0001 001e 99999999999\nE: 0.000002 0000 0000 0000\n", "line 1: the value 999999"),
             ("# EVEMU 1.3\nE: 0.1 0001 001e 0001\nE: 0.000002 0000 0000 0000\n", "line 2: no event as evemu"),
             ("devices:\n- node: x\n  events:\n  - evdev:\n    - [ 0, 0, 1, 30]\n  - evdev:\n", "line 5: no"),
-            (raw_capture(long_frame), "a frame has 600 events, and a record's frames at most 511"),
+            (raw_capture(long_frame), "a frame has 600 events, and a record's frames at most 511: are reports (SYN_REPORT) missing"),
             (raw_capture([(0, 1, 30, 1), (2**54, 0, 0, 0)], base=0), "lasts longer"),
         ):
             with self.subTest(because=because):
@@ -814,7 +823,7 @@ class WrongInput(DeskCase):
         path = self.file("c", raw_capture(frames([(1, 30, 2)]) * 7000))
         readers = [word for number in range(60) for word in ("--reader", f"{'r' * 29}{number:03}")]
         header = self.file("h", KEYS)
-        self.refused("record", header, path, *readers, because="more than 16777216 bytes; try --stream")
+        self.refused("record", header, path, *readers, because="more than 16777216 bytes: take a part with --from and --to, fewer readers, or have")
 
     def test_wrong_words(self):
         self.refused("record", because="required: DESCRIPTION")

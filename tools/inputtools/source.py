@@ -50,10 +50,10 @@ def write_bytes(path: str, data: bytes) -> None:
 
 
 def is_stream(path: str) -> bool:
-    """Is it standard input, or another file that can be read once? (What is named below /dev or /proc, as /dev/stdin, is
-    another file to another process.)"""
+    """Is it standard input, or another file that can be read once? (What /dev/stdin, /dev/fd
+    and /proc name is another file to another process.)"""
     is_none = path != INPUT and (os.path.isdir(path) or not os.path.exists(path))
-    return not is_none and (not os.path.isfile(path) or os.path.abspath(path).startswith(("/dev/", "/proc/")))
+    return not is_none and (not os.path.isfile(path) or os.path.abspath(path).startswith(("/dev/std", "/dev/fd/", "/proc/")))
 
 
 def as_file(path: str) -> str:

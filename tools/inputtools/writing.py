@@ -231,7 +231,7 @@ class Record:
     def stream_bytes(self) -> bytes:
         events = [event for frame in self.frames for event in frame.all_events()]
         if len(events) * STREAM_RECORD.size > GREATEST_TEXT:
-            raise Wrong(f"the stream would have more than {GREATEST_TEXT} bytes")
+            raise Wrong(f"the stream would have more than {GREATEST_TEXT} bytes: take a part with --from and --to")
         return b"".join(STREAM_RECORD.pack(*divmod(event.time, 1000000), *event[1:]) for event in events)
 
 
@@ -242,7 +242,8 @@ def text_of(lines: Iterable[str]) -> str:
         line = line.encode("ascii", "backslashreplace").decode() + "\n"
         size += len(line)
         if size > GREATEST_TEXT:
-            raise Wrong(f"the record would have more than {GREATEST_TEXT} bytes; try --stream")
+            raise Wrong(f"the record would have more than {GREATEST_TEXT} bytes: take a part with --from and --to, fewer readers, "
+                        "or have the events written to a file by --stream")
         parts.append(line)
     return "".join(parts)
 
