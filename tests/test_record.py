@@ -851,6 +851,13 @@ class WrongInput(DeskCase):
         report = self.play(self.written("record", path, "--device", "2", notes=["ends within a frame"]))
         self.assertEqual(raw_events((DATA / "mouse.bin").read_bytes())[:2], taken(report)[:2])
 
+    def test_a_record_that_was_saved_otherwise(self):
+        text = "inputrecord 1\ndevice d\n"
+        for content, because in ((text.encode("utf-16"), "this text is in UTF-16"), (b"\xef\xbb\xbf" + text.encode(), "a byte order mark"),
+                                 (f"> {text}> source s\n", "its lines begin with >, as a mail quotes them")):
+            with self.subTest(because=because):
+                self.refused("stuck", self.file("case.rec", content), because=because)
+
     def test_as_a_command(self):
         words = [TOOLS / "record", DATA / "lid.evtest"]
         done = subprocess.run(words, capture_output=True, text=True, cwd="/")

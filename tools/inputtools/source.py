@@ -3,6 +3,7 @@ as a pipe, is read to its end first: it cannot be read a second time, nor by the
 
 import atexit
 import os
+import re
 import shutil
 import sys
 import tempfile
@@ -12,6 +13,8 @@ from inputtools.command import Wrong
 
 INPUT = "-"
 NAME = "standard input"
+# Names of the files that a process has open.
+OWN = re.compile("/dev/(std|fd/)|/proc/[^/]+/fd/")
 
 _read: List[bool] = []
 
@@ -50,10 +53,9 @@ def write_bytes(path: str, data: bytes) -> None:
 
 
 def is_stream(path: str) -> bool:
-    """Is it standard input, or another file that can be read once? (What /dev/stdin, /dev/fd
-    and /proc name is another file to another process.)"""
+    """Is it standard input, or another file that can be read once, or one that is another file to another process?"""
     is_none = path != INPUT and (os.path.isdir(path) or not os.path.exists(path))
-    return not is_none and (not os.path.isfile(path) or os.path.abspath(path).startswith(("/dev/std", "/dev/fd/", "/proc/")))
+    return not is_none and (not os.path.isfile(path) or bool(OWN.match(os.path.abspath(path))))
 
 
 def as_file(path: str) -> str:
