@@ -247,6 +247,8 @@ class Clock(DeskCase):
         self.assertIn(f"{wanted}\n", self.written("describe", DATA / "lid.evtest"))
         kept = self.file("kept.rec", self.written("record", DATA / "lid.evtest"))
         self.assertIn(f"{wanted}\n", self.written("describe", kept))
+        exported = self.file("kept.evemu", self.written("export", kept, "--evemu"))
+        self.assertIn(f"{wanted}\n", self.written("record", exported))
         # The clocks of these tell no day. A capture keeps its own begin, and not that of a description.
         for words in ([DATA / "lid.evemu"], [DATA / "lid.libinput.yml"], [kept, DATA / "lid.evemu"]):
             with self.subTest(words=words):

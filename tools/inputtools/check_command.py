@@ -59,7 +59,7 @@ def command(arguments: List[str]) -> Result:
     words.add_argument("--junit", metavar="FILE", help="write JUnit's XML to FILE besides")
     add_wall(words)
     asked = words.parse_args(arguments)
-    wall.ask(asked)
+    wall.ask(asked.wall, asked.json)
     player = find_player()
     records = [check(path, player) for path in asked.records]
     if asked.junit is not None:

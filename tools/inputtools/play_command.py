@@ -139,7 +139,7 @@ def command(arguments: List[str]) -> Result:
     words.add_argument("--json", action="store_true", help="write one JSON object a line (docs/JSON.md)")
     add_wall(words)
     asked = words.parse_args(arguments)
-    wall.ask(asked)
+    wall.ask(asked.wall, asked.json)
     player = find_player()
     tell(f"{name_of('play')}: {player.told()}")
     statuses: List[int] = []

@@ -149,6 +149,8 @@ def read_both(asked: argparse.Namespace) -> Recording:
         why = f": {WHY_GRABBED}" if captured.was_grabbed else ""
         raise Wrong(f"{shown(asked.capture or asked.description)}: it has no events{why}")
     captured.device = described.device
+    if asked.capture:
+        captured.device.identity.began = None
     return captured
 
 

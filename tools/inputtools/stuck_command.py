@@ -45,7 +45,7 @@ def command(arguments: List[str]) -> Result:
     words.add_argument("--end", action="store_true", help="what is so at the end alone")
     asked = words.parse_args(arguments)
     only = Asked(asked.client, asked.thing, asked.end)
-    wall.ask(asked)
+    wall.ask(asked.wall, asked.json)
     devices = narrow(play(Given(asked.file), find_player()), only)
     if asked.json:
         asked_for = line_of("only", clients=only.readers, things=only.things, end=only.is_end)

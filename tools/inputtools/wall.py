@@ -1,6 +1,5 @@
 """Times as the clock showed them: of a record whose comments tell when its capture began."""
 
-import argparse
 from datetime import timedelta
 from typing import Dict, List, Optional, Tuple
 
@@ -23,11 +22,11 @@ class Wall:
     def __init__(self) -> None:
         self.is_asked, self.began = False, EPOCH
 
-    def ask(self, asked: argparse.Namespace) -> None:
+    def ask(self, is_asked: bool, is_json: bool = False) -> None:
         """Tells times by the clock from now on, where that is asked for."""
-        if asked.wall and asked.json:
+        if is_asked and is_json:
             raise Wrong("--wall is for people: with --json times are microseconds, from the moment of `# began:` on")
-        self.is_asked = asked.wall
+        self.is_asked = is_asked
 
     def begin(self, name: str, text: str) -> None:
         """Tells the times of this record."""

@@ -3,6 +3,7 @@
 import copy
 import struct
 from dataclasses import dataclass
+from datetime import timedelta
 from typing import Iterable, Iterator, List, NamedTuple, Optional, Set
 
 from inputtools.capture import Capture, seconds
@@ -269,7 +270,9 @@ def record_of(recording: Recording, name: str, readers: List[Reader], options: O
     progress.tell(f"the record of {name} is made, of {len(recording.events)} events")
     assert recording.device is not None
     device = copy.deepcopy(recording.device)
-    device.identity.began = moment_of([min(event.time for event in recording.events) if base is None else base])
+    least = min(event.time for event in recording.events) if base is None else base
+    began = device.identity.began
+    device.identity.began = moment_of([least]) or (began and began + timedelta(microseconds=least))
     capture = Capture(recording, device, options.hidden_keys, base)
     if options.hide_keys:
         hide_keys(device, capture)
