@@ -196,7 +196,7 @@ class Captures(CompareCase):
             with self.subTest(likely):
                 status, (first, second, *_) = self.told(record, client, events)
                 self.assertEqual((1, f"  likely: {likely}"), (status, second[: 10 + len(likely)]), first)
-                self.assertRegex(first, rf"^{client}, event \d+, place \d+: ")
+                self.assertRegex(first, rf"^{client}, entry \d+, place \d+: ")
                 self.assertIn(what, first)
         self.assertEqual(0, self.told(self.record, "g", later, "--ignore", "times")[0])
 

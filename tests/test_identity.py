@@ -271,7 +271,7 @@ class Clock(DeskCase):
                 self.assertIn(wanted, done.stdout)
         self.refused("stuck", "--wall", "--json", path, because="--wall is for people")
         bare = self.file("bare.rec", re.sub("# began:.*", "", text))
-        self.refused("stuck", "--wall", bare, because="bare.rec: no comment `# began: 2025")
+        self.refused("stuck", "--wall", bare, because="bare.rec: --wall wants a comment `# began: 2025")
 
     def test_another_day_and_another_clock(self) -> None:
         text = ("inputrecord 1\ndevice d\n# began: 2025-12-31T23:59:59+00:00\nclock realtime 500\ncap EV_KEY KEY_A\nsource s\n"

@@ -20,10 +20,10 @@ FILE is one of these, and which one is seen by its content:
   - the lines of a record
 
 The hint is the kernel's own estimate of the events of a frame. Fuzz is written as 0, since a kernel has
-applied it to each capture already. Comments behind the line `device` tell who it is: its name, phys, uniq, ids and
-properties, as far as FILE does, and what the clock showed when a capture began. Others tell what was left out: force feedback, codes that no record has. Comments
-`# state TYPE CODE VALUE` tell what was on, which `tools/record` reads.
-"""
+applied it to each capture already. Comments behind the line `device` tell who it is: its name, phys, uniq,
+ids and properties, as far as FILE does, and what the clock showed when a capture began. Others tell what was
+left out: force feedback, codes that no record has. Comments `# state TYPE CODE VALUE` tell what was on, which
+`tools/record` reads. """
 
 STATUSES = """Status 0: it was written. 2: wrong words, or a file that describes no device. 4: standard output failed. 130:
 stopped from the keyboard."""

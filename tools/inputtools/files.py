@@ -27,7 +27,8 @@ Read = TypeVar("Read")
 def read_bytes(path: str) -> bytes:
     data = source.read_bytes(path, GREATEST_SIZE + 1)
     if len(data) > GREATEST_SIZE:
-        raise Wrong(f"{source.shown(path)}: more than {GREATEST_SIZE} bytes: take a part of it, as by head -c or head -n")
+        helps = "take a part of it, as by head -c or head -n"
+        raise Wrong(f"{source.shown(path)}: more than {GREATEST_SIZE} bytes: {helps}")
     return data
 
 

@@ -1,5 +1,5 @@
-"""Who a device is: its name, where it is plugged in, its serial number, its ids and its properties; and when the capture
-of it began.
+"""Who a device is: its name, where it is plugged in, its serial number, its ids and its properties; and when
+the capture of it began.
 
 A record keeps this in comments right behind the line of the device, each on a line of its own:
 
@@ -93,8 +93,8 @@ def moment_told(text: str) -> Optional[datetime]:
 
 
 def moment_of(times: Iterable[int]) -> Optional[datetime]:
-    """What the clock showed at the least of the times of a capture, in the zone of this machine; None where they are not
-    of the realtime clock."""
+    """What the clock showed at the least of a capture's times, in the zone of this machine; None where they
+    are not of the realtime clock."""
     least = min(times, default=0)
     return (EPOCH + timedelta(microseconds=least)).astimezone() if least in REALTIME else None
 

@@ -41,7 +41,8 @@ UTF_16 = re.compile(rb"(\xff\xfe)?([\t\n\r -~]\0){4}|(\xfe\xff)?(\0[\t\n\r -~]){
 def said_of_text(data: bytes) -> Optional[str]:
     """What became of a text on its way, or None: it was saved in UTF-16, or quoted in a mail."""
     if UTF_16.match(data):
-        return "this text is in UTF-16, as PowerShell's > and some editors write it: iconv -f UTF-16 -t UTF-8 mends it"
+        return ("this text is in UTF-16, as PowerShell's > and some editors write it: "
+                "iconv -f UTF-16 -t UTF-8 mends it")
     lines = [line for line in data[:4096].splitlines() if line.strip()]
     if b"\0" not in data[:4096] and 2 * sum(line.startswith(b">") for line in lines) > len(lines):
         return "its lines begin with >, as a mail quotes them: sed 's/^> \\?//' takes that off"

@@ -1,5 +1,6 @@
-"""Reads the files that a command is given. `-` stands for standard input, which is read once. What is no regular file,
-as a pipe, is read to its end first: it cannot be read a second time, nor by the program that plays."""
+"""Reads the files that a command is given. `-` stands for standard input, which is read once. What is no
+regular file, as a pipe, is read to its end first: it cannot be read a second time, nor by the program that
+plays."""
 
 import atexit
 import os
@@ -53,7 +54,8 @@ def write_bytes(path: str, data: bytes) -> None:
 
 
 def is_stream(path: str) -> bool:
-    """Is it standard input, or another file that can be read once, or one that is another file to another process?"""
+    """Is it a file that can be read once, as standard input, or one that is another file to another
+    process?"""
     is_none = path != INPUT and (os.path.isdir(path) or not os.path.exists(path))
     return not is_none and (not os.path.isfile(path) or bool(OWN.match(os.path.abspath(path))))
 
@@ -72,8 +74,8 @@ def as_file(path: str) -> str:
 
 
 def folder_of(path: str) -> str:
-    """The folder in which a record is played, which has the files of its `stream` lines: for standard input or a pipe
-    the present one."""
+    """The folder in which a record is played, which has the files of its `stream` lines: for standard input
+    or a pipe the present one."""
     return os.getcwd() if is_stream(path) else os.path.dirname(os.path.abspath(path))
 
 

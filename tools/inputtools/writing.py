@@ -24,12 +24,13 @@ from inputtools.initial_state import State, events_between, state_before, state_
 GREATEST_TEXT = 16 * 1024 * 1024
 DEFAULT_LOG, GREATEST_LOG = 1048576, 8388608
 LOSS_COMMENT = "# Events were lost here. This frame was not captured; it has what they must have changed."
+SHORTER = "take a part with --from and --to"
 STREAM_RECORD = struct.Struct("<QQHHi")
 
 
 @dataclass
 class Written:
-    """A frame as the record has it. One that stands for a loss was not captured. A guess is told before it."""
+    """A frame as the record has it. One that stands for a loss was not captured. A guess is told before."""
 
     time: int
     events: List[Event]
@@ -147,9 +148,9 @@ class Record:
 
     def guess_notes(self) -> List[str]:
         """What is said of the slots that are guessed."""
-        first, *more = [f"behind the loss at {seconds(guess.lost)} {guess.text()}" for guess in self.guesses()] or [""]
-        others = f"; and so at {counted(len(more), 'place')} more" if more else ""
-        return [first + others] if first else []
+        said = [f"behind the loss at {seconds(guess.lost)} {guess.text()}" for guess in self.guesses()]
+        more = f"; and so at {counted(len(said) - 1, 'place')} more" if said[1:] else ""
+        return [said[0] + more] if said else []
 
     def note_unpassed(self, unpassed: List[Event]) -> None:
         if unpassed:
@@ -232,7 +233,7 @@ class Record:
     def stream_bytes(self) -> bytes:
         events = [event for frame in self.frames for event in frame.all_events()]
         if len(events) * STREAM_RECORD.size > GREATEST_TEXT:
-            raise Wrong(f"the stream would have more than {GREATEST_TEXT} bytes: take a part with --from and --to")
+            raise Wrong(f"the stream would have more than {GREATEST_TEXT} bytes: {SHORTER}")
         return b"".join(STREAM_RECORD.pack(*divmod(event.time, 1000000), *event[1:]) for event in events)
 
 
@@ -243,7 +244,7 @@ def text_of(lines: Iterable[str]) -> str:
         line = line.encode("ascii", "backslashreplace").decode() + "\n"
         size += len(line)
         if size > GREATEST_TEXT:
-            raise Wrong(f"the record would have more than {GREATEST_TEXT} bytes: take a part with --from and --to, fewer readers, "
+            raise Wrong(f"the record would have more than {GREATEST_TEXT} bytes: {SHORTER}, fewer readers, "
                         "or have the events written to a file by --stream")
         parts.append(line)
     return "".join(parts)
