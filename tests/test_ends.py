@@ -128,9 +128,11 @@ class Stopped(EndsCase):
     def test_what_is_loaded_before_a_stop_is_heeded(self):
         """Each module that a tool loads itself is loaded after: a stop meanwhile would print a traceback."""
         text = ("import _signal, sys; sys.path.insert(0, sys.argv[1]); hears = _signal.default_int_handler\n"
-                "def tell(what, name):\n    if what == 'import' and _signal.getsignal(2) is hears: print(name[0])\n"
+                "def tell(what, name):\n"
+                "    if what == 'import' and _signal.getsignal(2) is hears: print(name[0])\n"
                 "sys.addaudithook(tell); import inputtools.compare_command")
-        done = subprocess.run([sys.executable, "-BSc", text, TOOLS], capture_output=True, text=True, preexec_fn=heed_stops)
+        words = [sys.executable, "-BSc", text, TOOLS]
+        done = subprocess.run(words, capture_output=True, text=True, preexec_fn=heed_stops)
         loaded = [name for name in done.stdout.split() if not name.startswith("inputtools")]
         self.assertEqual((0, "", []), (done.returncode, done.stderr, loaded))
 

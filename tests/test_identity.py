@@ -163,7 +163,8 @@ class Umockdev(DeskCase):
             with self.subTest(words[0]):
                 words = ["umockdev-run", "-d", path, "--", *words]
                 done = subprocess.run(words, capture_output=True, text=True, timeout=30, check=False)
-                self.assertEqual((0, []), (done.returncode, [line for line in wanted if line not in done.stdout]), done.stderr)
+                missing = [line for line in wanted if line not in done.stdout]
+                self.assertEqual((0, []), (done.returncode, missing), done.stderr)
 
 
 def needs(test: unittest.TestCase, program: str, package: str) -> None:
@@ -177,7 +178,8 @@ class RealTools(DeskCase):
 
     def setUp(self) -> None:
         super().setUp()
-        text = self.written("record", DATA / "touchpad.evtest", "--identity", DATA / "touchpad.udevadm", "--to", "0.2")
+        words = [DATA / "touchpad.evtest", "--identity", DATA / "touchpad.udevadm", "--to", "0.2"]
+        text = self.written("record", *words)
         self.record = self.file("touchpad.rec", text)
         self.evemu = self.file("touchpad.evemu", self.written("export", self.record, "--evemu"))
         lines = [line.split() for line in text.splitlines() if line.startswith("do driver event ")]
@@ -193,7 +195,8 @@ class RealTools(DeskCase):
         ours, theirs = os.openpty()
         tty.setraw(theirs)
         data = b""
-        with open(self.evemu, "rb") as file, subprocess.Popen(["evemu-play", os.ttyname(theirs)], stdin=file) as play:
+        words = ["evemu-play", os.ttyname(theirs)]
+        with open(self.evemu, "rb") as file, subprocess.Popen(words, stdin=file) as play:
             while len(data) < 24 * len(self.events) and select.select([ours], [], [], 10)[0]:
                 data += os.read(ours, 65536)
         os.close(ours)
@@ -240,8 +243,8 @@ class Clock(DeskCase):
 
     def test_the_moment_is_kept(self) -> None:
         wanted = "# began: 2025-11-27T15:04:59.501395+01:00"
-        for words in ([DATA / "lid.evtest"], [DATA / "lid.evemu", DATA / "lid.bin"], [DATA / "lid.evtest", "--from", "1"],
-                      ["--all-devices", DATA / "lid.evtest"]):
+        for words in ([DATA / "lid.evtest"], [DATA / "lid.evemu", DATA / "lid.bin"],
+                      [DATA / "lid.evtest", "--from", "1"], ["--all-devices", DATA / "lid.evtest"]):
             with self.subTest(words=words):
                 self.assertIn(f"{wanted}\n", self.written("record", *words))
         self.assertIn(f"{wanted}\n", self.written("describe", DATA / "lid.evtest"))
@@ -256,15 +259,17 @@ class Clock(DeskCase):
 
     def ran(self, tool: str, *words: object) -> "subprocess.CompletedProcess[str]":
         env = {**os.environ, "INPUTPLAY": PROGRAM}
-        return subprocess.run([TOOLS / tool, *map(str, words)], env=env, capture_output=True, text=True, check=False)
+        return subprocess.run([TOOLS / tool, *map(str, words)], env=env, capture_output=True, text=True)
 
     def test_times_are_told_by_the_clock(self) -> None:
         text = self.written("record", DATA / "lid.evtest", "--reader", "a:grab", "--reader", "b")
         path = self.file("lid.rec", text + "#= b takes SW_LID\n#= a never SW_LID 0\n")
         needs_program(self)
-        for tool, status, wanted in (("stuck", 0, "since place 14 (15:06:10.497226): grab of a from place 4 (15:04:59.501395) on"),
-                                     ("check", 1, "b takes SW_LID: at place 97 (15:29:44.433229): it did not come"),
-                                     ("play", 0, "took 11 62020412 EV_SW SW_LID 1  # 15:06:01.521807")):
+        for tool, status, wanted in (
+            ("stuck", 0, "since place 14 (15:06:10.497226): grab of a from place 4 (15:04:59.501395) on"),
+            ("check", 1, "b takes SW_LID: at place 97 (15:29:44.433229): it did not come"),
+            ("play", 0, "took 11 62020412 EV_SW SW_LID 1  # 15:06:01.521807"),
+        ):
             with self.subTest(tool):
                 done = self.ran(tool, "--wall", path)
                 self.assertEqual(status, done.returncode, done.stderr)
@@ -274,13 +279,15 @@ class Clock(DeskCase):
         self.refused("stuck", "--wall", bare, because="bare.rec: --wall wants a comment `# began: 2025")
 
     def test_another_day_and_another_clock(self) -> None:
-        text = ("inputrecord 1\ndevice d\n# began: 2025-12-31T23:59:59+00:00\nclock realtime 500\ncap EV_KEY KEY_A\nsource s\n"
-                "tap t\ndo t open\ndo s event 999999 EV_KEY KEY_A 1\ndo s event 999999 EV_SYN SYN_REPORT 0\ndo t read 9\n"
-                "do t clock monotonic 1000000\ndo s event 1500000 EV_KEY KEY_A 0\ndo s event 1500000 EV_SYN SYN_REPORT 0\n"
-                "do t read 9\n")
+        text = ("inputrecord 1\ndevice d\n# began: 2025-12-31T23:59:59+00:00\nclock realtime 500\n"
+                "cap EV_KEY KEY_A\nsource s\ntap t\ndo t open\n"
+                "do s event 999999 EV_KEY KEY_A 1\ndo s event 999999 EV_SYN SYN_REPORT 0\ndo t read 9\n"
+                "do t clock monotonic 1000000\n"
+                "do s event 1500000 EV_KEY KEY_A 0\ndo s event 1500000 EV_SYN SYN_REPORT 0\ndo t read 9\n")
         needs_program(self)
         written = self.ran("play", "--wall", self.file("day.rec", text)).stdout
-        for wanted in ("took 2 1000499 EV_KEY KEY_A 1  # 23:59:59.999999", "done 4  # 2026-01-01 00:00:00.000000",
+        for wanted in ("took 2 1000499 EV_KEY KEY_A 1  # 23:59:59.999999",
+                       "done 4  # 2026-01-01 00:00:00.000000",
                        "took 6 1500000 EV_KEY KEY_A 0  # 2026-01-01 00:00:00.500000"):
             self.assertIn(f"{wanted}\n", written)
 

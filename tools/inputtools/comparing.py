@@ -247,7 +247,7 @@ class Parts:
             what = "another" if one and other else "only in the first" if one else "only in the second"
             found.append(self.difference(what, one, other, before))
         if not self.is_whole:
-            what = f"more than {GREATEST_DISTANCE} entries are left over, and those behind paired by their kind"
+            what = f"more than {GREATEST_DISTANCE} entries are left over, those behind paired by their kind"
             found.append(Difference(what, self.device, self.name))
         return found + self.other_counts() + ([] if ignores_times else self.other_times())
 
