@@ -151,16 +151,18 @@ class Umockdev(DeskCase):
         none = self.file("none.rec", "inputrecord 1\n")
         self.refused("export", none, "--umockdev", because="it has no device")
 
-    def test_umockdev_and_udevadm_take_it(self) -> None:
+    def test_umockdev_udevadm_and_libinput_take_it(self) -> None:
+        """They know the device by its name and ids, as libinput's quirks do."""
         needs(self, "umockdev-run", "umockdev")
-        needs(self, "udevadm", "udev")
         path = self.file("touchpad.umockdev", self.described("touchpad"))
-        for words, wanted in (
-            (["cat", "/sys/class/input/event0/device/name"], ["ETPS/2 Elantech Touchpad"]),
-            (["udevadm", "info", "-q", "property", "/dev/input/event0"],
+        for package, words, wanted in (
+            ("coreutils", ["cat", "/sys/class/input/event0/device/name"], ["ETPS/2 Elantech Touchpad"]),
+            ("udev", ["udevadm", "info", "-q", "property", "/dev/input/event0"],
              ["DEVNAME=/dev/input/event0", "ID_INPUT_TOUCHPAD=1", "ID_INPUT_WIDTH_MM=98"]),
+            ("libinput-tools", ["libinput", "quirks", "list", "/dev/input/event0"], ["AttrPressureRange="]),
         ):
             with self.subTest(words[0]):
+                needs(self, words[0], package)
                 words = ["umockdev-run", "-d", path, "--", *words]
                 done = subprocess.run(words, capture_output=True, text=True, timeout=30, check=False)
                 missing = [line for line in wanted if line not in done.stdout]
