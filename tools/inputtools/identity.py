@@ -28,6 +28,8 @@ PREFIX = "INPUT_PROP_"
 EPOCH = datetime(1970, 1, 1, tzinfo=timezone.utc)
 # Times since 1970 are in here, in microseconds, and those since a machine was started are not.
 REALTIME = range(10**15, 7 * 10**15)
+# (a record's moments go on for 285 years)
+YEARS = range(1970, 9000)
 
 
 class Ids(NamedTuple):
@@ -89,7 +91,7 @@ def moment_told(text: str) -> Optional[datetime]:
         moment = datetime.fromisoformat(text.strip())
     except ValueError:
         return None
-    return moment if moment.tzinfo else None
+    return moment if moment.tzinfo and moment.year in YEARS else None
 
 
 def moment_of(times: Iterable[int]) -> Optional[datetime]:

@@ -51,8 +51,9 @@ def said_of_text(data: bytes) -> Optional[str]:
 
 def said_of(data: bytes) -> Optional[str]:
     """What is said of a file of these bytes, or None where it is nothing that is known."""
-    if said_of_text(data):
-        return said_of_text(data)
+    text_said = said_of_text(data)
+    if text_said:
+        return text_said
     if data.startswith(b"\xef\xbb\xbf"):
         return "it begins with a byte order mark, as some editors write it: save it as UTF-8 without one"
     start = data[:512].lstrip(b"\xef\xbb\xbf \t\r\n")

@@ -1,6 +1,5 @@
-"""Reads the files that a command is given. `-` stands for standard input, which is read once. What is no
-regular file, as a pipe, is read to its end first: it cannot be read a second time, nor by the program that
-plays."""
+"""Reads the files that a command is given. `-` stands for standard input, which is read once. What is no regular
+file, as a pipe, is read to its end first, since the program that plays cannot read it once more."""
 
 import atexit
 import os
@@ -54,8 +53,7 @@ def write_bytes(path: str, data: bytes) -> None:
 
 
 def is_stream(path: str) -> bool:
-    """Is it a file that can be read once, as standard input, or one that is another file to another
-    process?"""
+    """Is it a file that can be read once, as standard input, or that another process has not?"""
     is_none = path != INPUT and (os.path.isdir(path) or not os.path.exists(path))
     return not is_none and (not os.path.isfile(path) or bool(OWN.match(os.path.abspath(path))))
 

@@ -10,7 +10,7 @@ from inputtools.capture import Capture, seconds
 from inputtools.command import Wrong, counted
 from inputtools.description import comments, description_lines, hint_of, slots_of, version_of
 from inputtools.evtest import WHY_GRABBED
-from inputtools.identity import moment_of
+from inputtools.identity import REALTIME, moment_of
 from inputtools.likely_slot import Guess, guess_of
 from inputtools.names import ABS, SYN, TRACKING_ID
 from inputtools.progress import progress
@@ -273,7 +273,9 @@ def record_of(recording: Recording, name: str, readers: List[Reader], options: O
     device = copy.deepcopy(recording.device)
     least = min(event.time for event in recording.events) if base is None else base
     began = device.identity.began
-    device.identity.began = moment_of([least]) or (began and began + timedelta(microseconds=least))
+    device.identity.began = moment_of([least])
+    if began and least < REALTIME.start:
+        device.identity.began = began + timedelta(microseconds=least)
     capture = Capture(recording, device, options.hidden_keys, base)
     if options.hide_keys:
         hide_keys(device, capture)
