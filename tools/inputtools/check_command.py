@@ -8,6 +8,7 @@ from inputtools.command import Result, Words, Wrong, say
 from inputtools.program import Player, find_player
 from inputtools.results import Checked, json_lines, lines_for_people, tap_lines, write_junit
 from inputtools.source import shown
+from inputtools.wall import add_wall, wall
 
 HELP = """Plays records and checks what they expect, which stands in comments that begin with `#=`. So a record
 with expectations is played as one without. NAME is an actor of the record:
@@ -56,7 +57,9 @@ def command(arguments: List[str]) -> Result:
     forms.add_argument("--tap", action="store_true", help="write the Test Anything Protocol")
     forms.add_argument("--json", action="store_true", help="write JSON, one object a line (docs/JSON.md)")
     words.add_argument("--junit", metavar="FILE", help="write JUnit's XML to FILE besides")
+    add_wall(words)
     asked = words.parse_args(arguments)
+    wall.ask(asked.wall, asked.json)
     player = find_player()
     records = [check(path, player) for path in asked.records]
     if asked.junit is not None:

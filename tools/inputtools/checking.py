@@ -5,7 +5,7 @@ from typing import Dict, List, NamedTuple, Optional
 
 from inputtools.command import Wrong, counted
 from inputtools.expectations import AT_END, FLAG_KINDS, Expectation, ends_well, expectations_of
-from inputtools.places import Places
+from inputtools.places import Places, time_text
 from inputtools.played import PlayedDevice, Reader, play
 from inputtools.program import PLAYED, Player
 from inputtools.refusal_hints import refusal_text
@@ -13,6 +13,7 @@ from inputtools.report import (
     ActorLine, Call, Device, DeviceLine, Entry, Fed, Made, Part, Report, SourceLine, Took, entry_of, without_history,
 )
 from inputtools.source import Given, read_text
+from inputtools.wall import wall
 
 OF_A_VIEW = (AT_END, "agrees")
 
@@ -33,6 +34,7 @@ class Outcome:
     def __init__(self, expectation: Expectation, where: Where = Where(), came: Optional[str] = None) -> None:
         self.number, self.text, self.client = expectation.number, expectation.text, expectation.actor
         self.place, self.time, self.came = where.place, where.time, came
+        self.when = "" if where.time is None else f" ({time_text(where.time)})"
         self.is_held = came is None
 
 
@@ -43,6 +45,7 @@ class Played:
         self.given, self.player = Given(path), player
         self.name, self.folder, self.text = self.given.name, self.given.folder, read_text(self.given.path)
         self.expectations = expectations_of(self.text)
+        wall.begin(self.name, self.text)
         self.status, self.written = player.play(self.given.path, self.folder, ["--history"])
         self.report: Optional[Report] = None
         self.places: Dict[str, Places] = {}

@@ -9,12 +9,18 @@ from functools import lru_cache
 from typing import Optional, Sequence
 
 from inputtools.report import MOMENT_AT, Step
+from inputtools.wall import wall
 
 
 def seconds_text(micros: int) -> str:
     """Microseconds as seconds: 12.3 s."""
     whole, rest = divmod(micros, 1000000)
     return f"{whole}.{f'{rest:06d}'.rstrip('0') or '0'} s"
+
+
+def time_text(moment: int) -> str:
+    """A moment in seconds, or with --wall as the clock showed it."""
+    return wall.text(moment) if wall.is_asked else seconds_text(moment)
 
 
 class Places:
@@ -33,7 +39,7 @@ class Places:
     def bare(self, place: int) -> str:
         """A place and its time: `12 (12.3 s)`."""
         moment = self.moment(place)
-        return str(place) if moment is None else f"{place} ({seconds_text(moment)})"
+        return str(place) if moment is None else f"{place} ({time_text(moment)})"
 
     def text(self, place: int) -> str:
         return f"place {self.bare(place)}"

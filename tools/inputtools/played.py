@@ -19,6 +19,7 @@ from inputtools.record import Line, Record
 from inputtools.refusal_hints import refusal_text
 from inputtools.report import Call, Device, Entry, Part, Report, Took, entry_of
 from inputtools.source import Given, read_text
+from inputtools.wall import wall
 
 # The command by which an actor reads all that is queued.
 READS = {"client": "follow", "tap": "read 4096", "joy": "read 100000"}
@@ -131,6 +132,7 @@ def add_parts_behind(report: Report, record: Record) -> None:
 def play(given: Given, player: Player) -> List[PlayedDevice]:
     """Plays a record and asks for its devices' states; the played devices."""
     text, folder = read_text(given.path), given.folder
+    wall.begin(given.name, text)
     status, written = player.play(given.path, folder, ["--history"])
     if status not in PLAYED:
         raise Wrong(f"{given.name}: {refusal_text(text, written, status, folder)}")

@@ -10,6 +10,7 @@ from inputtools.program import find_player
 from inputtools.source import Given
 from inputtools.summary import ends_apart, summary_lines
 from inputtools.stuck_text import device_lines
+from inputtools.wall import add_wall, wall
 
 HELP = """Says of a record where a client's belief is not the device's state, since which place, and what
 kept the event.
@@ -36,6 +37,7 @@ def command(arguments: List[str]) -> Result:
     words.add_argument("file", metavar="FILE", help="a record; - is standard input")
     words.add_argument("--fail", action="store_true", help="end in status 1 where a client ends apart")
     words.add_argument("--summary", action="store_true", help="write a count by cause and key first")
+    add_wall(words)
     words.add_argument("--json", action="store_true", help="write one JSON object a line (docs/JSON.md)")
     add_client(words)
     words.add_argument("--thing", action="append", default=[], metavar="NAME",
@@ -43,12 +45,13 @@ def command(arguments: List[str]) -> Result:
     words.add_argument("--end", action="store_true", help="what is so at the end alone")
     asked = words.parse_args(arguments)
     only = Asked(asked.client, asked.thing, asked.end)
+    wall.ask(asked.wall, asked.json)
     devices = narrow(play(Given(asked.file), find_player()), only)
     if asked.json:
         asked_for = line_of("only", clients=only.readers, things=only.things, end=only.is_end)
         lines = ([] if only.is_all else [asked_for]) + stuck_lines(devices)
     else:
-        lines = [] if only.is_all else [only.text()]
+        lines = wall.heading() + ([] if only.is_all else [only.text()])
         lines += summary_lines(devices) if asked.summary else []
         lines += [line for device in devices for line in device_lines(device)]
     status = int(asked.fail and bool(ends_apart(devices)))
