@@ -32,6 +32,12 @@ RING = 128
 # The programs of calls, and how each is run.
 ALONE = ["--quiet", "60000"]
 PROGRAMS = {"calls": ["--frames", "1", "--end", "gone"], "signals": ALONE, "threads": ALONE}
+# Each with its record, and the programs of what stands in folders of its own.
+Played = Tuple[Path, Sequence[object]]
+CALLS: Sequence[Played] = [(HERE / f"{name}.c", [*words, HERE / "calls.rec"]) for name, words in PROGRAMS.items()]
+OTHERS = TOP / "tests"
+MAKING: Played = (OTHERS / "run_uinput" / "requests.c", [*ALONE, OTHERS / "run_uinput" / "keyboard.rec"])
+TIMES: Played = (OTHERS / "run_virtual" / "times.c", ["--virtual", OTHERS / "run_virtual" / "keys.rec"])
 PYTHON = [sys.executable, "-B"]
 
 
@@ -238,26 +244,26 @@ class Sanitized(RunCase):
 
     is_long = True
 
-    def checks(self, sanitizer: str, options: Dict[str, str], names: Sequence[str]) -> None:
+    def checks(self, sanitizer: str, options: Dict[str, str], programs: Sequence[Played]) -> None:
         flags = [f"-fsanitize={sanitizer}", "-fno-sanitize-recover=all"]
         runbuild.compile_by(runbuild.server_words(COMPILER, runbuild.archive(), self.folder, flags))
         shutil.copy(self.built / runbuild.SHIM, self.folder)
         shim = ["-fvisibility=hidden", "-I", str(runbuild.SOURCES), *runbuild.sources("shim")]
         plain = ["env", "-u", "LD_PRELOAD", *(f"{name}={value}" for name, value in options.items())]
-        for name in names:
-            with self.subTest(name):
-                program = compiled(HERE / f"{name}.c", self.folder / name, flags, shim)
-                done = self.run_tool([*PROGRAMS[name], HERE / "calls.rec", "--", *plain, program],
-                                     self.folder)
+        for source, words in programs:
+            with self.subTest(source.stem):
+                program = compiled(source, self.folder / source.stem, flags, shim)
+                done = self.run_tool([*words, "--", *plain, program], self.folder)
                 self.says_all(done, r"\d+ checks, 0 failed")
                 self.assertNotIn("Sanitizer", done.errors)
 
     def test_address_and_undefined(self) -> None:
-        self.checks("address,undefined", {"ASAN_OPTIONS": "detect_leaks=1"}, list(PROGRAMS))
+        self.checks("address,undefined", {"ASAN_OPTIONS": "detect_leaks=1"}, [*CALLS, MAKING, TIMES])
 
     def test_thread(self) -> None:
         # (this sanitizer runs a signal's handler later than the signal comes)
-        self.checks("thread", {}, ["calls", "threads"])
+        by_signals = CALLS[1]
+        self.checks("thread", {}, [each for each in [*CALLS, MAKING, TIMES] if each != by_signals])
 
 
 class Valgrind(RunCase):
