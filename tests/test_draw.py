@@ -262,7 +262,8 @@ class Pages(DrawCase):
         for name in ("views", "touchpad", "mouse"):
             text = self.page(EXAMPLES / f"{name}.rec")
             before, shown, behind = re.split('(<p class="legend">.*?</p>)', text)
-            explained, used = (set(re.findall('class="([a-z ]+)"', each)) for each in (shown, before + behind))
+            kinds = (set(re.findall('class="([a-z ]+)"', each)) for each in (shown, before + behind))
+            explained, used = kinds
             with self.subTest(name):
                 self.assertEqual(set(), {kind.removeprefix("dense ") for kind in used} - explained - others)
                 self.assertEqual(set(), explained - used - others)
@@ -464,8 +465,8 @@ class Sticks(DrawCase):
                     self.assertIn(f"\n  {told}\n", self.written("stuck", "--summary", record))
 
     def test_a_range_without_it(self):
-        """Where the bar is not drawn the sentence is no link, nor on the device that ends before. A later range
-        shows what is so at the end, and not what has passed."""
+        """Where the bar is not drawn the sentence is no link, nor on the device that ends before. A later
+        range shows what is so at the end, and not what has passed."""
         cases = (("keyboard", "--to", 20, ()), ("keyboard", "--from", 42, ("d0", "desktop, KEY_LEFTCTRL")),
                  ("stuck_key", "--from", 12, ()))
         for name, word, place, wanted in cases:

@@ -120,8 +120,8 @@ class DevicePart:
         return "".join(shapes)
 
     def ident_of(self, ending: Ending) -> Optional[str]:
-        """What shows something that is wrong: the range in which it begins, or else the device's picture. None
-        where it is not drawn."""
+        """What shows something that is wrong: the range in which it begins, or else the device's picture.
+        None where it is not drawn."""
         place = max(ending.since, self.begin) if ending.is_at_end else ending.since
         if not self.begin <= place < self.end:
             return None
