@@ -11,6 +11,7 @@ from tests.drawn_records import KEYS, MORE_KEYS, typed
 
 from inputtools.colours import COLOURS, RULES
 from inputtools.page import plain
+from inputtools.wall import wall
 
 EXAMPLES = TOP / "examples"
 RECORDS = TOP / "tests" / "records"
@@ -262,7 +263,8 @@ class Pages(DrawCase):
         for name in ("views", "touchpad", "mouse"):
             text = self.page(EXAMPLES / f"{name}.rec")
             before, shown, behind = re.split('(<p class="legend">.*?</p>)', text)
-            explained, used = (set(re.findall('class="([a-z ]+)"', each)) for each in (shown, before + behind))
+            kinds = (set(re.findall('class="([a-z ]+)"', each)) for each in (shown, before + behind))
+            explained, used = kinds
             with self.subTest(name):
                 self.assertEqual(set(), {kind.removeprefix("dense ") for kind in used} - explained - others)
                 self.assertEqual(set(), explained - used - others)
@@ -440,8 +442,8 @@ class Sticks(DrawCase):
     def test_who_ends_apart(self):
         """Each sentence is that of `stuck --summary`, and leads to what it tells."""
         cases = {
-            "keyboard": ("client desktop ends apart in KEY_LEFTCTRL since place 38 (4.2 s), down for it, up on "
-                         "the device: grab of remapper from place 35 (4.0 s) to 40 (4.2 s).",
+            "keyboard": ("client desktop ends apart in KEY_LEFTCTRL since place 38 (4.2 s), down for it, up "
+                         "on the device: grab of remapper from place 35 (4.0 s) to 40 (4.2 s).",
                          "d0", "desktop, KEY_LEFTCTRL"),
             "mouse": ("client desktop ends apart in BTN_LEFT since place 37 (4.1 s), down for it, up on the "
                       "device: it was revoked at place 34 (4.0 s).", "d0", "desktop, BTN_LEFT"),
@@ -464,8 +466,8 @@ class Sticks(DrawCase):
                     self.assertIn(f"\n  {told}\n", self.written("stuck", "--summary", record))
 
     def test_a_range_without_it(self):
-        """Where the bar is not drawn the sentence is no link, nor on the device that ends before. A later range
-        shows what is so at the end, and not what has passed."""
+        """Where the bar is not drawn the sentence is no link, nor on the device that ends before. A later
+        range shows what is so at the end, and not what has passed."""
         cases = (("keyboard", "--to", 20, ()), ("keyboard", "--from", 42, ("d0", "desktop, KEY_LEFTCTRL")),
                  ("stuck_key", "--from", 12, ()))
         for name, word, place, wanted in cases:
@@ -606,6 +608,22 @@ class Axes(DrawCase):
         shown = page.split('<div class="time">')[1].split("</div>")[0]
         texts = re.findall(r'y="16" text-anchor="\w+" class="faint">([^<]*)<', shown)
         self.assertEqual([f"{tenths / 10} s" for tenths in range(125, 160, 5)], texts)
+
+
+    def test_the_clock(self):
+        """With --wall times are the clock's, in texts and on the axis, where they are round by the clock."""
+        self.addCleanup(wall.ask, False)
+        began = "# began: 2025-11-27T15:04:07.250000+01:00"
+        text = typed(KEYS, "W").replace("device keyboard\n", f"device keyboard\n{began}\n")
+        page = self.page(self.file("wall.rec", text), "--wall")
+        said = "KEY_W: down on the device itself since place 75 (15:04:08.290000): no release followed."
+        self.assertEqual(said, self.sentence(page)[0])
+        self.assertIn("<p>times by the clock, from 2025-11-27 15:04:07.250000+01:00 on</p>", page)
+        shown = page.split('<div class="time">')[1].split("</div>")[0]
+        texts = re.findall(r'y="16" text-anchor="\w+" class="faint">([^<]*)<', shown)
+        seconds = ("07.5", "08", "08.5", "09", "09.5", "10")
+        self.assertEqual([f"15:04:{second}" for second in seconds], texts)
+        self.refused("draw", "--wall", EXAMPLES / "one_key.rec", because="--wall wants a comment `# began:")
 
 
 class Paper(DrawCase):

@@ -9,6 +9,7 @@ from inputtools.page import page, svg, why_nothing
 from inputtools.played import play
 from inputtools.program import find_player
 from inputtools.source import Given, write_bytes
+from inputtools.wall import add_wall, wall
 from inputtools.endings import cuts_of
 
 HELP = """Writes a page that shows a played record, to be looked at in a browser. On top one sentence says
@@ -46,12 +47,14 @@ def command(arguments: List[str]) -> Result:
     words.add_argument("--from", dest="first", metavar="PLACE", help="begin at this place of the history")
     words.add_argument("--to", dest="last", metavar="PLACE", help="end with this place")
     words.add_argument("--svg", action="store_true", help="the first device's picture alone, as SVG")
+    add_wall(words)
     words.add_argument("--output", metavar="PAGE", help="write to this file, and to stdout nothing")
     asked = words.parse_args(arguments)
     refuse_own_file(asked.file, asked.output)
     first, last = place(asked.first), place(asked.last)
     if first is not None and last is not None and last < first:
         raise Wrong(f"--to {last} is before --from {first}")
+    wall.ask(asked.wall)
     given = Given(asked.file)
     devices = play(given, find_player())
     if not devices:

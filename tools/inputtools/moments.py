@@ -2,7 +2,7 @@
 
 from typing import List, Optional, Sequence
 
-from inputtools.places import seconds_text
+from inputtools.places import time_text
 from inputtools.report import Step
 
 
@@ -31,5 +31,5 @@ class Moments:
         places = f"places {begin} to {end - 1}" if end - begin > 1 else f"place {begin}"
         if not self.are_told:
             return places
-        first, last = seconds_text(self.all[begin]), seconds_text(self.all[end - 1])
+        first, last = time_text(self.all[begin]), time_text(self.all[end - 1])
         return f"{places} ({first})" if first == last else f"{places} ({first} to {last})"

@@ -17,6 +17,7 @@ from inputtools.shapes import mark_shape
 from inputtools.stuck_text import device_lines
 from inputtools.endings import NAMED, Ending, cuts_of, endings_of, passed_of
 from inputtools.timeline import between, gravest, lines_of, ranges_of, text_of, timeline
+from inputtools.wall import wall
 
 Range = Tuple[int, int]
 
@@ -120,8 +121,8 @@ class DevicePart:
         return "".join(shapes)
 
     def ident_of(self, ending: Ending) -> Optional[str]:
-        """What shows something that is wrong: the range in which it begins, or else the device's picture. None
-        where it is not drawn."""
+        """What shows something that is wrong: the range in which it begins, or else the device's picture.
+        None where it is not drawn."""
         place = max(ending.since, self.begin) if ending.is_at_end else ending.since
         if not self.begin <= place < self.end:
             return None
@@ -211,6 +212,7 @@ def page(name: str, devices: Sequence[PlayedDevice], first: Optional[int] = None
         f'<body class="by-place"><h1>{title}</h1>',
         *(f'<p class="cut">{escape(line)}</p>' for line in cuts_of(devices)),
         sentence(devices, drawn),
+        *(f"<p>{escape(line)}</p>" for line in wall.heading()),
         '<p class="how">Over <label><input type="radio" name="by" value="by-place" checked> places</label> ',
         f'<label><input type="radio" name="by" value="by-time"> time</label> {HOW}</p>',
         *(part.text(explained if part is first_drawn else "") for part in drawn),

@@ -9,6 +9,7 @@ from typing import Iterator, List, Sequence, Tuple
 from inputtools.moments import Moments
 from inputtools.places import seconds_text
 from inputtools.rows import Mark
+from inputtools.wall import wall
 
 GUTTER, PLOT, RIGHT = 176, 1000, 44
 WIDTH = GUTTER + PLOT + RIGHT
@@ -45,7 +46,9 @@ class Scale:
         self.length = max(self.last - self.first, 1)
         # (times that need many digits are told from a whole second on)
         is_long = self.first >= 10**9 and self.length < self.first // 100
-        self.base = self.first - self.first % 1000000 if is_long else 0
+        self.base = self.first - self.first % 1000000 if is_long and not wall.is_asked else 0
+        # (and times by the clock are round by the clock)
+        self.round_from = -wall.of_day() if wall.is_asked else self.base
 
     def x(self, place: float) -> float:
         place = max(self.begin, min(place, self.end))
@@ -69,12 +72,14 @@ class Scale:
 
     def names(self) -> Tuple[str, str]:
         """What the two texts of a tick are."""
-        time = f"time from {seconds_text(self.base)}" if self.base else "time"
+        time = f"time from {seconds_text(self.base)}" if self.base else "clock" if wall.is_asked else "time"
         if not self.moments.are_told:
             return ("place", "")
         return (time, "place") if self.is_over_time else ("place", time)
 
     def time(self, moment: int) -> str:
+        if wall.is_asked:
+            return wall.text(moment).rstrip("0").rstrip(".")
         return ("+" if self.base else "") + seconds_text(moment - self.base)
 
     def rounded(self, moment: int) -> int:
@@ -105,7 +110,7 @@ class Scale:
         return Tick(self.x(place), str(place), time)
 
     def moment_ticks(self, step: int) -> List[Tick]:
-        first = self.base + -(-(self.first - self.base) // step) * step
+        first = self.round_from + -(-(self.first - self.round_from) // step) * step
         return [self.moment_tick(moment) for moment in range(first, self.last + 1, step)]
 
     def moment_tick(self, moment: int) -> Tick:

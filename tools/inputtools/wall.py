@@ -40,6 +40,11 @@ class Wall:
         began = self.began.isoformat(" ", "microseconds")
         return [f"times by the clock, from {began} on"] if self.is_asked else []
 
+    def of_day(self) -> int:
+        """How many microseconds the day had at the moment 0."""
+        midnight = self.began.replace(hour=0, minute=0, second=0, microsecond=0)
+        return (self.began - midnight) // timedelta(microseconds=1)
+
     def text(self, moment: int) -> str:
         """The time of day at a moment, with the day where it is another one than at the begin."""
         shown = self.began + timedelta(microseconds=moment)
