@@ -154,12 +154,12 @@ def stop(process: "subprocess.Popen[bytes]") -> None:
 class Teller:
     """Says how far a build is: on a terminal in one line that is written over, else not at all."""
 
-    def __init__(self, program: str, stream: TextIO) -> None:
+    def __init__(self, program: str, stream: Optional[TextIO]) -> None:
         self.program, self.stream, self.begun, self.told = program, stream, time.monotonic(), 0.0
 
     def tell(self, done: int, count: int, name: str) -> None:
         now = time.monotonic()
-        if not self.stream.isatty() or now - self.told < 0.5:
+        if self.stream is None or not self.stream.isatty() or now - self.told < 0.5:
             return
         self.told = now
         minutes, seconds = divmod(int(now - self.begun), 60)
@@ -172,18 +172,19 @@ class Teller:
             print("\r\x1b[K", end="", file=self.stream, flush=True)
 
 
-def is_wanted(program: str, stream: TextIO) -> bool:
+def is_wanted(program: str, stream: Optional[TextIO]) -> bool:
     """Asks whether to build, where there is somebody to ask."""
-    if sys.stdin is None or not (sys.stdin.isatty() and stream.isatty()):
+    if sys.stdin is None or stream is None or not (sys.stdin.isatty() and stream.isatty()):
         return True
     print(f"{program}: build it now? [Y/n] ", end="", file=stream, flush=True)
     return sys.stdin.readline().strip().lower() in ("", "y", "yes")
 
 
-def build(program: str, stream: TextIO) -> None:
+def build(program: str, stream: Optional[TextIO]) -> None:
     """Builds the program, proved; `program` is who says so, to the stream."""
     if shutil.which("rt") is None:
-        raise Wrong("the program is not built (crates/inp_main/out/inp_main), and there is no toolchain (rt) to build it")
+        raise Wrong("the program is not built (crates/inp_main/out/inp_main), and there is no toolchain (rt) to build it; "
+                    "bin/inputplay --unproved FILE plays without it")
     text = read(os.path.join(REPOSITORY, "crates.txt"))
     if not text:
         raise Wrong("the program is not built, and crates.txt cannot be read")

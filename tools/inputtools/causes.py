@@ -10,7 +10,7 @@ from typing import Callable, Dict, List, Optional
 from inputtools.belief import Origin, Thing
 from inputtools.devicestate import DESCRIPTION, DeviceState
 from inputtools.divergences import Cause, Point, Walk, Why
-from inputtools.report import Call, Device, Step
+from inputtools.report import Call, Device, Step, cut_text
 
 
 class Causes:
@@ -20,12 +20,20 @@ class Causes:
     def __init__(self, state: DeviceState, device: Device, losses: Callable[[str], List[Optional[int]]]) -> None:
         self.state, self.handles, self.at, self.unread_losses = state, state.handles, state.at, losses
         self.openers: Dict[int, str] = {}
+        self.cut = next((part for part in device.all_parts() if part.end.is_full), None)
         for part in device.parts + device.joysticks:
             opened = (call for call in part.all_of(Call) if call.reply.name == "opened")
             self.openers.update({call.reply.number: part.name for call in opened})
 
     def cause_of(self, walk: Walk, thing: Thing, point: Point) -> Why:
         """Since which place a belief is not the device's state, None for the start, and why."""
+        why = self.found(walk, thing, point)
+        is_undone = why.cause.kind in UNDONE and (walk.part.end.is_full or why.cause.kind == "open-frame")
+        cut = self.cut if is_undone and point.kind == "end" else None
+        return why if cut is None else Why(why.since, Cause("cut", f"the play was cut: {cut_text(cut)}"))
+
+    def found(self, walk: Walk, thing: Thing, point: Point) -> Why:
+        """The same, whether or not the play was cut."""
         own = walk.own_cause(thing, point)
         if own:
             return own
@@ -174,3 +182,5 @@ class Causes:
 
 
 NOT_READ = Cause("not-read", "not read yet")
+# What an actor, or a source, might have done yet where the play had gone on.
+UNDONE = ("not-read", "open-frame", "startup", "start-refused", "opened-later", "not-asked")

@@ -13,11 +13,14 @@ They are comments, so a record with them is played as one without.
 """
 
 import re
-from typing import Dict, Iterable, List, Optional, Tuple
+from typing import Dict, Iterable, List, Optional, Set, Tuple
 
 from inputtools.command import Wrong
-from inputtools.names import CODES, KEY, LED, SW, TYPES, code_text, kind_text, number_of_code, number_of_kind
-from inputtools.record import roles_of
+from inputtools.names import (
+    ABS, CODES, KEY, LED, REP, SW, SYN, TYPES, code_text, kind_text, nearest, number_of_code, number_of_kind,
+)
+from inputtools.devicestate import OUTPUT_KINDS, OUTPUT_SYN
+from inputtools.record import Device, roles_of
 from inputtools.report import Event
 
 MARK = "#="
@@ -33,7 +36,7 @@ LINES["tap"] = LINES["client"]
 AT_END = "at-end"
 SIGNED = re.compile(r"-?[0-9]{1,10}$")
 NUMBER = re.compile(r"[0-9]{1,7}$")
-ROLE_TEXT = {"client": "client", "tap": "tap", "joy": "joystick", "owner": "owner", "source": "source"}
+ROLE_TEXT = {"client": "a client", "tap": "a tap", "joy": "a joystick", "owner": "an owner", "source": "a source"}
 
 
 class Expectation:
@@ -83,7 +86,7 @@ class Expectation:
     def check_of_actor(self) -> None:
         kinds = KINDS[self.role]
         if self.kind not in kinds:
-            of_it = f"of a {ROLE_TEXT[self.role]} one expects {' or '.join(kinds)}" if kinds else (
+            of_it = f"of {ROLE_TEXT[self.role]} one expects {' or '.join(kinds)}" if kinds else (
                 "nothing is expected of a source: expect it of a client")
             raise Wrong(f"{self.kind} is not known here: {of_it}")
         {AT_END: self.check_line, "never": self.check_event, "takes": self.check_event,
@@ -132,6 +135,41 @@ class Expectation:
         self.wanted = [str(int(word)) for word in self.wanted]
 
 
+# What cannot be met or missed
+
+
+def sent_codes(device: Device, kind: str, role: str) -> Set[str]:
+    """The codes of a type that a device may send to an actor of a role."""
+    if role == "owner" and kind not in OUTPUT_KINDS:
+        return {OUTPUT_SYN} if kind == "EV_SYN" else set()
+    number, codes = TYPES.get(kind, -1), {**device.codes, ABS: set(device.described.axes)}
+    is_whole = number == SYN or (number == REP and REP in codes)
+    known = set(CODES[number].values()) if is_whole else codes.get(number, set())
+    return {code_text(number, code) for code in known}
+
+
+def why_not_sent(device: Device, expectation: Expectation) -> Optional[str]:
+    """Why no actor of the role is ever handed the event of an expectation by this device, or None."""
+    kind, code = expectation.event
+    codes = sent_codes(device, kind, expectation.role)
+    if code in codes or (code is None and codes):
+        return None
+    others = codes or {each for name in TYPES if name != "EV_SYN" for each in sent_codes(device, name, expectation.role)}
+    who = "no owner is told" if expectation.role == "owner" else f"the device {device.name} cannot send"
+    return f"{who} {code or kind}{nearest(code or kind, sorted(others), 0.0)}"
+
+
+def why_not_seen(device: Device, expectation: Expectation) -> Optional[str]:
+    """Why the view of an actor at its end never has what is wanted, or None."""
+    if expectation.kind != AT_END or expectation.role == "joy" or expectation.line[0] == "current":
+        return None
+    kind = FLAG_KINDS.get(expectation.line[0], ABS)
+    has = [code_text(kind, code) for code in sorted(device.described.codes.get(kind, ()))]
+    wanted = (word.split("=")[0] for word in expectation.wanted)
+    other = next((code for code in wanted if code not in has), None)
+    return None if other is None or not has else f"the device {device.name} has no {other}{nearest(other, has, 0.0)}"
+
+
 def ends_well() -> Expectation:
     """What is expected of a record that tells no status."""
     return Expectation(None, ["status", "0"], {})
@@ -146,7 +184,7 @@ def written_code(kind: int, word: str) -> str:
     """A code as a report writes it."""
     number = number_of_code(kind, word)
     if number is None:
-        raise Wrong(f"{word} is no code of {kind_text(kind)}")
+        raise Wrong(f"{word} is no code of {kind_text(kind)}{nearest(word, CODES[kind])}")
     return code_text(kind, number)
 
 
@@ -166,9 +204,18 @@ def kind_and_code(word: str) -> Tuple[str, Optional[str]]:
         kind = next((kind for kind, names in CODES.items() if first in names), None)
         second = first if kind is not None else ""
     code = number_of_code(kind, second) if kind is not None and second else None
+    if kind is not None and kind not in TYPES.values() and not slash:
+        raise Wrong(f"{word} is no type: a code is written with its own, as EV_KEY/{word}{named_key(kind)}")
     if kind is None or (code is None and (slash or second)):
-        raise Wrong(f"{word} is no code (KEY_A), no type (EV_KEY) and no TYPE/CODE (EV_KEY/656)")
+        names = [*TYPES, *(name for names in CODES.values() for name in names)]
+        raise Wrong(f"{word} is no code (KEY_A), no type (EV_KEY) and no TYPE/CODE (EV_KEY/656){nearest(word, names)}")
     return kind_text(kind), None if code is None else code_text(kind, code)
+
+
+def named_key(code: int) -> str:
+    """The name of a key, where it has one."""
+    name = code_text(KEY, code)
+    return "" if name == str(code) else f", which is {name}"
 
 
 def words_of(line: str) -> Optional[List[str]]:

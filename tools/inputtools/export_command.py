@@ -3,13 +3,13 @@
 import argparse
 import os
 import sys
-from typing import List, Optional, Union
+from typing import List, NamedTuple, Optional, Union
 
 from inputtools.command import Result, Words, Wrong
 from inputtools.exporting import Source, evemu_text, raw_bytes
-from inputtools.program import PLAYED, find_player
+from inputtools.program import CUT, PLAYED, find_player
 from inputtools.refusal_hints import refusal_text
-from inputtools.report import Report
+from inputtools.report import CUT_HELP, Part, Report, cut_text
 from inputtools.source import Given, read_text, write_bytes
 from inputtools.umockdev import umockdev_text
 
@@ -30,7 +30,7 @@ ID_INPUT_..; programs that look for devices by udev find them so. It has no even
 tools/record makes a record of either of the first two again: of the second with the device's description beside it."""
 
 STATUSES = """Status 0: it was written. 2: wrong words, or a record that cannot be exported or played. 4: standard output
-failed. 130: stopped from the keyboard."""
+failed. 6: what --raw had played until a history was full was written. 130: stopped from the keyboard."""
 
 
 def written(path: Optional[str], data: Union[str, bytes], notes: List[str]) -> Result:
@@ -43,18 +43,26 @@ def written(path: Optional[str], data: Union[str, bytes], notes: List[str]) -> R
     return Result(data, notes)
 
 
-def read_by(given: Given, name: str, size: int) -> bytes:
-    """What a client of a record read, as bytes."""
+class ReadBy(NamedTuple):
+    """What a client of a record read, as bytes, and who stopped since a history was full, if anybody did."""
+
+    data: bytes
+    cut: Optional[Part]
+
+
+def read_by(given: Given, name: str, size: int) -> ReadBy:
+    """What a client of a record read."""
     text = read_text(given.path)
     status, written = find_player().play(given.path, given.folder)
     if status not in PLAYED:
         raise Wrong(f"{given.name}: {refusal_text(text, written, status, given.folder)}")
-    parts = Report(written).parts
+    report = Report(written)
+    parts = report.parts
     readers = [part.name for part in parts.values() if part.role in ("client", "tap")]
     if name not in readers:
         listed = f"there are {', '.join(readers)}" if readers else "it has none"
         raise Wrong(f"{given.name}: no client or tap is named {name}; {listed}")
-    return raw_bytes(parts[name], size)
+    return ReadBy(raw_bytes(parts[name], size), report.cut)
 
 
 def refuse_own_file(path: str, output: Optional[str]) -> None:
@@ -99,5 +107,7 @@ def command(arguments: List[str]) -> Result:
         return written(asked.output, evemu_text(source), source.notes)
     if asked.device is not None:
         raise Wrong("--device goes with --evemu: the client tells the device")
-    data = read_by(given, asked.raw, 16 if asked.is_16 else 24)
-    return written(asked.output, data, [] if data else [f"{asked.raw} read no event"])
+    read = read_by(given, asked.raw, 16 if asked.is_16 else 24)
+    notes = [f"the play was cut: {cut_text(read.cut)}; {CUT_HELP}"] if read.cut else []
+    result = written(asked.output, read.data, notes + ([] if read.data else [f"{asked.raw} read no event"]))
+    return result._replace(status=CUT if read.cut else 0)

@@ -5,7 +5,7 @@ import sys
 from typing import List
 
 from inputtools.building import build, is_built
-from inputtools.command import VERSION, Result
+from inputtools.command import CUT_OFF, VERSION, Result, say
 from inputtools.program import BUILT
 from inputtools.unproved import play
 
@@ -43,6 +43,9 @@ def command(words: List[str]) -> Result:
         return Result(f"inputplay {VERSION}\n")
     if words[:1] == ["--unproved"]:
         return play(words[1:])
+    if sys.stdout is None:
+        say("inputplay", "standard output is closed")
+        return Result(status=CUT_OFF)
     if not is_built():
         build("inputplay", sys.stderr)
     sys.stdout.flush()

@@ -5,7 +5,7 @@ import os
 import sys
 from typing import List, Optional
 
-from inputtools.command import CUT_OFF, Result, Words, Wrote, name_of, named, put
+from inputtools.command import CUT_OFF, Result, Words, Wrote, name_of, put, tell
 from inputtools.jsonlines import ReportLines, line_of
 from inputtools.program import MESSAGES, PLAYED, Player, Run, find_player
 from inputtools.progress import progress
@@ -29,12 +29,6 @@ that is not inputplay; 3 a file could not be read; 4 stdout failed; 5 no memory;
 full; 7 a file is too long. 130: stopped from the keyboard. Of several files it is the first that is not 0."""
 
 UNREAD = 3
-
-
-def tell(text: str) -> None:
-    progress.clear()
-    if sys.stderr is not None:
-        print(named(text).encode("ascii", "backslashreplace").decode(), file=sys.stderr, flush=True)
 
 
 def has_put(data: bytes) -> bool:

@@ -3,7 +3,7 @@ each client believed of it, and where both differ. `tools/stuck` prints this, an
 
 import os
 import tempfile
-from typing import Dict, List, NamedTuple, Optional, Union
+from typing import Dict, List, NamedTuple, Optional, Sequence, Union
 
 from inputtools import devicestate
 from inputtools.causes import Causes
@@ -126,7 +126,12 @@ def play(given: Given, player: Player) -> List[PlayedDevice]:
     return played(given.name, text, folder, player, written)
 
 
-def played(name: str, text: str, folder: str, player: Player, written: str) -> List[PlayedDevice]:
+def cut_of(devices: Sequence[PlayedDevice]) -> Optional[Part]:
+    """The first actor that stopped since a history was full, or None."""
+    return next((part for device in devices for part in device.report.all_parts() if part.end.is_full), None)
+
+
+def played(name: str, text: str, folder: str, player: Player, written: str, is_threaded: bool = False) -> List[PlayedDevice]:
     """The played devices of a record, by the report that was written of it."""
     record, report = Record(text), Report(written)
     add_parts_behind(report, record)
@@ -134,4 +139,7 @@ def played(name: str, text: str, folder: str, player: Player, written: str) -> L
     progress.tell(f"{name}: the devices are played alone, {sum(len(state.history) for state in states)} steps")
     devicestate.ask(states, player)
     unread = Unread(text, record, folder, player, report)
+    if is_threaded:
+        # (another play would go another way)
+        unread.parts = {}
     return [PlayedDevice(device, state, unread) for device, state in zip(report.devices, states)]

@@ -32,7 +32,8 @@ SOURCE = os.path.join(REPOSITORY, "crates", "inp_main")
 SECOND = os.path.join(REPOSITORY, "second")
 
 # The statuses with which a report was written.
-PLAYED = (0, 6)
+CUT = 6
+PLAYED = (0, CUT)
 GREATEST_STATUS = 7
 
 # How the program's output begins: with a device of a report, or with a message.

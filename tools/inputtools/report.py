@@ -376,6 +376,9 @@ class Device:
             return None
         return Line(self.line.number + 1 + place, f"step {place} {self.history[place].text()}")
 
+    def all_parts(self) -> List[Part]:
+        return [*self.parts, *self.joysticks, *self.owners]
+
     def readers(self) -> List[Part]:
         """Its clients and taps."""
         return [part for part in self.parts if part.role != "source"]
@@ -409,6 +412,11 @@ class Report:
         if cut_off:
             raise Wrong(f"the report was cut off: the part of {cut_off.name} has no end")
 
+    @property
+    def cut(self) -> Optional[Part]:
+        """The first actor that stopped since a history was full, or None."""
+        return next((part for part in self.parts.values() if part.end.is_full), None)
+
     def take(self, entry: Entry) -> None:
         if isinstance(entry, SIGHT) and self.part:
             self.part.sight.append(entry)
@@ -438,6 +446,14 @@ class Report:
         if part.device:
             part.device.parts.append(part)
         return part
+
+
+CUT_HELP = "a greater `log` of its device lets it go on"
+
+
+def cut_text(part: Part) -> str:
+    """What is said of an actor that stopped since a history was full."""
+    return f"{part.name} stopped, since the history was full at place {part.end.place_told()}"
 
 
 def is_report(text: str) -> bool:
