@@ -1,6 +1,11 @@
 """tools/shrink: the shortest record for which a command still ends with the same status."""
 
-from tests.desk_cases import PROGRAM, TOOLS, DeskCase, needs_program
+import os
+import signal
+import subprocess
+import time
+
+from tests.desk_cases import PROGRAM, TOOLS, DeskCase, heed_stops, needs_program
 from inputtools.shrinking import frames_of, shorter
 
 HEAD = "inputrecord 1\ndevice d\ncap EV_KEY KEY_A\ncap EV_KEY KEY_B\nsource s\nclient c\n# A comment.\ndo c open\n"
@@ -51,6 +56,39 @@ class Shrink(DeskCase):
         short = self.shrunk(text, TOOLS / "check")
         self.assertEqual(1, self.tool("check", self.file("short.rec", short))[0])
         self.assertEqual(10, len(short.splitlines()), short)
+
+    def test_the_expectations_that_failed(self):
+        """One that held holds still, and none is left out."""
+        needs_program(self)
+        expected = "#= c never KEY_A 1\n#= c takes KEY_B 1\n#= c drops 0\n"
+        text = HEAD.replace("device d\n", f"device d\n{expected}") + "".join(
+            frame(n, press("KEY_A", n % 2)) + frame(n, press("KEY_B", n % 2)) for n in range(1, 3)) + "do c follow\n"
+        short = self.shrunk(text, TOOLS / "check")
+        status, written, _ = self.tool("check", self.file("short.rec", short))
+        self.assertEqual((1, 2), (status, len(written.splitlines())), written)
+        self.assertIn("never KEY_A 1", written)
+        self.assertIn(expected, short)
+
+    def test_expectations_stay(self):
+        text = RECORD.replace("do c open\n", "do c open\n#= c agrees\n").replace("do s event 7", "#= status 0\ndo s event 7", 1)
+        short = self.shrunk(text, "grep", "-q", "event 7 EV_KEY KEY_B", note="3 of 46 lines are left")
+        self.assertEqual("#= c agrees\n#= status 0\ndo s event 7 EV_KEY KEY_B 1\n", short)
+
+    def test_a_stop_writes_the_shortest_until_then(self):
+        count, path = self.folder / "count", self.file("case.rec", RECORD)
+        script = f"echo >> {count}; sleep 0.02; grep -q 'event 7 EV_KEY KEY_B' $1"
+        words = [TOOLS / "shrink", path, "--", "sh", "-c", script, "sh", "{}"]
+        started = subprocess.Popen(words, stdout=subprocess.PIPE, stderr=subprocess.PIPE, text=True, start_new_session=True,
+                                   preexec_fn=heed_stops)
+        while not count.exists() or len(count.read_text()) < 12:
+            time.sleep(0.02)
+        os.killpg(started.pid, signal.SIGINT)
+        text, said = started.communicate(timeout=20)
+        self.assertEqual(130, started.returncode, said)
+        self.assertIn("note: stopped: this is the shortest until now: ", said)
+        self.assertIn("event 7 EV_KEY KEY_B", text)
+        self.assertLess(len(text), len(RECORD))
+        self.assertLess(1, len(text.splitlines()))
 
     def test_streams_are_opened(self):
         text = HEAD + "do s stream keys.bin\n"

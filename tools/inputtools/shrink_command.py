@@ -3,7 +3,7 @@
 import shlex
 from typing import List
 
-from inputtools.command import Result, Words, Wrong, counted
+from inputtools.command import STOPPED, Result, Words, Wrong, counted
 from inputtools.shrinking import shrink
 from inputtools.source import Given, read_text
 
@@ -20,11 +20,15 @@ So this finds the few lines that a failure needs:
 
     tools/shrink sticks.rec --says 'grab of remapper' -- tools/stuck > short.rec
 
-A command that ends with the same status for another reason is believed: name what it has to say by --says,
-or let it answer one question alone. A command of several steps is `sh -c '..' sh {}`."""
+A line `#=`, which says what is expected, is never left out. Where COMMAND is tools/check the same expectations fail,
+at whatever places. Any other command that ends with the same status for another reason is believed: name what it has
+to say by --says, or let it answer one question alone. A command of several steps is `sh -c '..' sh {}`.
+
+A stop from the keyboard writes the shortest record that was found until then."""
 
 STATUSES = """Status 0: the record was written. 2: wrong words, a file that cannot be read, or a command that cannot be run
-or does not end with the same status twice. 4: standard output failed. 130: stopped from the keyboard."""
+or does not end with the same status twice. 4: standard output failed. 130: stopped from the keyboard; the shortest
+record until then was written, where the command had run on the whole one."""
 
 
 def command(arguments: List[str]) -> Result:
@@ -45,9 +49,11 @@ def command(arguments: List[str]) -> Result:
         raise Wrong("--seconds wants a number above 0")
     given = Given(asked.record)
     text = read_text(given.path)
-    short, status, runs = shrink(given, text, behind, asked.seconds, asked.says)
-    ends = "does not end" if status is None else f"ends with status {status}"
-    left, all_lines = len(short.splitlines()), counted(len(text.splitlines()), "line")
+    short = shrink(given, text, behind, asked.seconds, asked.says)
+    ends = "does not end" if short.status is None else f"ends with status {short.status}"
+    left, all_lines = len(short.text.splitlines()), counted(len(text.splitlines()), "line")
     are = "is" if left == 1 else "are"
-    note = f"{left} of {all_lines} {are} left, for which {shlex.join(behind)} {ends}; {counted(runs, 'run')}"
-    return Result(short, [note])
+    note = f"{left} of {all_lines} {are} left, for which {shlex.join(behind)} {ends}; {counted(short.runs, 'run')}"
+    if short.is_stopped:
+        return Result(short.text, [f"stopped: this is the shortest until now: {note}"], STOPPED)
+    return Result(short.text, [note])
