@@ -155,6 +155,28 @@ class Inputplay(TreeCase):
             status, written, lines = self.run_tree("bin/inputplay", *words, path=str(commands))
             self.assertEqual((2, "", 1), (status, written, len(lines)), lines)
             self.assertIn("there is no toolchain (rt)", lines[0])
+        self.assertIn("; bin/inputplay --unproved FILE plays without it", self.run_tree("bin/inputplay", "x", path=str(commands))[2][0])
+
+    def test_closed_streams(self):
+        """As the other tools: a closed output is said, and a closed standard error is nothing."""
+        program = self.built()
+        (self.folder / "x.rec").write_text("inputrecord 1\ndevice d\n")
+        shutil.copytree(TOP / "second", self.tree / "second", ignore=shutil.ignore_patterns("__pycache__"))
+        said = "inputplay: standard output is closed\n"
+        program.write_text("#!/bin/sh\necho device d steps 0\n")
+        for words, closed, wanted in (
+            ("bin/inputplay x.rec", ">&-", (4, "", said)),
+            ("bin/inputplay --unproved x.rec", ">&-", (4, "", said)),
+            ("bin/inputplay x.rec", "2>&-", (0, "device d steps 0\n", "")),
+            ("bin/inputplay --unproved x.rec", "2>&-", (0, "device d steps 0\n", "")),
+            ("tools/play x.rec", "2>&-", (0, "device d steps 0\n", "")),
+            ("tools/play x.rec", "<&- >&- 2>&-", (4, "", "")),
+        ):
+            with self.subTest(words, closed=closed):
+                env = {key: value for key, value in os.environ.items() if key != "INPUTPLAY"}
+                done = subprocess.run(["sh", "-c", f"{self.tree}/{words} {closed}"], cwd=self.folder, env=env,
+                                      capture_output=True, text=True, check=False)
+                self.assertEqual(wanted, (done.returncode, done.stdout, done.stderr))
 
     def test_unproved(self):
         (self.folder / "x.rec").write_text("inputrecord 1\n")
@@ -267,6 +289,21 @@ class Install(TreeCase):
         status, written, said = self.run_installed(self.folder / "here" / "bin" / "inputplay-play", record)
         self.assertEqual((0, record.with_suffix(".report").read_text()), (status, written), said)
         self.assertIn("played by the second program (second), in Python, without proof", said)
+
+    def test_installed_tools_speak_of_the_installed_program(self):
+        self.built()
+        self.install("here")
+        program, record = self.folder / "here" / "bin" / "inputplay", self.file("x.rec", "inputrecord 1\ndevice d\n")
+        play = self.folder / "here" / "bin" / "inputplay-play"
+        program.write_text("#!/bin/sh\necho rubbish\n")
+        said = f"inputplay: {program} is not inputplay, or is broken: what it wrote is no report"
+        self.assertIn(said.split(": ", 1)[1], self.run_installed(play, record)[2])
+        program.unlink()
+        shutil.rmtree(self.folder / "here" / "lib" / "inputplay" / "second")
+        status, _, said = self.run_installed(play, record)
+        self.assertEqual(2, status)
+        self.assertIn(f"there is no installed program ({program}) and no second one (", said)
+        self.assertNotIn("inp_main", said)
 
     def test_it_is_built_first(self):
         status, written, lines = self.install("prefix")

@@ -11,7 +11,7 @@ import subprocess
 import time
 
 from tests.desk_cases import PROGRAM, TOOLS, TOP, DeskCase, heed_stops, needs_program
-from inputtools.refusal_hints import REFUSAL_HINTS
+from inputtools.refusal_hints import LIMIT_HINTS, REFUSAL_HINTS
 
 EXAMPLES = TOP / "examples"
 
@@ -92,9 +92,32 @@ class Refused(PlayCase):
             with self.subTest(cause):
                 program = self.stand_in(1, f"inputplay: line 3: {cause}")
                 wanted = [f"inputplay: line 3: {cause}", f"  {record}:3: axis ABS_X 0 x"]
-                wanted.append(f"  usual mistakes: {hint}")
+                wanted.append("  x is no number" if cause == "bad-word" else f"  usual mistakes: {hint}")
                 status, text, lines = self.play_tool(record, INPUTPLAY=program)
                 self.assertEqual((1, "", wanted), (status, text, lines[1:]))
+
+    def test_a_bad_word_is_named(self):
+        """With the nearest name, where it is to be one."""
+        head = "inputrecord 2\ndevice d\ncap EV_KEY KEY_A\n"
+        actors = f"{head}source s\nclient c\ntap t\n"
+        for text, said in (
+            (f"{head}cap EV_KEY KEY_ENTR", "KEY_ENTR is no code of EV_KEY; the nearest name is KEY_ENTER"),
+            (f"{head}cap EV_KEY ABS_X", "ABS_X is no code of EV_KEY, but of EV_ABS"),
+            (f"{head}cap EV_KYE KEY_A", "EV_KYE is no type; the nearest name is EV_KEY"),
+            (f"{head}axis ABS_XX 0 0 1 0 0 0", "ABS_XX is no code of EV_ABS; the nearest name is ABS_X"),
+            (f"{head}clock monotonic 1", "monotonic is none of realtime, boottime"),
+            (f"{head}filter bonce KEY_A 5", "bonce is none of eat, norepeat, chord, bounce; the nearest name is bounce"),
+            (f"{head}filter chord KEY_A KEY_CTRL", "KEY_CTRL is no code of EV_KEY; the nearest name is KEY_"),
+            (f"{head}tap T", "T is not 1 to 32 of a to z, 0 to 9, _ and -"),
+            (f"{actors}do s event 9000000000000001 EV_KEY KEY_A 1", "the number 9000000000000001 is not in 0 to 9000000000000000"),
+            (f"{actors}do s event 1 EV_KEY KEY_A 1.5", "1.5 is no number"),
+            (f"{actors}do c clock wall 1", "wall is none of realtime, monotonic, boottime"),
+            (f"{actors}do t axis KEY_A", "KEY_A is no code of EV_ABS, but of EV_KEY"),
+        ):
+            with self.subTest(text.splitlines()[-1]):
+                status, _, lines = self.play_tool(self.file("case.rec", text + "\n"))
+                self.assertEqual((1, "bad-word"), (status, lines[1].split()[-1]), lines)
+                self.assertTrue(lines[-1].startswith(f"  {said}"), lines)
 
     def test_each_cause_has_its_hint(self):
         formats = (TOP / "docs" / "FORMATS.md").read_text()
@@ -155,8 +178,10 @@ class Refused(PlayCase):
         for status, text in {3: "read failed", 5: "out of memory", 7: "input too long"}.items():
             message = f"inputplay: {text}"
             with self.subTest(message):
-                came, text, lines = self.play_tool(record, INPUTPLAY=self.stand_in(status, message))
-                self.assertEqual((status, "", [message, f"  in {record}"]), (came, text, lines[1:]))
+                came, written, lines = self.play_tool(record, INPUTPLAY=self.stand_in(status, message))
+                hint = [f"  {hint}" for end, hint in LIMIT_HINTS.items() if end == text]
+                self.assertEqual(status != 3, bool(hint))
+                self.assertEqual((status, "", [message, f"  in {record}", *hint]), (came, written, lines[1:]))
 
     def test_a_full_device(self):
         needs_program(self)

@@ -152,7 +152,7 @@ def tasks_of(asked: argparse.Namespace) -> List[Task]:
     if runs is not None and not asked.threads:
         raise Wrong("--runs goes with --threads: else each run is the same")
     if asked.threads and not isinstance(player, BuiltProgram):
-        raise Wrong(f"--threads wants the built program, and {player.name} plays on one thread")
+        raise Wrong(f"--threads wants the built program (bin/inputplay), and {player.name} plays on one thread")
     paths = paths_of(asked.records)[shard.number - 1 :: shard.parts]
     return [Task(number, path, player, (runs or 1) if asked.threads else None) for number, path in enumerate(paths)]
 

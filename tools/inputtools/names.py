@@ -87,8 +87,9 @@ def nearest(word: str, names: Iterable[str], least: float = 0.6) -> str:
     """What is said of the name that is most like a word, empty where none is like it."""
     import difflib  # (it is for what is wrong alone, and takes a while)
 
-    found = difflib.get_close_matches(word.upper(), names, 1, least)
-    return f"; the nearest name is {found[0]}" if found else ""
+    written = {name.upper(): name for name in names}
+    found = difflib.get_close_matches(word.upper(), written, 1, least)
+    return f"; the nearest name is {written[found[0]]}" if found else ""
 
 
 def _number(word: str) -> Optional[int]:

@@ -9,7 +9,7 @@ from inputtools.command import CUT_OFF, Result, Words, Wrote, name_of, put, tell
 from inputtools.jsonlines import ReportLines, line_of
 from inputtools.program import MESSAGES, PLAYED, Player, Run, find_player
 from inputtools.progress import progress
-from inputtools.refusal_hints import Refusal, hint_of, line_text, other_kind, refused_line
+from inputtools.refusal_hints import Refusal, hint_of, limit_hint, line_text, other_kind, refused_line
 from inputtools.source import Given, read_text, shown
 
 HELP = """Plays records: by the built program where there is one, else by the second program, without proof.
@@ -18,8 +18,8 @@ The report goes to stdout. Of several files a line `file FILE` stands before eac
 goes to stderr: which program plays, and, where it refuses a line, the line's text and what is usually wrong
 with such a line.
 
-The program is the one that the environment variable INPUTPLAY names, else crates/inp_main/out/inp_main of
-this repository, else the second program, which is in Python (second). It runs in the record's
+The program is the one that the environment variable INPUTPLAY names, else the built one of this repository
+(crates/inp_main/out/inp_main) or the installed one (bin/inputplay), else the second program, which is in Python. It runs in the record's
 folder, so the files of `stream` lines are looked for there; for standard input, in the present folder.
 Where the tools stand without it, the toolchain's `rt try` plays in its place: in one to three minutes,
 reports of 1 MiB at most."""
@@ -103,12 +103,14 @@ class File:
         tell(message)
         if refused is None:
             tell(f"  in {self.name}" + (f", {why}" if why else ""))
+            if limit_hint(message):
+                tell(f"  {limit_hint(message)}")
             return
         text = read_text(self.path)
         tell(f"  {self.name}:{refused.line}: {line_text(text, refused.line)}")
         other = other_kind(text, refused.cause)
         hint = hint_of(text, refused, self.folder)
-        tell(f"  {other}" if other else f"  {hint}" if hint.startswith("of ") else f"  usual mistakes: {hint}")
+        tell(f"  {other}" if other else f"  {hint.text}" if hint.is_certain else f"  usual mistakes: {hint.text}")
 
     def refusal(self, message: str, refused: Optional[Refusal]) -> str:
         number, cause = (refused.line, refused.cause) if refused else (None, None)

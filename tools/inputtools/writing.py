@@ -241,7 +241,8 @@ def text_of(lines: Iterable[str]) -> str:
         line = line.encode("ascii", "backslashreplace").decode() + "\n"
         size += len(line)
         if size > GREATEST_TEXT:
-            raise Wrong(f"the record would have more than {GREATEST_TEXT} bytes; try --stream")
+            raise Wrong(f"the record would have more than {GREATEST_TEXT} bytes; take a part of the capture by --from and "
+                        "--to, or put its events into a file by --stream")
         parts.append(line)
     return "".join(parts)
 
