@@ -4,6 +4,7 @@ its fields, and each that is told there is written."""
 import json
 import re
 
+from tests import test_stuck
 from tests.desk_cases import DATA, TOP, DeskCase, needs_program
 from tests.test_play import PlayCase
 
@@ -58,6 +59,7 @@ class Page(PlayCase):
         records = [*sorted(EXAMPLES.glob("*.rec")), RECORDS / "filters_decide_anew.rec", RECORDS / "slot_255.rec"]
         texts = [self.written("stuck", "--json", record) for record in records]
         texts.append(self.written("stuck", "--json", "--end", records[0]))
+        texts.append(self.tool("stuck", "--json", self.file("cut.rec", test_stuck.Cut.record))[1])
         self.assertEqual(set(), self.check("stuck", texts))
         partings = [each for text in texts for each in map(json.loads, text.splitlines()) if each["kind"] == "parting"]
         self.assertLessEqual({each["cause"] for each in partings}, causes())

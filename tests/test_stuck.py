@@ -665,6 +665,43 @@ class Held(StuckCase):
         self.assertIn("seen at: nothing left to read at place 9 (2.0 s); the end\n", said)
 
 
+class Cut(StuckCase):
+    """A play that a full history cut is said first, in JSON and by status 6, and nothing in it is `not read yet`."""
+
+    record = KEYBOARD.replace("hint 8\n", "hint 8\nlog 4\n") + "client c\ndo c open\n" + frame(1, press("KEY_A")) + "do c follow\n"
+    who = "c stopped, since the history was full at place 4"
+
+    def cut(self, tool, *words, text=record):
+        needs_program(self)
+        status, written, lines = self.tool(tool, *words, self.file("cut.rec", text))
+        self.assertEqual(6, status, lines)
+        return written, lines
+
+    def test_said_first(self):
+        first = f"the play was cut: {self.who}; a greater `log` of its device lets it go on"
+        for words in ([], ["--summary"], ["--fail"]):
+            with self.subTest(words):
+                written, _ = self.cut("stuck", *words)
+                self.assertEqual(first, written.splitlines()[0])
+                self.assertIn(f"(0.000001 s): the play was cut: {self.who}\n", written)
+                self.assertNotIn("not read yet", written)
+        self.assertEqual([f"export: note: {first}", "export: note: c read no event"], self.cut("export", "--raw", "c")[1])
+
+    def test_json(self):
+        first, *others = map(json.loads, self.cut("stuck", "--json")[0].splitlines())
+        self.assertEqual({"kind": "cut", "role": "client", "name": "c", "place": 4, "text": self.who}, first)
+        self.assertEqual(["cut"], [each["cause"] for each in others if each["kind"] == "parting"])
+
+    def test_a_source_that_stopped(self):
+        """Its frame has not ended since there was no room for its report."""
+        text = self.record.replace("log 4", "log 3").replace("do c follow\n", "")
+        self.assertIn("the play was cut: s stopped, since the history was full at place 3\n", self.cut("stuck", text=text)[0])
+
+    def test_what_kept_an_event_is_told_still(self):
+        text = self.record.replace("log 4", "log 6").replace("do c open\n", "tap g\ndo c open\ndo g open\ndo g grab\n")
+        self.assertIn("grab of g from place 3 on\n", self.cut("stuck", text=text + frame(2, release("KEY_A")))[0])
+
+
 class Ends(StuckCase):
     """What --fail, --summary and --json make of a record, and other ways in which the tool ends."""
 

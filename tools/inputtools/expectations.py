@@ -138,14 +138,20 @@ class Expectation:
 # What cannot be met or missed
 
 
+def codes_of(device: Device, number: int) -> List[str]:
+    """The codes of a type that a device has, in their order."""
+    described = device.described
+    codes = described.axes if number == ABS else described.codes.get(number, ())
+    return [code_text(number, code) for code in sorted(codes)]
+
+
 def sent_codes(device: Device, kind: str, role: str) -> Set[str]:
     """The codes of a type that a device may send to an actor of a role."""
     if role == "owner" and kind not in OUTPUT_KINDS:
         return {OUTPUT_SYN} if kind == "EV_SYN" else set()
-    number, codes = TYPES.get(kind, -1), {**device.codes, ABS: set(device.described.axes)}
-    is_whole = number == SYN or (number == REP and REP in codes)
-    known = set(CODES[number].values()) if is_whole else codes.get(number, set())
-    return {code_text(number, code) for code in known}
+    number = TYPES.get(kind, -1)
+    is_whole = number == SYN or (number == REP and REP in device.described.codes)
+    return set(CODES[number] if is_whole else codes_of(device, number))
 
 
 def why_not_sent(device: Device, expectation: Expectation) -> Optional[str]:
@@ -164,7 +170,7 @@ def why_not_seen(device: Device, expectation: Expectation) -> Optional[str]:
     if expectation.kind != AT_END or expectation.role == "joy" or expectation.line[0] == "current":
         return None
     kind = FLAG_KINDS.get(expectation.line[0], ABS)
-    has = [code_text(kind, code) for code in sorted(device.described.codes.get(kind, ()))]
+    has = codes_of(device, kind)
     wanted = (word.split("=")[0] for word in expectation.wanted)
     other = next((code for code in wanted if code not in has), None)
     return None if other is None or not has else f"the device {device.name} has no {other}{nearest(other, has, 0.0)}"
