@@ -2,10 +2,15 @@
 
 import json
 import os
+import signal
 import subprocess
+import sys
 import xml.etree.ElementTree as ElementTree
+from unittest import mock
 
-from tests.desk_cases import PROGRAM, TOOLS, TOP, DeskCase, needs_program
+from inputtools import program as program_module
+from tests.desk_cases import PROGRAM, TOOLS, TOP, DeskCase, heed_stops, needs_program
+from tests.test_statuses import with_file_size
 
 EXAMPLES = TOP / "examples"
 
@@ -308,3 +313,179 @@ not ok 4 - {self.missing}
                               capture_output=True, text=True, check=False)
         self.assertEqual((1, ""), (done.returncode, done.stderr))
         self.assertIn("2 of 3 expectations held", done.stdout)
+
+
+class Many(CheckCase):
+    """Folders, several records at a time, parts of them, and what is written where a check is stopped."""
+
+    def setUp(self):
+        super().setUp()
+        needs_program(self)
+        self.inputs = self.folder / "inputs"
+        self.inputs.mkdir()
+        self.records = [self.record(STICKS, f"desktop takes KEY_A {n % 2}", name=f"inputs/{n}.rec") for n in range(6)]
+        self.file("inputs/notes.txt", "no record")
+
+    def objects(self, *words):
+        return [json.loads(line) for line in self.tool("check", "--json", *words)[1].splitlines()]
+
+    def start(self, program, *words):
+        """The tool, started with a program that takes long to play a record of the name slow.rec."""
+        script = f'#!/bin/sh\ncase "$*" in *slow.rec*) sleep 20;; esac\nexec {PROGRAM} "$@"\n'
+        program = self.file(program, script)
+        program.chmod(0o755)
+        return subprocess.Popen([TOOLS / "check", *words], env={**os.environ, "INPUTPLAY": str(program)}, text=True,
+                                stdout=subprocess.PIPE, stderr=subprocess.PIPE, start_new_session=True, preexec_fn=heed_stops)
+
+    def test_a_folder(self):
+        status, written, lines = self.tool("check", self.inputs)
+        self.assertEqual((1, []), (status, lines))
+        *failed, last = written.splitlines()
+        self.assertEqual([str(self.inputs / f"{n}.rec:2") for n in (0, 2, 4)], sorted(line.split(": ")[0] for line in failed))
+        self.assertEqual("3 of 6 expectations held, in 6 records", last)
+
+    def test_several_at_a_time(self):
+        """The same comes, in whatever order; the file of --junit has that of the records."""
+        alone = self.objects(*self.records)
+        self.assertEqual([str(path) for path in self.records], [each["record"] for each in alone])
+        for words in (("-j", "3", *self.records), (self.inputs,), (self.inputs, "-j", "1")):
+            with self.subTest(words[0]):
+                result = self.folder / "result.xml"
+                self.assertEqual(alone, sorted(self.objects("--junit", result, *words), key=lambda each: each["record"]))
+                suites = ElementTree.parse(result).getroot()
+                self.assertEqual([str(path) for path in self.records], [suite.attrib["name"] for suite in suites])
+
+    def test_parts(self):
+        parts = [self.objects("--shard", f"{n}/4", self.inputs) for n in range(1, 5)]
+        self.assertEqual([2, 2, 1, 1], list(map(len, parts)))
+        self.assertEqual(self.objects(*self.records), sorted(sum(parts, []), key=lambda each: each["record"]))
+        none = "0 of 0 expectations held, in 0 records\n"
+        self.assertEqual((0, none, []), self.tool("check", "--shard", "7/7", self.inputs))
+
+    def test_options_between_files(self):
+        status, written, _ = self.tool("check", self.records[1], "--tap", self.records[3])
+        self.assertEqual((0, "1..2"), (status, written.splitlines()[-1]))
+
+    def test_results_come_at_once_and_stay_where_it_is_stopped(self):
+        slow = self.record(STICKS, "desktop agrees", name="slow.rec")
+        for number, stop, form in ((1, signal.SIGINT, "--tap"), (2, signal.SIGTERM, "--json")):
+            with self.subTest(stop.name, jobs=number):
+                result = self.folder / "result.xml"
+                words = ("-j", str(number), form, "--junit", result, self.records[1], slow, self.records[3])
+                started = self.start("slow", *words)
+                lines = [started.stdout.readline() for _ in range(2)]
+                self.assertIsNone(started.poll())
+                errors = [suite.attrib["errors"] for suite in ElementTree.parse(result).getroot()]
+                self.assertEqual(["1"] * 3, errors)
+                os.killpg(started.pid, stop)
+                text, said = started.communicate(timeout=15)
+                self.assertEqual((130, f"check: stopped: {number} of 3 records checked"), (started.returncode, said.strip()))
+                self.assertIn(self.records[1].name, "".join(lines))
+                self.assertEqual("Bail out! stopped\n" if form == "--tap" else "", text)
+                errors = [suite.attrib["errors"] for suite in ElementTree.parse(result).getroot()]
+                self.assertEqual(["0", "1", "1" if number == 1 else "0"], errors)
+
+    def test_a_process_that_is_ended(self):
+        """The others go on, and its record is told."""
+        program = self.file("killer", f'#!/bin/sh\ncase "$*" in *2.rec*) kill -9 $PPID;; esac\nexec {PROGRAM} "$@"\n')
+        program.chmod(0o755)
+        with mock.patch.dict(os.environ, {"INPUTPLAY": str(program)}):
+            status, written, lines = self.tool("check", "-j", "2", self.inputs)
+        self.assertEqual((2, 1), (status, len(lines)), lines)
+        self.assertIn("2.rec: it was not checked: what was to check it was stopped", lines[0])
+        self.assertIn("3 of 5 expectations held, in 5 records", written)
+
+    def test_wrong_words(self):
+        empty = self.folder / "empty"
+        empty.mkdir()
+        for words, because in (
+            ((empty,), "the folder has no record (*.rec)"),
+            (("-j", "0", self.inputs), "-j 0 is not in 1 to"),
+            (("--shard", "3/2", self.inputs), "--shard 3/2 is not K/N"),
+            (("--runs", "3", self.inputs), "--runs goes with --threads"),
+            (("--threads", "--runs", "many", self.inputs), "--runs many is no number"),
+        ):
+            with self.subTest(because):
+                self.refused("check", *words, because=because)
+
+
+class Files(CheckCase):
+    """What is written is whole, and well-formed, whatever a file is named."""
+
+    def test_xml_of_any_name(self):
+        needs_program(self)
+        path = self.record(STICKS, "desktop never KEY_A", name='a&b<c>"\x01\x1b[31m\u00e9\n.rec')
+        result = self.folder / "result.xml"
+        # (the program takes no name that is not in UTF-8, which is told in the file)
+        status, written, _ = self.tool("check", "--junit", result, path, os.fsdecode(b"none\xff.rec"))
+        self.assertEqual(2, status)
+        first, second = ElementTree.parse(result).getroot()
+        self.assertEqual(str(self.folder / 'a&b<c>"\\x01\\x1b[31m\\xe9 .rec'), first.attrib["name"])
+        self.assertEqual(("1", "none\\udcff.rec"), (first.attrib["failures"], second.attrib["name"]))
+        self.assertTrue(all(" " <= char <= "~" or char == "\n" for char in written), written)
+
+    def test_outputs_are_written_beside_and_renamed(self):
+        """Who has the file open reads the one before; what cannot be written leaves it."""
+        record, output = self.file("case.rec", STICKS), self.file("out.evemu", "before\n")
+        output.chmod(0o640)
+        words = [TOOLS / "export", record, "--evemu", "--output", output]
+        with open(output, encoding="ascii") as before:
+            subprocess.run(words, check=True)
+            self.assertEqual("before\n", before.read())
+        self.assertTrue(output.read_text().startswith("# EVEMU"))
+        self.assertEqual(0o640, output.stat().st_mode & 0o777)
+        output.write_text("before\n")
+        done = subprocess.run(words, preexec_fn=with_file_size(100), capture_output=True, text=True, check=False)
+        self.assertEqual((2, f"export: {output}: File too large\n"), (done.returncode, done.stderr))
+        self.assertEqual("before\n", output.read_text())
+        self.assertEqual({"case.rec", "out.evemu"}, {path.name for path in self.folder.iterdir()})
+        # what is no regular file is written to as it is
+        done = subprocess.run([*words[:-1], "/dev/stdout"], capture_output=True, text=True, check=True)
+        self.assertTrue(done.stdout.startswith("# EVEMU"))
+
+    def test_a_report_that_a_link_names(self):
+        (self.folder / "link.report").symlink_to("/etc/hostname")
+        self.is_wrong(STICKS, "report link.report", because="the file is not below the record's folder")
+
+
+class Threads(CheckCase):
+    """An expectation has to hold in each run on threads, and a run that fails can be played again."""
+
+    def test_it_holds_in_each_run(self):
+        needs_program(self)
+        path = self.record(STICKS, "remapper takes KEY_A", "desktop never KEY_B 1")
+        text = path.read_text().replace("do remapper ungrab", "do remapper follow\ndo remapper ungrab")
+        path.write_text(text.replace("takes KEY_A", "never SYN_DROPPED"))
+        self.assertEqual((0, "2 of 2 expectations held, in 1 record\n", []), self.tool("check", "--threads", "--runs", "5", path))
+
+    def test_a_run_that_fails_is_left(self):
+        needs_program(self)
+        path = self.record(STICKS, "desktop drops 1")
+        status, written, _ = self.tool("check", "--threads", "--runs", "3", path)
+        left = [self.folder / f"case.run{number}.history" for number in (1, 2, 3)]
+        self.assertEqual((1, 2), (status, len(written.splitlines())), written)
+        self.assertTrue(written.splitlines()[0].endswith(f": 0 came; in 3 of 3 runs, first in run 1 ({left[0]})"), written)
+        for history in left:
+            done = subprocess.run([sys.executable, "-m", "second.replay", path, history], cwd=TOP, capture_output=True,
+                                  text=True, check=False)
+            self.assertEqual((0, ""), (done.returncode, done.stderr))
+
+    def test_one_of_several_runs(self):
+        """A stand-in for the program plays another record in its second run."""
+        needs_program(self)
+        path, count = self.record(STICKS, "desktop takes KEY_A 1"), self.folder / "count"
+        other = self.file("other.rec", STICKS.replace("KEY_A 1", "KEY_B 1"))
+        script = f'echo >> {count}\nif test $(wc -l < {count}) = 2; then set -- --history {other}; else set -- --history {path}; fi'
+        program = self.file("flaky", f'#!/bin/sh\n{script}\nexec {PROGRAM} "$@"\n')
+        program.chmod(0o755)
+        with mock.patch.dict(os.environ, {"INPUTPLAY": str(program)}):
+            status, written, _ = self.tool("check", "--threads", "--runs", "4", path)
+        said = f"it did not come among 2 events; in 1 of 4 runs, first in run 2 ({self.folder}/case.run2.history)\n"
+        self.assertEqual(1, status)
+        self.assertIn(said, written)
+        self.assertEqual(["case.run2.history"], [each.name for each in self.folder.glob("*.history")])
+
+    def test_the_second_program_has_no_threads(self):
+        with mock.patch.dict(os.environ), mock.patch.object(program_module, "BUILT", "/no/program"):
+            os.environ.pop("INPUTPLAY", None)
+            self.refused("check", "--threads", self.record(STICKS, "status 0"), because="--threads wants the built program")

@@ -6,6 +6,7 @@ import multiprocessing
 import os
 import signal
 import time
+from multiprocessing.connection import Connection, wait
 from typing import Iterator, List, NamedTuple, Optional
 
 from inputtools.checking import outcomes_of
@@ -50,7 +51,7 @@ expectation, or a record that cannot be checked; the others are checked all the 
 output failed. 130: stopped from the keyboard, or by SIGTERM: what was checked until then is written, and the file of
 --junit tells the others as errors."""
 
-NOT_CHECKED = "it was not checked: the command was stopped before"
+NOT_CHECKED = "it was not checked: what was to check it was stopped"
 
 
 class Task(NamedTuple):
@@ -80,19 +81,60 @@ def check(task: Task) -> Done:
     return Done(task.number, Checked(shown(path), outcomes, wrong, time.monotonic() - begun))
 
 
-def heed_no_stop() -> None:
-    """A stop from the keyboard is for the process that started this one."""
+def serve(connection: Connection) -> None:
+    """What a process does that checks records: each that it is sent, until there is none. A stop from the keyboard is for
+    the process that started it."""
     signal.signal(signal.SIGINT, signal.SIG_IGN)
     signal.signal(signal.SIGTERM, signal.SIG_DFL)
+    task: Task
+    for task in iter(connection.recv, None):
+        connection.send(check(task))
+
+
+class Worker:
+    """A process that checks records, and the one that it has."""
+
+    def __init__(self) -> None:
+        context = multiprocessing.get_context("fork")
+        self.connection, theirs = context.Pipe()
+        self.process = context.Process(target=serve, args=(theirs,), daemon=True)
+        self.process.start()
+        theirs.close()
+        self.task: Optional[Task] = None
+
+    def give(self, task: Optional[Task]) -> None:
+        self.task = task
+        if task is not None:
+            self.connection.send(task)
+
+    def done(self) -> Optional[Done]:
+        """What came of its record; None where the process was ended."""
+        try:
+            result: Done = self.connection.recv()
+            return result
+        except (EOFError, OSError):
+            self.task = None
+            return None
 
 
 def all_done(tasks: List[Task], jobs: int) -> Iterator[Done]:
-    """The records as they are done, so many at a time."""
+    """The records as they are done, so many at a time. Those of a process that was ended are left out."""
     if jobs == 1:
         yield from map(check, tasks)
         return
-    with multiprocessing.Pool(jobs, heed_no_stop) as pool:
-        yield from pool.imap_unordered(check, tasks)
+    waiting, workers = iter(tasks), [Worker() for _ in range(jobs)]
+    try:
+        for worker in workers:
+            worker.give(next(waiting, None))
+        while busy := {worker.connection: worker for worker in workers if worker.task is not None}:
+            worker = busy[wait(list(busy))[0]]  # type: ignore[index]
+            done = worker.done()
+            if done is not None:
+                worker.give(next(waiting, None))
+                yield done
+    finally:
+        for worker in workers:
+            worker.process.kill()
 
 
 class Checking:
@@ -139,6 +181,8 @@ class Checking:
             write_junit(self.junit, self.records)
 
     def status(self) -> int:
+        for checked in (each for each in self.records if each.wrong is NOT_CHECKED):
+            say("check", f"{checked.path}: {checked.wrong}")
         if self.is_cut_off:
             return CUT_OFF
         if any(checked.wrong is not None for checked in self.records):
