@@ -293,11 +293,12 @@ class Install(TreeCase):
     def test_installed_tools_speak_of_the_installed_program(self):
         self.built()
         self.install("here")
-        program, record = self.folder / "here" / "bin" / "inputplay", self.file("x.rec", "inputrecord 1\ndevice d\n")
+        program = self.folder / "here" / "lib" / "inputplay" / "inputplay"
+        record = self.file("x.rec", "inputrecord 1\ndevice d\n")
         play = self.folder / "here" / "bin" / "inputplay-play"
         program.write_text("#!/bin/sh\necho rubbish\n")
-        said = f"inputplay: {program} is not inputplay, or is broken: what it wrote is no report"
-        self.assertIn(said.split(": ", 1)[1], self.run_installed(play, record)[2])
+        said = f"inputplay-play: {program} is not inputplay, or is broken: what it wrote is no report"
+        self.assertIn(said, self.run_installed(play, record)[2])
         program.unlink()
         shutil.rmtree(self.folder / "here" / "lib" / "inputplay" / "second")
         status, _, said = self.run_installed(play, record)

@@ -141,7 +141,7 @@ class Expectation:
 def codes_of(device: Device, number: int) -> List[str]:
     """The codes of a type that a device has, in their order."""
     described = device.described
-    codes = described.axes if number == ABS else described.codes.get(number, ())
+    codes = set(described.axes) if number == ABS else described.codes.get(number, set())
     return [code_text(number, code) for code in sorted(codes)]
 
 

@@ -1,7 +1,7 @@
 """Finds the program that plays records, and runs it.
 
-The built program is used where there is one: the one that the environment variable INPUTPLAY names,
-crates/inp_main/out/inp_main of this repository, or bin/inputplay where the tools are installed. Else the second program plays, which is in Python
+The built program is used where there is one: the one that the environment variable INPUTPLAY names, or
+crates/inp_main/out/inp_main of this repository. Else the second program plays, which is in Python
 (second). Where the tools stand without it the toolchain's `rt try` plays, without proof. It runs the
 program in a folder of its own, so it is handed the record and the file of each `stream` line by name.
 
@@ -19,7 +19,7 @@ import tempfile
 from abc import ABC, abstractmethod
 from typing import IO, List, NamedTuple, Optional, Sequence
 
-from inputtools.command import Wrong
+from inputtools.command import Wrong, is_installed
 from inputtools.progress import progress
 from inputtools.record import stream_names
 
@@ -30,9 +30,6 @@ IN_A_CLONE = os.path.join(REPOSITORY, "crates", "inp_main", "out", "inp_main")
 BUILT = INSTALLED if os.path.isfile(INSTALLED) else IN_A_CLONE
 SOURCE = os.path.join(REPOSITORY, "crates", "inp_main")
 SECOND = os.path.join(REPOSITORY, "second")
-# Where the tools are installed, below PREFIX/lib/inputplay, the program is this one.
-IS_INSTALLED = REPOSITORY.endswith(os.path.join(os.sep, "lib", "inputplay"))
-INSTALLED = os.path.normpath(os.path.join(REPOSITORY, "..", "..", "bin", "inputplay"))
 
 # The statuses with which a report was written.
 CUT = 6
@@ -195,7 +192,7 @@ class Toolchain(Player):
     takes = " by the toolchain, which takes one to three minutes"
 
     def __init__(self) -> None:
-        if IS_INSTALLED:
+        if is_installed():
             raise Wrong(f"there is no installed program ({INSTALLED}) and no second one ({SECOND}): install them again")
         if shutil.which("rt") is None:
             raise Wrong("there is no built program (crates/inp_main/out/inp_main) and no toolchain (rt)")
@@ -233,12 +230,10 @@ class Toolchain(Player):
 def find_player() -> Player:
     """What plays: the built or installed program, else the second one, else the toolchain."""
     named = os.environ.get("INPUTPLAY")
-    program = os.path.abspath(named) if named else INSTALLED if IS_INSTALLED else BUILT
+    program = os.path.abspath(named) if named else BUILT
     if os.access(program, os.X_OK) and os.path.isfile(program):
-        # (an installed tool is told the installed program by that variable, which nobody has set)
-        is_installed = IS_INSTALLED and os.path.normpath(program) == INSTALLED
-        name = INSTALLED if is_installed else named or os.path.relpath(BUILT, REPOSITORY)
-        return BuiltProgram(program, name, not is_installed and bool(named))
+        name = INSTALLED if program == INSTALLED else os.path.relpath(BUILT, REPOSITORY)
+        return BuiltProgram(program, named or name, bool(named))
     if named:
         raise Wrong(f"INPUTPLAY names {named}, which is no program")
     return SecondProgram() if has_second() else Toolchain()
