@@ -9,7 +9,8 @@ import stat
 import subprocess
 from unittest import mock
 
-from tests.desk_cases import PROGRAM, TOOLS, TOP, DeskCase, needs_program
+from tests.desk_cases import PROGRAM, TOOLS, TOP, DeskCase, needs_program, raw_capture
+from inputtools.names import ABS, SYN
 from inputtools.played import play
 from inputtools.program import find_player
 from inputtools.progress import Progress
@@ -700,6 +701,36 @@ class Cut(StuckCase):
     def test_what_kept_an_event_is_told_still(self):
         text = self.record.replace("log 4", "log 6").replace("do c open\n", "tap g\ndo c open\ndo g open\ndo g grab\n")
         self.assertIn("grab of g from place 3 on\n", self.cut("stuck", text=text + frame(2, release("KEY_A")))[0])
+
+
+class Long(StuckCase):
+    """Streams of hundreds of thousands of events."""
+
+    def stream(self, count):
+        """A record of so many events, of which each third is a report."""
+        values = ((ABS, 53, 7), (ABS, 54, 9), (SYN, 0, 0))
+        events = (values[number % 3] for number in range(count))
+        data = raw_capture((number // 3 * 7000, kind, code, number % 50 + value if kind else 0)
+                           for number, (kind, code, value) in enumerate(events))
+        self.file("long.bin", data)
+        text = TOUCHPAD + "axis ABS_MT_POSITION_Y 0 0 100 0 0 0\n"
+        text = text.replace("source s\n", "") + "source s\nclient c\ndo c open\ndo s stream long.bin\ndo c follow\n"
+        return self.file("long.rec", text)
+
+    def test_400_000_events(self):
+        needs_program(self)
+        said = self.written("stuck", self.stream(400000))
+        self.assertRegex(said, r"^device pad steps 4000\d\d\nclient c\n  it lost events: SYN_DROPPED of place ")
+
+    def test_too_many_are_refused_before_they_are_played(self):
+        begun = self.folder / "begun"
+        program = self.file("program", f"#!/bin/sh\n: > {begun}\n")
+        program.chmod(0o755)
+        with mock.patch.dict(os.environ, {"INPUTPLAY": str(program)}):
+            self.refused("stuck", self.stream(690000), because="long.rec: its devices' state can be asked for after about 5")
+            self.refused("stuck", self.folder / "long.rec", because="000 steps at most, and there are 690000: take a part of "
+                                                                    "the capture by tools/record --from and --to")
+        self.assertFalse(begun.exists())
 
 
 class Ends(StuckCase):

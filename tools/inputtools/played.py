@@ -14,7 +14,7 @@ from inputtools.joysticks import JoyWalk
 from inputtools.owners import Owner
 from inputtools.program import PLAYED, Player
 from inputtools.progress import progress
-from inputtools.record import Line, Record
+from inputtools.record import Line, Record, lines_of
 from inputtools.refusal_hints import refusal_text
 from inputtools.report import Call, Device, Part, Report, Took
 from inputtools.source import Given, read_text
@@ -117,9 +117,24 @@ def add_parts_behind(report: Report, record: Record) -> None:
             device.owners.append(part)
 
 
+def check_streams(name: str, text: str, folder: str) -> None:
+    """Refuses streams that are too long at once, and not once they were played."""
+    streams = [line.stream for line in lines_of(text) if line.stream]
+    try:
+        events = [event for stream in streams for event in stream.events(folder)]
+    except Wrong:
+        # (who plays them says what is wrong with them)
+        return
+    try:
+        devicestate.check_length(events)
+    except Wrong as wrong:
+        raise Wrong(f"{name}: {wrong}") from None
+
+
 def play(given: Given, player: Player) -> List[PlayedDevice]:
     """Plays a record and asks for its devices' states; the played devices."""
     text, folder = read_text(given.path), given.folder
+    check_streams(given.name, text, folder)
     status, written = player.play(given.path, folder, ["--history"])
     if status not in PLAYED:
         raise Wrong(f"{given.name}: {refusal_text(text, written, status, folder)}")
