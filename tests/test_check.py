@@ -2,6 +2,7 @@
 
 import json
 import os
+import shutil
 import signal
 import subprocess
 import sys
@@ -361,6 +362,22 @@ class Many(CheckCase):
         self.assertEqual(self.objects(*self.records), sorted(sum(parts, []), key=lambda each: each["record"]))
         none = "0 of 0 expectations held, in 0 records\n"
         self.assertEqual((0, none, []), self.tool("check", "--shard", "7/7", self.inputs))
+
+    def test_parts_by_gnu_parallel(self):
+        """The block of docs/CI.md, on this machine alone."""
+        if shutil.which("parallel") is None:
+            self.skipTest("GNU parallel is not there (parallel)")
+        blocks = (TOP / "docs" / "CI.md").read_text().split("```")
+        (block,) = (each for each in blocks if "inputplay-check --shard {}" in each)
+        script = block.split("\n", 1)[1].replace("one,two", ":").replace("inputplay-check", str(TOOLS / "check"))
+        done = subprocess.run(["bash", "-c", script], cwd=self.folder, capture_output=True, text=True, check=False,
+                              env={**os.environ, "HOME": str(self.folder), "INPUTPLAY": PROGRAM})
+        self.assertEqual(2, done.returncode, done.stderr)
+        self.assertEqual(3, done.stdout.count("inputs/"), done.stdout)
+        suites = [suite.attrib["name"] for number in range(1, 5)
+                  for suite in ElementTree.parse(self.folder / f"part{number}.xml").getroot()]
+        self.assertEqual([f"inputs/{number}.rec" for number in range(6)], sorted(suites))
+        self.assertEqual(6, len(list(self.inputs.glob("*.rec"))))
 
     def test_options_between_files(self):
         status, written, _ = self.tool("check", self.records[1], "--tap", self.records[3])
