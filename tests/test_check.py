@@ -420,6 +420,7 @@ class Many(CheckCase):
             (("-j", "0", self.inputs), "-j 0 is not in 1 to"),
             (("--shard", "3/2", self.inputs), "--shard 3/2 is not K/N"),
             (("--runs", "3", self.inputs), "--runs goes with --threads"),
+            (("--junit", *self.records), "0.rec is a record"),
             (("--threads", "--runs", "many", self.inputs), "--runs many is no number"),
         ):
             with self.subTest(because):

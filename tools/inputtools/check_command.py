@@ -86,6 +86,7 @@ def serve(connection: Connection) -> None:
     the process that started it."""
     signal.signal(signal.SIGINT, signal.SIG_IGN)
     signal.signal(signal.SIGTERM, signal.SIG_DFL)
+    progress.is_over.set()
     task: Task
     for task in iter(connection.recv, None):
         connection.send(check(task))
@@ -213,6 +214,8 @@ def command(arguments: List[str]) -> Result:
     words.add_argument("--threads", action="store_true", help="play each actor on a thread of its own")
     words.add_argument("--runs", metavar="N", help="--threads: play each record N times (1)")
     asked = words.parse_args(arguments)
+    if asked.junit is not None and asked.junit.endswith(".rec"):
+        raise Wrong(f"--junit wants a file for the results, and {asked.junit} is a record")
     has_folder = any(map(os.path.isdir, asked.records))
     jobs = natural(asked.j, "-j", 1) or (len(os.sched_getaffinity(0)) if has_folder else 1)
     tasks = tasks_of(asked)
