@@ -44,7 +44,10 @@ cap EV_REL REL_X
 source usb
 client slow
 do slow open
-""" + "".join(f"do usb event {n} EV_REL REL_X 1\ndo usb event {n} EV_SYN SYN_REPORT 0\n" for n in range(1, 60)) + "do slow follow\n"
+"""
+LOSES += "".join(f"do usb event {n} EV_REL REL_X 1\ndo usb event {n} EV_SYN SYN_REPORT 0\n"
+                 for n in range(1, 60))
+LOSES += "do slow follow\n"
 VERSION_2 = """inputrecord 2
 udevice pad
 cap EV_KEY BTN_TRIGGER
@@ -100,9 +103,12 @@ class CheckCase(DeskCase):
 class Expectations(CheckCase):
     def test_what_holds(self):
         self.holds(
-            STICKS, "desktop at-end keys KEY_A", "remapper at-end keys", "desktop at-end leds", "desktop at-end axes ABS_X=5",
-            "desktop never SYN_DROPPED", "desktop never KEY_A 0", "desktop never EV_LED", "desktop takes KEY_A",
-            "desktop takes EV_KEY/30 1", "desktop takes EV_KEY", "desktop drops 0", "desktop never EV_SYN/2", "status 0",
+            STICKS, "desktop at-end keys KEY_A", "remapper at-end keys", "desktop at-end leds",
+            "desktop at-end axes ABS_X=5",
+            "desktop never SYN_DROPPED", "desktop never KEY_A 0", "desktop never EV_LED",
+            "desktop takes KEY_A",
+            "desktop takes EV_KEY/30 1", "desktop takes EV_KEY", "desktop drops 0", "desktop never EV_SYN/2",
+            "status 0",
         )
 
     def test_the_view_at_the_end(self):
@@ -122,14 +128,17 @@ class Expectations(CheckCase):
         self.holds(LOSES, "slow drops 1", "slow takes SYN_DROPPED")
         status, lines = self.checked(LOSES, "slow drops 3", "slow never SYN_DROPPED")
         self.assertEqual(1, status)
-        self.assertRegex(lines[0], r"^2: slow drops 3: at place \d+ \(0\.000059 s\): 1 came: place \d+ \(0\.0000\d+ s\)$")
-        self.assertRegex(lines[1], r"^3: slow never SYN_DROPPED: at place \d+ .*: 'took \d+ \d+ EV_SYN SYN_DROPPED 0' came$")
+        told = r"^2: slow drops 3: at place \d+ \(0\.000059 s\): 1 came: place \d+ \(0\.0000\d+ s\)$"
+        self.assertRegex(lines[0], told)
+        came = r"'took \d+ \d+ EV_SYN SYN_DROPPED 0' came$"
+        self.assertRegex(lines[1], rf"^3: slow never SYN_DROPPED: at place \d+ .*: {came}")
 
     def test_agreement(self):
         self.holds(STICKS, "remapper at-end keys")
         status, lines = self.checked(STICKS, "desktop agrees")
         self.assertEqual(1, status)
-        self.assertTrue(lines[0].startswith("2: desktop agrees: at place 13 (2.5 s): KEY_A is down for it and up on the device: "), lines)
+        told = "2: desktop agrees: at place 13 (2.5 s): KEY_A is down for it and up on the device: "
+        self.assertTrue(lines[0].startswith(told), lines)
         self.assertIn("grab of remapper from place 11 (1.0 s) to 14 (2.5 s)", lines[0])
 
     def test_reports(self):
@@ -139,15 +148,17 @@ class Expectations(CheckCase):
                 if wanted.exists():
                     with self.subTest(wanted.name):
                         text = (EXAMPLES / f"{name}.rec").read_text()
-                        (self.folder / "views_flood.bin").write_bytes((EXAMPLES / "views_flood.bin").read_bytes())
+                        shutil.copy(EXAMPLES / "views_flood.bin", self.folder)
                         self.file("wanted.report", wanted.read_text())
                         self.holds(text, "report wanted.report")
         text = (EXAMPLES / "stuck_key.rec").read_text()
-        self.file("wanted.report", (EXAMPLES / "stuck_key.report").read_text().replace("again 11", "again 12"))
+        self.file("wanted.report",
+                  (EXAMPLES / "stuck_key.report").read_text().replace("again 11", "again 12"))
         self.fails(text, "report wanted.report",
                    "at place 11 (0.002 s): 'again 11' came as line 10, and 'again 12' was wanted")
         self.file("wanted.report", "")
-        self.fails(text, "report wanted.report", "'device kbd steps 13' came as line 1, and the end was wanted")
+        self.fails(text, "report wanted.report",
+                   "'device kbd steps 13' came as line 1, and the end was wanted")
         self.is_wrong(text, "report missing.report", because="missing.report: No such file or directory")
 
     def test_statuses(self):
@@ -167,10 +178,12 @@ class Expectations(CheckCase):
 
     def test_joysticks_slots_and_owners(self):
         self.holds(
-            VERSION_2, "j at-end buttons 0", "j agrees", "c at-end slot 0 ABS_MT_TRACKING_ID=7", "c at-end current 0",
+            VERSION_2, "j at-end buttons 0", "j agrees", "c at-end slot 0 ABS_MT_TRACKING_ID=7",
+            "c at-end current 0",
             "o takes LED_CAPSL 1", "o never LED_CAPSL 0", "o never SYN_CONFIG", "c at-end keys BTN_TRIGGER",
         )
-        status, lines = self.checked(VERSION_2, "j at-end buttons", "o never LED_CAPSL", "c at-end slot 1 ABS_MT_TRACKING_ID=7")
+        status, lines = self.checked(VERSION_2, "j at-end buttons", "o never LED_CAPSL",
+                                     "c at-end slot 1 ABS_MT_TRACKING_ID=7")
         self.assertEqual((1, 3), (status, len(lines)), lines)
         self.assertIn(": 0 came", lines[0])
         self.assertIn("'fed EV_LED LED_CAPSL 1' came", lines[1])
@@ -183,9 +196,9 @@ class Wrongly(CheckCase):
             "desktop": "nothing stands behind desktop",
             "destkop agrees": "line 2: no actor is named destkop; there are desktop, probe, remapper, usb",
             "usb agrees": "nothing is expected of a source",
-            "desktop agres": "agres is not known here: of a client one expects at-end or never or takes or drops or agrees",
+            "desktop agres": "agres is not known here: of a client one expects at-end or never or takes or",
             "desktop agrees now": "nothing stands behind agrees",
-            "desktop at-end": "at-end wants a line of the view at the end: keys, switches, leds, axes, current, slot",
+            "desktop at-end": "at-end wants a line of the view at the end: keys, switches, leds, axes,",
             "desktop at-end keys KEY_NONE": "KEY_NONE is no code of EV_KEY",
             "desktop at-end axes": "axes wants a value behind it, as ABS_X=5",
             "desktop at-end axes ABS_X": "ABS_X is no axis with a value",
@@ -199,16 +212,16 @@ class Wrongly(CheckCase):
             "status": "status wants one word",
             "report": "report wants one word",
             "desktop at-end switches SW_LID": "since the device has no such thing",
-            "desktop at-end axes ABS_Y=6": "line 2: desktop at-end axes ABS_Y=6: the device kbd has no ABS_Y; the nearest name is ABS_X",
+            "desktop at-end axes ABS_Y=6": "the device kbd has no ABS_Y; the nearest name is ABS_X",
             "desktop at-end keys KEY_A KEY_C": "the device kbd has no KEY_C; the nearest name is KEY_",
             "probe agrees": "probe never opened the device",
             "probe never EV_KEY": "probe never opened the device",
             "remapper never KEY_A": "remapper never reads, so each play meets it",
             "remapper drops 0": "remapper never reads, so each play meets it",
-            "desktop never 28": "28 is no type: a code is written with its own, as EV_KEY/28, which is KEY_ENTER",
+            "desktop never 28": "a code is written with its own, as EV_KEY/28, which is KEY_ENTER",
             "desktop never 999 1": "999 is no type: a code is written with its own, as EV_KEY/999",
             "desktop takes 28 0": "line 2: 28 is no type",
-            "desktop never ABS_Y": "line 2: desktop never ABS_Y: the device kbd cannot send ABS_Y; the nearest name is ABS_X",
+            "desktop never ABS_Y": "line 2: desktop never ABS_Y: the device kbd cannot send ABS_Y; the ",
             "desktop never KEY_C": "the device kbd cannot send KEY_C; the nearest name is KEY_",
             "desktop takes EV_KEY/700 1": "the device kbd cannot send 700",
             "desktop never EV_REL": "the device kbd cannot send EV_REL",
@@ -240,7 +253,8 @@ class Wrongly(CheckCase):
         self.refused("check", self.file("bare.rec", f"#=\n{STICKS}"), because="nothing stands behind #=")
 
     def test_records_that_are_not_played(self):
-        self.is_wrong(STICKS.replace("do desktop open", "do desktop opens"), "desktop agrees", because="line 12: bad-command")
+        self.is_wrong(STICKS.replace("do desktop open", "do desktop opens"), "desktop agrees",
+                      because="line 12: bad-command")
         self.refused("check", self.folder / "missing.rec", because="missing.rec: No such file")
 
     def test_wrong_words(self):
@@ -292,7 +306,8 @@ not ok 4 - {self.missing}
         first, second = root
         self.assertEqual((str(self.path), "3", "1", "0"),
                          tuple(first.attrib[name] for name in ("name", "tests", "failures", "errors")))
-        self.assertEqual(["line 2: desktop takes KEY_A", "line 3: desktop never KEY_A", "line 4: desktop never KEY_A 0"],
+        self.assertEqual(["line 2: desktop takes KEY_A", "line 3: desktop never KEY_A",
+                          "line 4: desktop never KEY_A 0"],
                          [case.attrib["name"] for case in first])
         self.assertEqual(f"at place 9 (1.0 s): {self.came}", first[1][0].attrib["message"])
         self.assertEqual("No such file or directory", second[0][0].attrib["message"])
@@ -300,7 +315,8 @@ not ok 4 - {self.missing}
     def test_json(self):
         status, written, _ = self.tool("check", "--json", self.path, self.missing)
         objects = [json.loads(line) for line in written.splitlines()]
-        wanted = {"record": str(self.path), "line": 3, "expectation": "desktop never KEY_A", "client": "desktop",
+        wanted = {"record": str(self.path), "line": 3, "expectation": "desktop never KEY_A",
+                  "client": "desktop",
                   "held": False, "place": 9, "time": 1000000, "came": self.came}
         self.assertEqual((2, wanted), (status, objects[1]))
         self.assertEqual([True, False, True, None], [each.get("held") for each in objects])
@@ -324,7 +340,8 @@ class Many(CheckCase):
         needs_program(self)
         self.inputs = self.folder / "inputs"
         self.inputs.mkdir()
-        self.records = [self.record(STICKS, f"desktop takes KEY_A {n % 2}", name=f"inputs/{n}.rec") for n in range(6)]
+        self.records = [self.record(STICKS, f"desktop takes KEY_A {n % 2}", name=f"inputs/{n}.rec")
+                        for n in range(6)]
         self.file("inputs/notes.txt", "no record")
 
     def objects(self, *words):
@@ -335,14 +352,16 @@ class Many(CheckCase):
         script = f'#!/bin/sh\ncase "$*" in *slow.rec*) sleep 20;; esac\nexec {PROGRAM} "$@"\n'
         program = self.file(program, script)
         program.chmod(0o755)
-        return subprocess.Popen([TOOLS / "check", *words], env={**os.environ, "INPUTPLAY": str(program)}, text=True,
-                                stdout=subprocess.PIPE, stderr=subprocess.PIPE, start_new_session=True, preexec_fn=heed_stops)
+        env = {**os.environ, "INPUTPLAY": str(program)}
+        return subprocess.Popen([TOOLS / "check", *words], env=env, text=True, stdout=subprocess.PIPE,
+                                stderr=subprocess.PIPE, start_new_session=True, preexec_fn=heed_stops)
 
     def test_a_folder(self):
         status, written, lines = self.tool("check", self.inputs)
         self.assertEqual((1, []), (status, lines))
         *failed, last = written.splitlines()
-        self.assertEqual([str(self.inputs / f"{n}.rec:2") for n in (0, 2, 4)], sorted(line.split(": ")[0] for line in failed))
+        self.assertEqual([str(self.inputs / f"{n}.rec:2") for n in (0, 2, 4)],
+                         sorted(line.split(": ")[0] for line in failed))
         self.assertEqual("3 of 6 expectations held, in 6 records", last)
 
     def test_several_at_a_time(self):
@@ -352,9 +371,11 @@ class Many(CheckCase):
         for words in (("-j", "3", *self.records), (self.inputs,), (self.inputs, "-j", "1")):
             with self.subTest(words[0]):
                 result = self.folder / "result.xml"
-                self.assertEqual(alone, sorted(self.objects("--junit", result, *words), key=lambda each: each["record"]))
+                self.assertEqual(alone, sorted(self.objects("--junit", result, *words),
+                                               key=lambda each: each["record"]))
                 suites = ElementTree.parse(result).getroot()
-                self.assertEqual([str(path) for path in self.records], [suite.attrib["name"] for suite in suites])
+                self.assertEqual([str(path) for path in self.records],
+                                 [suite.attrib["name"] for suite in suites])
 
     def test_parts(self):
         parts = [self.objects("--shard", f"{n}/4", self.inputs) for n in range(1, 5)]
@@ -369,9 +390,12 @@ class Many(CheckCase):
             self.skipTest("GNU parallel is not there (parallel)")
         blocks = (TOP / "docs" / "CI.md").read_text().split("```")
         (block,) = (each for each in blocks if "inputplay-check --shard {}" in each)
-        script = block.split("\n", 1)[1].replace("one,two", ":").replace("inputplay-check", str(TOOLS / "check"))
-        done = subprocess.run(["bash", "-c", script], cwd=self.folder, capture_output=True, text=True, check=False,
-                              env={**os.environ, "HOME": str(self.folder), "INPUTPLAY": PROGRAM})
+        script = block.split("\n", 1)[1].replace("one,two", ":")
+        script = script.replace("inputplay-check", str(TOOLS / "check"))
+        env = {**os.environ, "HOME": str(self.folder), "INPUTPLAY": PROGRAM}
+        done = subprocess.run(["bash", "-c", script], cwd=self.folder, env=env, capture_output=True,
+                              text=True,
+                              check=False)
         self.assertEqual(2, done.returncode, done.stderr)
         self.assertEqual(3, done.stdout.count("inputs/"), done.stdout)
         suites = [suite.attrib["name"] for number in range(1, 5)
@@ -396,7 +420,8 @@ class Many(CheckCase):
                 self.assertEqual(["1"] * 3, errors)
                 os.killpg(started.pid, stop)
                 text, said = started.communicate(timeout=15)
-                self.assertEqual((130, f"check: stopped: {number} of 3 records checked"), (started.returncode, said.strip()))
+                self.assertEqual((130, f"check: stopped: {number} of 3 records checked"),
+                                 (started.returncode, said.strip()))
                 self.assertIn(self.records[1].name, "".join(lines))
                 self.assertEqual("Bail out! stopped\n" if form == "--tap" else "", text)
                 errors = [suite.attrib["errors"] for suite in ElementTree.parse(result).getroot()]
@@ -404,7 +429,8 @@ class Many(CheckCase):
 
     def test_a_process_that_is_ended(self):
         """The others go on, and its record is told."""
-        program = self.file("killer", f'#!/bin/sh\ncase "$*" in *2.rec*) kill -9 $PPID;; esac\nexec {PROGRAM} "$@"\n')
+        program = self.file("killer",
+                            f'#!/bin/sh\ncase "$*" in *2.rec*) kill -9 $PPID;; esac\nexec {PROGRAM} "$@"\n')
         program.chmod(0o755)
         with mock.patch.dict(os.environ, {"INPUTPLAY": str(program)}):
             status, written, lines = self.tool("check", "-j", "2", self.inputs)
@@ -453,7 +479,8 @@ class Files(CheckCase):
         self.assertTrue(output.read_text().startswith("# EVEMU"))
         self.assertEqual(0o640, output.stat().st_mode & 0o777)
         output.write_text("before\n")
-        done = subprocess.run(words, preexec_fn=with_file_size(100), capture_output=True, text=True, check=False)
+        done = subprocess.run(words, preexec_fn=with_file_size(100), capture_output=True, text=True,
+                              check=False)
         self.assertEqual((2, f"export: {output}: File too large\n"), (done.returncode, done.stderr))
         self.assertEqual("before\n", output.read_text())
         self.assertEqual({"case.rec", "out.evemu"}, {path.name for path in self.folder.iterdir()})
@@ -474,7 +501,8 @@ class Threads(CheckCase):
         path = self.record(STICKS, "remapper takes KEY_A", "desktop never KEY_B 1")
         text = path.read_text().replace("do remapper ungrab", "do remapper follow\ndo remapper ungrab")
         path.write_text(text.replace("takes KEY_A", "never SYN_DROPPED"))
-        self.assertEqual((0, "2 of 2 expectations held, in 1 record\n", []), self.tool("check", "--threads", "--runs", "5", path))
+        self.assertEqual((0, "2 of 2 expectations held, in 1 record\n", []),
+                         self.tool("check", "--threads", "--runs", "5", path))
 
     def test_a_run_that_fails_is_left(self):
         needs_program(self)
@@ -482,10 +510,11 @@ class Threads(CheckCase):
         status, written, _ = self.tool("check", "--threads", "--runs", "3", path)
         left = [self.folder / f"case.run{number}.history" for number in (1, 2, 3)]
         self.assertEqual((1, 2), (status, len(written.splitlines())), written)
-        self.assertTrue(written.splitlines()[0].endswith(f": 0 came; in 3 of 3 runs, first in run 1 ({left[0]})"), written)
+        said = f": 0 came; in 3 of 3 runs, first in run 1 ({left[0]})"
+        self.assertTrue(written.splitlines()[0].endswith(said), written)
         for history in left:
-            done = subprocess.run([sys.executable, "-m", "second.replay", path, history], cwd=TOP, capture_output=True,
-                                  text=True, check=False)
+            words = [sys.executable, "-m", "second.replay", path, history]
+            done = subprocess.run(words, cwd=TOP, capture_output=True, text=True, check=False)
             self.assertEqual((0, ""), (done.returncode, done.stderr))
 
     def test_one_of_several_runs(self):
@@ -493,17 +522,18 @@ class Threads(CheckCase):
         needs_program(self)
         path, count = self.record(STICKS, "desktop takes KEY_A 1"), self.folder / "count"
         other = self.file("other.rec", STICKS.replace("KEY_A 1", "KEY_B 1"))
-        script = f'echo >> {count}\nif test $(wc -l < {count}) = 2; then set -- --history {other}; else set -- --history {path}; fi'
+        script = f"echo >> {count}\ntest $(wc -l < {count}) = 2 && set -- --history {other}"
         program = self.file("flaky", f'#!/bin/sh\n{script}\nexec {PROGRAM} "$@"\n')
         program.chmod(0o755)
         with mock.patch.dict(os.environ, {"INPUTPLAY": str(program)}):
             status, written, _ = self.tool("check", "--threads", "--runs", "4", path)
-        said = f"it did not come among 2 events; in 1 of 4 runs, first in run 2 ({self.folder}/case.run2.history)\n"
+        said = "it did not come among 2 events; in 1 of 4 runs, first in run 2 "
         self.assertEqual(1, status)
-        self.assertIn(said, written)
+        self.assertIn(f"{said}({self.folder}/case.run2.history)\n", written)
         self.assertEqual(["case.run2.history"], [each.name for each in self.folder.glob("*.history")])
 
     def test_the_second_program_has_no_threads(self):
         with mock.patch.dict(os.environ), mock.patch.object(program_module, "BUILT", "/no/program"):
             os.environ.pop("INPUTPLAY", None)
-            self.refused("check", "--threads", self.record(STICKS, "status 0"), because="--threads wants the built program")
+            self.refused("check", "--threads", self.record(STICKS, "status 0"),
+                         because="--threads wants the built program")

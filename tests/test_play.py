@@ -58,11 +58,13 @@ class Played(PlayCase):
         self.assertEqual((0, (EXAMPLES / "views.report").read_text()), (status, text))
 
     def test_json(self):
-        status, text, _ = self.play_tool("--json", "--history", EXAMPLES / "views.rec", EXAMPLES / "joystick.rec")
+        status, text, _ = self.play_tool("--json", "--history", EXAMPLES / "views.rec",
+                                         EXAMPLES / "joystick.rec")
         self.assertEqual(0, status)
         objects = [json.loads(line) for line in text.splitlines()]
         reports = [self.play_tool("--history", EXAMPLES / name)[1] for name in ("views.rec", "joystick.rec")]
-        played = [{"kind": "played", "file": str(EXAMPLES / name), "status": 0} for name in ("views.rec", "joystick.rec")]
+        played = [{"kind": "played", "file": str(EXAMPLES / name), "status": 0}
+                  for name in ("views.rec", "joystick.rec")]
         self.assertEqual(played, [each for each in objects if each["kind"] == "played"])
         self.assertEqual(sum(len(report.splitlines()) for report in reports), len(objects) - 2)
         took = {"kind": "took", "file": str(EXAMPLES / "joystick.rec"), "device": "gamepad", "role": "client"}
@@ -106,10 +108,12 @@ class Refused(PlayCase):
             (f"{head}cap EV_KYE KEY_A", "EV_KYE is no type; the nearest name is EV_KEY"),
             (f"{head}axis ABS_XX 0 0 1 0 0 0", "ABS_XX is no code of EV_ABS; the nearest name is ABS_X"),
             (f"{head}clock monotonic 1", "monotonic is none of realtime, boottime"),
-            (f"{head}filter bonce KEY_A 5", "bonce is none of eat, norepeat, chord, bounce; the nearest name is bounce"),
+            (f"{head}filter bonce KEY_A 5",
+             "bonce is none of eat, norepeat, chord, bounce; the nearest name is bounce"),
             (f"{head}filter chord KEY_A KEY_CTRL", "KEY_CTRL is no code of EV_KEY; the nearest name is KEY_"),
             (f"{head}tap T", "T is not 1 to 32 of a to z, 0 to 9, _ and -"),
-            (f"{actors}do s event 9000000000000001 EV_KEY KEY_A 1", "the number 9000000000000001 is not in 0 to 9000000000000000"),
+            (f"{actors}do s event 9000000000000001 EV_KEY KEY_A 1",
+             "the number 9000000000000001 is not in 0 to 9000000000000000"),
             (f"{actors}do s event 1 EV_KEY KEY_A 1.5", "1.5 is no number"),
             (f"{actors}do c clock wall 1", "wall is none of realtime, monotonic, boottime"),
             (f"{actors}do t axis KEY_A", "KEY_A is no code of EV_ABS, but of EV_KEY"),
@@ -138,11 +142,13 @@ class Refused(PlayCase):
     def test_a_stream_that_is_none(self):
         """What is wrong with its file is told, by the number of the record."""
         keyboard = (TOP / "tests" / "data" / "keyboard.bin").read_bytes()
-        record = self.file("s.rec", "inputrecord 1\ndevice d\ncap EV_KEY KEY_A\nsource s\ndo s stream keys.bin\n")
+        record = self.file("s.rec",
+                           "inputrecord 1\ndevice d\ncap EV_KEY KEY_A\nsource s\ndo s stream keys.bin\n")
         bad = struct.pack("<QQHHi", 5, 1000000, 1, 30, 1)
         late = struct.pack("<QQHHi", 9000000001, 0, 1, 30, 1)
         for data, said in (
-            (keyboard[:24] + bad, "its record 2, of 24 bytes from byte 24 on, is no event: its microseconds are 1000000"),
+            (keyboard[:24] + bad,
+             "its record 2, of 24 bytes from byte 24 on, is no event: its microseconds are 1000000"),
             (late, "its record 1, of 24 bytes from byte 0 on, is no event: its time is 9000000001 s"),
             (keyboard[:25], "it has 1 record of 24 bytes and 1 byte more"),
         ):
@@ -170,7 +176,8 @@ class Refused(PlayCase):
         letter = self.file("letter.rec", "dear all\n")
         status, text, _ = self.play_tool(EXAMPLES / "one_key.rec", letter, self.folder / "missing.rec")
         report = (EXAMPLES / "one_key.report").read_text()
-        files = [f"file {EXAMPLES / 'one_key.rec'}\n", report, f"file {letter}\n", f"file {self.folder / 'missing.rec'}\n"]
+        files = [f"file {EXAMPLES / 'one_key.rec'}\n", report, f"file {letter}\n",
+                 f"file {self.folder / 'missing.rec'}\n"]
         self.assertEqual((1, "".join(files)), (status, text))
 
     def test_messages_and_statuses_are_handed_on(self):
@@ -204,7 +211,8 @@ class Refused(PlayCase):
             stderr=subprocess.PIPE,
             text=True,
         )
-        self.assertEqual((4, "play: standard output is closed"), (done.returncode, done.stderr.splitlines()[-1]))
+        self.assertEqual((4, "play: standard output is closed"),
+                         (done.returncode, done.stderr.splitlines()[-1]))
 
     def test_files_that_are_no_records(self):
         """What a file is that was played by mistake is told in place of the usual mistakes."""
@@ -216,9 +224,9 @@ class Refused(PlayCase):
             data / "lid.libinput.yml": f"this is a recording of libinput: {made}",
             data / "lid.proc": "this is /proc/bus/input/devices: tools/describe reads it",
             data / "lid.bin": f"this is a raw capture of a device's events: {made}",
-            self.file("packed", gzip.compress(b"inputrecord 1\n")): "this is a gzip file: unpack it with gunzip",
+            self.file("packed", gzip.compress(b"some")): "this is a gzip file: unpack it with gunzip",
             self.file("shot", b"\x89PNG\r\n\x1a\n\0\0"): "this is a picture (PNG), and no record",
-            TOP / "docs" / "stuck_key.svg": "this is a picture (SVG), as tools/draw writes one, and no record",
+            TOP / "docs" / "stuck_key.svg": "this is a picture (SVG), as tools/draw writes one",
             EXAMPLES / "lid.report": "this is a report, as playing a record writes it, and no record",
         }
         for path, said in other.items():
@@ -258,7 +266,8 @@ class Words(PlayCase):
         others = {
             "true": ("#!/bin/sh\n", "is not inputplay, or is broken: it wrote nothing"),
             "echo": ("#!/bin/sh\necho hello\n", "is not inputplay, or is broken: what it wrote is no report"),
-            "status": ("#!/bin/sh\necho device d steps 0\nexit 77\n", "is not inputplay: it ended in status 77"),
+            "status": ("#!/bin/sh\necho device d steps 0\nexit 77\n",
+                       "is not inputplay: it ended in status 77"),
             "killed": (f"{endless}", "not inputplay, or is broken: it wrote nothing"),
             "no_program": ("#!/no/such/shell\n", "does not start: No such file or directory"),
             "no_format": ("\x7fELF", "does not start: Exec format error"),
@@ -295,7 +304,8 @@ class Words(PlayCase):
                 time.sleep(0.2)
                 os.killpg(started.pid, signal.SIGINT)
                 text, said = started.communicate(timeout=20)
-                self.assertEqual((130, "", f"{tool}: stopped"), (started.returncode, text, said.splitlines()[-1]))
+                self.assertEqual((130, "", f"{tool}: stopped"),
+                                 (started.returncode, text, said.splitlines()[-1]))
 
     def test_the_second_program(self):
         """In a copy of the tools with the second program beside them, with no toolchain on the path."""
@@ -308,11 +318,13 @@ class Words(PlayCase):
         records = {EXAMPLES / "views.rec": 0, TOP / "tests" / "records" / "owner_alone_is_full.rec": 6}
         for record, status in records.items():
             with self.subTest(record.name):
-                done = subprocess.run([self.folder / "tools" / "play", record], env=env, capture_output=True, text=True)
+                done = subprocess.run([self.folder / "tools" / "play", record], env=env, capture_output=True,
+                                      text=True)
                 said = ["play: played by the second program (second), in Python, without proof"]
                 self.assertEqual((status, said), (done.returncode, done.stderr.splitlines()))
                 self.assertEqual(record.with_suffix(".report").read_text(), done.stdout)
-        done = subprocess.run([self.folder / "tools" / "stuck", EXAMPLES / "stuck_key.rec"], env=env, capture_output=True, text=True)
+        done = subprocess.run([self.folder / "tools" / "stuck", EXAMPLES / "stuck_key.rec"], env=env,
+                              capture_output=True, text=True)
         self.assertEqual((0, ""), (done.returncode, done.stderr))
         self.assertIn("KEY_LEFTCTRL: down for it, up on the device", done.stdout)
 
@@ -362,13 +374,17 @@ class Toolchain(PlayCase):
 
     def test_each_end_that_is_not_the_programs(self):
         """Whatever status the toolchain has: its last line tells that the program did not end."""
-        long = "checked: no-answer: the run wrote more than 1048576 bytes to standard output or to standard error, the limit on each"
+        long = "checked: no-answer: the run wrote more than 1048576 bytes to standard output or to "
+        long += "standard error, the limit on each"
         ends = {
             "a long report": (6, [long, "run=no-answer proved=no"], "hands on 1 MiB of a report at most"),
-            "a long run": (6, ["checked: no-answer: 60 seconds", "run=no-answer proved=no"], "took more than it grants"),
-            "a fault": (4, ["checked: fault: an index", "run=fault proved=no"], "stopped at a fault under the toolchain"),
+            "a long run": (6, ["checked: no-answer: 60 seconds", "run=no-answer proved=no"],
+                           "took more than it grants"),
+            "a fault": (4, ["checked: fault: an index", "run=fault proved=no"],
+                        "stopped at a fault under the toolchain"),
             "two answers": (5, ["run=differs proved=no"], "the toolchain's two runs of the program differ"),
-            "no program": (1, ["error[type]: it is none", "run=none proved=no"], "built no program and played nothing"),
+            "no program": (1, ["error[type]: it is none", "run=none proved=no"],
+                           "built no program and played nothing"),
             "nothing said": (0, [], "built no program and played nothing"),
             "said by the crate": (0, ["run=ended status=0 proved=no", "more"], "built no program"),
         }
@@ -376,7 +392,8 @@ class Toolchain(PlayCase):
             for tool in ("play", "stuck", "draw"):
                 with self.subTest(case, tool=tool):
                     done = self.by_toolchain(tool, status, *lines, write="true")
-                    said = [line for line in done.stderr.splitlines() if "played by the toolchain" not in line]
+                    said = [line for line in done.stderr.splitlines()
+                            if "played by the toolchain" not in line]
                     self.assertEqual((2, "", 1), (done.returncode, done.stdout, len(said)), said)
                     self.assertTrue(said[0].startswith(f"{tool}: "), said)
                     self.assertIn(wanted, said[0])

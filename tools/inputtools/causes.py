@@ -17,7 +17,8 @@ class Causes:
     """The causes of one device: its state, what its history says of the clients, and whose the clients
     are."""
 
-    def __init__(self, state: DeviceState, device: Device, losses: Callable[[str], List[Optional[int]]]) -> None:
+    def __init__(self, state: DeviceState, device: Device,
+                 losses: Callable[[str], List[Optional[int]]]) -> None:
         self.state, self.handles, self.at, self.unread_losses = state, state.handles, state.at, losses
         self.openers: Dict[int, str] = {}
         self.cut = next((part for part in device.all_parts() if part.end.is_full), None)
@@ -28,9 +29,9 @@ class Causes:
     def cause_of(self, walk: Walk, thing: Thing, point: Point) -> Why:
         """Since which place a belief is not the device's state, None for the start, and why."""
         why = self.found(walk, thing, point)
-        is_undone = why.cause.kind in UNDONE and (walk.part.end.is_full or why.cause.kind == "open-frame")
-        cut = self.cut if is_undone and point.kind == "end" else None
-        return why if cut is None else Why(why.since, Cause("cut", f"the play was cut: {cut_text(cut)}"))
+        if self.cut is None or why.cause.kind not in UNDONE:
+            return why
+        return Why(why.since, Cause("cut", f"the play was cut: {cut_text(self.cut)}"))
 
     def found(self, walk: Walk, thing: Thing, point: Point) -> Why:
         """The same, whether or not the play was cut."""
@@ -97,7 +98,8 @@ class Causes:
     def of_later_belief(self, thing: Thing, origin: Origin, point: Point) -> Optional[Cause]:
         """The cause where the belief was told later than the device took its value."""
         where = self.at.text(origin.place)
-        if origin.is_answer and point.kind == "report" and point.place is not None and origin.place > point.place:
+        is_behind = point.place is not None and origin.place > point.place
+        if origin.is_answer and point.kind == "report" and is_behind:
             return Cause("asked-later", f"it asked at {where}, behind this report's frame")
         if not origin.is_answer and thing.slot is not None:
             text = f"it took the value of {where} for this slot, which is not the device's current one there"
@@ -182,5 +184,5 @@ class Causes:
 
 
 NOT_READ = Cause("not-read", "not read yet")
-# What an actor, or a source, might have done yet where the play had gone on.
-UNDONE = ("not-read", "open-frame", "startup", "start-refused", "opened-later", "not-asked")
+# What might have come yet where the play had gone on.
+UNDONE = ("not-read", "open-frame", "startup")

@@ -10,14 +10,16 @@ from multiprocessing.connection import Connection, wait
 from typing import Iterator, List, NamedTuple, Optional
 
 from inputtools.checking import outcomes_of
-from inputtools.command import CUT_OFF, STOPPED, Result, Words, Wrong, Wrote, counted, natural, put, say, shard_of
+from inputtools.command import (
+    CUT_OFF, STOPPED, Result, Words, Wrong, Wrote, counted, natural, put, say, shard_of,
+)
 from inputtools.program import BuiltProgram, Player, find_player
 from inputtools.progress import progress
 from inputtools.results import Checked, ForPeople, Form, Json, Tap, write_junit
 from inputtools.source import paths_of, shown
 
-HELP = """Plays records and checks what they expect, which stands in comments that begin with `#=`. So a record
-with expectations is played as one without. NAME is an actor of the record:
+HELP = """Plays records and checks what they expect, which stands in comments that begin with `#=`. So a
+record with expectations is played as one without. NAME is an actor of the record:
 
   #= NAME at-end keys KEY_A ..    its view at the end has these keys down and no others (none: no word);
                                   likewise switches, leds, and a joystick's buttons and axes
@@ -31,24 +33,25 @@ with expectations is played as one without. NAME is an actor of the record:
   #= report FILE                  the report is that of FILE, which is in the record's folder or below it
   #= status 6                     the program ends with this status; 0 is expected where no line tells one
 
-They may stand anywhere in the record. The files of `stream` lines are looked for in the record's folder too, and
-for standard input in the present one. What an event is handed to a client for does not matter: it was read, or
-its reader made it when it synchronised.
+They may stand anywhere in the record. The files of `stream` lines are looked for in the record's folder too,
+and for standard input in the present one. What an event is handed to a client for does not matter: it was
+read, or its reader made it when it synchronised.
 
-Each expectation that fails is one line: the record, its line, the expectation with its client, the place
-in the device's history, the time of the device there, and what came. The last line counts. Lines come as records
+Each expectation that fails is one line: the record, its line, the expectation with its client, the place in
+the device's history, the time of the device there, and what came. The last line counts. Lines come as records
 are done: with -j above 1 in that order, while the file of --junit keeps that of the records.
 
-With --threads each actor is a thread of its own, which the built program alone can do, and an expectation has to
-hold in each of --runs runs. Of a run that fails the report with its history is left beside the record, as
+With --threads each actor is a thread of its own, which the built program alone can do, and an expectation has
+to hold in each of --runs runs. Of a run that fails the report with its history is left beside the record, as
 NAME.run7.history for the seventh: `python3 -m second.replay RECORD FILE` plays it again.
 
-A record that expects nothing is wrong input, and so is one that is not played where no status is expected. So is
-what cannot fail: an event that the device cannot send, or an actor that never opens the device or never reads."""
+A record that expects nothing is wrong input, and so is one that is not played where no status is expected. So
+is what cannot fail: an event that the device cannot send, or an actor that never opens the device or never
+reads."""
 
-STATUSES = """Status 0: all that was expected came. 1: something that was expected did not. 2: wrong words, a wrong
-expectation, or a record that cannot be checked; the others are checked all the same. 4: standard
-output failed. 130: stopped from the keyboard, or by SIGTERM: what was checked until then is written, and the file of
+STATUSES = """Status 0: all that was expected came. 1: something that was expected did not. 2: wrong words, a
+wrong expectation, or a record that cannot be checked; the others are checked all the same. 4: standard output
+failed. 130: stopped from the keyboard, or by SIGTERM: what was checked until then is written, and the file of
 --junit tells the others as errors."""
 
 NOT_CHECKED = "it was not checked: what was to check it was stopped"
@@ -82,8 +85,8 @@ def check(task: Task) -> Done:
 
 
 def serve(connection: Connection) -> None:
-    """What a process does that checks records: each that it is sent, until there is none. A stop from the keyboard is for
-    the process that started it."""
+    """What a process does that checks records: each that it is sent, until there is none. A stop from the
+    keyboard is for the process that started it."""
     signal.signal(signal.SIGINT, signal.SIG_IGN)
     signal.signal(signal.SIGTERM, signal.SIG_DFL)
     progress.is_over.set()
@@ -197,19 +200,22 @@ def tasks_of(asked: argparse.Namespace) -> List[Task]:
     if runs is not None and not asked.threads:
         raise Wrong("--runs goes with --threads: else each run is the same")
     if asked.threads and not isinstance(player, BuiltProgram):
-        raise Wrong(f"--threads wants the built program (bin/inputplay), and {player.name} plays on one thread")
+        raise Wrong(f"--threads wants the built program (bin/inputplay): {player.name} plays on one thread")
     paths = paths_of(asked.records)[shard.number - 1 :: shard.parts]
-    return [Task(number, path, player, (runs or 1) if asked.threads else None) for number, path in enumerate(paths)]
+    often = (runs or 1) if asked.threads else None
+    return [Task(number, path, player, often) for number, path in enumerate(paths)]
 
 
 def command(arguments: List[str]) -> Result:
     words = Words(prog="check", description=HELP, epilog=STATUSES)
-    words.add_argument("records", metavar="RECORD", nargs="+", help="a record, or a folder of them; - is standard input")
+    words.add_argument("records", metavar="RECORD", nargs="+",
+                       help="a record, or a folder of them; - is standard input")
     forms = words.add_mutually_exclusive_group()
     forms.add_argument("--tap", action="store_true", help="write the Test Anything Protocol")
     forms.add_argument("--json", action="store_true", help="write JSON, one object a line (docs/JSON.md)")
     words.add_argument("--junit", metavar="FILE", help="write JUnit's XML to FILE besides")
-    words.add_argument("-j", metavar="N", help="check N records at a time: as many as processors for a folder, else 1")
+    words.add_argument("-j", metavar="N",
+                       help="check N records at a time: as many as processors for a folder, else 1")
     words.add_argument("--shard", metavar="K/N", help="check the K-th of N parts of the records")
     words.add_argument("--threads", action="store_true", help="play each actor on a thread of its own")
     words.add_argument("--runs", metavar="N", help="--threads: play each record N times (1)")

@@ -16,7 +16,8 @@ from inputtools.record import Device as RecordDevice
 from inputtools.record import Record
 from inputtools.refusal_hints import refusal_text
 from inputtools.report import (
-    ActorLine, Again, Call, Device, DeviceLine, Entry, Fed, Feedback, Made, Part, Report, SourceLine, Took, cut_text,
+    ActorLine, Again, Call, Device, DeviceLine, Entry, Fed, Feedback, Made, Part, Report, SourceLine, Took,
+    cut_text,
     entry_of, without_history,
 )
 from inputtools.source import Given, read_text, write_bytes
@@ -79,14 +80,15 @@ class Played:
         return refusal_text(self.of.text, self.written, self.status, self.of.folder)
 
     def device_of(self, part: Part) -> Optional[Device]:
-        """The actor's device. That of a joystick and of an owner no report tells, but where there is one alone."""
+        """The actor's device. That of a joystick and of an owner no report tells where there are several."""
         devices = self.report.devices if self.report else []
         return part.device or (devices[0] if len(devices) == 1 else None)
 
     def at(self, part: Part, place: Optional[int]) -> Where:
         """A place of the actor's device, with its time."""
         device = self.device_of(part)
-        return Where(place, None if device is None or place is None else self.places[device.name].moment(place))
+        return Where(place,
+                     None if device is None or place is None else self.places[device.name].moment(place))
 
     def place_text(self, part: Part, place: int) -> str:
         """A place with its time."""
@@ -102,7 +104,8 @@ class Played:
         """A client, as it was compared with its device."""
         if self.devices is None:
             of = self.of
-            self.devices = devices_of(of.name, of.text, of.folder, of.player, self.written, self.flags == THREADED)
+            is_threaded = self.flags == THREADED
+            self.devices = devices_of(of.name, of.text, of.folder, of.player, self.written, is_threaded)
         return next(each for device in self.devices for each in device.readers() if each.name == name)
 
 
@@ -123,7 +126,7 @@ def outcomes_of_play(played: Played) -> List[Outcome]:
 
 
 class Run(NamedTuple):
-    """A run on threads: its number, its results, and, where one fails, the file that has its report and history."""
+    """A run on threads: its number, its results, and the file that it left, where one of them fails."""
 
     number: int
     outcomes: Dict[str, Outcome]
@@ -150,13 +153,13 @@ def run_of(of: Expecting, number: int) -> Run:
 
 
 def over_runs(key: str, runs: Sequence[Run]) -> Outcome:
-    """What came of an expectation over all runs: that of the first in which it failed, with how many these are."""
+    """What came of an expectation over all runs: in how many it failed, and what came in the first one."""
     failed = [run for run in runs if key in run.outcomes and not run.outcomes[key].is_held]
     if not failed:
         return next(run.outcomes[key] for run in runs if key in run.outcomes)
     first = failed[0].outcomes[key]
-    count = f"in {len(failed)} of {counted(len(runs), 'run')}, first in run {failed[0].number} ({failed[0].left})"
-    first.came = f"{first.came}; {count}"
+    where = f"first in run {failed[0].number} ({failed[0].left})"
+    first.came = f"{first.came}; in {len(failed)} of {counted(len(runs), 'run')}, {where}"
     return first
 
 
@@ -169,7 +172,9 @@ def outcome_of(played: Played, expectation: Expectation) -> Outcome:
         return of_report(played, expectation)
     part = played.report.parts[expectation.name]
     check_meaning(played, expectation, part)
-    checks = {AT_END: of_view, "never": of_never, "takes": of_takes, "drops": of_drops, "agrees": of_agreement}
+    checks = {
+        AT_END: of_view, "never": of_never, "takes": of_takes, "drops": of_drops, "agrees": of_agreement,
+    }
     return checks[expectation.kind](played, expectation, part)
 
 
@@ -180,9 +185,11 @@ def check_meaning(played: Played, expectation: Expectation, part: Part) -> None:
         raise wrong_expectation(played, expectation, f"{expectation.actor} never opened the device")
     is_whole = played.report is not None and played.report.cut is None
     if kind in ("never", "drops") and is_whole and not any(map(is_reading, part.sight)):
-        raise wrong_expectation(played, expectation, f"{expectation.actor} never reads, so each play meets it")
+        raise wrong_expectation(played, expectation,
+                                f"{expectation.actor} never reads, so each play meets it")
     device = played.of.device_of(expectation.name)
-    why = why_not_sent(device, expectation) if kind in ("never", "takes") else why_not_seen(device, expectation)
+    why_not = why_not_sent if kind in ("never", "takes") else why_not_seen
+    why = why_not(device, expectation)
     if why:
         raise wrong_expectation(played, expectation, why)
 
@@ -251,7 +258,8 @@ def of_view(played: Played, expectation: Expectation, part: Part) -> Outcome:
     line = next((line for line in part.view if list(line.words[:size]) == expectation.line), None)
     if line is None:
         what = " ".join(expectation.line)
-        raise wrong_expectation(played, expectation, f"its view has no line {what}, since the device has no such thing")
+        raise wrong_expectation(played, expectation,
+                                f"its view has no line {what}, since the device has no such thing")
     words, wanted = list(line.words[size:]), expectation.wanted
     if is_line_held(expectation, words):
         return Outcome(expectation)

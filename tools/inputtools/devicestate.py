@@ -179,8 +179,8 @@ def numbers_of(kind: str, code: str) -> str:
 
 
 def action_line(number: int, step: Step, base: int) -> str:
-    """The line by which the source makes a step, or the tap describes an axis. A written event is a raw event as an
-    injected one is. Moments count from `base` on, so that they are short."""
+    """The line by which the source makes a step, or the tap describes an axis. A written event is a raw event
+    as an injected one is. Moments count from `base` on, so that they are short."""
     if step.name == DESCRIPTION:
         return f"do axes{number} {DESCRIPTION} {step.rest.split(' ', 1)[1]}"
     moment, event = step.moment, step.event
@@ -192,14 +192,15 @@ def action_line(number: int, step: Step, base: int) -> str:
 
 
 def base_of(state: DeviceState) -> int:
-    """The least moment of the device's steps; 0 where the first one has none, as a frame may have it then too."""
+    """The least moment of the device's steps; 0 where the first one has none: its frames have 0 then too."""
     moments = [state.history[place].moment for place in state.places]
-    return min((moment for moment in moments if moment is not None), default=0) if moments[:1] != [None] else 0
+    known = [moment for moment in moments if moment is not None]
+    return min(known) if known and moments[0] is not None else 0
 
 
 def is_read_behind(step: Step, waiting: int, hint: int) -> bool:
-    """Is to be read after this step? Where more may have come than an event, and long before more events wait than a
-    ring holds, which is eight times the hint."""
+    """Is to be read after this step? Where more may have come than an event, and long before more events wait
+    than a ring holds, which is eight times the hint."""
     return step.name not in ("inject", "write") or waiting >= hint
 
 
@@ -211,7 +212,8 @@ def is_sent(step: Step) -> bool:
 
 def sending_places(state: DeviceState) -> List[int]:
     """The places of the steps after which the owner asks, where there is one."""
-    return [place for place in state.places if state.description.is_requested and is_sent(state.history[place])]
+    return [place for place in state.places if state.description.is_requested
+            and is_sent(state.history[place])]
 
 
 def device_lines(number: int, state: DeviceState) -> List[str]:
@@ -249,14 +251,15 @@ def action_lines(number: int, state: DeviceState) -> List[str]:
 def too_long(count: int, size: int) -> Wrong:
     """So many steps would need a record of this size: how many can be, and what helps."""
     most = count * TEXT_LIMIT // size // 1000 * 1000
-    return Wrong(f"its devices' state can be asked for after about {most} steps at most, and there are {count}: take a "
-                 f"part of the capture by tools/record --from and --to")
+    return Wrong(f"its devices' state can be asked for after about {most} steps at most, and there are "
+                 f"{count}: take a part of the capture by tools/record --from and --to")
 
 
 def check_length(events: Sequence[Captured]) -> None:
     """Refuses so many events of streams at once, where it is known before they are played."""
     base = min((event.time for event in events), default=0)
-    size = sum(len(f"do s0 event {time - base} {kind} {code} {value}\n") for time, kind, code, value in events)
+    lines = (f"do s0 event {time - base} {kind} {code} {value}\n" for time, kind, code, value in events)
+    size = sum(map(len, lines))
     if size > TEXT_LIMIT:
         raise too_long(len(events), size)
 
@@ -279,7 +282,8 @@ def second_record(states: List[DeviceState]) -> str:
 
 
 class SourcePlaces:
-    """Of the second history's places those that are the source's, each with its place in the first history."""
+    """Of the second history's places those that are the source's, each with its place in the first
+    history."""
 
     def __init__(self, device: ReportedDevice, state: DeviceState) -> None:
         taken = {call.reply.place for part in device.readers() for call in part.all_of(Call)
@@ -298,7 +302,8 @@ def start_values(part: Part) -> Dict[Thing, int]:
     """The state at the start, as the answers to a client's first queries tell it."""
     belief = Belief(0)
     starts = ("open", "getaxis", "syncslots", *QUERIED_KIND)
-    for call in itertools.takewhile(lambda entry: isinstance(entry, Call) and entry.step.name in starts, part.sight):
+    for call in itertools.takewhile(lambda entry: isinstance(entry, Call) and entry.step.name in starts,
+                                    part.sight):
         assert isinstance(call, Call)
         if call.reply.name == "bits":
             belief.answer_bits(QUERIED_KIND[call.step.name], call.reply.rest, None)

@@ -29,22 +29,25 @@ FLAG_KINDS = {"keys": KEY, "switches": SW, "leds": LED}
 
 # What can be expected of an actor, by its role.
 OF_READER = ("at-end", "never", "takes", "drops", "agrees")
-KINDS = {"client": OF_READER, "tap": OF_READER, "joy": ("at-end", "agrees"), "owner": ("never", "takes"), "source": ()}
+KINDS = {"client": OF_READER, "tap": OF_READER, "joy": ("at-end", "agrees"), "owner": ("never", "takes"),
+         "source": ()}
 LINES = {"client": ("keys", "switches", "leds", "axes", "current", "slot"), "joy": ("buttons", "axes")}
 LINES["tap"] = LINES["client"]
 
 AT_END = "at-end"
 SIGNED = re.compile(r"-?[0-9]{1,10}$")
 NUMBER = re.compile(r"[0-9]{1,7}$")
-ROLE_TEXT = {"client": "a client", "tap": "a tap", "joy": "a joystick", "owner": "an owner", "source": "a source"}
+ROLE_TEXT = {"client": "a client", "tap": "a tap", "joy": "a joystick", "owner": "an owner",
+             "source": "a source"}
 
 
 class Expectation:
     """A line of a record that expects something: its number, its words, the actor that it is of (or None),
     what it expects (`kind`), and the words after that.
 
-    Of a line of the view `line` has the words that it begins with, and `wanted` those that are to stand behind. Of an
-    event `event` has its type and its code, or None for each, and `value` its value, or None for each.
+    Of a line of the view `line` has the words that it begins with, and `wanted` those that are to stand
+    behind. Of an event `event` has its type and its code, or None for each, and `value` its value, or None
+    for each.
     """
 
     event: Tuple[str, Optional[str]]
@@ -160,7 +163,8 @@ def why_not_sent(device: Device, expectation: Expectation) -> Optional[str]:
     codes = sent_codes(device, kind, expectation.role)
     if code in codes or (code is None and codes):
         return None
-    others = codes or {each for name in TYPES if name != "EV_SYN" for each in sent_codes(device, name, expectation.role)}
+    others = codes or {each for name in TYPES if name != "EV_SYN"
+                       for each in sent_codes(device, name, expectation.role)}
     who = "no owner is told" if expectation.role == "owner" else f"the device {device.name} cannot send"
     return f"{who} {code or kind}{nearest(code or kind, sorted(others), 0.0)}"
 
@@ -173,7 +177,9 @@ def why_not_seen(device: Device, expectation: Expectation) -> Optional[str]:
     has = codes_of(device, kind)
     wanted = (word.split("=")[0] for word in expectation.wanted)
     other = next((code for code in wanted if code not in has), None)
-    return None if other is None or not has else f"the device {device.name} has no {other}{nearest(other, has, 0.0)}"
+    if other is None or not has:
+        return None
+    return f"the device {device.name} has no {other}{nearest(other, has, 0.0)}"
 
 
 def ends_well() -> Expectation:
@@ -214,7 +220,8 @@ def kind_and_code(word: str) -> Tuple[str, Optional[str]]:
         raise Wrong(f"{word} is no type: a code is written with its own, as EV_KEY/{word}{named_key(kind)}")
     if kind is None or (code is None and (slash or second)):
         names = [*TYPES, *(name for names in CODES.values() for name in names)]
-        raise Wrong(f"{word} is no code (KEY_A), no type (EV_KEY) and no TYPE/CODE (EV_KEY/656){nearest(word, names)}")
+        other = nearest(word, names)
+        raise Wrong(f"{word} is no code (KEY_A), no type (EV_KEY) and no TYPE/CODE (EV_KEY/656){other}")
     return kind_text(kind), None if code is None else code_text(kind, code)
 
 

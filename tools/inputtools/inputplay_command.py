@@ -11,10 +11,11 @@ from inputtools.unproved import play
 
 HELP = """usage: bin/inputplay [--unproved] WORDS ..
 
-Runs the program with these words: crates/inp_main/out/inp_main of this repository. Where it is not there, it is
-proved and built first, once, without the tests and the edits of the gate. It says before how long that takes, by
-what bench/gate_cost measures of this machine; without that it is reckoned to be ten minutes on four processors.
-On a terminal it asks before, and says how far it is. What is proved is kept, so a build that was stopped goes on.
+Runs the program with these words: crates/inp_main/out/inp_main of this repository. Where it is not there, it
+is proved and built first, once, without the tests and the edits of the gate. It says before how long that
+takes, by what bench/gate_cost measures of this machine; without that it is reckoned to be ten minutes on four
+processors. On a terminal it asks before, and says how far it is. What is proved is kept, so a build that was
+stopped goes on.
 
 With --unproved as the first word a record is played at once, without proof: by the second program, which is
 in Python (second) and plays on one thread. The tests compare its reports with the program's. With any

@@ -19,10 +19,10 @@ goes to stderr: which program plays, and, where it refuses a line, the line's te
 with such a line.
 
 The program is the one that the environment variable INPUTPLAY names, else the built one of this repository
-(crates/inp_main/out/inp_main) or the installed one (bin/inputplay), else the second program, which is in Python. It runs in the record's
-folder, so the files of `stream` lines are looked for there; for standard input, in the present folder.
-Where the tools stand without it, the toolchain's `rt try` plays in its place: in one to three minutes,
-reports of 1 MiB at most."""
+(crates/inp_main/out/inp_main) or the installed one (bin/inputplay), else the second program, which is in
+Python. It runs in the record's folder, so the files of `stream` lines are looked for there; for standard
+input, in the present folder. Where the tools stand without it, the toolchain's `rt try` plays in its place:
+in one to three minutes, reports of 1 MiB at most."""
 
 STATUSES = """Statuses are the program's: 0 played; 1 a line is refused; 2 wrong words, or no program, or one
 that is not inputplay; 3 a file could not be read; 4 stdout failed; 5 no memory; 6 played, and a history was
@@ -88,7 +88,8 @@ class File:
                 data = first + written.read(1 << 16) + written.readline()
                 size += len(data)
                 if self.is_json:
-                    data = "".join(lines.line(text) + "\n" for text in data.decode("ascii").splitlines()).encode()
+                    data = "".join(lines.line(text) + "\n"
+                                   for text in data.decode("ascii").splitlines()).encode()
                 if not has_put(data):
                     return False
                 tell_how_far(f"{self.name}: {size} bytes of its report are handed on")
@@ -110,7 +111,7 @@ class File:
         tell(f"  {self.name}:{refused.line}: {line_text(text, refused.line)}")
         other = other_kind(text, refused.cause)
         hint = hint_of(text, refused, self.folder)
-        tell(f"  {other}" if other else f"  {hint.text}" if hint.is_certain else f"  usual mistakes: {hint.text}")
+        tell(f"  {other or (hint.text if hint.is_certain else f'usual mistakes: {hint.text}')}")
 
     def refusal(self, message: str, refused: Optional[Refusal]) -> str:
         number, cause = (refused.line, refused.cause) if refused else (None, None)

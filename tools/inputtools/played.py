@@ -146,12 +146,14 @@ def cut_of(devices: Sequence[PlayedDevice]) -> Optional[Part]:
     return next((part for device in devices for part in device.report.all_parts() if part.end.is_full), None)
 
 
-def played(name: str, text: str, folder: str, player: Player, written: str, is_threaded: bool = False) -> List[PlayedDevice]:
+def played(name: str, text: str, folder: str, player: Player, written: str,
+           is_threaded: bool = False) -> List[PlayedDevice]:
     """The played devices of a record, by the report that was written of it."""
     record, report = Record(text), Report(written)
     add_parts_behind(report, record)
-    states = [DeviceState(description, device.history) for description, device in zip(record.devices, report.devices)]
-    progress.tell(f"{name}: the devices are played alone, {sum(len(state.history) for state in states)} steps")
+    histories = [device.history for device in report.devices]
+    states = [DeviceState(*each) for each in zip(record.devices, histories)]
+    progress.tell(f"{name}: the devices are played alone, {sum(map(len, histories))} steps")
     devicestate.ask(states, player)
     unread = Unread(text, record, folder, player, report)
     if is_threaded:

@@ -62,14 +62,15 @@ class Ended(NamedTuple):
 
 
 class Run:
-    """A running program. What it says beside its output goes to a file, so that it never waits for a reader."""
+    """A running program. What it says beside its output goes to a file, so it never waits for a reader."""
 
     def __init__(self, player: "Player", launch: Launch) -> None:
         self.player = player
         self.beside = tempfile.TemporaryFile()
         try:
             self.process = subprocess.Popen(
-                launch.words, cwd=launch.folder, stdin=subprocess.DEVNULL, stdout=subprocess.PIPE, stderr=self.beside
+                launch.words, cwd=launch.folder, stdin=subprocess.DEVNULL, stdout=subprocess.PIPE,
+                stderr=self.beside
             )
         except OSError as fault:
             raise Wrong(f"{player.who()} does not start: {fault.strerror}") from None
@@ -97,12 +98,13 @@ class Run:
         return [line for line in self.lines_beside() if not line.startswith(TOOLCHAIN_LINES)]
 
     def status(self) -> int:
-        """The program's status, once its output was read. Every other end is one line that says what to do."""
+        """The program's status, once its output was read. Each other end is one line that says what to do."""
         return self.player.status_of(self.process.wait(), self.lines_beside())
 
 
 class Player(ABC):
-    """What plays records. `name` is that by which it is told, and `takes` how long it takes, where that is long."""
+    """What plays records. `name` is that by which it is told, and `takes` how long it takes, where that is
+    long."""
 
     name: str
     takes = ""
@@ -135,13 +137,15 @@ class Player(ABC):
             wrote = "what it wrote is no report" if written else "it wrote nothing"
             raise Wrong(f"{self.who()} is not inputplay, or is broken: {wrote}")
 
-    def start(self, path: Optional[str], folder: str, flags: Sequence[str] = (), what: Optional[str] = None) -> Run:
+    def start(self, path: Optional[str], folder: str, flags: Sequence[str] = (),
+              what: Optional[str] = None) -> Run:
         """The running program. `what` says what it is played for."""
         launch = self.launch(path, folder, flags)
         progress.tell((what or f"{os.path.basename(path or '')} is played") + self.takes)
         return Run(self, launch)
 
-    def play(self, path: Optional[str], folder: str, flags: Sequence[str] = (), what: Optional[str] = None) -> Ended:
+    def play(self, path: Optional[str], folder: str, flags: Sequence[str] = (),
+             what: Optional[str] = None) -> Ended:
         """The status, and what was written."""
         run = self.start(path, folder, flags, what)
         try:
@@ -182,7 +186,8 @@ class SecondProgram(Player):
         return self.name
 
     def launch(self, path: Optional[str], folder: str, flags: Sequence[str]) -> Launch:
-        return Launch([sys.executable, "-B", SECOND, *flags, *([os.path.abspath(path)] if path else [])], folder)
+        return Launch([sys.executable, "-B", SECOND, *flags, *([os.path.abspath(path)] if path else [])],
+                      folder)
 
 
 class Toolchain(Player):
@@ -193,7 +198,8 @@ class Toolchain(Player):
 
     def __init__(self) -> None:
         if is_installed():
-            raise Wrong(f"there is no installed program ({INSTALLED}) and no second one ({SECOND}): install them again")
+            raise Wrong(f"there is no installed program ({INSTALLED}) and no second one ({SECOND}): "
+                        "install them again")
         if shutil.which("rt") is None:
             raise Wrong("there is no built program (crates/inp_main/out/inp_main) and no toolchain (rt)")
 

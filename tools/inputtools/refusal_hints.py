@@ -29,9 +29,9 @@ REFUSAL_HINTS = {
     "no-actor": "no `source`, `client`, `tap`, `joy` or `owner` line has this name",
     "bad-command": (
         "this actor has no such command, or it has another number of words: `event`, `tick`, `stream` "
-        "are a source's; `keys`, `axis` a tap's; `read` a tap's and a joystick's, which has `open` and `close` besides and no "
-        "other; `follow`, `next`, `force` a client's; `feedback` an owner's, which has no other; `stream16` comes with "
-        "`inputrecord 2`"
+        "are a source's; `keys`, `axis` a tap's; `read` a tap's and a joystick's, which has `open` and "
+        "`close` besides and no other; `follow`, `next`, `force` a client's; `feedback` an owner's, which "
+        "has no other; `stream16` comes with `inputrecord 2`"
     ),
     "bad-word": (
         "a name that is in no table (write its number: `cap 1 280`), a code of another type, a number "
@@ -43,8 +43,9 @@ REFUSAL_HINTS = {
         "devices, and so are names of devices, `udevice` among them"
     ),
     "too-many": (
-        "at most 8 devices, 8 sources, 128 clients, taps and joysticks and one owner of a device, and 16 lines of `stream` "
-        "and `stream16` together. Other devices may have a record of their own, and one stream all events"
+        "at most 8 devices, 8 sources, 128 clients, taps and joysticks and one owner of a device, and 16 "
+        "lines of `stream` and `stream16` together. Other devices may have a record of their own, and one "
+        "stream all events"
     ),
     "bad-code": (
         "no device can have this code of this type (EV_KEY begins at 1; an axis is given by `axis`, "
@@ -75,13 +76,14 @@ LIMIT_HINTS = {
         "a record, and each file that it names, has 16777216 bytes at most: take a part of the capture by "
         "tools/record --from and --to, or put its events into a file by --stream"
     ),
-    "out of memory": "a device takes the memory of its whole history at its start: a smaller `log` takes less",
+    "out of memory": "a device takes the memory of its whole history at its start: let its `log` be smaller",
 }
 
 # What stands behind the first words of a line.
 NAME, AXIS = ("name",), ("axis", *["number"] * 6)
 WORDS: Dict[str, Sequence[str]] = {
-    **{first: NAME for first in (*DEVICE_WORDS, *ROLES)}, "hint": ("number",), "log": ("number",), "slots": ("number",),
+    **{first: NAME for first in (*DEVICE_WORDS, *ROLES)}, "hint": ("number",), "log": ("number",),
+    "slots": ("number",),
     "type": ("type",), "cap": ("type", "code"), "axis": AXIS, "clock": ("offset", "moment"),
     "filter eat": ("type", "code"), "filter chord": ("key", "key"), "filter bounce": ("key", "number"),
     **{f"do {command}": ("moment", "type", "code", "value") for command in ("event", "write")},
@@ -89,7 +91,8 @@ WORDS: Dict[str, Sequence[str]] = {
     "do clock": ("clock", "moment"), "do setaxis": AXIS, "do axis": ("axis",), "do slots": ("axis",),
     **{f"do {command}": ("number",) for command in ("read", "next", "skip")}, "do feedback": ("count",),
 }
-NUMBERS = {"number": (LEAST, 2**64 - 1), "value": (LEAST, GREATEST), "moment": (0, LATEST), "count": (1, 4096)}
+NUMBERS = {"number": (LEAST, 2**64 - 1), "value": (LEAST, GREATEST), "moment": (0, LATEST),
+           "count": (1, 4096)}
 CHOICES = {
     "clock": ("realtime", "monotonic", "boottime"), "offset": ("realtime", "boottime"),
     "filter": ("eat", "norepeat", "chord", "bounce"),
@@ -123,7 +126,7 @@ def other_kind(text: str, cause: str) -> Optional[str]:
 
 
 def fault_of(form: str, word: str, kind: int) -> Optional[str]:
-    """What is wrong with a word that is to have a form, with the nearest name, or None. A code is one of a type."""
+    """What is wrong with a word that is to have a form, or None. A code is one of a type."""
     if form in NUMBERS:
         number_of(word, *NUMBERS[form])
     elif form == "name":
@@ -192,7 +195,8 @@ def refusal_text(text: str, written: str, status: int, folder: str) -> str:
     refused = refused_line(written)
     if refused is None:
         hint = limit_hint(written.strip())
-        return f"{written.strip() or 'the program wrote nothing'} (status {status})" + (f": {hint}" if hint else "")
+        more = f": {hint}" if hint else ""
+        return f"{written.strip() or 'the program wrote nothing'} (status {status}){more}"
     other = other_kind(text, refused.cause)
     if other:
         return other

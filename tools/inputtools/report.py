@@ -1,7 +1,7 @@
 """Reads a report: its devices with their histories, and the part of each actor.
 
-The forms of its lines are in docs/FORMATS.md, "The report". `entry_of` reads one line, and `Report` a whole one. Each
-line is an entry with its number, from 1, and its text, so that it can be named and compared.
+The forms of its lines are in docs/FORMATS.md, "The report". `entry_of` reads one line, and `Report` a whole
+one. Each line is an entry with its number, from 1, and its text, so that it can be named and compared.
 """
 
 import re
@@ -103,7 +103,7 @@ def step_of(text: str) -> Step:
 
 
 class Reply(NamedTuple):
-    """The reply of a call: its name, its place, and the words behind that, which of an answer of bits are codes."""
+    """The reply of a call: its name, its place, and the words behind that: codes in an answer of bits."""
 
     name: str
     place: int
@@ -342,8 +342,8 @@ Kind = TypeVar("Kind")
 
 
 class Part:
-    """What a report has of an actor: `sight` has what it saw, `view` what it knows at its end, and `end` how it
-    ended. Joysticks and owners have no device, since their parts stand after all devices."""
+    """What a report has of an actor: `sight` has what it saw, `view` what it knows at its end, and `end` how
+    it ended. Joysticks and owners have no device, since their parts stand after all devices."""
 
     def __init__(self, role: str, name: str, device: "Optional[Device]", first: Entry) -> None:
         self.role, self.name, self.device, self.first = role, name, device, first

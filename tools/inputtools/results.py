@@ -31,7 +31,8 @@ def where_text(outcome: Outcome) -> str:
     """The place and the time at which it failed."""
     if outcome.place is None:
         return ""
-    return f"at place {outcome.place}" + ("" if outcome.time is None else f" ({seconds_text(outcome.time)})") + ": "
+    time = "" if outcome.time is None else f" ({seconds_text(outcome.time)})"
+    return f"at place {outcome.place}{time}: "
 
 
 def failure_text(outcome: Outcome) -> str:
@@ -39,7 +40,7 @@ def failure_text(outcome: Outcome) -> str:
 
 
 class Form:
-    """How results are written: what stands before them, each record's as it comes, and what stands behind them."""
+    """How results are written: what stands before them, each record's as it comes, and what stands last."""
 
     begin = ""
 
@@ -61,7 +62,8 @@ class ForPeople(Form):
         if records and all(checked.wrong is not None for checked in records):
             return ""
         held = [outcome.is_held for checked in records for outcome in checked.outcomes]
-        return f"{sum(held)} of {counted(len(held), 'expectation')} held, in {counted(len(records), 'record')}\n"
+        of_all = counted(len(held), "expectation")
+        return f"{sum(held)} of {of_all} held, in {counted(len(records), 'record')}\n"
 
 
 def lines_for_people(records: Sequence[Checked]) -> str:
@@ -80,7 +82,8 @@ class Tap(Form):
     def of(self, checked: Checked) -> str:
         texts = [] if checked.wrong is None else [self.test(checked.path, checked.wrong)]
         for outcome in checked.outcomes:
-            texts.append(self.test(name_of(checked, outcome), None if outcome.is_held else failure_text(outcome)))
+            texts.append(self.test(name_of(checked, outcome),
+                                   None if outcome.is_held else failure_text(outcome)))
         return "".join(line + "\n" for line in texts)
 
     def test(self, name: str, why: Optional[str]) -> str:
@@ -95,7 +98,8 @@ class Json(Form):
     """One object a line: of each expectation, and of each record that could not be checked."""
 
     def of(self, checked: Checked) -> str:
-        objects: List[object] = [] if checked.wrong is None else [{"record": checked.path, "wrong": checked.wrong}]
+        wrong = {"record": checked.path, "wrong": checked.wrong}
+        objects: List[object] = [] if checked.wrong is None else [wrong]
         objects += [
             {
                 "record": checked.path, "line": outcome.number, "expectation": outcome.text,
@@ -143,7 +147,8 @@ def junit_suite(checked: Checked) -> Element:
             failure.text = one_line(f"{name_of(checked, outcome)}: {why}")
     if checked.wrong is not None:
         suite.set("errors", "1")
-        SubElement(SubElement(suite, "testcase", classname=path, name="the record"), "error", message=one_line(checked.wrong))
+        SubElement(SubElement(suite, "testcase", classname=path, name="the record"), "error",
+                   message=one_line(checked.wrong))
     suite.set("tests", str(len(suite)))
     return suite
 

@@ -1,8 +1,8 @@
-"""Finds a short record for which a command still ends with the same status, and says a text where one is wanted:
-whole frames are left out first, then lines.
+"""Finds a short record for which a command still ends with the same status, and says a text where one is
+wanted: whole frames are left out first, then lines.
 
-It is Zeller's delta debugging: parts of a list are left out, the greater ones first, as long as the status stays. What
-is found is one from which no frame and no line can be left out alone.
+It is Zeller's delta debugging: parts of a list are left out, the greater ones first, as long as the status
+stays. What is found is one from which no frame and no line can be left out alone.
 """
 
 import hashlib
@@ -28,8 +28,8 @@ TEXT_LIMIT = 16777216
 
 
 class End(NamedTuple):
-    """How a command ended: its status, which is negative for a signal and None for no end; whether it says the
-    wanted text; and, of tools/check, the expectations that failed."""
+    """How a command ended: its status, which is negative for a signal and None for no end; whether it says
+    the wanted text; and, of tools/check, the expectations that failed."""
 
     status: Optional[int]
     is_said: bool
@@ -37,7 +37,7 @@ class End(NamedTuple):
 
 
 class Shrunk(NamedTuple):
-    """The short record's text, the status, how many runs there were, and whether it was stopped before its end."""
+    """The short record's text, the status, how many runs there were, and whether it was stopped."""
 
     text: str
     status: Optional[int]
@@ -49,7 +49,8 @@ class Command:
     """The command: its words, `{}` standing for the record, and a folder of its own with the files that the
     record names."""
 
-    def __init__(self, words: List[str], given: Given, folder: str, seconds: float, says: Optional[str]) -> None:
+    def __init__(self, words: List[str], given: Given, folder: str, seconds: float,
+                 says: Optional[str]) -> None:
         self.words = words if any(PLACE in word for word in words) else [*words, PLACE]
         self.says = None if says is None else says.encode()
         self.folder, self.seconds, self.runs = folder, seconds, 0
@@ -81,7 +82,7 @@ class Command:
         return self.end_of(done.returncode, done.stdout, text)
 
     def end_of(self, status: Optional[int], output: bytes, text: str) -> End:
-        """How it ended, by its output. Of an expectation that failed its line is kept, since places change."""
+        """How it ended, by its output. Of an expectation that failed its line is kept, but no place."""
         begins = re.escape(plain(self.path).encode())
         numbers = re.findall(rb"^" + begins + rb":(\d+): ", output, re.MULTILINE) if self.is_check else []
         lines = text.split("\n")
@@ -103,13 +104,14 @@ def with_events(lines: Iterable[str], folder: str) -> List[str]:
     for line in (line_of(0, text) for text in lines):
         stream = line.stream
         events = stream.events(folder) if stream else []
-        result += [f"do {line.actor} event {each.time} {each.text()}" for each in events] if stream else [line.text]
+        opened = [f"do {line.actor} event {each.time} {each.text()}" for each in events]
+        result += opened if stream else [line.text]
     return result
 
 
 def frames_of(lines: Iterable[str]) -> List[List[str]]:
-    """The lines in parts: each frame with what follows it up to the next one's first event, and each line before
-    the first frame by itself."""
+    """The lines in parts: each frame with what follows it up to the next one's first event, and each line
+    before the first frame by itself."""
     parts: List[List[str]] = []
     is_open = is_ended = False
     for line in (line_of(0, text) for text in lines):
@@ -133,8 +135,8 @@ def expectations_in(part: List[str]) -> List[str]:
 
 def shorter(parts: List[Piece], keeps: Callable[[List[Piece]], bool], tell: Callable[[int], None],
             held: Callable[[Piece], Optional[Piece]] = lambda part: None) -> List[Piece]:
-    """The parts that are left once no one can be left out alone, as long as what is kept stays. `held` is what always
-    stays of a part."""
+    """The parts that are left once no one can be left out alone, as long as what is kept stays. `held` is
+    what always stays of a part."""
     count = 2
     while parts:
         size = -(-len(parts) // count)
@@ -154,7 +156,7 @@ def shorter(parts: List[Piece], keeps: Callable[[List[Piece]], bool], tell: Call
 
 
 class Search:
-    """The search for a short record for which a command ends as for the whole one: `best` is the shortest until now."""
+    """The search for a record for which a command ends as for the whole one: `best` is the shortest yet."""
 
     def __init__(self, command: Command, wanted: End, text: str) -> None:
         self.command, self.wanted, self.best = command, wanted, text
@@ -180,7 +182,7 @@ class Search:
 
 
 def shrink(given: Given, text: str, words: List[str], seconds: float, says: Optional[str] = None) -> Shrunk:
-    """Finds a short record for which the command ends as for this one; where it is stopped, the shortest until then."""
+    """Finds a short record for which the command ends as for this one; at a stop the shortest until then."""
     progress.tell("the command is run on the whole record")
     with tempfile.TemporaryDirectory(prefix="shrink") as folder:
         command = Command(words, given, os.path.realpath(folder), seconds, says)

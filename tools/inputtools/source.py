@@ -1,5 +1,6 @@
-"""Reads the files that a command is given. `-` stands for standard input, which is read once. What is no regular file,
-as a pipe, is read to its end first: it cannot be read a second time, nor by the program that plays."""
+"""Reads the files that a command is given. `-` stands for standard input, which is read once. What is no
+regular file, as a pipe, is read to its end first: it cannot be read a second time, nor by the program that
+plays."""
 
 import atexit
 import os
@@ -42,10 +43,10 @@ def read_bytes(path: str, most: int = -1) -> bytes:
 
 
 def write_bytes(path: str, data: bytes) -> None:
-    """Writes a file beside its name, and renames it: whoever reads it has the one before or all of the new one. What is no
-    regular file is written to as it is."""
-    target = os.path.realpath(path)
-    is_replaced = (os.path.isfile(path) or not os.path.exists(path)) and not path.startswith(("/dev/", "/proc/"))
+    """Writes a file beside its name, and renames it: whoever reads it has the one before or all of the new
+    one. What is no regular file is written to as it is."""
+    target, is_file = os.path.realpath(path), os.path.isfile(path) or not os.path.exists(path)
+    is_replaced = is_file and not path.startswith(("/dev/", "/proc/"))
     written = f"{target}.{os.getpid()}.new" if is_replaced else path
     try:
         with open(written, "wb") as file:
@@ -62,8 +63,8 @@ def write_bytes(path: str, data: bytes) -> None:
 
 
 def is_stream(path: str) -> bool:
-    """Is it standard input, or another file that can be read once? (What is named below /dev or /proc, as /dev/stdin, is
-    another file to another process.)"""
+    """Is it standard input, or another file that can be read once? (What is named below /dev or /proc, as
+    /dev/stdin, is another file to another process.)"""
     is_none = path != INPUT and (os.path.isdir(path) or not os.path.exists(path))
     return not is_none and (not os.path.isfile(path) or os.path.abspath(path).startswith(("/dev/", "/proc/")))
 
@@ -82,8 +83,8 @@ def as_file(path: str) -> str:
 
 
 def folder_of(path: str) -> str:
-    """The folder in which a record is played, which has the files of its `stream` lines: for standard input or a pipe
-    the present one."""
+    """The folder in which a record is played, which has the files of its `stream` lines: for standard input
+    or a pipe the present one."""
     return os.getcwd() if is_stream(path) else os.path.dirname(os.path.abspath(path))
 
 

@@ -29,8 +29,8 @@ release behind."""
 
 STATUSES = """Status 0: it was compared, whether or not something differs. Status 1: with --fail, a client,
 tap, joystick or owner ends apart from its device. Status 2: the record cannot be played, or what is computed
-here is not what the program tells. Status 4: standard output failed. Status 6: it was compared, and the play was cut,
-since a history was full: the first line says where. Status 130: stopped from the keyboard."""
+here is not what the program tells. Status 4: standard output failed. Status 6: it was compared, and the play
+was cut, since a history was full: the first line says where. Status 130: stopped from the keyboard."""
 
 
 def command(arguments: List[str]) -> Result:
