@@ -240,6 +240,9 @@ class Wrongly(CheckCase):
             "o never EV_SND": "no owner is told EV_SND; the nearest name is LED_CAPSL",
             "o takes BTN_TRIGGER": "no owner is told BTN_TRIGGER; the nearest name is ",
             "o drops 1": "drops is not known here: of an owner one expects never or takes",
+            "j at-end buttons 1": "the joystick has 1 button, from 0 on",
+            "j at-end axes 0 0": "the joystick has 1 axis",
+            "c at-end current 2": "it has 2 slots, from 0 on",
             "c never KEY_A": "the device pad cannot send KEY_A; the nearest name is BTN_TRIGGER",
         }.items():
             with self.subTest(expectation):

@@ -15,11 +15,12 @@ They are comments, so a record with them is played as one without.
 import re
 from typing import Dict, Iterable, List, Optional, Set, Tuple
 
-from inputtools.command import Wrong
+from inputtools.command import Wrong, counted
 from inputtools.names import (
     ABS, CODES, KEY, LED, REP, SW, SYN, TYPES, code_text, kind_text, nearest, number_of_code, number_of_kind,
 )
 from inputtools.devicestate import OUTPUT_KINDS, OUTPUT_SYN
+from inputtools.joysticks import things_of
 from inputtools.record import Device, roles_of
 from inputtools.report import Event
 
@@ -170,9 +171,14 @@ def why_not_sent(device: Device, expectation: Expectation) -> Optional[str]:
 
 
 def why_not_seen(device: Device, expectation: Expectation) -> Optional[str]:
-    """Why the view of an actor at its end never has what is wanted, or None."""
-    if expectation.kind != AT_END or expectation.role == "joy" or expectation.line[0] == "current":
+    """Why the view of an actor at its end never has what is wanted, or always has it, or None."""
+    if expectation.kind != AT_END:
         return None
+    if expectation.role == "joy":
+        return why_no_joystick(device, expectation)
+    if expectation.line[0] == "current":
+        is_one = int(expectation.wanted[0]) in range(device.slots)
+        return None if is_one else f"it has {counted(device.slots, 'slot')}, from 0 on"
     kind = FLAG_KINDS.get(expectation.line[0], ABS)
     has = codes_of(device, kind)
     wanted = (word.split("=")[0] for word in expectation.wanted)
@@ -180,6 +186,16 @@ def why_not_seen(device: Device, expectation: Expectation) -> Optional[str]:
     if other is None or not has:
         return None
     return f"the device {device.name} has no {other}{nearest(other, has, 0.0)}"
+
+
+def why_no_joystick(device: Device, expectation: Expectation) -> Optional[str]:
+    """The same of a joystick, whose buttons and axes have numbers."""
+    buttons, axes = map(len, things_of(device))
+    if expectation.line[0] == "axes":
+        what = "1 axis" if axes == 1 else f"{axes} axes"
+        return None if len(expectation.wanted) == axes else f"the joystick has {what}"
+    is_one = buttons > 0 and all(int(number) in range(buttons) for number in expectation.wanted)
+    return None if is_one else f"the joystick has {counted(buttons, 'button')}, from 0 on"
 
 
 def ends_well() -> Expectation:

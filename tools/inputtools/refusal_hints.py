@@ -145,7 +145,9 @@ def fault_of(form: str, word: str, kind: int) -> Optional[str]:
 
 def bad_word(words: Sequence[str]) -> Optional[str]:
     """Which of a line's words has not its form or range, as far as that is told here, or None."""
-    count = {"do": 3, "filter": 2}.get(words[0], 1)
+    count = {"do": 3, "filter": 2}.get(words[0], 1) if words else 1
+    if len(words) < count:
+        return None
     begins = f"do {words[2]}" if words[0] == "do" else " ".join(words[:count])
     kind = {"key": KEY, "axis": ABS}
     forms = WORDS.get(begins, ())
