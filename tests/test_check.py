@@ -6,7 +6,9 @@ import shutil
 import signal
 import subprocess
 import sys
+import time
 import xml.etree.ElementTree as ElementTree
+from pathlib import Path
 from unittest import mock
 
 from inputtools import program as program_module
@@ -429,6 +431,31 @@ class Many(CheckCase):
                 self.assertEqual("Bail out! stopped\n" if form == "--tap" else "", text)
                 errors = [suite.attrib["errors"] for suite in ElementTree.parse(result).getroot()]
                 self.assertEqual(["0", "1", "1" if number == 1 else "0"], errors)
+
+    def test_standard_input_among_several(self):
+        words = [TOOLS / "check", "-j", "3", "-", *self.records[:2]]
+        done = subprocess.run(words, input=self.records[1].read_text(), env={**os.environ, "INPUTPLAY": PROGRAM},
+                              capture_output=True, text=True, check=False)
+        self.assertEqual((1, ""), (done.returncode, done.stderr))
+        self.assertIn("2 of 3 expectations held, in 3 records", done.stdout)
+
+    def test_processes_end_with_the_one_that_started_them(self):
+        slow = self.record(STICKS, "desktop agrees", name="slow.rec")
+        started = self.start("slow", "-j", "3", slow, *self.records[:3])
+        self.assertIn("0.rec:2", started.stdout.readline())
+        children = (Path("/proc") / str(started.pid) / "task" / str(started.pid) / "children").read_text().split()
+        self.assertEqual(3, len(children))
+        started.kill()
+        started.wait()
+        for _ in range(100):
+            left = [pid for pid in children if (Path("/proc") / pid).exists()]
+            if len(left) <= 1:
+                break
+            time.sleep(0.1)
+        # (one waits for the slow record's end)
+        self.assertLessEqual(len(left), 1)
+        os.killpg(started.pid, signal.SIGKILL)
+        started.communicate()
 
     def test_a_process_that_is_ended(self):
         """The others go on, and its record is told."""

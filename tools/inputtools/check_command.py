@@ -1,6 +1,7 @@
 """Checks what records expect of their play."""
 
 import argparse
+import contextlib
 import gc
 import multiprocessing
 import os
@@ -16,7 +17,7 @@ from inputtools.command import (
 from inputtools.program import BuiltProgram, Player, find_player
 from inputtools.progress import progress
 from inputtools.results import Checked, ForPeople, Form, Json, Tap, write_junit
-from inputtools.source import paths_of, shown
+from inputtools.source import INPUT, paths_of, shown
 
 HELP = """Plays records and checks what they expect, which stands in comments that begin with `#=`. So a
 record with expectations is played as one without. NAME is an actor of the record:
@@ -84,41 +85,43 @@ def check(task: Task) -> Done:
     return Done(task.number, Checked(shown(path), outcomes, wrong, time.monotonic() - begun))
 
 
-def serve(connection: Connection) -> None:
-    """What a process does that checks records: each that it is sent, until there is none. A stop from the
-    keyboard is for the process that started it."""
+def serve(theirs: Connection, connection: Connection) -> None:
+    """What a process does that checks records: each that it is sent, until who started it is gone. A stop from
+    the keyboard is for that one."""
+    theirs.close()
     signal.signal(signal.SIGINT, signal.SIG_IGN)
     signal.signal(signal.SIGTERM, signal.SIG_DFL)
     progress.is_over.set()
-    task: Task
-    for task in iter(connection.recv, None):
-        connection.send(check(task))
+    with contextlib.suppress(EOFError, OSError):
+        while True:
+            connection.send(check(connection.recv()))
 
 
 class Worker:
-    """A process that checks records, and the one that it has."""
+    """A process that checks records, and whether it has one."""
 
     def __init__(self) -> None:
         context = multiprocessing.get_context("fork")
         self.connection, theirs = context.Pipe()
-        self.process = context.Process(target=serve, args=(theirs,), daemon=True)
+        self.process = context.Process(target=serve, args=(self.connection, theirs), daemon=True)
         self.process.start()
         theirs.close()
-        self.task: Optional[Task] = None
+        self.is_busy = False
 
     def give(self, task: Optional[Task]) -> None:
-        self.task = task
-        if task is not None:
-            self.connection.send(task)
+        """Has it check a record, where there is one, and the process is not gone."""
+        with contextlib.suppress(OSError):
+            if task is not None:
+                self.connection.send(task)
+                self.is_busy = True
 
     def done(self) -> Optional[Done]:
         """What came of its record; None where the process was ended."""
-        try:
+        self.is_busy = False
+        with contextlib.suppress(EOFError, OSError):
             result: Done = self.connection.recv()
             return result
-        except (EOFError, OSError):
-            self.task = None
-            return None
+        return None
 
 
 def all_done(tasks: List[Task], jobs: int) -> Iterator[Done]:
@@ -130,7 +133,7 @@ def all_done(tasks: List[Task], jobs: int) -> Iterator[Done]:
     try:
         for worker in workers:
             worker.give(next(waiting, None))
-        while busy := {worker.connection: worker for worker in workers if worker.task is not None}:
+        while busy := {worker.connection: worker for worker in workers if worker.is_busy}:
             worker = busy[wait(list(busy))[0]]  # type: ignore[index]
             done = worker.done()
             if done is not None:
@@ -226,6 +229,7 @@ def command(arguments: List[str]) -> Result:
     jobs = natural(asked.j, "-j", 1) or (len(os.sched_getaffinity(0)) if has_folder else 1)
     tasks = tasks_of(asked)
     form = Tap() if asked.tap else Json() if asked.json else ForPeople()
-    # (a report has cycles, and here are many)
+    # (a report has cycles, and here are many; and standard input is this process's alone)
     gc.enable()
-    return Result(status=Checking(tasks, form, asked.junit).run(min(jobs, len(tasks) or 1)))
+    most = 1 if INPUT in asked.records else max(len(tasks), 1)
+    return Result(status=Checking(tasks, form, asked.junit).run(min(jobs, most)))
