@@ -9,8 +9,9 @@ import stat
 import struct
 import subprocess
 import time
+from unittest import mock
 
-from tests.desk_cases import PROGRAM, TOOLS, TOP, DeskCase, heed_stops, needs_program
+from tests.desk_cases import DATA, PROGRAM, TOOLS, TOP, DeskCase, heed_stops, needs_program
 from inputtools.refusal_hints import LIMIT_HINTS, REFUSAL_HINTS
 
 EXAMPLES = TOP / "examples"
@@ -189,6 +190,12 @@ class Refused(PlayCase):
                 hint = [f"  {hint}" for end, hint in LIMIT_HINTS.items() if end == text]
                 self.assertEqual(status != 3, bool(hint))
                 self.assertEqual((status, "", [message, f"  in {record}", *hint]), (came, written, lines[1:]))
+
+    def test_limits_of_a_capture_say_what_helps(self):
+        with mock.patch("inputtools.writing.GREATEST_TEXT", 100):
+            said = "would have more than 100 bytes; take a part of the capture by --from and --to"
+            self.refused("record", DATA / "lid.evtest", because=f"the record {said}, or put its events into a file")
+            self.refused("record", DATA / "mouse.evtest", "--stream", self.folder / "x.bin", because=f"{said}")
 
     def test_a_full_device(self):
         needs_program(self)

@@ -20,6 +20,7 @@ from inputtools.renamed import hide_keys
 from inputtools.initial_state import State, events_between, state_before, state_described
 
 GREATEST_TEXT = 16 * 1024 * 1024
+TAKE_A_PART = "take a part of the capture by --from and --to"
 DEFAULT_LOG, GREATEST_LOG = 1048576, 8388608
 LOSS_COMMENT = "# Events were lost here. This frame was not captured; it has what they must have changed."
 STREAM_RECORD = struct.Struct("<QQHHi")
@@ -230,7 +231,7 @@ class Record:
     def stream_bytes(self) -> bytes:
         events = [event for frame in self.frames for event in frame.all_events()]
         if len(events) * STREAM_RECORD.size > GREATEST_TEXT:
-            raise Wrong(f"the stream would have more than {GREATEST_TEXT} bytes")
+            raise Wrong(f"the stream would have more than {GREATEST_TEXT} bytes; {TAKE_A_PART}")
         return b"".join(STREAM_RECORD.pack(*divmod(event.time, 1000000), *event[1:]) for event in events)
 
 
@@ -241,8 +242,8 @@ def text_of(lines: Iterable[str]) -> str:
         line = line.encode("ascii", "backslashreplace").decode() + "\n"
         size += len(line)
         if size > GREATEST_TEXT:
-            raise Wrong(f"the record would have more than {GREATEST_TEXT} bytes; take a part of the capture by --from and "
-                        "--to, or put its events into a file by --stream")
+            raise Wrong(f"the record would have more than {GREATEST_TEXT} bytes; {TAKE_A_PART}, or put its "
+                        "events into a file by --stream")
         parts.append(line)
     return "".join(parts)
 
