@@ -17,7 +17,7 @@ from inputtools.command import (
 from inputtools.program import BuiltProgram, Player, find_player
 from inputtools.progress import progress
 from inputtools.results import Checked, ForPeople, Form, Json, Tap, write_junit
-from inputtools.source import INPUT, paths_of, shown
+from inputtools.source import is_stream, paths_of, shown
 
 HELP = """Plays records and checks what they expect, which stands in comments that begin with `#=`. So a
 record with expectations is played as one without. NAME is an actor of the record:
@@ -229,7 +229,7 @@ def command(arguments: List[str]) -> Result:
     jobs = natural(asked.j, "-j", 1) or (len(os.sched_getaffinity(0)) if has_folder else 1)
     tasks = tasks_of(asked)
     form = Tap() if asked.tap else Json() if asked.json else ForPeople()
-    # (a report has cycles, and here are many; and standard input is this process's alone)
+    # (a report has cycles, and here are many; and what can be read once is for this process)
     gc.enable()
-    most = 1 if INPUT in asked.records else max(len(tasks), 1)
+    most = 1 if any(map(is_stream, asked.records)) else max(len(tasks), 1)
     return Result(status=Checking(tasks, form, asked.junit).run(min(jobs, most)))

@@ -22,6 +22,7 @@ from inputtools.report import (
 )
 from inputtools.source import Given, read_text, write_bytes
 
+OF_A_VIEW = (AT_END, "agrees")
 # The words with which a record is played once, and on threads.
 ALONE = ("--history",)
 THREADED = ("--threads", "--history")
@@ -180,10 +181,10 @@ def outcome_of(played: Played, expectation: Expectation) -> Outcome:
 
 def check_meaning(played: Played, expectation: Expectation, part: Part) -> None:
     """Refuses what no play can meet, or each play does."""
-    kind = expectation.kind
-    if part.role != "owner" and all(call.reply.name != "opened" for call in part.all_of(Call)):
+    kind, is_whole = expectation.kind, played.report is not None and played.report.cut is None
+    is_opened = part.role == "owner" or any(call.reply.name == "opened" for call in part.all_of(Call))
+    if not is_opened and (is_whole or kind in OF_A_VIEW):
         raise wrong_expectation(played, expectation, f"{expectation.actor} never opened the device")
-    is_whole = played.report is not None and played.report.cut is None
     if kind in ("never", "drops") and is_whole and not any(map(is_reading, part.sight)):
         raise wrong_expectation(played, expectation,
                                 f"{expectation.actor} never reads, so each play meets it")
