@@ -548,12 +548,12 @@ class Threads(CheckCase):
             self.assertEqual((0, ""), (done.returncode, done.stderr))
 
     def test_one_of_several_runs(self):
-        """A stand-in for the program plays another record in its second run."""
+        """A stand-in for the program plays without threads, and another record in its second run."""
         needs_program(self)
         path, count = self.record(STICKS, "desktop takes KEY_A 1"), self.folder / "count"
         other = self.file("other.rec", STICKS.replace("KEY_A 1", "KEY_B 1"))
-        script = f"echo >> {count}\ntest $(wc -l < {count}) = 2 && set -- --history {other}"
-        program = self.file("flaky", f'#!/bin/sh\n{script}\nexec {PROGRAM} "$@"\n')
+        script = f"echo >> {count}\nfile={path}\ntest $(wc -l < {count}) = 2 && file={other}"
+        program = self.file("flaky", f"#!/bin/sh\n{script}\nexec {PROGRAM} --history $file\n")
         program.chmod(0o755)
         with mock.patch.dict(os.environ, {"INPUTPLAY": str(program)}):
             status, written, _ = self.tool("check", "--threads", "--runs", "4", path)
