@@ -167,7 +167,8 @@ class Checking:
         self.put(self.form.end(self.done, is_stopped))
         self.write_junit()
         if is_stopped:
-            say("check", f"stopped: {len(self.done)} of {counted(len(self.tasks), 'record')} checked")
+            checked = f": {len(self.done)} of {counted(len(self.tasks), 'record')} checked"
+            say("check", f"stopped{checked if self.done else ''}")
         return STOPPED if is_stopped else self.status()
 
     def take(self, done: Done) -> None:

@@ -5,12 +5,12 @@ import os
 import sys
 from typing import List, Optional
 
-from inputtools.command import CUT_OFF, Result, Words, Wrote, name_of, put, tell
+from inputtools.command import CUT_OFF, Result, Words, Wrong, Wrote, name_of, put, tell
 from inputtools.jsonlines import ReportLines, line_of
 from inputtools.program import MESSAGES, PLAYED, Player, Run, find_player
 from inputtools.progress import progress
 from inputtools.refusal_hints import Refusal, hint_of, limit_hint, line_text, other_kind, refused_line
-from inputtools.source import Given, read_text, shown
+from inputtools.source import INPUT, Given, read_text, shown
 
 HELP = """Plays records: by the built program where there is one, else by the second program, without proof.
 
@@ -40,15 +40,21 @@ class File:
     """A record that is played: the name by which it is told, and the file that has it."""
 
     def __init__(self, path: str, asked: argparse.Namespace) -> None:
-        given = Given(path)
-        self.name, self.folder, self.path = given.name, given.folder, given.path
+        self.why: Optional[str] = None
+        try:
+            given = Given(path)
+            self.name, self.folder, self.path = given.name, given.folder, given.path
+        except Wrong as wrong:
+            if path == INPUT:
+                raise
+            self.name, self.folder, self.path, self.why = path, "", path, str(wrong)[len(path) + 2 :]
         self.is_json: bool = asked.json
         self.flags = ["--history"] if asked.history else []
 
     def why_unread(self) -> Optional[str]:
         """Why it cannot be read, or None."""
-        if not os.path.isfile(self.path):
-            return "which is no file"
+        if self.why or not os.path.isfile(self.path):
+            return self.why or "which is no file"
         try:
             with open(self.path, "rb") as file:
                 file.read(1)

@@ -59,7 +59,7 @@ class ForPeople(Form):
         return "".join(one_line(text) + "\n" for text in texts)
 
     def end(self, records: Sequence[Checked], is_stopped: bool) -> str:
-        if records and all(checked.wrong is not None for checked in records):
+        if all(checked.wrong is not None for checked in records) and (records or is_stopped):
             return ""
         held = [outcome.is_held for checked in records for outcome in checked.outcomes]
         of_all = counted(len(held), "expectation")
