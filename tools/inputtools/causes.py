@@ -5,11 +5,12 @@ was open and not revoked, nobody else held the grab), left by the device's filte
 kept in its ring (no loss, no discard), and read.
 """
 
-from typing import Callable, Dict, List, Optional
+from typing import Callable, Dict, List, Optional, Sequence
 
 from inputtools.belief import Origin, Thing
 from inputtools.devicestate import DESCRIPTION, DeviceState
 from inputtools.divergences import Cause, Point, Walk, Why
+from inputtools.record import ROLES
 from inputtools.report import Call, Device, Step, cut_text
 
 
@@ -21,7 +22,7 @@ class Causes:
                  losses: Callable[[str], List[Optional[int]]]) -> None:
         self.state, self.handles, self.at, self.unread_losses = state, state.handles, state.at, losses
         self.openers: Dict[int, str] = {}
-        self.cut = next((part for part in device.all_parts() if part.end.is_full), None)
+        self.cut = [part for part in device.all_parts() if part.end.is_full]
         for part in device.parts + device.joysticks:
             opened = (call for call in part.all_of(Call) if call.reply.name == "opened")
             self.openers.update({call.reply.number: part.name for call in opened})
@@ -29,9 +30,9 @@ class Causes:
     def cause_of(self, walk: Walk, thing: Thing, point: Point) -> Why:
         """Since which place a belief is not the device's state, None for the start, and why."""
         why = self.found(walk, thing, point)
-        if self.cut is None or why.cause.kind not in UNDONE:
-            return why
-        return Why(why.since, Cause("cut", f"the play was cut: {cut_text(self.cut)}"))
+        roles = UNDONE.get(why.cause.kind, ())
+        cut = next((part for part in self.cut if part.role in roles), None)
+        return Why(why.since, Cause("cut", f"the play was cut: {cut_text(cut)}")) if cut else why
 
     def found(self, walk: Walk, thing: Thing, point: Point) -> Why:
         """The same, whether or not the play was cut."""
@@ -184,5 +185,5 @@ class Causes:
 
 
 NOT_READ = Cause("not-read", "not read yet")
-# What might have come yet where the play had gone on.
-UNDONE = ("not-read", "open-frame", "startup")
+# What might have come yet where the play had gone on, by the roles of those who stopped.
+UNDONE: Dict[str, Sequence[str]] = {"not-read": ROLES, "startup": ROLES, "open-frame": ("source",)}

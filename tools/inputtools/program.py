@@ -48,10 +48,11 @@ TOO_LONG = re.compile(r"more than \d+ bytes|the limit on each|standard output")
 
 
 class Launch(NamedTuple):
-    """The words of a command, and the folder in which it runs."""
+    """The words of a command, the folder in which it runs, and the file that it has as standard input."""
 
     words: List[str]
     folder: str
+    given: str = os.devnull
 
 
 class Ended(NamedTuple):
@@ -68,10 +69,9 @@ class Run:
         self.player = player
         self.beside = tempfile.TemporaryFile()
         try:
-            self.process = subprocess.Popen(
-                launch.words, cwd=launch.folder, stdin=subprocess.DEVNULL, stdout=subprocess.PIPE,
-                stderr=self.beside
-            )
+            with open(launch.given, "rb") as given:
+                self.process = subprocess.Popen(launch.words, cwd=launch.folder, stdin=given,
+                                                stdout=subprocess.PIPE, stderr=self.beside)
         except OSError as fault:
             raise Wrong(f"{player.who()} does not start: {fault.strerror}") from None
 
@@ -171,7 +171,11 @@ class BuiltProgram(Player):
         return f"{self.name}, which INPUTPLAY names," if self.is_named else self.name
 
     def launch(self, path: Optional[str], folder: str, flags: Sequence[str]) -> Launch:
-        return Launch([self.program, *flags, *([os.path.abspath(path)] if path else [])], folder)
+        path = os.path.abspath(path) if path else ""
+        if path.isascii() or os.fsencode(path) == path.encode("utf-8", "replace"):
+            return Launch([self.program, *flags, *filter(None, [path])], folder)
+        # (it takes no name that is not in UTF-8)
+        return Launch([self.program, *flags, "/dev/stdin"], folder, path)
 
 
 class SecondProgram(Player):
