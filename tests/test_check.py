@@ -434,7 +434,8 @@ class Many(CheckCase):
 
     def test_standard_input_among_several(self):
         words = [TOOLS / "check", "-j", "3", "-", *self.records[:2]]
-        done = subprocess.run(words, input=self.records[1].read_text(), env={**os.environ, "INPUTPLAY": PROGRAM},
+        done = subprocess.run(words, input=self.records[1].read_text(),
+                              env={**os.environ, "INPUTPLAY": PROGRAM},
                               capture_output=True, text=True, check=False)
         self.assertEqual((1, ""), (done.returncode, done.stderr))
         self.assertIn("2 of 3 expectations held, in 3 records", done.stdout)
@@ -443,7 +444,7 @@ class Many(CheckCase):
         slow = self.record(STICKS, "desktop agrees", name="slow.rec")
         started = self.start("slow", "-j", "3", slow, *self.records[:3])
         self.assertIn("0.rec:2", started.stdout.readline())
-        children = (Path("/proc") / str(started.pid) / "task" / str(started.pid) / "children").read_text().split()
+        children = Path(f"/proc/{started.pid}/task/{started.pid}/children").read_text().split()
         self.assertEqual(3, len(children))
         started.kill()
         started.wait()

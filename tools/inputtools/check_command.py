@@ -86,8 +86,8 @@ def check(task: Task) -> Done:
 
 
 def serve(theirs: Connection, connection: Connection) -> None:
-    """What a process does that checks records: each that it is sent, until who started it is gone. A stop from
-    the keyboard is for that one."""
+    """What a process does that checks records: each that it is sent, until who started it is gone. A stop
+    from the keyboard is for that one."""
     theirs.close()
     signal.signal(signal.SIGINT, signal.SIG_IGN)
     signal.signal(signal.SIGTERM, signal.SIG_DFL)
