@@ -814,7 +814,8 @@ class WrongInput(DeskCase):
         path = self.file("c", raw_capture(frames([(1, 30, 2)]) * 7000))
         readers = [word for number in range(60) for word in ("--reader", f"{'r' * 29}{number:03}")]
         header = self.file("h", KEYS)
-        self.refused("record", header, path, *readers, because="more than 16777216 bytes; try --stream")
+        self.refused("record", header, path, *readers, because="more than 16777216 bytes; take a part of the "
+                     "capture by --from and --to, or put its events into a file by --stream")
 
     def test_wrong_words(self):
         self.refused("record", because="required: DESCRIPTION")

@@ -168,7 +168,9 @@ class BuiltProgram(Player):
         return f"played by {self.name}"
 
     def who(self) -> str:
-        return f"{self.name}, which INPUTPLAY names," if self.is_named else self.name
+        if self.is_named:
+            return f"{self.name}, which INPUTPLAY names,"
+        return INSTALLED if self.program == INSTALLED else self.name
 
     def launch(self, path: Optional[str], folder: str, flags: Sequence[str]) -> Launch:
         path = os.path.abspath(path) if path else ""
@@ -242,8 +244,7 @@ def find_player() -> Player:
     named = os.environ.get("INPUTPLAY")
     program = os.path.abspath(named) if named else BUILT
     if os.access(program, os.X_OK) and os.path.isfile(program):
-        name = INSTALLED if program == INSTALLED else os.path.relpath(BUILT, REPOSITORY)
-        return BuiltProgram(program, named or name, bool(named))
+        return BuiltProgram(program, named or os.path.relpath(BUILT, REPOSITORY), bool(named))
     if named:
         raise Wrong(f"INPUTPLAY names {named}, which is no program")
     return SecondProgram() if has_second() else Toolchain()
