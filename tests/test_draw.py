@@ -10,6 +10,7 @@ from tests.desk_cases import PROGRAM, TOP, DeskCase, needs_program
 from tests.drawn_records import KEYS, MORE_KEYS, typed
 
 from inputtools.colours import COLOURS, RULES
+from inputtools.page import plain
 
 EXAMPLES = TOP / "examples"
 RECORDS = TOP / "tests" / "records"
@@ -272,10 +273,13 @@ class Pages(DrawCase):
                  "a\x01\x1b\n.rec": "a\\x01\\x1b\\n.rec", "\udcff\u202e.rec": "\\udcff\\u202e.rec"}
         for name, shown in names.items():
             with self.subTest(repr(name)):
-                page = self.page(self.file(name, (EXAMPLES / "one_key.rec").read_text()))
-                self.assertIn(f"<h1>{shown}</h1>", page)
-                self.assertTrue(page.isascii())
+                self.assertEqual(shown, plain(name))
                 ElementTree.fromstring(f"<h1>{shown}</h1>")
+        for name in list(names)[:4]:
+            with self.subTest(repr(name)):
+                page = self.page(self.file(name, (EXAMPLES / "one_key.rec").read_text()))
+                self.assertIn(f"<h1>{names[name]}</h1>", page)
+                self.assertTrue(page.isascii())
 
     def test_a_file_of_its_own(self):
         """With --output the page is in a file, and never over the record."""
@@ -460,9 +464,22 @@ class Sticks(DrawCase):
                     self.assertIn(f"\n  {told}\n", self.written("stuck", "--summary", record))
 
     def test_a_range_without_it(self):
-        """Where the place is not drawn the sentence is no link."""
-        page = self.page(EXAMPLES / "keyboard.rec", "--to", "20")
-        self.assertEqual(1, len(self.sentence(page)))
+        """Where the bar is not drawn the sentence is no link, nor on the device that ends before. A later range
+        shows what is so at the end, and not what has passed."""
+        cases = (("keyboard", "--to", 20, ()), ("keyboard", "--from", 42, ("d0", "desktop, KEY_LEFTCTRL")),
+                 ("stuck_key", "--from", 12, ()))
+        for name, word, place, wanted in cases:
+            with self.subTest(name, word=word):
+                page = self.page(EXAMPLES / f"{name}.rec", word, place)
+                self.assertEqual(wanted, self.sentence(page)[1:])
+        text = "inputrecord 1\n"
+        text += "".join(f"device {name}\ncap EV_KEY KEY_A\nsource of-{name}\n" for name in ("one", "two"))
+        for name, value in (("one", 1), ("two", 1), ("two", 0), ("two", 1)):
+            events = (f"EV_KEY KEY_A {value}", "EV_SYN SYN_REPORT 0")
+            text += "".join(f"do of-{name} event 1 {event}\n" for event in events)
+        page = self.page(self.file("two.rec", text), "--from", "2")
+        said = "device one: KEY_A: down on the device itself since place 1 (0.000001 s): no release followed"
+        self.assertEqual((f"{said}; and 1 more.",), self.sentence(page))
 
     def test_what_waits_to_be_read_is_no_fault(self):
         """A key that is held on the device goes before what no client has read yet."""

@@ -125,6 +125,17 @@ class Stopped(EndsCase):
         done = subprocess.run(words, capture_output=True, text=True, check=False, preexec_fn=heed_stops)
         self.assertEqual((-signal.SIGINT, "", ""), (done.returncode, done.stdout, done.stderr))
 
+    def test_what_is_loaded_before_a_stop_is_heeded(self):
+        """Each module that a tool loads itself is loaded after: a stop meanwhile would print a traceback."""
+        text = ("import _signal, sys; sys.path.insert(0, sys.argv[1]); hears = _signal.default_int_handler\n"
+                "def tell(what, name):\n"
+                "    if what == 'import' and _signal.getsignal(2) is hears: print(name[0])\n"
+                "sys.addaudithook(tell); import inputtools.compare_command")
+        words = [sys.executable, "-BSc", text, TOOLS]
+        done = subprocess.run(words, capture_output=True, text=True, preexec_fn=heed_stops)
+        loaded = [name for name in done.stdout.split() if not name.startswith("inputtools")]
+        self.assertEqual((0, "", []), (done.returncode, done.stderr, loaded))
+
     def test_where_a_stop_is_ignored(self):
         ignored = {"preexec_fn": lambda: signal.signal(signal.SIGINT, signal.SIG_IGN)}
         script = "kill -INT $PPID; cat \"$1\""

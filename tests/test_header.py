@@ -13,10 +13,15 @@ import sys
 import unittest
 
 from tests.library import declared, stamp
-from tests.playing import TOP, FolderCase, needs, said
+from tests.playing import TOP, FolderCase, loaded, needs, said
 
 HEADER = (TOP / "include" / "inputplay.h").read_text()
 CRATE = TOP / "crates" / "inp_c"
+BINDINGS = TOP / "bindings"
+PYTHON = BINDINGS / "python"
+EVENT_CODES = PYTHON / "inputplay" / "event_codes.txt"
+LIBRARY = TOP / "tests" / "library"
+SCRIPT = "bindings/make_event_codes"
 C_SOURCES = ["tests/library", "examples/c", "checks", "bench"]
 SECONDS = 120
 
@@ -36,6 +41,39 @@ class Header(unittest.TestCase):
                 wanted = declared.numbers_of_crate((CRATE / file).read_text(), form)
                 self.assertEqual(wanted, declared.numbers_of_header(HEADER, about))
 
+    def test_a_number_is_the_packages_too(self):
+        for about, file, begin, form in declared.PACKAGED:
+            with self.subTest(f"{file}: {about}"):
+                wanted = declared.numbers_of_header(HEADER, about)
+                part = declared.part_of((BINDINGS / file).read_text(), begin)
+                self.assertEqual(wanted, declared.numbers_of_crate(part, form))
+
+    def test_a_cause_s_text_is_its_name(self):
+        for function, about in (("cause", "a record is refused"), ("why", "a step was refused")):
+            with self.subTest(function):
+                words = declared.words_of_header(HEADER, f"inputplay_{function}_text")
+                came = {declared.plain(word.replace("-", "_")): place for place, word in words if place}
+                self.assertEqual(declared.numbers_of_header(HEADER, about), came)
+
+    def test_each_status_has_a_text(self):
+        words = declared.words_of_header(HEADER, "inputplay_status_text")
+        told = {place for place, word in words if word != "unknown status"}
+        self.assertEqual(set(declared.numbers_of_header(HEADER, "statuses of calls").values()), told)
+
+    def test_the_codes_that_have_a_name(self):
+        """Those that the header says are those that the program has."""
+        text = HEADER.replace("\n *", "")
+        said = re.search(r" Of EV_KEY they are (.*?) of the other types all but (.*?)\.", text)
+        keys, others = said[1], re.findall(r"\w+", said[2])
+        rows = re.findall(r"^(\d+) (\w+) (\d+)$", EVENT_CODES.read_text(), re.M)
+        numbers = {name: (kind, int(code)) for kind, name, code in rows}
+        told = {pair for name, pair in numbers.items() if pair[0] not in ("1", "5") and name not in others}
+        for first, last in re.findall(r"\b((?:KEY|BTN|SW)_\w+)(?: to (\w+))?", keys):
+            (kind, low), (_kind, high) = numbers[first], numbers[last or first]
+            told.update((kind, code) for code in range(low, high + 1))
+        rows = (line.split() for line in (TOP / "tests" / "data" / "codes.txt").read_text().splitlines())
+        self.assertEqual({(row[0], int(row[1])) for row in rows if len(row) == 3}, told)
+
     def test_a_limit_is_the_crate_s(self):
         for name, file in declared.LIMITS.items():
             with self.subTest(name):
@@ -50,15 +88,22 @@ class Header(unittest.TestCase):
         self.assertEqual(set(re.findall(r"pub extern \"C\" fn (\w+)", text)), names)
 
 
-class Sources(FolderCase):
-    """Each source over the library is taken by its compiler beside the header. Nothing is linked."""
+class CommandCase(FolderCase):
+    """A test of what commands say."""
 
     def runs(self, *words, **more):
+        """A command ends with status 0; what it wrote on standard error."""
         status, text, errors = said(*words, timeout=SECONDS, **more)
         self.assertEqual(0, status, text + errors)
+        return errors
 
-    def compiled(self, compiler, standard, source):
-        words = ("-fsyntax-only", f"-std={standard}", "-Wall", "-Wextra", "-Werror", f"-I{TOP / 'include'}")
+
+class Sources(CommandCase):
+    """Each source over the library is taken by its compiler beside the header. Nothing is linked."""
+
+    def compiled(self, compiler, standard, source, *more):
+        paths = (f"-I{TOP / 'include'}", f"-I{LIBRARY}")
+        words = ("-fsyntax-only", f"-std={standard}", "-Wall", "-Wextra", "-Werror", *paths, *more)
         self.runs(compiler, *words, source)
 
     def test_c(self):
@@ -69,18 +114,91 @@ class Sources(FolderCase):
                     self.compiled(compiler, "c11", source)
 
     def test_c_plus_plus(self):
-        calls = (TOP / "tests" / "library" / "calls.c").read_text()
-        self.compiled(needs(self, "g++", "g++"), "c++11", self.write("calls.cpp", calls))
+        compiler = needs(self, "g++", "g++")
+        for name in ("calls", "owner", "nothing"):
+            with self.subTest(name):
+                source = self.write(f"{name}.cpp", (LIBRARY / f"{name}.c").read_text())
+                self.compiled(compiler, "c++11", source)
+
+    def test_the_comments_of_the_header(self):
+        compiler, text = needs(self, "clang", "clang"), '#include "inputplay.h"\n'
+        for name, standard in (("beside.c", "c11"), ("beside.cpp", "c++11")):
+            with self.subTest(name):
+                more = ("-Wdocumentation", "-Wdocumentation-pedantic", "-Wconversion")
+                self.compiled(compiler, standard, self.write(name, text), *more)
 
     def test_python(self):
-        shutil.copytree(TOP / "bindings" / "python", self.folder / "python")
+        shutil.copytree(PYTHON, self.folder / "python")
         self.runs(sys.executable, "-m", "compileall", "-q", self.folder / "python")
 
     def test_rust(self):
-        cargo, rust = needs(self, "cargo", "cargo"), self.folder / "rust"
-        shutil.copytree(TOP / "bindings" / "rust", rust, ignore=shutil.ignore_patterns("target"))
-        env = {**os.environ, "CARGO_TARGET_DIR": str(self.folder / "target")}
-        self.runs(cargo, "check", "--offline", "-q", "--all-targets", cwd=rust, env=env)
+        cargo, rust = needs(self, "cargo", "cargo"), declared.copy_of_bindings(self.folder) / "rust"
+        made = {"CARGO_TARGET_DIR": str(self.folder / "target"), "INPUTPLAY_LIB_DIR": str(self.folder)}
+        more = {"cwd": rust, "env": {**os.environ, **made}}
+        self.runs(cargo, "check", "--offline", "-q", "--all-targets", **more)
+        # with no archive it says how one is made, and with one its pages are made without a word
+        why = "is not there, so nothing can be linked: make it by `tools/build --library`"
+        self.assertIn(f"{self.folder}/libinputplay.a {why}", self.runs(cargo, "check", "--offline", **more))
+        self.write("libinputplay.a", "!<arch>\n")
+        self.assertEqual("", self.runs(cargo, "doc", "--offline", "--no-deps", "-q", **more))
+
+
+class Python(CommandCase):
+    """The package over a shared object that has each function and does nothing: what needs no device."""
+
+    def test_numbers_and_names(self):
+        compiler, fake = needs(self, "gcc", "gcc"), self.folder / "libfake.so"
+        names = re.findall(r"^(?:uint32_t|void) (inputplay_\w+)\(", HEADER, re.M)
+        functions = (f"int {name}(void) {{ return {int(name == 'inputplay_abi')}; }}\n" for name in names)
+        self.runs(compiler, "-shared", "-fPIC", "-o", fake, self.write("fake.c", "".join(functions)))
+        variables = {**os.environ, "INPUTPLAY_LIBRARY": str(fake), "PYTHONPATH": str(PYTHON)}
+        tests = (PYTHON / "tests" / "check_package.py", "Numbers", "Names")
+        self.runs(sys.executable, "-B", *tests, env=variables)
+
+
+SMALL_HEADER = """#ifndef _INPUT_EVENT_CODES_H
+#define EV_KEY\t\t0x01
+#define BTN_MOUSE 0x110
+#define BTN_LEFT\t0x110 /* the left one */
+#define KEY_OLD BTN_LEFT
+#define KEY_BRIGHTNESS_MAX\t0x251
+#define KEY_MAX\t0x2ff
+#define KEY_CNT\t(KEY_MAX+1)
+"""
+SMALL_TABLE = """- EV_KEY 1
+1 BTN_LEFT 272
+1 KEY_BRIGHTNESS_MAX 593
+- KEY_MAX 767
+- KEY_CNT 768
+1 BTN_MOUSE 272
+1 KEY_OLD 272
+"""
+
+
+class EventCodes(FolderCase):
+    """The numbers and names that the packages know, and the script that makes them of the system's header."""
+
+    def test_they_are_the_system_s(self):
+        """All, where its header is of the same release; of another one the names that both have."""
+        if not loaded(TOP / SCRIPT).HEADER.is_file():
+            self.skipTest("the kernel's header is not installed (Debian: linux-libc-dev)")
+        kept, made = EVENT_CODES.read_text(), said(SCRIPT).text
+        if kept.splitlines()[0] == made.splitlines()[0]:
+            self.assertEqual(kept, made)
+        ours, theirs = (dict(re.findall(r"^\d+ (\w+) (\d+)$", text, re.M)) for text in (kept, made))
+        for name in ours.keys() & theirs.keys():
+            self.assertEqual(ours[name], theirs[name], name)
+
+    def test_a_small_header(self):
+        status, made, errors = said(SCRIPT, self.write("input-event-codes.h", SMALL_HEADER))
+        self.assertEqual((0, SMALL_TABLE, ""), (status, re.sub("^#.*\n", "", made, flags=re.M), errors))
+        self.assertIn(", of an unknown release. ", made)
+
+    def test_wrong_input(self):
+        self.write("none.h", "int i;\n")
+        for name, why in (("none.h", "it has no event codes"), ("gone.h", "No such file or directory")):
+            header = self.folder / name
+            self.assertEqual((2, "", f"{SCRIPT}: {header}: {why}\n"), said(SCRIPT, header))
 
 
 class Stamp(FolderCase):

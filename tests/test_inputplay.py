@@ -1,14 +1,18 @@
-"""bin/inputplay and tools/install: the program by its name, built where it is not there."""
+"""bin/inputplay, tools/install and tools/build: the program by its name, built where it is not there, and the
+library; in a tree of its own."""
 
 import contextlib
 import os
 import pty
+import re
 import shutil
+import signal
 import subprocess
 import unittest.mock
 
-from tests.desk_cases import PROGRAM, TOOLS, TOP, DeskCase, needs_program
+from tests.desk_cases import PROGRAM, TOOLS, TOP, DeskCase, heed_stops, needs_program
 from inputtools.building import RECKONED, in_order, needed_crates, time_text
+from inputtools.command import counted
 from inputtools.program import SecondProgram
 from inputtools.unproved import file_of
 
@@ -17,12 +21,16 @@ TOOLCHAIN = """#!/bin/sh
 echo "$(basename "$PWD"): $*" >> "$ASKED"
 case "$1" in
 run) mkdir -p out; printf '#!/bin/sh\\necho "played: $*"\\nexit 6\\n' > out/inp_main; chmod +x out/inp_main;;
-lib) test "$(basename "$PWD")" != "$FAILS" || { echo 'error: it is not proved'; exit 1; };;
+lib) test "$(basename "$PWD")" != "$FAILS" || { echo 'error: it is not proved'; exit 1; }
+    test "$(basename "$PWD")" != inp_c || mkdir -p out
+    test ! -d out || { echo 'int made;' | cc -x c -c -o out/made.o - && ar rcs out/libinp_c.a out/made.o; }
+    echo 'run=ended status=0'; echo 'rt: a line of its own' >&2; test -z "$SLEEPS" || exec sleep 30;;
+doc) mkdir -p kit/c; ar rcs kit/c/liblibc_c.a; echo "$PWD/kit/START-HERE.md";;
 try) echo 'device d steps 0'; echo 'run=ended status=0 runners=1 proved=no' >&2;;
 esac
 """
-CRATES = "# the crates\nlow:\nmiddle: low bitflags\naside: low\ntests_other: middle\n"
-CRATES += "inp_main: middle aside\nhigh: inp_main\n"
+CRATES = ("# the crates\nlow:\nmiddle: low bitflags\naside: low\ntests_other: middle\ninp_main: middle aside\n"
+          "high: inp_main\ninp_c staticlib: middle\n")
 
 
 def all_of(terminal: int) -> str:
@@ -255,6 +263,72 @@ class Inputplay(TreeCase):
         self.assertEqual(("--f", []), file_of(["--", "--f"]))
         self.assertEqual((None, ["--make", "7"]), file_of(["--make", "7"]))
         self.assertEqual((None, ["a", "b"]), file_of(["a", "b"]))
+
+
+class Library(TreeCase):
+    """tools/build --library: how many crates are to be proved, which one is at work and how far; and no line of the
+    toolchain."""
+
+    BEGUN = (f"tools/build: 3 crates to be proved and built, one after the other: from nothing in {RECKONED}; what is "
+             "kept is taken")
+
+    def setUp(self):
+        super().setUp()
+        for tool in ("cc", "ld", "objcopy", "ar"):
+            if shutil.which(tool) is None:
+                self.skipTest(f"{tool} is not there")
+        shutil.copytree(TOP / "include", self.tree / "include")
+        (self.tree / "crates" / "inp_c").mkdir()
+
+    def test_each_crate_is_told(self):
+        status, written, lines = self.run_tree("tools/build", "--library")
+        self.assertEqual(0, status, lines)
+        self.assertEqual(["low: lib", "middle: lib", "inp_c: lib"], self.asked_for()[:3])
+        crates = enumerate(("low", "middle", "inp_c"))
+        told = [f"tools/build: {done} of 3 crates are built, TIME: {name}" for done, name in crates]
+        lines = [re.sub(r"\d+:\d\d|\d+ s$", "TIME", line) for line in lines]
+        self.assertEqual([self.BEGUN, *told, "tools/build: that took TIME"], lines)
+        made = [f"{self.tree}/out/library/{name}" for name in ("libinputplay.a", "libinputplay.so.1.0.0")]
+        self.assertEqual(made, [line.partition(": ")[0] for line in written.splitlines()])
+        # what changed then, and what stands on it; the toolchain looks at the last one each time
+        for crates in (["inp_c"], ["middle", "inp_c"]):
+            _, _, lines = self.run_tree("tools/build", "--library")
+            begun = f"tools/build: {counted(len(crates), 'crate')} to be proved and built, one after the other: "
+            self.assertEqual(f"{begun}what changed since the last build", lines[0])
+            self.assertEqual([f"{name}: lib" for name in crates], self.asked_for()[-1 - len(crates):-1])
+            (self.tree / "crates" / "middle" / "src").mkdir(exist_ok=True)
+            source = self.tree / "crates" / "middle" / "src" / "lib.rt"
+            source.write_text("")
+            os.utime(source, (2**32, 2**32))
+        # what is made already is linked, and nothing is proved
+        status, _, lines = self.run_tree("tools/build", "--library", "--made")
+        self.assertEqual((0, [], 6), (status, lines, sum(line.endswith(": lib") for line in self.asked_for())))
+
+    def test_a_crate_that_fails(self):
+        status, written, lines = self.run_tree("tools/build", "--library", FAILS="middle")
+        self.assertEqual((1, "", 4), (status, written, len(lines)), lines)
+        said, log = lines[3].rsplit(" in ", 1)
+        self.addCleanup(shutil.rmtree, os.path.dirname(log))
+        why = "error: it is not proved; all that was said is"
+        self.assertEqual(f"tools/build: middle was not built (rt ended with 1): {why}", said)
+
+    def test_a_terminal_and_a_stop(self):
+        terminal, other = pty.openpty()
+        self.addCleanup(os.close, terminal)
+        env = {**os.environ, "PATH": self.path, "ASKED": str(self.asked), "FAILS": "", "SLEEPS": "1"}
+        words = [self.tree / "tools" / "build", "--library"]
+        build = subprocess.Popen(words, env=env, cwd=self.folder, stdin=subprocess.DEVNULL, stdout=subprocess.PIPE,
+                                 stderr=other, preexec_fn=heed_stops)
+        os.close(other)
+        said = ""
+        while "crates are built" not in said:
+            said += os.read(terminal, 65536).decode()
+        build.send_signal(signal.SIGINT)
+        ended = build.wait(10), build.communicate()[0]
+        said = (said + all_of(terminal)).replace("\x1b[K", "")
+        self.assertEqual((130, b""), ended, said)
+        told = r"\r\n\rtools/build: 0 of 3 crates are built, 0:\d\d: low\r(?:\r.*: low\r)*tools/build: stopped\r\n"
+        self.assertRegex(said, f"^{re.escape(self.BEGUN)}{told}$")
 
 
 class Install(TreeCase):

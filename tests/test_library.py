@@ -3,6 +3,9 @@
 `rt ci` builds no static library, so these checks are made where `tools/build --library` made one, or where they are asked
 for by name: `tests/run library` then builds it first. A check whose tool is not there is left out by its name. Where all
 pass, `tests/run library` keeps over which sources they did (`tests/library/passed.json`), which the gate compares.
+
+Where the variable INPUTPLAY_LIB_DIR names a folder, the libraries that lie there are checked. Nothing is built then, and
+nothing is kept, since they may be of other sources.
 """
 
 import os
@@ -12,11 +15,13 @@ import subprocess
 import sys
 import unittest
 from importlib.util import find_spec
+from pathlib import Path
 
 from tests.library import declared, stamp
 from tests.playing import EXAMPLES, RECORDS, TOP, FolderCase
 
-BUILT = TOP / "out" / "library"
+NAMED = os.environ.get("INPUTPLAY_LIB_DIR")
+BUILT = Path(NAMED or TOP / "out" / "library").resolve()
 ARCHIVE = TOP / "crates" / "inp_c" / "out" / "libinp_c.a"
 HERE = TOP / "tests" / "library"
 HEADER = (TOP / "include" / "inputplay.h").read_text()
@@ -45,7 +50,7 @@ class Library(FolderCase):
     def built(self, source, compiler, *flags):
         """A program of a source that is linked with the static library."""
         program = self.folder / source.stem
-        words = [compiler, *flags, "-Wall", "-Wextra", "-Werror", f"-I{TOP / 'include'}"]
+        words = [compiler, *flags, "-Wall", "-Wextra", "-Werror", f"-I{TOP / 'include'}", f"-I{HERE}"]
         done = run([*words, source, BUILT / "libinputplay.a", "-o", program])
         self.assertEqual((0, ""), (done.returncode, done.stderr))
         return program
@@ -83,6 +88,11 @@ class Header(Library):
             came = re.findall(r"^[0-9a-f]+ T (\w+)$", run(["nm", flag, "--defined-only", BUILT / file]).stdout, re.M)
             self.assertEqual(sorted(names), sorted(came), file)
 
+    def test_what_the_archive_wants_is_what_the_page_says(self):
+        said = re.search(r"They want ([^.]*) of the C library", (TOP / "docs" / "LIBRARY.md").read_text())[1]
+        wanted = re.findall(r"^ +U (\w+)$", run(["nm", "-u", BUILT / "libinputplay.a"]).stdout, re.M)
+        self.assertEqual(sorted(re.findall(r"`(\w+)`", said)), sorted(wanted))
+
 
 class C(Library):
     tool = "gcc"
@@ -93,6 +103,9 @@ class C(Library):
 
     def test_a_reader_and_a_joystick_take_nothing_from_the_owner(self):
         self.says("", [self.built(HERE / "owner.c", "gcc", "-std=c99")])
+
+    def test_null_beside_a_count_of_none_and_the_header_s_own(self):
+        self.says("", [self.built(HERE / "nothing.c", "gcc", "-std=c99")])
 
     def test_a_naive_reader_keeps_a_key_down_and_a_right_one_does_not(self):
         self.says(STUCK_KEY, [self.built(EXAMPLES / "c" / "stuck_key.c", "gcc", "-std=c99")])
@@ -115,7 +128,7 @@ class Valgrind(Library):
 
     def test_no_byte_is_lost_or_read_wrongly(self):
         checks = ["valgrind", "-q", "--leak-check=full", "--error-exitcode=9"]
-        for source in (HERE / "calls.c", HERE / "owner.c", EXAMPLES / "c" / "stuck_key.c"):
+        for source in (*(HERE / f"{name}.c" for name in ("calls", "owner", "nothing")), EXAMPLES / "c" / "stuck_key.c"):
             with self.subTest(source.name):
                 done = run([*checks, self.built(source, "gcc", "-std=c99", "-g")])
                 self.assertEqual((0, ""), (done.returncode, done.stderr))
@@ -125,20 +138,22 @@ class CPlusPlus(Library):
     tool = "g++"
 
     def test_each_call_once(self):
-        source = self.folder / "calls.cpp"
-        shutil.copy(HERE / "calls.c", source)
-        self.says("", [self.built(source, "g++", "-std=c++11")])
+        for name in ("calls", "nothing"):
+            with self.subTest(name):
+                source = self.folder / f"{name}.cpp"
+                shutil.copy(HERE / f"{name}.c", source)
+                self.says("", [self.built(source, "g++", "-std=c++11")])
 
 
 class Rust(Library):
     tool = "cargo"
 
     def test_the_crate_s_tests(self):
-        shutil.copytree(TOP / "bindings" / "rust", self.folder / "rust", ignore=shutil.ignore_patterns("target"))
+        package = declared.copy_of_bindings(self.folder) / "rust"
         variables = {**os.environ, "INPUTPLAY_LIB_DIR": str(BUILT), "CARGO_TARGET_DIR": str(self.folder / "target")}
-        done = run(["cargo", "test", "--offline", "-q"], cwd=self.folder / "rust", env=variables)
+        done = run(["cargo", "test", "--offline", "-q"], cwd=package, env=variables)
         self.assertEqual(0, done.returncode, done.stdout + done.stderr)
-        self.assertIn("10 passed; 0 failed", done.stdout)
+        self.assertIn("13 passed; 0 failed", done.stdout)
 
 
 class Python(Library):
@@ -164,9 +179,9 @@ class Pip(Library):
     tool = "pip"
 
     def test_it_installs_offline_from_its_folder(self):
-        shutil.copytree(PYTHON, self.folder / "python", ignore=shutil.ignore_patterns("__pycache__", "build"))
+        package = declared.copy_of_bindings(self.folder) / "python"
         where = self.folder / "site"
-        done = run([sys.executable, "-m", "pip", "install", "--no-index", "-q", "--target", where, self.folder / "python"])
+        done = run([sys.executable, "-m", "pip", "install", "--no-index", "-q", "--target", where, package])
         self.assertEqual(0, done.returncode, done.stderr)
         variables = {**os.environ, "INPUTPLAY_LIBRARY": str(BUILT / "libinputplay.so"), "PYTHONPATH": str(where)}
         self.says("30\n", [sys.executable, "-B", "-c", "import inputplay; print(inputplay.code_of('KEY_A')[1])"], env=variables)
@@ -190,6 +205,9 @@ def is_there(tool):
 
 def make_library(is_asked):
     """Links the libraries of the archive that is there; builds it too where that is asked for. Says why they are not there, or None."""
+    if NAMED:
+        missing = [name for name in ("libinputplay.a", "libinputplay.so") if not (BUILT / name).is_file()]
+        return f"{BUILT / missing[0]} is not there" if missing else None
     if not ARCHIVE.is_file() and not is_asked:
         return "the library is not built"
     words = ["--made"] if ARCHIVE.is_file() and not is_asked else []
@@ -199,7 +217,8 @@ def make_library(is_asked):
 
 def passed(counts):
     """Keeps that all checks passed; `tests/run library` calls this where none failed."""
-    stamp.write(counts.passed, counts.told_left_out().strip())
+    if not NAMED:
+        stamp.write(counts.passed, counts.told_left_out().strip())
 
 
 class Build(unittest.TestCase):

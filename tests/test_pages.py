@@ -48,5 +48,5 @@ class Pages(DeskCase):
             for command, lines in shown(TOP / "docs" / f"{name}.md", least, folder):
                 with self.subTest(command):
                     done = subprocess.run(["bash", "-c", command], cwd=folder, capture_output=True, text=True,
-                                          env={**os.environ, "INPUTPLAY": PROGRAM}, check=False)
+                                          env={**os.environ, "INPUTPLAY": PROGRAM, "TZ": "UTC0"}, check=False)
                     self.assertEqual((0, lines), (done.returncode, done.stdout.splitlines()), done.stderr)

@@ -193,9 +193,9 @@ class Refused(PlayCase):
 
     def test_limits_of_a_capture_say_what_helps(self):
         with mock.patch("inputtools.writing.GREATEST_TEXT", 100):
-            said = "would have more than 100 bytes; take a part of the capture by --from and --to"
+            said = "would have more than 100 bytes: take a part with --from and --to"
             self.refused("record", DATA / "lid.evtest",
-                         because=f"the record {said}, or put its events into a file")
+                         because=f"the record {said}, fewer readers, or have")
             self.refused("record", DATA / "mouse.evtest", "--stream", self.folder / "x.bin",
                          because=f"{said}")
 

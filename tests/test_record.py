@@ -59,7 +59,7 @@ def evtest_text(events, base=1764252210496169):
 
 
 def gaps(events, length):
-    """Gaps of so many frames behind which the next event names no slot, and is not in the one announced before: the
+    """Gaps of so many frames behind which the next event names no slot, and is not in that announced before: the
     events, with SYN_DROPPED and a report in their place, and its slot."""
     ends = [index + 1 for index, event in enumerate(events) if event[1:3] == (0, 0)]
     slots, slot = [], 1
@@ -67,9 +67,9 @@ def gaps(events, length):
         slots.append(slot)
         slot = event[3] if event[1:3] == (3, SLOT) else slot
     for begin, end in zip(ends, ends[length:-1]):
-        of_slots = (event for event in events[end:] if event[1:3] == (0, 3) or (event[1] == 3 and 46 < event[2] < 62))
-        behind = next(of_slots)
-        if slots[begin] != slots[end] and behind[1:3] not in ((0, 3), (3, SLOT)):
+        kinds = (event[1:3] for event in events[end:])
+        behind = next(kind for kind in kinds if kind == (0, 3) or (kind[0] == 3 and 46 < kind[1] < 62))
+        if slots[begin] != slots[end] and behind not in ((0, 3), (3, SLOT)):
             time = events[end][0]
             yield [*events[:begin], (time, 0, 3, 0), (time, 0, 0, 0), *events[end:]], slots[end]
 
@@ -150,6 +150,11 @@ class RoundTrip(DeskCase):
         self.assertEqual(32, len(came))
         self.assertEqual(raw_events((DATA / "keyboard.bin").read_bytes())[:32], came)
 
+
+    def test_a_byte_order_mark(self):
+        for form in ("evtest", "evemu", "libinput.yml"):
+            marked = self.file("marked", b"\xef\xbb\xbf" + (DATA / f"lid.{form}").read_bytes())
+            self.assertEqual(self.written("record", DATA / f"lid.{form}"), self.written("record", marked))
 
     def test_what_a_terminal_shows_besides(self):
         """A list of devices before a tool's first line, `^C` after its last one, a fault that it met."""
@@ -389,7 +394,7 @@ class Losses(DeskCase):
         first = frames([(3, SLOT, 0), (3, ID, 4), (3, X, 5)])
         lost = [(2000, 0, 3, 0), (2000, 0, 0, 0)]
         note = "lost events at 0.002000 s"
-        guess = "behind the loss at 0.002000 s slot 1 is a guess for 2 events that name none: EV_ABS ABS_MT_TRACKING_ID 4"
+        guess = "behind the loss at 0.002000 s slot 1 is a guess for 2 events that name none: EV_ABS ABS_MT_T"
         for batch, notes in (([(3, ID, 4), (3, X, 5)], [note, guess]), ([(3, SLOT, 0), (3, ID, -1)], [note]),
                              ([(3, SLOT, 2), (3, ID, -1)], [note]), ([(3, SLOT, 2), (3, X, 0)], [note]),
                              ([(3, 0, 7)], [note])):
@@ -400,8 +405,8 @@ class Losses(DeskCase):
                 self.assertEqual((first, behind), (came[: len(first)], came[-len(behind):]))
 
     def test_the_slot_behind_a_gap(self):
-        """Of 28 gaps in a capture, where another slot was announced before than behind them, and the next event names none,
-        the slot is guessed right in all. (The slot before, or where that cannot be another one, is right in 12.)"""
+        """Of 28 gaps in a capture, where another slot was announced before than behind them, and the next event
+        names none, the slot is guessed right in all: by the slot before, or another where that cannot be, in 12."""
         captured, guesses = raw_events((DATA / "touchpad-lost.bin").read_bytes()), []
         for length in (20, 25):
             for events, slot in gaps(captured, length):
@@ -427,7 +432,8 @@ class Losses(DeskCase):
     def test_a_report_alone_is_not_left_out_silently(self):
         events = frames([(1, 30, 1)], [], [(1, 30, 0)])
         files = [self.file("h", KEYS), self.file("c", raw_capture(events))]
-        self.written("record", *files, notes=["1 report is left out, before which no event stands in its frame"])
+        note = "1 report is left out, before which no event stands in its frame"
+        self.written("record", *files, notes=[note])
 
     def test_a_loss_that_a_form_does_not_tell(self):
         events = frames([(1, 30, 1)], [(1, 30, 1)])
@@ -714,8 +720,10 @@ class Parts(DeskCase):
 
     def test_verify_finds_as_many_events_as_can_be(self):
         """An event that is wanted early and comes late too keeps none between from being found."""
-        for wanted, came, missed in (([1, 9, 2, 9, 3, 9], [1, 2, 9, 3, 9], [1]), ([1, 2], [], [0, 1]), ([1, 2], [3, 1, 2], []),
-                                     ([*range(2000)], [*range(700, 2000), 0], [*range(700)])):
+        for wanted, came, missed in (
+            ([1, 9, 2, 9, 3, 9], [1, 2, 9, 3, 9], [1]), ([1, 2], [], [0, 1]), ([1, 2], [3, 1, 2], []),
+            ([*range(2000)], [*range(700, 2000), 0], [*range(700)]),
+        ):
             with self.subTest(came=came[:5]):
                 found = found_in_order(wanted, came)
                 self.assertEqual(missed, [index for index, is_there in enumerate(found) if not is_there])
@@ -772,6 +780,10 @@ class WrongInput(DeskCase):
             (keyboard[:24] + bad_record(code=0x300), "record 2 of this raw capture, of 24 bytes from byte 24 on, is no event: EV_KEY has no code 768"),
             (GRABBED, "it has no events: evtest says that another process has grabbed the device"),
             (b"hello\n", "not in a form that is known"),
+            (KEYS.encode("utf-16"), "this text is in UTF-16, as PowerShell's > and some editors write it"),
+            (KEYS.encode("utf-16-be"), "this text is in UTF-16"),
+            (re.sub("^", "> ", KEYS, flags=re.MULTILINE), "its lines begin with >, as a mail quotes them"),
+            (keyboard[:48] + (DATA / "mouse.bin").read_bytes()[:96], "3 of 5 events are of such: are two"),
             ((DATA / "mouse.bin").read_bytes(), "EV_REL REL_X 1 at 0.000000 s, is of a code that the desc"),
             ((DATA / "keyboard.proc").read_bytes(), "2 devices"),
             ((DATA / "two.libinput.yml").read_bytes(), "2 devices"),
@@ -782,7 +794,7 @@ class WrongInput(DeskCase):
             ("E: 0.000001 0001 001e 99999999999\nE: 0.000002 0000 0000 0000\n", "line 1: the value 999999"),
             ("# EVEMU 1.3\nE: 0.1 0001 001e 0001\nE: 0.000002 0000 0000 0000\n", "line 2: no event as evemu"),
             ("devices:\n- node: x\n  events:\n  - evdev:\n    - [ 0, 0, 1, 30]\n  - evdev:\n", "line 5: no"),
-            (raw_capture(long_frame), "a frame has 600 events, and a record's frames at most 511"),
+            (raw_capture(long_frame), "a record's frames at most 511: are reports (SYN_REPORT) missing"),
             (raw_capture([(0, 1, 30, 1), (2**54, 0, 0, 0)], base=0), "lasts longer"),
         ):
             with self.subTest(because=because):
@@ -814,8 +826,8 @@ class WrongInput(DeskCase):
         path = self.file("c", raw_capture(frames([(1, 30, 2)]) * 7000))
         readers = [word for number in range(60) for word in ("--reader", f"{'r' * 29}{number:03}")]
         header = self.file("h", KEYS)
-        self.refused("record", header, path, *readers, because="more than 16777216 bytes; take a part of the "
-                     "capture by --from and --to, or put its events into a file by --stream")
+        because = "more than 16777216 bytes: take a part with --from and --to, fewer readers, or have"
+        self.refused("record", header, path, *readers, because=because)
 
     def test_wrong_words(self):
         self.refused("record", because="required: DESCRIPTION")
@@ -842,6 +854,16 @@ class WrongInput(DeskCase):
         self.refused("record", path, because='2 devices: 1 "Logitech USB Keyboard", 2 "Logitech M705"')
         report = self.play(self.written("record", path, "--device", "2", notes=["ends within a frame"]))
         self.assertEqual(raw_events((DATA / "mouse.bin").read_bytes())[:2], taken(report)[:2])
+
+    def test_a_record_that_was_saved_otherwise(self):
+        text = "inputrecord 1\ndevice d\n"
+        for content, because in (
+            (text.encode("utf-16"), "this text is in UTF-16"),
+            (b"\xef\xbb\xbf" + text.encode(), "it begins with a byte order mark"),
+            (f"> {text}> source s\n", "its lines begin with >, as a mail quotes them"),
+        ):
+            with self.subTest(because=because):
+                self.refused("stuck", self.file("case.rec", content), because=because)
 
     def test_as_a_command(self):
         words = [TOOLS / "record", DATA / "lid.evtest"]

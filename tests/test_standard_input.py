@@ -42,7 +42,7 @@ class StandardInput(DeskCase):
         env = {**os.environ, "INPUTPLAY": PROGRAM}
         words = [TOOLS / tool, *words]
         with open(given or os.devnull, "rb") as file:
-            done = subprocess.run(words, stdin=file, cwd=folder, env=env, capture_output=True, check=False, pass_fds=pipes)
+            done = subprocess.run(words, stdin=file, cwd=folder, env=env, capture_output=True, pass_fds=pipes)
         return done.returncode, done.stdout, done.stderr
 
     def is_one(self, tool, *words, given=None, named=None):
@@ -91,8 +91,9 @@ class StandardInput(DeskCase):
                 with self.subTest(f"{tool} of {name}"):
                     named = [name if word == "-" else word for word in words]
                     came = self.run_tool(tool, *named, folder=self.beside, given=given, pipes=pipes)
+                    title = f">{os.path.basename(name)}<".encode()
                     texts = [text.replace(name.encode(), b"standard input") for text in came[1:]]
-                    texts = [text.replace(b">%s<" % os.path.basename(name).encode(), b">standard input<") for text in texts]
+                    texts = [text.replace(title, b">standard input<") for text in texts]
                     self.assertEqual(wanted, (came[0], *texts))
             os.close(read)
 

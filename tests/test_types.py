@@ -1,14 +1,15 @@
-"""Every function of the tools, the second program and checks/ has types, and mypy finds them right."""
+"""Every function of the tools, the second program, checks/ and the package for Python has types, and mypy finds
+them right."""
 
 import shutil
 import subprocess
 
 from tests.playing import TOP, FolderCase
 
-PACKAGES = ("inputtools", "second")
+PACKAGES = ("inputtools", "second", "inputplay")
 HELPERS = ("tests.playing", "tests.desk_cases", "tests.test_pages")
 # The scripts have no ending by which mypy would find them; it takes each as a module of its own name.
-SCRIPTS = ("tools", "bin", "checks", "tests")
+SCRIPTS = ("tools", "bin", "checks", "tests", "bindings")
 
 
 def modules():

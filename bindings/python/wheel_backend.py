@@ -24,7 +24,7 @@ def digest_of(content):
 def files_of_package():
     """The names and bytes of the package's files."""
     for path in sorted((HERE / NAME).iterdir()):
-        if path.suffix == ".py" or path.name == "py.typed" or path.name.startswith("libinputplay.so"):
+        if path.suffix in (".py", ".txt", ".typed") or path.name.startswith("libinputplay.so"):
             yield f"{NAME}/{path.name}", path.read_bytes()
 
 

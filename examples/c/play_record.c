@@ -31,7 +31,7 @@ static uint8_t *bytes_of(const char *name, size_t *len) {
 }
 
 /* Gives an action line the bytes of the file that it names, if it takes a stream. */
-static uint32_t load(inputplay_handle *record, uint32_t line) {
+static uint32_t load(inputplay_handle_t *record, uint32_t line) {
     char name[4096];
     size_t name_len, len;
     if (inputplay_record_file(record, line, (uint8_t *)name, sizeof name, &name_len) != INPUTPLAY_OK)
@@ -48,7 +48,7 @@ static uint32_t load(inputplay_handle *record, uint32_t line) {
 }
 
 /* Gives each action line its stream. There are fewer action lines than lines. */
-static uint32_t load_all(inputplay_handle *record, const uint8_t *text, size_t len) {
+static uint32_t load_all(inputplay_handle_t *record, const uint8_t *text, size_t len) {
     uint32_t status = INPUTPLAY_OK, line = 0;
     for (size_t i = 0; status == INPUTPLAY_OK && i < len; i++)
         if (text[i] == '\n')
@@ -57,7 +57,7 @@ static uint32_t load_all(inputplay_handle *record, const uint8_t *text, size_t l
 }
 
 /* Prints the text that was made of a record, piece by piece. */
-static void print_text(inputplay_handle *record) {
+static void print_text(inputplay_handle_t *record) {
     uint8_t piece[4096];
     size_t from = 0, left;
     while (inputplay_record_text(record, from, piece, sizeof piece, &left) == INPUTPLAY_OK && left > 0)
@@ -66,7 +66,7 @@ static void print_text(inputplay_handle *record) {
 
 int main(int count, char **words) {
     int history = count == 3 && !strcmp(words[1], "--history");
-    inputplay_handle record = INPUTPLAY_NOTHING;
+    inputplay_handle_t record = INPUTPLAY_NOTHING;
     uint32_t line = 0, cause = 0;
     size_t len;
     if (count != 2 + history || inputplay_abi() != INPUTPLAY_ABI) {
@@ -77,14 +77,16 @@ int main(int count, char **words) {
     if (!text)
         return 3;
     uint32_t status = inputplay_record_new(text, len, &record, &line, &cause);
-    if (status == INPUTPLAY_REFUSED)
-        fprintf(stderr, "play_record: line %u is refused, by cause %u\n", line, cause);
     if (status == INPUTPLAY_OK)
         status = load_all(&record, text, len);
     if (status == INPUTPLAY_OK)
         status = inputplay_record_play(&record, (uint32_t)history, &len);
     if (status == INPUTPLAY_OK)
         print_text(&record);
+    else if (status == INPUTPLAY_REFUSED)
+        fprintf(stderr, "play_record: line %u: %s\n", line, inputplay_cause_text(cause));
+    else
+        fprintf(stderr, "play_record: %s\n", inputplay_status_text(status));
     inputplay_free(&record);
     free(text);
     return (int)status;

@@ -31,8 +31,8 @@ typedef struct {
 } program;
 
 /* Makes a step, which must be one that a device takes. */
-static inputplay_reply step(inputplay_handle *device, inputplay_step_t asked, inputplay_event *events, size_t count) {
-    inputplay_reply reply;
+static inputplay_reply_t step(inputplay_handle_t *device, inputplay_step_t asked, inputplay_event_t *events, size_t count) {
+    inputplay_reply_t reply;
     int32_t none;
     memset(&reply, 0, sizeof reply);
     if (inputplay_step(device, &asked, &reply, events, count, &none, 0) != INPUTPLAY_OK)
@@ -40,51 +40,52 @@ static inputplay_reply step(inputplay_handle *device, inputplay_step_t asked, in
     return reply;
 }
 
-static program opened(inputplay_handle *device, int is_right) {
-    inputplay_event none;
-    inputplay_reply reply = step(device, (inputplay_step_t){.step = INPUTPLAY_OPEN}, &none, 0);
+static program opened(inputplay_handle_t *device, int is_right) {
+    inputplay_event_t none;
+    inputplay_reply_t reply = step(device, (inputplay_step_t){.step = INPUTPLAY_OPEN}, &none, 0);
     return (program){.client = reply.client, .is_right = is_right};
 }
 
 /* Asks which keys are down, as EVIOCGKEY does. */
-static void ask(inputplay_handle *device, program *p) {
-    inputplay_event none;
-    inputplay_reply reply = step(device, (inputplay_step_t){.step = INPUTPLAY_GET_KEYS, .client = p->client}, &none, 0);
+static void ask(inputplay_handle_t *device, program *p) {
+    inputplay_event_t none;
+    inputplay_reply_t reply = step(device, (inputplay_step_t){.step = INPUTPLAY_GET_KEYS, .client = p->client}, &none, 0);
     p->a_is_down = (int)(reply.words[KEY_A / 64] >> (KEY_A % 64) & 1);
 }
 
-static void take(inputplay_handle *device, program *p, const inputplay_event *event) {
-    if (event->type == EV_SYN && event->code == SYN_DROPPED) {
+/* Whether it asked: then the keys are newer than all that it had read before. */
+static int take(inputplay_handle_t *device, program *p, const inputplay_event_t *event) {
+    int is_asked = p->drops && event->type == EV_SYN && event->code == SYN_REPORT;
+    if (event->type == EV_SYN && event->code == SYN_DROPPED)
         p->drops = p->is_right;
-    } else if (p->drops) {
-        if (event->type == EV_SYN && event->code == SYN_REPORT) {
-            p->drops = 0;
-            ask(device, p);
-        }
-    } else if (event->type == EV_KEY && event->code == KEY_A) {
+    else if (is_asked)
+        ask(device, p);
+    else if (!p->drops && event->type == EV_KEY && event->code == KEY_A)
         p->a_is_down = event->value != 0;
-    }
+    p->drops = p->drops && !is_asked;
+    return is_asked;
 }
 
 /* Reads until nothing is there. */
-static void follow(inputplay_handle *device, program *p) {
-    inputplay_event events[16];
+static void follow(inputplay_handle_t *device, program *p) {
+    inputplay_event_t events[16];
     inputplay_step_t read = {.step = INPUTPLAY_READ, .client = p->client, .count = 16};
-    inputplay_reply reply;
+    inputplay_reply_t reply;
     while ((reply = step(device, read, events, 16)).reply == INPUTPLAY_TOOK)
         for (uint32_t i = 0; i < reply.count; i++)
-            take(device, p, &events[i]);
+            if (take(device, p, &events[i]))
+                break;
 }
 
-static void key(inputplay_handle *device, uint16_t code, int32_t value) {
+static void key(inputplay_handle_t *device, uint16_t code, int32_t value) {
     uint32_t at, why;
     inputplay_inject(device, EV_KEY, code, value, 0, &at, &why);
     inputplay_inject(device, EV_SYN, SYN_REPORT, 0, 0, &at, &why);
 }
 
 /* What the reader of the library believes. */
-static int read_by_library(inputplay_handle *device) {
-    inputplay_event event;
+static int read_by_library(inputplay_handle_t *device) {
+    inputplay_event_t event;
     uint32_t told, mode = INPUTPLAY_NORMAL;
     int32_t down = -1;
     while (inputplay_reader_next(device, mode, &event, &told) == INPUTPLAY_OK && told != INPUTPLAY_NEXT_AGAIN)
@@ -94,7 +95,7 @@ static int read_by_library(inputplay_handle *device) {
 }
 
 int main(void) {
-    inputplay_handle device = INPUTPLAY_NOTHING;
+    inputplay_handle_t device = INPUTPLAY_NOTHING;
     uint32_t line, cause, client, why;
     if (inputplay_abi() != INPUTPLAY_ABI ||
         inputplay_device_new((const uint8_t *)KEYBOARD, strlen(KEYBOARD), 0, &device, &line, &cause) != INPUTPLAY_OK ||

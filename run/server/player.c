@@ -1,5 +1,6 @@
 #include "player.h"
 
+#include "connection.h"
 #include "ending.h"
 #include "failure.h"
 #include "history.h"
@@ -144,7 +145,8 @@ static uint64_t next_moment(void) {
 
 /* What comes next where all wait: a moment that a program waits for, or frames. False where nothing does. */
 static bool go_on(void) {
-    player.is_held_up = settings.is_virtual && is_any_running();
+    /* (one that ran until now may have said so by a message) */
+    player.is_held_up = settings.is_virtual && (is_any_running() || connection_is_pending());
     if (player.is_held_up)
         return false;
     if (settings.is_virtual && wake_before(next_moment()))

@@ -1,20 +1,9 @@
 /* Each call of the library once, and each status that it has. It is C and C++, and says where something else came. */
 #include "inputplay.h"
+#include "same.h"
 
-#include <stdio.h>
 #include <stdlib.h>
 #include <string.h>
-
-static int failures = 0;
-
-static void same_at(int line, const char *what, long long wanted, long long came) {
-    if (wanted != came) {
-        printf("line %d: %s: %lld was wanted, and %lld came\n", line, what, wanted, came);
-        failures++;
-    }
-}
-
-#define SAME(wanted, came) same_at(__LINE__, #came, (long long)(wanted), (long long)(came))
 
 static const char *const PAD = "inputrecord 1\ndevice pad\ncap EV_KEY KEY_A\ncap EV_SW SW_LID\ncap EV_LED LED_CAPSL\n"
                                "axis ABS_X 7 0 255 0 0 0\naxis ABS_MT_POSITION_X 0 0 99 0 0 0\nslots 2\nlog 2000\nsource s\n";
@@ -32,11 +21,11 @@ static inputplay_step_t asked(uint32_t step, uint32_t client, uint32_t count) {
 }
 
 /* A handle that keeps nothing, and one that keeps a record: what wants a device refuses both, and leaves them. */
-static void no_device(inputplay_handle *h) {
-    inputplay_handle before = *h;
+static void no_device(inputplay_handle_t *h) {
+    inputplay_handle_t before = *h;
     inputplay_step_t open = asked(INPUTPLAY_OPEN, 0, 0);
-    inputplay_reply reply;
-    inputplay_event event;
+    inputplay_reply_t reply;
+    inputplay_event_t event;
     int32_t value = 77;
     uint32_t a = 77, b = 77;
     size_t left = 77;
@@ -61,7 +50,7 @@ static void no_device(inputplay_handle *h) {
 }
 
 static void making(void) {
-    inputplay_handle h = INPUTPLAY_NOTHING;
+    inputplay_handle_t h = INPUTPLAY_NOTHING;
     uint32_t line = 77, cause = 77;
     char *long_text = (char *)malloc(16777217);
     if (!long_text)
@@ -88,9 +77,9 @@ static void making(void) {
     inputplay_free(&h);
 }
 
-static void stepping(inputplay_handle *h) {
-    inputplay_reply reply;
-    inputplay_event events[4];
+static void stepping(inputplay_handle_t *h) {
+    inputplay_reply_t reply;
+    inputplay_event_t events[4];
     int32_t cells[28];
     uint32_t at = 77, why = 77;
     inputplay_step_t step = asked(INPUTPLAY_OPEN, 0, 0);
@@ -149,10 +138,10 @@ static void stepping(inputplay_handle *h) {
 
 /* A read without a reply, and the steps of the history from a place on. */
 static void taking(void) {
-    inputplay_handle h = INPUTPLAY_NOTHING;
-    static inputplay_event events[5000];
+    inputplay_handle_t h = INPUTPLAY_NOTHING;
+    static inputplay_event_t events[5000];
     inputplay_step_t steps[3], open = asked(INPUTPLAY_OPEN, 0, 0);
-    inputplay_reply reply;
+    inputplay_reply_t reply;
     int32_t cell;
     uint32_t line, cause, at = 77, count = 77, why = 77;
     size_t left = 77;
@@ -194,10 +183,10 @@ static void taking(void) {
     inputplay_free(&h);
 }
 
-static void reading(inputplay_handle *h) {
-    inputplay_event event;
+static void reading(inputplay_handle_t *h) {
+    inputplay_event_t event;
     inputplay_step_t step;
-    inputplay_reply reply;
+    inputplay_reply_t reply;
     uint32_t told = 77, client = 77, why = 77, phase = 77;
     int32_t value = 77, slot = 77;
     memset(&event, 77, sizeof event);
@@ -241,10 +230,10 @@ static void reading(inputplay_handle *h) {
 
 /* Many events at once: all, none where one is too late, and as many as there is room for. */
 static void injecting(void) {
-    inputplay_handle h = INPUTPLAY_NOTHING;
-    inputplay_stamped many[3] = {{1, 30, 1, 5}, {0, 0, 0, 6}, {1, 30, 0, 7}};
+    inputplay_handle_t h = INPUTPLAY_NOTHING;
+    inputplay_stamped_t many[3] = {{1, 30, 1, 5}, {0, 0, 0, 6}, {1, 30, 0, 7}};
     static const char *const SHORT = "inputrecord 1\ndevice pad\ncap EV_KEY KEY_A\ncap EV_LED LED_CAPSL\nlog 4\nsource s\n";
-    inputplay_event events[2] = {{7, 7, 7, 7, 7}, {7, 7, 7, 7, 7}};
+    inputplay_event_t events[2] = {{7, 7, 7, 7, 7}, {7, 7, 7, 7, 7}};
     uint32_t line, cause, from = 77, count = 77, at, full = 77;
     SAME(INPUTPLAY_BAD_HANDLE, inputplay_inject_all(&h, many, 3, &from, &count));
     SAME(INPUTPLAY_BAD_HANDLE, inputplay_feedback(&h, events, 2, &at, &count, &full));
@@ -268,11 +257,11 @@ static void injecting(void) {
 }
 
 /* A joystick client hands out its startup, and then what happens. */
-static void joying(inputplay_handle *h) {
+static void joying(inputplay_handle_t *h) {
     uint32_t client = 77, why = 77, told = 77, place = 77, at;
     uint8_t record_out[8] = {7, 7, 7, 7, 7, 7, 7, 7};
     static const uint8_t axis[8] = {5, 0, 0, 0, 9, 0, 2, 0};
-    inputplay_picture picture;
+    inputplay_picture_t picture;
     SAME(INPUTPLAY_OK, inputplay_joy_read(h, record_out, &told, &place));
     SAME(INPUTPLAY_JOY_CLOSED, told);
     SAME(7, record_out[0]);
@@ -297,7 +286,7 @@ static void joying(inputplay_handle *h) {
 }
 
 static void loading(void) {
-    inputplay_handle h = INPUTPLAY_NOTHING;
+    inputplay_handle_t h = INPUTPLAY_NOTHING;
     uint32_t line, cause;
     static const uint8_t key[24] = {1, 0, 0, 0, 0, 0, 0, 0, 0, 0, 0, 0, 0, 0, 0, 0, 1, 0, 30, 0, 1, 0, 0, 0};
     SAME(INPUTPLAY_OK, inputplay_record_new(bytes_of(STREAM), strlen(STREAM), &h, &line, &cause));
@@ -310,7 +299,7 @@ static void loading(void) {
 
 /* A record's lines name files, and its text is read piece by piece. */
 static void migrating(void) {
-    inputplay_handle h = INPUTPLAY_NOTHING;
+    inputplay_handle_t h = INPUTPLAY_NOTHING;
     uint32_t line, cause;
     uint8_t out[8] = "#######";
     size_t len = 77, left;
@@ -333,7 +322,7 @@ static void migrating(void) {
 
 /* A report replaces the text that was made before, and a stream that was given no bytes has no events. */
 static void playing(void) {
-    inputplay_handle h = INPUTPLAY_NOTHING;
+    inputplay_handle_t h = INPUTPLAY_NOTHING;
     uint32_t line, cause;
     uint8_t out[128];
     size_t len = 77, left;
@@ -359,7 +348,7 @@ static void playing(void) {
 }
 
 /* A handle that keeps no record. */
-static void no_record(inputplay_handle *h) {
+static void no_record(inputplay_handle_t *h) {
     uint8_t out[1];
     size_t len = 77;
     SAME(INPUTPLAY_BAD_HANDLE, inputplay_record_load(h, 0, bytes_of(""), 0));
@@ -388,7 +377,7 @@ static void naming(void) {
 }
 
 int main(void) {
-    inputplay_handle h = INPUTPLAY_NOTHING;
+    inputplay_handle_t h = INPUTPLAY_NOTHING;
     uint32_t line, cause;
     SAME(INPUTPLAY_ABI, inputplay_abi());
     no_device(&h);

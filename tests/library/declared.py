@@ -1,17 +1,23 @@
-"""What the header declares and what the crate has: structs field by field, and numbers by name."""
+"""What the header declares, and what the crate and the packages have: structs by fields, numbers by name."""
 
 import re
+import shutil
+from pathlib import Path
 
-TOP_TYPES = {"u16": "uint16_t", "u32": "uint32_t", "u64": "uint64_t", "i16": "int16_t", "i32": "int32_t", "AxisInfo": "inputplay_info"}
+BINDINGS = Path(__file__).resolve().parents[2] / "bindings"
+TOP_TYPES = {
+    "u16": "uint16_t", "u32": "uint32_t", "u64": "uint64_t", "i16": "int16_t", "i32": "int32_t",
+    "AxisInfo": "inputplay_info_t",
+}
 
 # The header's struct, and the crate and the file that have it.
 STRUCTS = {
-    "inputplay_info": "inp_model/src/axis_info.rt",
+    "inputplay_info_t": "inp_model/src/axis_info.rt",
     "inputplay_step_t": "inp_c/src/c_step.rt",
-    "inputplay_reply": "inp_c/src/c_reply.rt",
-    "inputplay_event": "inp_model/src/taken.rt",
-    "inputplay_stamped": "inp_model/src/stamped.rt",
-    "inputplay_picture": "inp_c/src/c_picture.rt",
+    "inputplay_reply_t": "inp_c/src/c_reply.rt",
+    "inputplay_event_t": "inp_model/src/taken.rt",
+    "inputplay_stamped_t": "inp_model/src/stamped.rt",
+    "inputplay_picture_t": "inp_c/src/c_picture.rt",
 }
 
 # Fields that are spelled otherwise, since `type` is a word of the crate's language, and `now` one of its contracts.
@@ -28,6 +34,23 @@ NUMBERS = [
     ("the joystick client answers", "src/joystick.rt", r"JoyRead::(\w+)(?: \{ \.\. \})? => (\d+),"),
 ]
 
+# The same of the packages: where in their files the numbers begin, and in which form they are.
+PYTHON_FORM = r"^    (\w+) = (\d+)$"
+ERROR_FORM = r"^        (\w+) = (\d+) \""
+PACKAGED = [
+    ("statuses of calls", "python/inputplay/_errors.py", "class Status(", PYTHON_FORM),
+    ("a record is refused", "python/inputplay/_errors.py", "class Cause(", PYTHON_FORM),
+    ("a step was refused", "python/inputplay/_errors.py", "class Why(", PYTHON_FORM),
+    ("steps of a device", "python/inputplay/_device.py", "class Steps(", PYTHON_FORM),
+    ("replies to steps", "python/inputplay/_device.py", "class Replies(", PYTHON_FORM),
+    ("the reader answers", "python/inputplay/_device.py", "class Answer(", PYTHON_FORM),
+    ("the joystick client answers", "python/inputplay/_device.py", "class JoyAnswer(", PYTHON_FORM),
+    ("a record is refused", "rust/src/errors.rs", "    Cause {", ERROR_FORM),
+    ("a step was refused", "rust/src/errors.rs", "    Refusal {", ERROR_FORM),
+    ("steps of a device", "rust/src/step.rs", "\nsteps! {", r"^    \w+, (\w+) = (\d+) \("),
+    ("replies to steps", "rust/src/step.rs", "pub mod replies {", r"pub const (\w+): u32 = (\d+);"),
+]
+
 # A limit that the header names, and the file that has it.
 LIMITS = {
     "READ_MAX": "inp_actors/src/command.rt",
@@ -42,12 +65,14 @@ RENAMED = {
     "STEPREFUSED": "REFUSED",
     "STEPNOMEMORY": "NOMEMORY",
     "NEXTEVENT": "SUCCESS",
+    "EVENT": "SUCCESS",
 }
 
 
 def fields_of_header(header, struct):
     """The types and names of a struct of the header, in order."""
-    body = re.search(rf"typedef struct {struct} \{{(.*?)\}}", header, re.S).group(1)
+    bare = re.sub(r"/\*.*?\*/", "", header, flags=re.S)
+    body = re.search(rf"typedef struct {struct} \{{(.*?)\}}", bare, re.S).group(1)
     for kind, names in re.findall(r"(\w+) ([^;]+);", body):
         for name in names.split(", "):
             yield (f"{kind}{name[name.index('['):]}", name[: name.index("[")]) if "[" in name else (kind, name)
@@ -80,10 +105,27 @@ def numbers_of_header(header, about):
     return {re.sub("^(NEXT|JOY)", "", name): number for name, number in pairs.items()}
 
 
+def part_of(text, begin):
+    """What stands from these words to the end of their block."""
+    return re.split(r"^\}|^\n\n", text[text.index(begin) + 1 :], maxsplit=1, flags=re.M)[0]
+
+
+def words_of_header(header, function):
+    """The words of the table that a function of the header has, each with its place."""
+    table = part_of(header, f"{function}(uint32_t").partition("return")[0]
+    return list(enumerate(re.findall(r'"([^"]+)"', table)))
+
+
 def numbers_of_crate(text, form):
-    """The numbers that the crate's file has in this form."""
+    """The numbers that a file has in this form."""
     pairs = {}
-    for first, second in re.findall(form, text):
+    for first, second in re.findall(form, text, re.M):
         name, number = (second, first) if first.isdigit() else (first, second)
         pairs.setdefault(plain(name), int(number or 0))
     return pairs
+
+
+def copy_of_bindings(folder):
+    """The packages, copied below a folder as they stand here: one reads a file of the other."""
+    made = shutil.ignore_patterns("target", "__pycache__", "build")
+    return shutil.copytree(BINDINGS, folder / "bindings", ignore=made)

@@ -3,32 +3,22 @@
  * joystick client. It is C and C++, and says where something else came.
  */
 #include "inputplay.h"
+#include "same.h"
 
-#include <stdio.h>
 #include <string.h>
 
 enum { LOG = 300, LED_TYPE = 0x11, LED_CODE = 1, WRITER = 0 };
 
-static int failures = 0;
-static inputplay_event no_events[1];
+static inputplay_event_t no_events[1];
 static int32_t no_cells[1];
-
-static void same_at(int line, const char *what, long long wanted, long long came) {
-    if (wanted != came) {
-        printf("line %d: %s: %lld was wanted, and %lld came\n", line, what, wanted, came);
-        failures++;
-    }
-}
-
-#define SAME(wanted, came) same_at(__LINE__, #came, (long long)(wanted), (long long)(came))
 
 static const char *const PAD = "inputrecord 1\ndevice pad\ncap EV_KEY BTN_TRIGGER\ncap EV_LED LED_CAPSL\n"
                                "axis ABS_X 7 0 255 0 0 0\nlog 300\nsource s\n";
 
 /* A client of the device writes to its light, which its owner is to be told. */
-static void write_light(inputplay_handle *device, int32_t value) {
+static void write_light(inputplay_handle_t *device, int32_t value) {
     inputplay_step_t step;
-    inputplay_reply reply;
+    inputplay_reply_t reply;
     memset(&step, 0, sizeof step);
     step.step = INPUTPLAY_WRITE;
     step.client = WRITER;
@@ -40,8 +30,8 @@ static void write_light(inputplay_handle *device, int32_t value) {
 }
 
 /* The owner takes what was written, and nothing else waits. */
-static void owner_is_told(inputplay_handle *device, int32_t value) {
-    inputplay_event events[INPUTPLAY_FEEDBACK_MAX];
+static void owner_is_told(inputplay_handle_t *device, int32_t value) {
+    inputplay_event_t events[INPUTPLAY_FEEDBACK_MAX];
     uint32_t at, count = 77, full = 77;
     memset(events, 77, sizeof events);
     SAME(INPUTPLAY_OK, inputplay_feedback(device, events, INPUTPLAY_FEEDBACK_MAX, &at, &count, &full));
@@ -53,8 +43,8 @@ static void owner_is_told(inputplay_handle *device, int32_t value) {
 }
 
 /* The owner may make so many calls more, and no other. */
-static void owner_has_calls(inputplay_handle *device, int calls) {
-    inputplay_event event;
+static void owner_has_calls(inputplay_handle_t *device, int calls) {
+    inputplay_event_t event;
     uint32_t at, count, full = 0;
     int made = 0;
     for (; made <= LOG && !full; made++)
@@ -62,8 +52,8 @@ static void owner_has_calls(inputplay_handle *device, int calls) {
     SAME(calls, made - 1);
 }
 
-static void reader(inputplay_handle *device) {
-    inputplay_event event;
+static void reader(inputplay_handle_t *device) {
+    inputplay_event_t event;
     uint32_t client, why = 77, told = 77;
     write_light(device, 1);
     SAME(INPUTPLAY_OK, inputplay_reader_start(device, &client, &why));
@@ -80,7 +70,7 @@ static void reader(inputplay_handle *device) {
     owner_is_told(device, 1);
 }
 
-static void joystick(inputplay_handle *device) {
+static void joystick(inputplay_handle_t *device) {
     uint8_t record_out[8];
     uint32_t client, why = 77, told = 77, place;
     write_light(device, 0);
@@ -96,9 +86,9 @@ static void joystick(inputplay_handle *device) {
 }
 
 int main(void) {
-    inputplay_handle device = INPUTPLAY_NOTHING;
+    inputplay_handle_t device = INPUTPLAY_NOTHING;
     inputplay_step_t open;
-    inputplay_reply reply;
+    inputplay_reply_t reply;
     uint32_t line, cause;
     memset(&open, 0, sizeof open);
     open.step = INPUTPLAY_OPEN;

@@ -39,7 +39,7 @@ static const uint8_t KEY[48] = {1, 0, 0, 0, 0, 0, 0, 0, 0, 0, 0, 0, 0, 0, 0, 0, 
 
 enum { DEVICE, START, RECORD, LOAD, MIGRATE, PLAY, CALLS };
 
-static uint32_t call(int which, inputplay_handle *h) {
+static uint32_t call(int which, inputplay_handle_t *h) {
     uint32_t a, b, status;
     size_t len;
     switch (which) {
@@ -60,7 +60,7 @@ static uint32_t call(int which, inputplay_handle *h) {
 }
 
 /* What a handle has to keep before a call. */
-static void prepare(int which, inputplay_handle *h) {
+static void prepare(int which, inputplay_handle_t *h) {
     if (which == START)
         call(DEVICE, h);
     if (which == LOAD || which == MIGRATE || which == PLAY)
@@ -72,7 +72,7 @@ static void prepare(int which, inputplay_handle *h) {
 }
 
 /* How many bytes the text has that a handle keeps, if it keeps a record. */
-static size_t text_len(inputplay_handle *h) {
+static size_t text_len(inputplay_handle_t *h) {
     uint8_t none;
     size_t left = 0;
     inputplay_record_text(h, 0, &none, 0, &left);
@@ -83,7 +83,7 @@ int main(void) {
     long refused = 0;
     for (int which = 0; which < CALLS; which++) {
         for (long n = 0;; n++) {
-            inputplay_handle h = INPUTPLAY_NOTHING;
+            inputplay_handle_t h = INPUTPLAY_NOTHING;
             prepare(which, &h);
             uint32_t kind = h.kind;
             void *at = h.at;

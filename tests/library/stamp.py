@@ -12,6 +12,7 @@ from typing import Dict, Iterator, List, Set
 TOP = Path(__file__).resolve().parents[2]
 STAMP = Path(__file__).with_name("passed.json")
 LIBRARY = "inp_c"
+ENDS = (".c", ".h", ".py", ".rs", ".toml", ".txt")
 
 
 def crates_below(top: Path, name: str) -> List[str]:
@@ -36,8 +37,8 @@ def files_of(top: Path) -> Iterator[Path]:
     for crate in crates_below(top, LIBRARY):
         yield from sorted((top / "crates" / crate / "src").rglob("*.rt"))
     yield top / "include" / "inputplay.h"
-    for folder, ends in (("bindings", (".py", ".rs", ".toml")), ("examples/c", (".c",)), ("tests/library", (".c", ".py"))):
-        yield from sorted(path for path in (top / folder).rglob("*") if path.suffix in ends and "target" not in path.parts)
+    for folder in ("bindings", "examples/c", "tests/library"):
+        yield from sorted(path for path in (top / folder).rglob("*") if path.suffix in ENDS and "target" not in path.parts)
     yield top / "tests" / "test_library.py"
 
 

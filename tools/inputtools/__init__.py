@@ -1,7 +1,8 @@
 """What the tools of this folder share: formats of captures and descriptions, and how a record is written."""
 
-import signal
+# (the module `signal` imports others, and who stops a tool meanwhile would see a traceback)
+import _signal  # type: ignore
 
 # Who stops a tool while it starts sees no traceback of it. (Where the signal is ignored it stays so.)
-if signal.getsignal(signal.SIGINT) is signal.default_int_handler:
-    signal.signal(signal.SIGINT, signal.SIG_DFL)
+if _signal.getsignal(_signal.SIGINT) is _signal.default_int_handler:
+    _signal.signal(_signal.SIGINT, _signal.SIG_DFL)

@@ -1,10 +1,11 @@
 """Finds the built program of this repository, and builds it where it is not there: proved, without tests and edits
-that must fail.
+that must fail. Builds the library for C in the same way.
 
 The gate (`rt ci`) proves each crate twice, with its tests and edits. For a program that runs it is enough to build
-each library below inp_main once, the lowest first, and then the program. They are built one after the other: where two
-runs of the toolchain are in one clone, one of them waits for the other. What is proved is kept in the crates' `out`, so
-a build that was stopped goes on.
+each library below inp_main once, the lowest first, and then the program; and so with the library for C. They are built
+one after the other: where two runs of the toolchain are in one clone, one of them waits for the other. What is proved
+is kept in the crates' `out`, so a build that was stopped goes on. What the toolchain prints goes into a log a crate,
+and nothing of it to the user.
 """
 
 import os
@@ -17,11 +18,12 @@ import tempfile
 import time
 from typing import Dict, List, Optional, TextIO
 
-from inputtools.command import Wrong, say
+from inputtools.command import Wrong, counted, say
 from inputtools.program import BUILT, REPOSITORY
 
-PROGRAM = "inp_main"
+PROGRAM, LIBRARY = "inp_main", "inp_c"
 CRATES = os.path.join(REPOSITORY, "crates")
+ARCHIVE = os.path.join(CRATES, LIBRARY, "out", f"lib{LIBRARY}.a")
 GATE_COST = os.path.join(REPOSITORY, "bench", "gate_cost")
 COST_PAGE = os.path.join(REPOSITORY, "bench", "COST.md")
 LAST_LINES = 20
@@ -152,18 +154,25 @@ def stop(process: "subprocess.Popen[bytes]") -> None:
 
 
 class Teller:
-    """Says how far a build is: on a terminal in one line that is written over, else not at all."""
+    """Says how far a build is: on a terminal in one line that is written over, else not at all or a line a crate."""
 
-    def __init__(self, program: str, stream: Optional[TextIO]) -> None:
+    def __init__(self, program: str, stream: Optional[TextIO], has_lines: bool = False) -> None:
         self.program, self.stream, self.begun, self.told = program, stream, time.monotonic(), 0.0
+        self.has_lines, self.named = has_lines, ""
 
     def tell(self, done: int, count: int, name: str) -> None:
-        now = time.monotonic()
-        if self.stream is None or not self.stream.isatty() or now - self.told < 0.5:
-            return
-        self.told = now
-        minutes, seconds = divmod(int(now - self.begun), 60)
+        minutes, seconds = divmod(int(time.monotonic() - self.begun), 60)
         text = f"{self.program}: {done} of {count} crates are built, {minutes}:{seconds:02d}: {name}"
+        if self.stream is not None and self.stream.isatty():
+            self.write_over(text)
+        elif self.has_lines and name != self.named:
+            print(text, file=self.stream, flush=True)
+        self.named = name
+
+    def write_over(self, text: str) -> None:
+        if time.monotonic() - self.told < 0.5:
+            return
+        self.told = time.monotonic()
         width = shutil.get_terminal_size().columns - 1
         print(f"\r{text[:width]}\x1b[K", end="", file=self.stream, flush=True)
 
@@ -180,6 +189,44 @@ def is_wanted(program: str, stream: Optional[TextIO]) -> bool:
     return sys.stdin.readline().strip().lower() in ("", "y", "yes")
 
 
+def build_crates(crates: List[str], teller: Teller) -> None:
+    """Proves and builds crates, each behind those below it."""
+    try:
+        Build(crates, teller).run()
+    finally:
+        teller.end()
+
+
+def changed_at(name: str) -> float:
+    """When a file of a crate changed last."""
+    files = [os.path.join(folder, file) for part in ("src", "specs", "proofs")
+             for folder, _, names in os.walk(os.path.join(CRATES, name, part)) for file in names]
+    return max(map(os.path.getmtime, files), default=0.0)
+
+
+def changed_crates(crates: Dict[str, List[str]], since: float) -> List[str]:
+    """The crates that changed since then, those that stand on one that did, and the last one."""
+    changed: List[str] = []
+    for name in in_order(crates):
+        if name == LIBRARY or set(crates[name]) & set(changed) or changed_at(name) > since:
+            changed.append(name)
+    return changed
+
+
+def build_library(program: str, stream: TextIO) -> None:
+    """Proves the crates of the library for C, and makes its archive; `program` is who says so."""
+    needed = needed_crates(read(os.path.join(REPOSITORY, "crates.txt")), LIBRARY)
+    if not needed:
+        raise Wrong(f"crates.txt has no {LIBRARY}, or cannot be read")
+    if os.path.isfile(ARCHIVE):
+        crates, told = changed_crates(needed, os.path.getmtime(ARCHIVE)), "what changed since the last build"
+    else:
+        crates = in_order(needed)
+        told = f"from nothing in {time_text(read(COST_PAGE), crates, measured())}; what is kept is taken"
+    say(program, f"{counted(len(crates), 'crate')} to be proved and built, one after the other: {told}")
+    build_crates(crates, Teller(program, stream, has_lines=True))
+
+
 def build(program: str, stream: Optional[TextIO]) -> None:
     """Builds the program, proved; `program` is who says so, to the stream."""
     if shutil.which("rt") is None:
@@ -193,10 +240,6 @@ def build(program: str, stream: Optional[TextIO]) -> None:
                  f"{time_text(read(COST_PAGE), crates, measured())}; bin/inputplay --unproved FILE plays at once")
     if not is_wanted(program, stream):
         raise Wrong("the program is not built; bin/inputplay --unproved FILE plays without it")
-    teller = Teller(program, stream)
-    try:
-        Build(crates, teller).run()
-    finally:
-        teller.end()
+    build_crates(crates, Teller(program, stream))
     if not is_built():
         raise Wrong("the toolchain said that it built the program, and crates/inp_main/out/inp_main is not there")

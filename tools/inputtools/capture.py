@@ -56,7 +56,7 @@ class Capture:
             back = seconds(events[0].time - least)
             self.notes.append(f"times go back by {back} behind the first event; they are told from the least")
         if max(event.time for event in events) - base > LATEST:
-            raise Wrong(f"it lasts longer than a record can: {LATEST} us")
+            raise Wrong(f"it lasts longer than a record can: {LATEST} us: is a time in it wrong?")
         return [Event(time - base, kind, code, value) for time, kind, code, value in events]
 
     def without_what_a_record_lacks(self, events: List[Event]) -> List[Event]:
@@ -84,7 +84,8 @@ class Capture:
         if not named or SLOT not in device.axes:
             return
         if max(named) >= GREATEST_SLOTS:
-            raise Wrong(f"an event is in slot {max(named)}, and a record has at most {GREATEST_SLOTS} slots")
+            raise Wrong(f"an event is in slot {max(named)}, and a record has at most {GREATEST_SLOTS} slots: "
+                        "is it a raw capture of another size (--16)?")
         if not device.has_ranges:
             device.slots = max(max(named) + 1, 2)
         elif not device.slot_count() and device.slots is None:
@@ -112,7 +113,8 @@ class Capture:
         """More events than the longest frame has that was not cut: a frame as long as the hint is cut."""
         longest = max((len(frame.events) for frame in self.frames if frame.report == 0), default=0)
         if longest >= GREATEST_HINT:
-            raise Wrong(f"a frame has {longest} events, and a record's frames at most {GREATEST_HINT - 1}")
+            raise Wrong(f"a frame has {longest} events, and a record's frames at most {GREATEST_HINT - 1}: "
+                        "are reports (SYN_REPORT) missing in it?")
         return longest + 1
 
     def note_losses(self, lost_at_end: Optional[int]) -> None:
@@ -133,7 +135,11 @@ def is_repeat_of_the_kernel(events: List[Event]) -> bool:
 
 
 def refuse_other_device(device: Device, events: List[Event]) -> None:
-    for event in events:
-        if event.kind != SYN and not device.has(event.kind, event.code):
-            raise Wrong(f"an event of it, {event.text()} at {seconds(event.time)}, is of a code "
-                        f"that the description lacks: is it another device's?")
+    own = [event for event in events if event.kind != SYN]
+    others = [event for event in own if not device.has(event.kind, event.code)]
+    if others:
+        first, asks = others[0], "is it another device's?"
+        if len(others) < len(own):
+            asks = f"{len(others)} of {len(own)} events are of such: are two devices in one capture?"
+        raise Wrong(f"an event of it, {first.text()} at {seconds(first.time)}, is of a code "
+                    f"that the description lacks: {asks}")

@@ -18,6 +18,7 @@ from inputtools.program import BuiltProgram, Player, find_player
 from inputtools.progress import progress
 from inputtools.results import Checked, ForPeople, Form, Json, Tap, write_junit
 from inputtools.source import is_stream, paths_of, shown
+from inputtools.wall import add_wall, wall
 
 HELP = """Plays records and checks what they expect, which stands in comments that begin with `#=`. So a
 record with expectations is played as one without. NAME is an actor of the record:
@@ -223,7 +224,9 @@ def command(arguments: List[str]) -> Result:
     words.add_argument("--shard", metavar="K/N", help="check the K-th of N parts of the records")
     words.add_argument("--threads", action="store_true", help="play each actor on a thread of its own")
     words.add_argument("--runs", metavar="N", help="--threads: play each record N times (1)")
+    add_wall(words)
     asked = words.parse_args(arguments)
+    wall.ask(asked.wall, asked.json)
     if asked.junit is not None and asked.junit.endswith(".rec"):
         raise Wrong(f"--junit wants a file for the results, and {asked.junit} is a record")
     has_folder = any(map(os.path.isdir, asked.records))

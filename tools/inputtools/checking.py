@@ -7,7 +7,7 @@ from inputtools.command import Wrong, counted
 from inputtools.expectations import (
     AT_END, FLAG_KINDS, Expectation, ends_well, expectations_of, why_not_seen, why_not_sent,
 )
-from inputtools.places import Places
+from inputtools.places import Places, time_text
 from inputtools.played import PlayedDevice, Reader
 from inputtools.played import played as devices_of
 from inputtools.program import PLAYED, Player
@@ -21,6 +21,7 @@ from inputtools.report import (
     entry_of, without_history,
 )
 from inputtools.source import Given, read_text, write_bytes
+from inputtools.wall import wall
 
 OF_A_VIEW = (AT_END, "agrees")
 # The words with which a record is played once, and on threads.
@@ -44,6 +45,7 @@ class Outcome:
     def __init__(self, expectation: Expectation, where: Where = Where(), came: Optional[str] = None) -> None:
         self.number, self.text, self.client = expectation.number, expectation.text, expectation.actor
         self.place, self.time, self.came = where.place, where.time, came
+        self.when = "" if where.time is None else f" ({time_text(where.time)})"
         self.is_held = came is None
 
 
@@ -55,6 +57,7 @@ class Expecting:
         self.name, self.folder, self.text = self.given.name, self.given.folder, read_text(self.given.path)
         self.expectations = expectations_of(self.text)
         self.records: List[Record] = []
+        wall.begin(self.name, self.text)
 
     def device_of(self, actor: str) -> RecordDevice:
         """The device of an actor, of a record that was played."""

@@ -28,9 +28,9 @@ CLIENT_STEPS = (
 
 @dataclass(frozen=True)
 class Difference:
-    """Where two reports differ, and in what: the actor (or None for a device's line), the number of the entry in its part
-    from 1, the place in the device's history, and the line of each report. Where one has none, `before` is the line of
-    it before which it would stand."""
+    """Where two reports differ, and in what: the actor (or None for a device's line), the number of the entry
+    in its part from 1, the place in the device's history, and the line of each report. Where one has none,
+    `before` is its line before which that would stand."""
 
     what: str
     device: Optional[str]
@@ -46,8 +46,8 @@ Key = Tuple[str, ...]
 
 
 class Item:
-    """An entry of a part: its number from 1, its line, the place that was told last, the words by which it is paired, and
-    what kind of entry it is."""
+    """An entry of a part: its number from 1, its line, the place that was told last, the words by which it is
+    paired, and what kind of entry it is."""
 
     def __init__(self, number: int, line: Entry, place: Optional[int], is_sight: bool) -> None:
         self.number, self.line, self.place = number, line, place
@@ -202,7 +202,7 @@ def distance(pair: Pair, one: List[Item], other: List[Item]) -> Optional[int]:
 
 
 class Other(NamedTuple):
-    """Entries that are no pair of equal ones: one of both may be None, and then that of its report which comes next."""
+    """Entries that are no pair of equal ones. One may be None, and `before` is what comes next there."""
 
     one: Optional[Item]
     other: Optional[Item]
@@ -222,14 +222,15 @@ class Parts:
         pairs, self.is_whole = pairs_of([item.key for item in one], [item.key for item in other])
         pairs, last = slid(pairs, one, other), (-1, -1)
         for pair in [*pairs, (len(one), len(other))]:
-            self.add_between(one[last[0] + 1 : pair[0] + 1], other[last[1] + 1 : pair[1] + 1], pair[0] < len(one))
-            if pair[0] < len(one):
+            is_paired = pair[0] < len(one)
+            self.add_between(one[last[0] + 1 : pair[0] + 1], other[last[1] + 1 : pair[1] + 1], is_paired)
+            if is_paired:
                 self.same.append((one[pair[0]], other[pair[1]]))
             last = pair
 
     def add_between(self, one: List[Item], other: List[Item], is_paired: bool) -> None:
-        """Entries that are left over before a pair, the last of both lists, or at the end: those of a kind are told
-        together."""
+        """Entries that are left over before a pair, the last of both lists, or at the end: those of a kind
+        are told together."""
         ends = len(one) - is_paired, len(other) - is_paired
         pairs, _ = pairs_of([item.kind for item in one[: ends[0]]], [item.kind for item in other[: ends[1]]])
         last = (-1, -1)
@@ -246,13 +247,15 @@ class Parts:
             what = "another" if one and other else "only in the first" if one else "only in the second"
             found.append(self.difference(what, one, other, before))
         if not self.is_whole:
-            what = f"more than {GREATEST_DISTANCE} entries are left over: those behind are paired by their kind alone"
+            what = f"more than {GREATEST_DISTANCE} entries are left over, those behind paired by their kind"
             found.append(Difference(what, self.device, self.name))
         return found + self.other_counts() + ([] if ignores_times else self.other_times())
 
-    def difference(self, what: str, one: Optional[Item], other: Optional[Item], before: Optional[Item] = None) -> Difference:
+    def difference(self, what: str, one: Optional[Item], other: Optional[Item],
+                   before: Optional[Item] = None) -> Difference:
         items = [item for item in (one, other) if item]
-        place = min((item.place for item in items if item.place is not None), default=None)
+        places = [item.place for item in items if item.place is not None]
+        place = min(places, default=before.place if before else None)
         first, second, third = (item.line if item else None for item in (one, other, before))
         return Difference(what, self.device, self.name, items[0].number, place, first, second, third)
 
@@ -362,7 +365,8 @@ def compare_device(one: Device, other: Device, parts: List[Parts], ignores_times
     for part in parts:
         ours, theirs = (item.line for item in part.same[0])
         if isinstance(ours, SourceLine) and ours.text != theirs.text:
-            found.append(Difference("another count", one.name, part.name, 1, min(one.steps, other.steps), ours, theirs))
+            place = min(one.steps, other.steps)
+            found.append(Difference("another count", one.name, part.name, 1, place, ours, theirs))
     if not found and one.history and other.history:
         found = compare_histories(one, other)
     return found
@@ -374,7 +378,8 @@ def compare_histories(one: Device, other: Device) -> List[Difference]:
     place = next((place for place, (ours, theirs) in pairs if ours != theirs), None)
     if place is None:
         return []
-    return [Difference("another step", one.name, None, None, place, one.step_line(place), other.step_line(place))]
+    lines = one.step_line(place), other.step_line(place)
+    return [Difference("another step", one.name, None, None, place, *lines)]
 
 
 def compare(first: Report, second: Report, ignores_times: bool = False) -> List[Difference]:
@@ -401,7 +406,8 @@ def in_order(differences: List[Difference]) -> List[Difference]:
             first[each.actor] = min(each.place, first.get(each.actor, each.place))
     actors = list(dict.fromkeys(each.actor for each in differences))
     actors.sort(key=lambda actor: (actor not in first, first.get(actor, 0)))
-    return sorted(differences, key=lambda each: (actors.index(each.actor), each.entry is None, each.entry or 0))
+    number = {actor: number for number, actor in enumerate(actors)}
+    return sorted(differences, key=lambda each: (number[each.actor], each.entry is None, each.entry or 0))
 
 
 def missing(one: Report, other: Report, which: str) -> List[Difference]:
@@ -412,6 +418,8 @@ def missing(one: Report, other: Report, which: str) -> List[Difference]:
 
     names = {device.name for device in other.devices}
     found = [alone(each.name, None, each.line, 0) for each in one.devices if each.name not in names]
-    return found + [alone(part.device.name if part.device else None, name, part.first, items_of(part)[0].place)
-                    for name, part in one.parts.items()
-                    if name not in other.parts or other.parts[name].role != part.role]
+    for name, part in one.parts.items():
+        if name not in other.parts or other.parts[name].role != part.role:
+            device = part.device.name if part.device else None
+            found.append(alone(device, name, part.first, items_of(part)[0].place))
+    return found

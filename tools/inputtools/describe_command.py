@@ -7,6 +7,7 @@ from inputtools import files, jsonlines
 from inputtools.command import Result, Words, Wrong
 from inputtools.description import comments, description_lines, name_of, state_lines
 from inputtools.evtest import WHY_GRABBED
+from inputtools.identity import moment_of
 from inputtools.source import shown
 
 HELP = """Writes the lines of a record that describe a device: device, hint, slots, type, cap and axis.
@@ -19,10 +20,10 @@ FILE is one of these, and which one is seen by its content:
   - the lines of a record
 
 The hint is the kernel's own estimate of the events of a frame. Fuzz is written as 0, since a kernel has
-applied it to each capture already. Comments behind the line `device` tell who it is: its name, phys, uniq, ids and
-properties, as far as FILE does. Others tell what was left out: force feedback, codes that no record has. Comments
-`# state TYPE CODE VALUE` tell what was on, which `tools/record` reads.
-"""
+applied it to each capture already. Comments behind the line `device` tell who it is: its name, phys, uniq,
+ids and properties, as far as FILE does, and what the clock showed when a capture began. Others tell what was
+left out: force feedback, codes that no record has. Comments `# state TYPE CODE VALUE` tell what was on, which
+`tools/record` reads. """
 
 STATUSES = """Status 0: it was written. 2: wrong words, or a file that describes no device. 4: standard output failed. 130:
 stopped from the keyboard."""
@@ -40,6 +41,7 @@ def command(arguments: List[str]) -> Result:
     device = recording.device
     if device is None:
         raise Wrong(f"{shown(asked.file)}: it has events and no description of a device")
+    device.identity.began = moment_of(event.time for event in recording.events) or device.identity.began
     lines = comments(device, asked.raw) + description_lines(device, name_of(device, asked.name), asked.raw)
     lines += state_lines(device)
     if asked.json:

@@ -97,7 +97,7 @@ def identity_of(device: Device) -> Identity:
     """Who the device is, as its description tells. (The name in a record is one that the record made.)"""
     told = device.identity
     name = told.name if device.form == "a record" else device.name
-    return Identity(name, told.phys, told.uniq, told.ids, device.properties)
+    return Identity(name, told.phys, told.uniq, told.ids, device.properties, told.began)
 
 
 def description_lines(device: Device, name: str, is_raw: bool = False) -> List[str]:

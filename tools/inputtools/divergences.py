@@ -9,8 +9,9 @@ end of the record, with the state then.
 from dataclasses import dataclass, field
 from typing import Any, Callable, Dict, Iterable, List, NamedTuple, Optional, Set, Tuple, Type
 
-from inputtools.belief import CURRENT, QUERIED_KIND, SLOT, Belief, Origin, Thing, first_difference, is_slot_code
-from inputtools.belief import view_of_lines
+from inputtools.belief import (
+    CURRENT, QUERIED_KIND, SLOT, Belief, Origin, Thing, first_difference, is_slot_code, view_of_lines,
+)
 from inputtools.command import Wrong
 from inputtools.devicestate import DeviceState
 from inputtools.progress import progress
@@ -21,8 +22,8 @@ TOLD_EVERY = 4096
 
 
 class Point(NamedTuple):
-    """A place at which a belief is compared: "report", "again" or "end", with the index of the entry and the number
-    of the device's frame."""
+    """A place at which a belief is compared: "report", "again" or "end", with the index of the entry and the
+    number of the device's frame."""
 
     kind: str
     place: Optional[int]
@@ -50,8 +51,8 @@ class Divergence:
     """A thing in which belief and device differ: both values at first, since which place, why, and at which
     points.
 
-    `since` is None where they differed from the start. `met_by` tells how they met again ("asked", "event", "device"
-    or None), and `met_at` the place.
+    `since` is None where they differed from the start. `met_by` tells how they met again ("asked", "event",
+    "device" or None), and `met_at` the place.
     """
 
     thing: Thing
@@ -94,7 +95,8 @@ def is_part_of(events: List[Event], frame: List[Event]) -> bool:
 class Walk:
     """One pass over what a client saw."""
 
-    def __init__(self, part: Part, state: DeviceState, cause_of: "Callable[[Walk, Thing, Point], Why]") -> None:
+    def __init__(self, part: Part, state: DeviceState,
+                 cause_of: "Callable[[Walk, Thing, Point], Why]") -> None:
         self.part, self.state, self.cause_of = part, state, cause_of
         self.belief = Belief(state.description.slots)
         self.clients: List[Client] = []
@@ -117,21 +119,23 @@ class Walk:
 
     def run(self) -> List[Divergence]:
         """Goes through the whole sight; those at the end. All are in `divergences` then."""
-        for number, entry in enumerate(self.part.sight):
+        sight, what = self.part.sight, f"{self.part.name} is compared with its device, entry"
+        for number, entry in enumerate(sight):
             if number % TOLD_EVERY == 0:
-                progress.tell(f"{self.part.name} is compared with its device, entry", number, len(self.part.sight))
+                progress.tell(what, number, len(sight))
             # (of an event that the reader made itself its belief was told by the answers already)
             see = self.sees.get(type(entry))
             if see:
                 see(number, entry)
         self.check()
-        return self.finish(len(self.part.sight))
+        return self.finish(len(sight))
 
     def check(self) -> None:
         """The belief that was computed must be the one that the report has at the end."""
         thing = first_difference(self.belief, view_of_lines(self.part.view), self.state.description)
         if thing:
-            raise Wrong(f"{self.part.name}: the belief in {thing.code} is not as the report has it at the end")
+            what = f"the belief in {thing.code} is not as the report has it at the end"
+            raise Wrong(f"{self.part.name}: {what}")
 
     # Comparing
 
@@ -189,7 +193,8 @@ class Walk:
         """A divergence begins, since the frame that made the device's value another one, or since the belief
         changed."""
         since, cause = self.cause_of(self, thing, point)
-        divergence = Divergence(thing, self.belief.value(thing), self.state.value(thing, point.frame), since, cause)
+        believed, present = self.belief.value(thing), self.state.value(thing, point.frame)
+        divergence = Divergence(thing, believed, present, since, cause)
         self.open[thing] = divergence
         self.divergences.append(divergence)
 

@@ -18,6 +18,9 @@ LASTING = ("mask", "revoked", "closed", "never-opened")
 # How many things are named where not all are.
 NAMED = 3
 
+# How grave what is right at the end is.
+PASSED = 3
+
 
 class Ending(NamedTuple):
     """Something that is wrong: how grave it is, 0 the most; the device; since which place, 0 for the start
@@ -28,6 +31,10 @@ class Ending(NamedTuple):
     since: int
     row: str
     text: str
+
+    @property
+    def is_at_end(self) -> bool:
+        return self.rank < PASSED
 
 
 def names_text(names: Sequence[str], most: Optional[int] = NAMED) -> str:
@@ -103,18 +110,19 @@ def endings_of_reader(device: PlayedDevice, reader: Reader, most: Optional[int])
         yield Ending(rank_of(group), device, first.since or 0, row, text)
 
 
-def endings_held(device: PlayedDevice) -> Iterator[Ending]:
-    """What is held on a device itself at the end."""
+def endings_held(device: PlayedDevice, before: str) -> Iterator[Ending]:
+    """What is held on a device itself at the end. `before` stands before each text."""
     for held in still_down_of(device.state):
         row = held.thing.code if held.thing.slot is None else f"slot {held.thing.slot}"
-        yield Ending(1, device, held.since or 0, row, held.text(device.state.at))
+        yield Ending(1, device, held.since or 0, row, before + held.text(device.state.at))
 
 
 def endings_of(devices: Sequence[PlayedDevice], most: Optional[int] = None) -> List[Ending]:
     """All that is wrong at the end, the gravest first: who ends apart, and what is held on a device itself.
     Of things that go together so many are named at most."""
-    found = [ending for device in devices for ending in endings_held(device)]
+    found: List[Ending] = []
     for device in devices:
+        found += endings_held(device, f"device {device.name}: " if len(devices) > 1 else "")
         found += [one for reader in readers_of([device]) for one in endings_of_reader(device, reader, most)]
     return sorted(found, key=lambda ending: ending.rank)
 
@@ -127,7 +135,7 @@ def passing_of(device: PlayedDevice, reader: Reader) -> Iterator[Ending]:
             name, since = name_of(reader, one.thing), since_text(one.since, at)
             until = "" if one.met_at is None else f" until {at.text(one.met_at)}"
             text = f"{who} was apart in {name} {since}{until}: {one.cause.text}"
-            yield Ending(3, device, one.since or 0, f"{reader.name}, {name}", text)
+            yield Ending(PASSED, device, one.since or 0, f"{reader.name}, {name}", text)
 
 
 def passed_of(devices: Sequence[PlayedDevice]) -> List[Ending]:

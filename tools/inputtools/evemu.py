@@ -40,7 +40,8 @@ class Parser:
 
     def take(self, line: str, index: int, is_last: bool) -> None:
         if line.startswith("#"):
-            self.listing.take(line.lstrip("#"))
+            if not self.device.identity.take(line):
+                self.listing.take(line.lstrip("#"))
             return
         letter, _, rest = line.partition(":")
         rest = rest if letter == "N" else rest.partition("#")[0]

@@ -97,7 +97,8 @@ def count_text(answer: Answer, found: Found) -> str:
     share = found.orders / answer.orders
     if found.orders == answer.orders:
         every = "in the order" if answer.orders == 1 else f"in each of {of_text(answer)}"
-        return f"{every}: this is no race, and {named('tools/stuck')} tells it" if answer.drawn is None else every
+        more = "" if answer.drawn is not None else f": this is no race, and {named('tools/stuck')} tells it"
+        return f"{every}{more}"
     chance = "" if found.chance is None else f", by chance {share_text(found.chance)}"
     is_bounded = answer.drawn is not None or bounds_text(answer) != ""
     of_these = f"these {number_text(answer.orders)} orders" if is_bounded else of_text(answer)

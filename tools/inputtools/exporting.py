@@ -97,7 +97,10 @@ def index_of(path: str, names: List[str], chosen: Optional[str]) -> int:
 def evemu_text(source: Source) -> str:
     """The device and its events as evemu-record writes them."""
     device = source.device
-    lines = ["# EVEMU 1.3", f"# {device.name}, of a record of inputplay", *value_comments(device)]
+    lines = ["# EVEMU 1.3", f"# {device.name}, of a record of inputplay"]
+    # (what evemu has no line for)
+    lines += [line for line in device.identity.lines() if line.startswith(("# phys:", "# uniq:", "# began:"))]
+    lines += value_comments(device)
     lines += identity_lines(device)
     for kind in KINDS_WRITTEN:
         lines += bit_lines(kind, codes_of(device, kind))

@@ -27,7 +27,8 @@ Read = TypeVar("Read")
 def read_bytes(path: str) -> bytes:
     data = source.read_bytes(path, GREATEST_SIZE + 1)
     if len(data) > GREATEST_SIZE:
-        raise Wrong(f"{source.shown(path)}: more than {GREATEST_SIZE} bytes")
+        helps = "take a part of it, as by head -c or head -n"
+        raise Wrong(f"{source.shown(path)}: more than {GREATEST_SIZE} bytes: {helps}")
     return data
 
 
@@ -37,7 +38,7 @@ def recordings_of(data: bytes, raw_size: Optional[int] = None) -> List[Recording
     refuse_other_kinds(data)
     if raw_size or raw.is_raw(data):
         return raw.parse(data, raw_size)
-    text = data.decode("utf-8", "replace").replace("\r\n", "\n").replace("\r", "\n")
+    text = data.decode("utf-8-sig", "replace").replace("\r\n", "\n").replace("\r", "\n")
     text = re.sub(r"^\^C", "", text, flags=re.MULTILINE)  # what a terminal shows where a tool is stopped
     for recognises, parse in FORMS:
         if recognises(text):
@@ -54,6 +55,9 @@ def refuse_other_kinds(data: bytes) -> None:
     for magic, said in kinds.MAGICS:
         if start.startswith(magic.lower()):
             raise Wrong(said.replace(", and no record", ", and no capture"))
+    said_of_text = kinds.said_of_text(data)
+    if said_of_text:
+        raise Wrong(said_of_text)
 
 
 def read(path: str, chosen: Optional[str] = None, raw_size: Optional[int] = None) -> Recording:

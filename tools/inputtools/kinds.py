@@ -34,8 +34,28 @@ TEXTS = [
 ]
 
 
+# UTF-16 of printable ASCII, in either order of bytes, with its mark or without. No raw capture begins so.
+UTF_16 = re.compile(rb"(\xff\xfe)?([\t\n\r -~]\0){4}|(\xfe\xff)?(\0[\t\n\r -~]){4}")
+
+
+def said_of_text(data: bytes) -> Optional[str]:
+    """What became of a text on its way, or None: it was saved in UTF-16, or quoted in a mail."""
+    if UTF_16.match(data):
+        return ("this text is in UTF-16, as PowerShell's > and some editors write it: "
+                "iconv -f UTF-16 -t UTF-8 mends it")
+    lines = [line for line in data[:4096].splitlines() if line.strip()]
+    if b"\0" not in data[:4096] and 2 * sum(line.startswith(b">") for line in lines) > len(lines):
+        return "its lines begin with >, as a mail quotes them: sed 's/^> \\?//' takes that off"
+    return None
+
+
 def said_of(data: bytes) -> Optional[str]:
     """What is said of a file of these bytes, or None where it is nothing that is known."""
+    text_said = said_of_text(data)
+    if text_said:
+        return text_said
+    if data.startswith(b"\xef\xbb\xbf"):
+        return "it begins with a byte order mark, as some editors write it: save it as UTF-8 without one"
     start = data[:512].lstrip(b"\xef\xbb\xbf \t\r\n")
     for magic, said in MAGICS:
         if start[: len(magic)].lower() == magic.lower():

@@ -71,7 +71,8 @@ def recordings_of(paths: List[str]) -> List[Recording]:
             raise Wrong(f"{path}: the times of {form} are no clock that several devices have; "
                         "give one recording of libinput record, or several of evtest")
     if len(found) > MOST_DEVICES:
-        raise Wrong(f"{len(found)} devices: a record has at most {MOST_DEVICES}")
+        raise Wrong(f"{len(found)} devices: a record has at most {MOST_DEVICES}: "
+                    "give fewer files, or one of them by --device")
     return [recording for _, recording in found]
 
 

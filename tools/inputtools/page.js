@@ -15,17 +15,19 @@ window.onhashchange = show; show();
 // screen the picture begins there too.
 const link = document.querySelector('#sentence a[data-shows]');
 function bar(part) {
-  const rows = [...part.querySelectorAll('[data-row]')].filter(row => row.dataset.row == link.dataset.shows);
-  const found = rows.filter(row => row.getClientRects().length).flatMap(items);
-  return found.filter(item => !item.classList.contains('held')).pop();
+  const picture = part.querySelector('.' + document.body.className.slice(3));
+  const row = [...picture.querySelectorAll('[data-row]')].find(row => row.dataset.row == link.dataset.shows);
+  if (!row) return null;
+  const rest = row.closest('details');
+  if (rest) rest.open = true;
+  return items(row).filter(item => !item.classList.contains('held')).pop();
 }
 function begin(item) {
   const chart = item.closest('.chart'), labels = chart.querySelector('.labels').getBoundingClientRect().right;
   chart.scrollLeft += item.getBoundingClientRect().left - labels - 30;
 }
 function bring() {
-  const part = link && document.querySelector(link.hash.split('-')[0]);
-  const chart = part && part.querySelector(`.${document.body.className.slice(3)} .chart`), item = chart && bar(chart);
+  const part = link && document.querySelector(link.hash.split('-')[0]), item = part && bar(part);
   if (item) begin(item);
 }
 bring();

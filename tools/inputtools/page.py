@@ -15,7 +15,7 @@ from inputtools.rows import MOST_ROWS, Row, Section, parted_at, sections_between
 from inputtools.scale import WIDTH, Scale
 from inputtools.shapes import mark_shape
 from inputtools.stuck_text import device_lines
-from inputtools.endings import NAMED, cuts_of, endings_of, passed_of
+from inputtools.endings import NAMED, Ending, cuts_of, endings_of, passed_of
 from inputtools.timeline import between, gravest, lines_of, ranges_of, text_of, timeline
 
 Range = Tuple[int, int]
@@ -119,8 +119,10 @@ class DevicePart:
             shapes.append(f'<a href="#{self.ident}-{begin}" tabindex="-1">{shape}</a>')
         return "".join(shapes)
 
-    def ident_of(self, place: int) -> Optional[str]:
-        """What shows a place: its range, or the device's picture where that has all of them."""
+    def ident_of(self, ending: Ending) -> Optional[str]:
+        """What shows something that is wrong: the range in which it begins, or else the device's picture. None
+        where it is not drawn."""
+        place = max(ending.since, self.begin) if ending.is_at_end else ending.since
         if not self.begin <= place < self.end:
             return None
         found = (begin for begin, end in self.ranges if begin <= place < end)
@@ -187,13 +189,12 @@ def sentence(devices: Sequence[PlayedDevice], parts: Sequence[DevicePart]) -> st
     first = (endings or passed_of(devices))[:1]
     if not first:
         return '<p id="sentence">Nobody ends apart from the device, and nothing is held on it.</p>'
-    part = next(part for part in parts if part.played is first[0].device)
-    ident, shown = part.ident_of(first[0].since), escape(first[0].text)
-    row = escape(first[0].row)
-    told = f'<a href="#{ident}" data-shows="{row}">{shown}</a>' if ident else shown
-    more = len(endings) - 1
-    also = f'; <a href="#{part.ident}-told">and {more} more</a>' if more > 0 else ""
-    return f'<p id="sentence">{told}{also}.</p>'
+    ending, part = first[0], next(part for part in parts if part.played is first[0].device)
+    ident, shown = part.ident_of(ending), escape(ending.text)
+    told = f'<a href="#{ident}" data-shows="{escape(ending.row)}">{shown}</a>' if ident else shown
+    more = f"and {len(endings) - 1} more"
+    more = f'<a href="#{part.ident}-told">{more}</a>' if part.whole else more
+    return f'<p id="sentence">{told}{f"; {more}" if len(endings) > 1 else ""}.</p>'
 
 
 def page(name: str, devices: Sequence[PlayedDevice], first: Optional[int] = None,

@@ -5,15 +5,22 @@ seconds, with as many digits as it has.
 """
 
 import bisect
+from functools import lru_cache
 from typing import Optional, Sequence
 
 from inputtools.report import MOMENT_AT, Step
+from inputtools.wall import wall
 
 
 def seconds_text(micros: int) -> str:
     """Microseconds as seconds: 12.3 s."""
     whole, rest = divmod(micros, 1000000)
     return f"{whole}.{f'{rest:06d}'.rstrip('0') or '0'} s"
+
+
+def time_text(moment: int) -> str:
+    """A moment in seconds, or with --wall as the clock showed it."""
+    return wall.text(moment) if wall.is_asked else seconds_text(moment)
 
 
 class Places:
@@ -28,10 +35,11 @@ class Places:
         index = bisect.bisect_right(self.places, place) - 1
         return self.history[self.places[index]].moment if index >= 0 else None
 
+    @lru_cache(maxsize=None)
     def bare(self, place: int) -> str:
         """A place and its time: `12 (12.3 s)`."""
         moment = self.moment(place)
-        return str(place) if moment is None else f"{place} ({seconds_text(moment)})"
+        return str(place) if moment is None else f"{place} ({time_text(moment)})"
 
     def text(self, place: int) -> str:
         return f"place {self.bare(place)}"
@@ -44,7 +52,7 @@ class Places:
         """Places of one kind, the first three and the last of many."""
         if len(places) == 1:
             return f"{one} {self.bare(places[0])}"
-        shown = [self.bare(place) for place in places]
-        if len(shown) > 4:
-            shown = shown[:3] + [f".. {shown[-1]}, {len(places)} in all"]
+        shown = [self.bare(place) for place in (places if len(places) <= 4 else places[:3])]
+        if len(places) > 4:
+            shown.append(f".. {self.bare(places[-1])}, {len(places)} in all")
         return f"{more} {', '.join(shown)}"

@@ -3,7 +3,7 @@
 import argparse
 import os
 import sys
-from typing import List, Optional
+from typing import List, Optional, Union
 
 from inputtools.command import CUT_OFF, Result, Words, Wrong, Wrote, name_of, put, tell
 from inputtools.jsonlines import ReportLines, line_of
@@ -11,6 +11,7 @@ from inputtools.program import MESSAGES, PLAYED, Player, Run, find_player
 from inputtools.progress import progress
 from inputtools.refusal_hints import Refusal, hint_of, limit_hint, line_text, other_kind, refused_line
 from inputtools.source import INPUT, Given, read_text, shown
+from inputtools.wall import WallLines, add_wall, wall
 
 HELP = """Plays records: by the built program where there is one, else by the second program, without proof.
 
@@ -68,6 +69,9 @@ class File:
         if why:
             self.explain("inputplay: read failed", why)
             return UNREAD
+        wall.begin(self.name, read_text(self.path) if wall.is_asked else "")
+        if not has_put("".join(f"# {line}\n" for line in wall.heading()).encode()):
+            return CUT_OFF
         run = player.start(self.path, self.folder, self.flags)
         try:
             is_written = self.hand_on(run)
@@ -89,11 +93,12 @@ class File:
             if first.startswith(MESSAGES):
                 self.explain(first.decode("ascii", "replace").strip(), None)
                 return True
-            lines, size = ReportLines(self.name), 0
+            lines: Union[ReportLines, WallLines]
+            lines, size = WallLines(read_text(self.path)) if wall.is_asked else ReportLines(self.name), 0
             while first:
                 data = first + written.read(1 << 16) + written.readline()
                 size += len(data)
-                if self.is_json:
+                if self.is_json or wall.is_asked:
                     data = "".join(lines.line(text) + "\n"
                                    for text in data.decode("ascii").splitlines()).encode()
                 if not has_put(data):
@@ -135,7 +140,9 @@ def command(arguments: List[str]) -> Result:
     words.add_argument("files", metavar="FILE", nargs="+", help="a record; - is standard input")
     words.add_argument("--history", action="store_true", help="the report has each step of the histories too")
     words.add_argument("--json", action="store_true", help="write one JSON object a line (docs/JSON.md)")
+    add_wall(words)
     asked = words.parse_args(arguments)
+    wall.ask(asked.wall, asked.json)
     player = find_player()
     tell(f"{name_of('play')}: {player.told()}")
     statuses: List[int] = []

@@ -1,6 +1,7 @@
 """A record that was played with its history, and all that is said of it: the state of each device, what
 each client believed of it, and where both differ. `tools/stuck` prints this, and `tools/draw` draws it."""
 
+import itertools
 import os
 import tempfile
 from typing import Dict, List, NamedTuple, Optional, Sequence, Union
@@ -16,8 +17,9 @@ from inputtools.program import PLAYED, Player
 from inputtools.progress import progress
 from inputtools.record import Line, Record, lines_of
 from inputtools.refusal_hints import refusal_text
-from inputtools.report import Call, Device, Part, Report, Took
+from inputtools.report import Call, Device, Entry, Part, Report, Took, entry_of
 from inputtools.source import Given, read_text
+from inputtools.wall import wall
 
 # The command by which an actor reads all that is queued.
 READS = {"client": "follow", "tap": "read 4096", "joy": "read 100000"}
@@ -29,20 +31,20 @@ class Unread:
 
     def __init__(self, text: str, record: Record, folder: str, player: Player, report: Report) -> None:
         self.text, self.record, self.folder, self.player, self.report = text, record, folder, player, report
-        self.parts: Optional[Dict[str, Part]] = None
+        self.parts: Optional[Dict[str, List[Entry]]] = None
 
     def losses(self, name: str) -> List[Optional[int]]:
         """The places of the losses that an actor would read of at the end; None for one whose place is not
         told, as to a joystick, which then synchronises."""
         if self.parts is None:
             self.parts = self.play()
-        before = self.report.parts[name]
-        behind = self.parts[name].sight[len(before.sight) :] if name in self.parts else []
-        if before.role == "joy":
+        behind = self.parts.get(name, [])
+        if self.report.parts[name].role == "joy":
             return [None for entry in behind if isinstance(entry, Call) and entry.step.name == "discard"]
         return [entry.place for entry in behind if isinstance(entry, Took) and entry.event.is_loss]
 
-    def play(self) -> Dict[str, Part]:
+    def play(self) -> Dict[str, List[Entry]]:
+        """What each actor that reads would see at the end, behind what it saw."""
         lines = ["", "# All that is queued is read."]
         for actor in self.record.actors.values():
             if actor.role in READS:
@@ -52,7 +54,17 @@ class Unread:
             with open(path, "w", encoding="latin-1", newline="") as file:
                 file.write(self.text + "\n".join(lines) + "\n")
             status, written = self.player.play(path, self.folder, what="what waits unread is asked for")
-        return Report(written).parts if status in PLAYED else {}
+        rows = written.split("\n") if status in PLAYED else []
+        readers = (part for part in self.report.parts.values() if part.role in READS)
+        heads = {f"{part.role} {part.name}": part for part in readers}
+        parts = ((heads[row], at) for at, row in enumerate(rows, 1) if row in heads)
+        return {part.name: entries_behind(part, rows, at) for part, at in parts}
+
+
+def entries_behind(part: Part, rows: Sequence[str], first: int) -> List[Entry]:
+    """What an actor has in another report's lines, from one of them on, behind what it saw in its part."""
+    behind = itertools.islice(rows, first + len(part.sight), None)
+    return [entry_of(0, row) for row in itertools.takewhile(lambda row: not row.startswith("stop "), behind)]
 
 
 class Client:
@@ -135,6 +147,7 @@ def play(given: Given, player: Player) -> List[PlayedDevice]:
     """Plays a record and asks for its devices' states; the played devices."""
     text, folder = read_text(given.path), given.folder
     check_streams(given.name, text, folder)
+    wall.begin(given.name, text)
     status, written = player.play(given.path, folder, ["--history"])
     if status not in PLAYED:
         raise Wrong(f"{given.name}: {refusal_text(text, written, status, folder)}")

@@ -233,7 +233,8 @@ def readers_of(texts: Optional[List[str]]) -> List[Reader]:
         if names.count(name) > 1:
             raise Wrong(f"two readers are named {name}")
     if len(readers) > GREATEST_READERS:
-        raise Wrong(f"{len(readers)} readers: a device has at most {GREATEST_READERS} open clients")
+        raise Wrong(f"{len(readers)} readers: a device has at most {GREATEST_READERS} open clients: "
+                    "others can have a record of their own")
     spans = sorted(span for span in map(held_span, readers) if span)
     if any(one[1] > other[0] for one, other in zip(spans, spans[1:])):
         raise Wrong("two readers grab at one time: one client alone can hold the grab")

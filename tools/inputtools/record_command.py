@@ -31,8 +31,8 @@ Where one file has both, it is enough. One of both may be -, which is standard i
 Times are told from the first event on. What was down, on or touching when the capture began is set in a
 frame before the readers open: it follows from the description and from the first event on each thing.
 Repeats of keys stand as they were captured. What the record cannot have of the capture is said on standard
-error. Behind a loss (SYN_DROPPED) events may name no slot: they are taken for the likeliest one, and a note and a
-comment of the record say which events and which slot. With --strict nothing is written then.
+error. Behind a loss (SYN_DROPPED) events may name no slot: they are taken for the likeliest one, and a note
+and a comment of the record say which events and which slot. With --strict nothing is written then.
 
 --from and --to take a part of the capture; what was down before it is set as at a begin. Times stay those
 of the whole capture. --all-devices takes all devices of the files, which are of one clock: of one recording of
@@ -50,9 +50,9 @@ Readers: {FORM}
 
 Make = Callable[[], Union[Record, MergedRecord]]
 
-STATUSES = """Status 0: it was written. 1: with --verify, not each event came as it was captured; with --strict, a slot would
-be guessed. 2: wrong words, or a file of which no record can be made. 4: standard output failed. 130: stopped from the
-keyboard."""
+STATUSES = """Status 0: it was written. 1: with --verify, not each event came as it was captured; with
+--strict, a slot would be guessed. 2: wrong words, or a file of which no record can be made. 4: standard
+output failed. 130: stopped from the keyboard."""
 
 
 def command(arguments: List[str]) -> Result:
@@ -102,7 +102,7 @@ def words_of() -> Words:
     words.add_argument("--hidden-keys", action="store_true", help="take the KEY_A of keys that were hidden")
     words.add_argument("--hide-keys", action="store_true",
                        help="rename keys one to one, but for modifiers, and leave scan codes out")
-    words.add_argument("--strict", action="store_true", help="write nothing where a slot would be guessed; status 1")
+    words.add_argument("--strict", action="store_true", help="write nothing where a slot would be guessed")
     words.add_argument("--verify", action="store_true",
                        help="play it, and say how many events came as captured; status 1 where not all did")
     return words
@@ -149,6 +149,8 @@ def read_both(asked: argparse.Namespace) -> Recording:
         why = f": {WHY_GRABBED}" if captured.was_grabbed else ""
         raise Wrong(f"{shown(asked.capture or asked.description)}: it has no events{why}")
     captured.device = described.device
+    if asked.capture:
+        captured.device.identity.began = None
     return captured
 
 

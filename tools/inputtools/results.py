@@ -6,7 +6,6 @@ from xml.etree.ElementTree import Element, SubElement, tostring
 
 from inputtools.checking import Outcome
 from inputtools.command import counted, plain
-from inputtools.places import seconds_text
 from inputtools.source import write_bytes
 
 
@@ -31,8 +30,7 @@ def where_text(outcome: Outcome) -> str:
     """The place and the time at which it failed."""
     if outcome.place is None:
         return ""
-    time = "" if outcome.time is None else f" ({seconds_text(outcome.time)})"
-    return f"at place {outcome.place}{time}: "
+    return f"at place {outcome.place}{outcome.when}: "
 
 
 def failure_text(outcome: Outcome) -> str:

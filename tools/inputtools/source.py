@@ -1,9 +1,9 @@
-"""Reads the files that a command is given. `-` stands for standard input, which is read once. What is no
-regular file, as a pipe, is read to its end first: it cannot be read a second time, nor by the program that
-plays."""
+"""Reads the files that a command is given. `-` stands for standard input, which is read once. What is no regular
+file, as a pipe, is read to its end first, since the program that plays cannot read it once more."""
 
 import atexit
 import os
+import re
 import shutil
 import sys
 import tempfile
@@ -13,6 +13,8 @@ from inputtools.command import Wrong
 
 INPUT = "-"
 NAME = "standard input"
+# Names of the files that a process has open.
+OWN = re.compile("/dev/(std|fd/)|/proc/[^/]+/fd/")
 
 _read: List[bool] = []
 
@@ -63,10 +65,9 @@ def write_bytes(path: str, data: bytes) -> None:
 
 
 def is_stream(path: str) -> bool:
-    """Is it standard input, or another file that can be read once? (What is named below /dev or /proc, as
-    /dev/stdin, is another file to another process.)"""
+    """Is it a file that can be read once, as standard input, or that another process has not?"""
     is_none = path != INPUT and (os.path.isdir(path) or not os.path.exists(path))
-    return not is_none and (not os.path.isfile(path) or os.path.abspath(path).startswith(("/dev/", "/proc/")))
+    return not is_none and (not os.path.isfile(path) or bool(OWN.match(os.path.abspath(path))))
 
 
 def as_file(path: str) -> str:

@@ -11,6 +11,7 @@ from inputtools.report import CUT_HELP, cut_text
 from inputtools.source import Given
 from inputtools.summary import ends_apart, summary_lines
 from inputtools.stuck_text import device_lines
+from inputtools.wall import add_wall, wall
 
 HELP = """Says of a record where a client's belief is not the device's state, since which place, and what
 kept the event.
@@ -38,6 +39,7 @@ def command(arguments: List[str]) -> Result:
     words.add_argument("file", metavar="FILE", help="a record; - is standard input")
     words.add_argument("--fail", action="store_true", help="end in status 1 where a client ends apart")
     words.add_argument("--summary", action="store_true", help="write a count by cause and key first")
+    add_wall(words)
     words.add_argument("--json", action="store_true", help="write one JSON object a line (docs/JSON.md)")
     add_client(words)
     words.add_argument("--thing", action="append", default=[], metavar="NAME",
@@ -45,6 +47,7 @@ def command(arguments: List[str]) -> Result:
     words.add_argument("--end", action="store_true", help="what is so at the end alone")
     asked = words.parse_args(arguments)
     only = Asked(asked.client, asked.thing, asked.end)
+    wall.ask(asked.wall, asked.json)
     devices = narrow(play(Given(asked.file), find_player()), only)
     cut = cut_of(devices)
     if asked.json:
@@ -52,7 +55,7 @@ def command(arguments: List[str]) -> Result:
         lines = ([] if only.is_all else [asked_for]) + stuck_lines(devices)
     else:
         lines = [f"the play was cut: {cut_text(cut)}; {CUT_HELP}"] if cut else []
-        lines += [] if only.is_all else [only.text()]
+        lines += wall.heading() + ([] if only.is_all else [only.text()])
         lines += summary_lines(devices) if asked.summary else []
         lines += [line for device in devices for line in device_lines(device)]
     status = CUT if cut else int(asked.fail and bool(ends_apart(devices)))

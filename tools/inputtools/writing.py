@@ -3,12 +3,14 @@
 import copy
 import struct
 from dataclasses import dataclass
+from datetime import timedelta
 from typing import Iterable, Iterator, List, NamedTuple, Optional, Set
 
 from inputtools.capture import Capture, seconds
 from inputtools.command import Wrong, counted
 from inputtools.description import comments, description_lines, hint_of, slots_of, version_of
 from inputtools.evtest import WHY_GRABBED
+from inputtools.identity import REALTIME, moment_of
 from inputtools.likely_slot import Guess, guess_of
 from inputtools.names import ABS, SYN, TRACKING_ID
 from inputtools.progress import progress
@@ -20,15 +22,15 @@ from inputtools.renamed import hide_keys
 from inputtools.initial_state import State, events_between, state_before, state_described
 
 GREATEST_TEXT = 16 * 1024 * 1024
-TAKE_A_PART = "take a part of the capture by --from and --to"
 DEFAULT_LOG, GREATEST_LOG = 1048576, 8388608
 LOSS_COMMENT = "# Events were lost here. This frame was not captured; it has what they must have changed."
+SHORTER = "take a part with --from and --to"
 STREAM_RECORD = struct.Struct("<QQHHi")
 
 
 @dataclass
 class Written:
-    """A frame as the record has it. One that stands for a loss was not captured. A guess is told before it."""
+    """A frame as the record has it. One that stands for a loss was not captured. A guess is told before."""
 
     time: int
     events: List[Event]
@@ -146,9 +148,9 @@ class Record:
 
     def guess_notes(self) -> List[str]:
         """What is said of the slots that are guessed."""
-        first, *more = [f"behind the loss at {seconds(guess.lost)} {guess.text()}" for guess in self.guesses()] or [""]
-        others = f"; and so at {counted(len(more), 'place')} more" if more else ""
-        return [first + others] if first else []
+        said = [f"behind the loss at {seconds(guess.lost)} {guess.text()}" for guess in self.guesses()]
+        more = f"; and so at {counted(len(said) - 1, 'place')} more" if said[1:] else ""
+        return [said[0] + more] if said else []
 
     def note_unpassed(self, unpassed: List[Event]) -> None:
         if unpassed:
@@ -231,7 +233,7 @@ class Record:
     def stream_bytes(self) -> bytes:
         events = [event for frame in self.frames for event in frame.all_events()]
         if len(events) * STREAM_RECORD.size > GREATEST_TEXT:
-            raise Wrong(f"the stream would have more than {GREATEST_TEXT} bytes; {TAKE_A_PART}")
+            raise Wrong(f"the stream would have more than {GREATEST_TEXT} bytes: {SHORTER}")
         return b"".join(STREAM_RECORD.pack(*divmod(event.time, 1000000), *event[1:]) for event in events)
 
 
@@ -242,8 +244,8 @@ def text_of(lines: Iterable[str]) -> str:
         line = line.encode("ascii", "backslashreplace").decode() + "\n"
         size += len(line)
         if size > GREATEST_TEXT:
-            raise Wrong(f"the record would have more than {GREATEST_TEXT} bytes; {TAKE_A_PART}, or put its "
-                        "events into a file by --stream")
+            raise Wrong(f"the record would have more than {GREATEST_TEXT} bytes: {SHORTER}, fewer readers, "
+                        "or have the events written to a file by --stream")
         parts.append(line)
     return "".join(parts)
 
@@ -269,6 +271,11 @@ def record_of(recording: Recording, name: str, readers: List[Reader], options: O
     progress.tell(f"the record of {name} is made, of {len(recording.events)} events")
     assert recording.device is not None
     device = copy.deepcopy(recording.device)
+    least = min(event.time for event in recording.events) if base is None else base
+    began = device.identity.began
+    device.identity.began = moment_of([least])
+    if began and least < REALTIME.start:
+        device.identity.began = began + timedelta(microseconds=least)
     capture = Capture(recording, device, options.hidden_keys, base)
     if options.hide_keys:
         hide_keys(device, capture)

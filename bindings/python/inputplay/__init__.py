@@ -14,14 +14,15 @@ newest version. The rules are in the project's docs/RULES.md and docs/READER.md,
 this package is tested, and not proved.
 """
 
+from ._codes import Type, code_of, name_of, number_of
 from ._device import Answer, Axis, Client, Device, JoyAnswer, JoyRecord, Joystick, Phase, Reader, Replies, Reply, Steps
 from ._errors import CallRefused, Cause, InputplayError, RefusedRecord, Status, StepRefused, Why
-from ._event import Event, Type, code_of, name_of
+from ._event import Event
 from ._record import Record
 
 __version__ = "1.0.0"
 __all__ = [
     "Answer", "Axis", "CallRefused", "Cause", "Client", "Device", "Event", "InputplayError", "JoyAnswer", "JoyRecord",
     "Joystick", "Phase", "Reader", "Record", "RefusedRecord", "Replies", "Reply", "Status", "StepRefused", "Steps", "Type",
-    "Why", "code_of", "name_of",
+    "Why", "code_of", "name_of", "number_of",
 ]

@@ -1,14 +1,18 @@
 """Devices, their clients and their readers."""
 
-from ctypes import byref, c_int32, c_size_t, c_uint8, c_uint32
+from ctypes import byref, c_int32, c_size_t, c_uint8, c_uint32, c_uint64
 from enum import IntEnum
 from struct import unpack
-from typing import Iterable, Iterator, List, NamedTuple, Optional, Set, Tuple, Union
+from typing import Any, Iterable, Iterator, List, NamedTuple, Optional, Sequence, Set, Tuple, TypeVar, Union
 
+from ._codes import Type, code_pair
 from ._errors import RefusedRecord, Status, StepRefused, Why, check
-from ._event import Event, Type, code_pair, event_of
+from ._event import Event, event_of
 from ._library import Handle, Info, RawEvent, RawPicture, RawReply, Stamped, Step, bytes_at, library
+from ._numbers import fits
 
+K = TypeVar("K", bound="Kept")
+MOMENT_MAX = 9_000_000_000_000_000
 READ_MAX = 4096
 CELLS_MAX = 14 * 256
 FEEDBACK_MAX = 15
@@ -74,7 +78,7 @@ class Reply(NamedTuple):
     reply: Replies
     at: int
     client: int
-    count: int
+    count: int  # type: ignore[assignment]
     slot: int
     why: int
     words: List[int]
@@ -138,12 +142,12 @@ class Kept:
     @property
     def closed(self) -> bool:
         """Whether nothing is kept."""
-        return self._handle.kind == 0
+        return not self._handle.kind
 
-    def __enter__(self):
+    def __enter__(self: K) -> K:
         return self
 
-    def __exit__(self, *_why) -> None:
+    def __exit__(self, *_why: object) -> None:
         self.close()
 
     def __del__(self) -> None:
@@ -174,8 +178,8 @@ class Device(Kept):
     def __repr__(self) -> str:
         return f"<Device {'closed' if self.closed else 'open'}>"
 
-    def step(self, step: int, **fields) -> Reply:
-        """Makes a step, whose fields are those of the header's inputplay_step_t."""
+    def step(self, step: int, **fields: Any) -> Reply:
+        """Makes a step, whose fields are those of the header's inputplay_step_t, with `axis` for its info."""
         axis = fields.pop("axis", None)
         raw, reply = Step(step=step, **fields), RawReply()
         if axis is not None:
@@ -200,7 +204,7 @@ class Device(Kept):
             list(self._cells[:given]),
         )
 
-    def must(self, step: int, **fields) -> Reply:
+    def must(self, step: int, **fields: Any) -> Reply:
         """Makes a step, and raises where the device refuses it."""
         reply = self.step(step, **fields)
         if reply.reply == Replies.REFUSED:
@@ -212,28 +216,28 @@ class Device(Kept):
 
         A moment that is not given is the last one.
         """
-        *names, value = event
-        kind, code = code_pair(names[0], names[1] if len(names) > 1 else None)
-        self._now = self._now if now is None else now
-        at, why = c_uint32(), c_uint32()
-        check(
-            library.inputplay_inject(
-                byref(self._handle), kind, code, int(value), self._now, byref(at), byref(why)
-            )
-        )
-        if why.value:
-            raise StepRefused(why.value, at.value)
-        return at.value
+        return self._enter([event], now)
 
-    def frame(self, *events, now: Optional[int] = None) -> int:
+    def frame(self, *events: Sequence[Union[int, str]], now: Optional[int] = None) -> int:
         """Injects events, each a tuple as for `inject`, and the SYN_REPORT that ends their frame; gives its place."""
-        for event in events:
-            self.inject(*event, now=now)
-        return self.inject("SYN_REPORT", 0, now=now)
+        return self._enter([*events, ("SYN_REPORT", 0)], now)
+
+    def _enter(self, events: Sequence[Sequence[Union[int, str]]], now: Optional[int]) -> int:
+        """Injects events at one moment, once all are known to be such; gives the place of the last one."""
+        moment = fits("now", c_uint64, self._now if now is None else now)
+        at, why = c_uint32(), c_uint32()
+        for numbers in [numbers_of(*event) for event in events]:
+            check(library.inputplay_inject(byref(self._handle), *numbers, moment, byref(at), byref(why)))
+            if why.value:
+                raise StepRefused(why.value, at.value)
+        self._now = moment
+        return at.value
 
     def inject_all(self, events: Iterable[Tuple[int, int, int, int]]) -> int:
         """Injects events, each a tuple of its type, code, value and moment, and gives how many the history had room for."""
         content = [Stamped(*event) for event in events]
+        if any(event.now > MOMENT_MAX for event in content):
+            check(Status.BAD_ARGUMENT)
         count = c_uint32()
         entered = 0
         for first in range(0, len(content), READ_MAX):
@@ -246,7 +250,7 @@ class Device(Kept):
     def feedback(self, count: int = FEEDBACK_MAX) -> List[Event]:
         """The first of the events that wait for the device's owner, at most so many (a read of /dev/uinput)."""
         raw, at, taken, full = (RawEvent * FEEDBACK_MAX)(), c_uint32(), c_uint32(), c_uint32()
-        room = min(count, FEEDBACK_MAX)
+        room = min(fits("count", c_size_t, count), FEEDBACK_MAX)
         check(
             library.inputplay_feedback(byref(self._handle), raw, room, byref(at), byref(taken), byref(full))
         )
@@ -256,12 +260,11 @@ class Device(Kept):
 
     def read(self, client: int, count: int = 64) -> List[Event]:
         """At most so many events of a client of this number; none where nothing is there."""
-        raw, at, taken, why = (RawEvent * max(count, 1))(), c_uint32(), c_uint32(), c_uint32()
-        check(
-            library.inputplay_read(
-                byref(self._handle), client, raw, count, byref(at), byref(taken), byref(why)
-            )
-        )
+        at, taken, why = c_uint32(), c_uint32(), c_uint32()
+        room = min(fits("count", c_size_t, count), READ_MAX)
+        raw = (RawEvent * max(room, 1))()
+        told = byref(at), byref(taken), byref(why)
+        check(library.inputplay_read(byref(self._handle), client, raw, room, *told))
         if why.value:
             raise StepRefused(why.value, at.value)
         return [event_of(event) for event in raw[: taken.value]]
@@ -285,6 +288,13 @@ class Device(Kept):
     def reader(self) -> "Reader":
         """Starts the device's reader, which keeps a state as libevdev does."""
         return Reader(self)
+
+
+def numbers_of(*event: Any) -> Tuple[int, int, int]:
+    """The type, the code and the value of an event that is told as for `Device.inject`."""
+    *names, value = event
+    kind, code = code_pair(names[0], names[1] if len(names) > 1 else None)
+    return kind, code, fits("value", c_int32, value)
 
 
 class Client:
@@ -356,7 +366,7 @@ class Reader:
     def __repr__(self) -> str:
         return f"<Reader of client {self.client}>"
 
-    def next(self, sync: bool = False):
+    def next(self, sync: bool = False) -> Tuple[Answer, Optional[Event]]:
         """The answer and the event of one call (libevdev_next_event); None where the answer has no event."""
         raw, told = RawEvent(), c_uint32()
         check(library.inputplay_reader_next(byref(self.device._handle), int(sync), byref(raw), byref(told)))
@@ -379,7 +389,7 @@ class Reader:
 
     def calls(self) -> List[Steps]:
         """The calls on the device that its start or its last `next` made, in order, those answered Again left out."""
-        made = []
+        made: List[Steps] = []
         while True:
             step, reply = Step(), RawReply()
             status = library.inputplay_reader_call(byref(self.device._handle), len(made), byref(step), byref(reply))
@@ -414,7 +424,7 @@ class Reader:
         check(status)
         return value.value
 
-    def _state(self):
+    def _state(self) -> Tuple[int, Phase, int]:
         client, phase, slot = c_uint32(), c_uint32(), c_int32()
         check(
             library.inputplay_reader_state(

@@ -53,7 +53,7 @@ class Why(IntEnum):
     NO_MEMORY = 10
 
 
-def words_of(number):
+def words_of(number: IntEnum) -> str:
     """The name of a number of these, in words."""
     return number.name.lower().replace("_", "-")
 

@@ -4,6 +4,10 @@ import ctypes
 import os
 from ctypes import POINTER, c_int16, c_int32, c_size_t, c_uint8, c_uint16, c_uint32, c_uint64, c_void_p
 from pathlib import Path
+from types import SimpleNamespace
+from typing import Any, Dict, List, Sequence, Tuple
+
+from ._numbers import Fields, fits
 
 ABI = 1
 
@@ -14,13 +18,13 @@ class Handle(ctypes.Structure):
     _fields_ = [("kind", c_uint32), ("at", c_void_p)]
 
 
-class Info(ctypes.Structure):
+class Info(Fields):
     """An axis."""
 
     _fields_ = [(name, c_int32) for name in ("value", "minimum", "maximum", "fuzz", "flat", "resolution")]
 
 
-class Step(ctypes.Structure):
+class Step(Fields):
     """A step: its number, and what it takes."""
 
     _fields_ = [
@@ -64,7 +68,7 @@ class RawEvent(ctypes.Structure):
     ]
 
 
-class Stamped(ctypes.Structure):
+class Stamped(Fields):
     """An event with its moment."""
 
     _fields_ = [("type", c_uint16), ("code", c_uint16), ("value", c_int32), ("now", c_uint64)]
@@ -76,42 +80,60 @@ class RawPicture(ctypes.Structure):
     _fields_ = [("buttons", c_uint64), ("axes", c_int16 * 64)]
 
 
-HANDLE, U32, I32, BYTES = POINTER(Handle), POINTER(c_uint32), POINTER(c_int32), POINTER(c_uint8)
+HANDLE, EVENTS = POINTER(Handle), POINTER(RawEvent)
+U32, I32, SIZE, BYTES = POINTER(c_uint32), POINTER(c_int32), POINTER(c_size_t), POINTER(c_uint8)
+COUNT = ("count", c_size_t)
+CODE = (("type", c_uint16), ("code", c_uint16))
+EVENT = (*CODE, ("value", c_int32))
 
-ARGUMENTS = {
+# What each function takes: a pointer, or a number with the name that an error has.
+PARAMETERS: Dict[str, Sequence[Any]] = {
     "inputplay_abi": [],
-    "inputplay_device_new": [BYTES, c_size_t, c_uint32, HANDLE, U32, U32],
-    "inputplay_step": [
-        HANDLE, POINTER(Step), POINTER(RawReply), POINTER(RawEvent), c_size_t, I32, c_size_t,
-    ],
-    "inputplay_inject": [HANDLE, c_uint16, c_uint16, c_int32, c_uint64, U32, U32],
-    "inputplay_inject_all": [HANDLE, POINTER(Stamped), c_size_t, U32, U32],
-    "inputplay_read": [HANDLE, c_uint32, POINTER(RawEvent), c_size_t, U32, U32, U32],
-    "inputplay_history": [HANDLE, c_size_t, POINTER(Step), c_size_t, POINTER(c_size_t)],
-    "inputplay_feedback": [HANDLE, POINTER(RawEvent), c_size_t, U32, U32, U32],
+    "inputplay_device_new": [BYTES, COUNT, ("number", c_uint32), HANDLE, U32, U32],
+    "inputplay_step": [HANDLE, POINTER(Step), POINTER(RawReply), EVENTS, COUNT, I32, COUNT],
+    "inputplay_inject": [HANDLE, *EVENT, ("now", c_uint64), U32, U32],
+    "inputplay_inject_all": [HANDLE, POINTER(Stamped), COUNT, U32, U32],
+    "inputplay_read": [HANDLE, ("client", c_uint32), EVENTS, COUNT, U32, U32, U32],
+    "inputplay_history": [HANDLE, ("first", c_size_t), POINTER(Step), COUNT, SIZE],
+    "inputplay_feedback": [HANDLE, EVENTS, COUNT, U32, U32, U32],
     "inputplay_joy_start": [HANDLE, U32, U32],
     "inputplay_joy_read": [HANDLE, BYTES, U32, U32],
     "inputplay_joy_picture": [HANDLE, POINTER(RawPicture)],
     "inputplay_reader_start": [HANDLE, U32, U32],
-    "inputplay_reader_next": [HANDLE, c_uint32, POINTER(RawEvent), U32],
+    "inputplay_reader_next": [HANDLE, ("sync", c_uint32), EVENTS, U32],
     "inputplay_reader_force_sync": [HANDLE],
-    "inputplay_reader_value": [HANDLE, c_uint16, c_uint16, I32],
-    "inputplay_reader_slot_value": [HANDLE, c_uint32, c_uint16, I32],
+    "inputplay_reader_value": [HANDLE, *CODE, I32],
+    "inputplay_reader_slot_value": [HANDLE, ("slot", c_uint32), ("code", c_uint16), I32],
     "inputplay_reader_state": [HANDLE, U32, U32, I32],
-    "inputplay_reader_call": [HANDLE, c_size_t, POINTER(Step), POINTER(RawReply)],
-    "inputplay_record_new": [BYTES, c_size_t, HANDLE, U32, U32],
-    "inputplay_record_load": [HANDLE, c_uint32, BYTES, c_size_t],
-    "inputplay_record_file": [HANDLE, c_uint32, BYTES, c_size_t, POINTER(c_size_t)],
-    "inputplay_record_play": [HANDLE, c_uint32, POINTER(c_size_t)],
-    "inputplay_record_migrate": [HANDLE, POINTER(c_size_t)],
-    "inputplay_record_text": [HANDLE, c_size_t, BYTES, c_size_t, POINTER(c_size_t)],
-    "inputplay_code_of": [BYTES, c_size_t, POINTER(c_uint16), POINTER(c_uint16)],
-    "inputplay_name_of": [c_uint16, c_uint16, BYTES, c_size_t, POINTER(c_size_t)],
+    "inputplay_reader_call": [HANDLE, ("index", c_size_t), POINTER(Step), POINTER(RawReply)],
+    "inputplay_record_new": [BYTES, COUNT, HANDLE, U32, U32],
+    "inputplay_record_load": [HANDLE, ("line", c_uint32), BYTES, COUNT],
+    "inputplay_record_file": [HANDLE, ("line", c_uint32), BYTES, COUNT, SIZE],
+    "inputplay_record_play": [HANDLE, ("history", c_uint32), SIZE],
+    "inputplay_record_migrate": [HANDLE, SIZE],
+    "inputplay_record_text": [HANDLE, ("first", c_size_t), BYTES, COUNT, SIZE],
+    "inputplay_code_of": [BYTES, COUNT, POINTER(c_uint16), POINTER(c_uint16)],
+    "inputplay_name_of": [*CODE, BYTES, COUNT, SIZE],
     "inputplay_free": [HANDLE],
 }
 
 
-def _candidates():
+class Function:
+    """A function of the shared object, whose numbers are looked at before it is called."""
+
+    def __init__(self, function: Any, parameters: Sequence[Any]) -> None:
+        self.function = function
+        self.numbers = [(place, *each) for place, each in enumerate(parameters) if isinstance(each, tuple)]
+        function.argtypes = [each[1] if isinstance(each, tuple) else each for each in parameters]
+        function.restype = c_uint32
+
+    def __call__(self, *given: Any) -> Any:
+        for place, name, c_type in self.numbers:
+            fits(name, c_type, given[place])
+        return self.function(*given)
+
+
+def _candidates() -> List[str]:
     """Where the shared object may be: as the variable says, beside this file, or where the loader looks."""
     named = os.environ.get("INPUTPLAY_LIBRARY")
     if named:
@@ -120,7 +142,7 @@ def _candidates():
     return [str(beside), "libinputplay.so.1"]
 
 
-def _opened():
+def _opened() -> ctypes.CDLL:
     faults = []
     for name in _candidates():
         try:
@@ -133,12 +155,12 @@ def _opened():
     )
 
 
-def _declared():
-    library = _opened()
-    for name, arguments in ARGUMENTS.items():
-        function = getattr(library, name)
-        function.argtypes = arguments
-        function.restype = None if name == "inputplay_free" else c_uint32
+def _declared() -> Any:
+    """The functions, each by its name."""
+    opened = _opened()
+    library = SimpleNamespace(**{name: Function(opened[name], takes) for name, takes in PARAMETERS.items()})
+    # (it answers nothing)
+    library.inputplay_free.function.restype = None
     if library.inputplay_abi() != ABI:
         raise ImportError(f"libinputplay.so has interface {library.inputplay_abi()}, and {ABI} is wanted")
     return library
@@ -147,7 +169,7 @@ def _declared():
 library = _declared()
 
 
-def bytes_at(content):
+def bytes_at(content: bytes) -> Tuple[Any, int]:
     """A pointer to bytes, with how many they are; a pointer is wanted for none, too."""
     count = len(content)
     return (c_uint8 * max(count, 1)).from_buffer_copy(bytes(content) or b"\0"), count

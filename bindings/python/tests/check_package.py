@@ -1,9 +1,14 @@
 """What the package promises, call by call, with the standard library's unittest: `python3 check_package.py`."""
 
+import ctypes
 import unittest
 
 import inputplay
-from inputplay import Answer, Cause, Device, Event, JoyAnswer, Phase, Record, RefusedRecord, Status, StepRefused, Type, Why
+from inputplay import (
+    Answer, Axis, Cause, Device, Event, JoyAnswer, Phase, Record, RefusedRecord, Status, StepRefused, Steps,
+    Type, Why,
+)
+from inputplay._library import library
 
 PAD = """inputrecord 1
 device pad
@@ -25,14 +30,121 @@ source s
 STREAM = "inputrecord 2\ndevice pad\ncap EV_KEY KEY_A\nlog 9\nsource s\ndo s stream16 keys\n"
 
 
+WIDE = [
+    ("type", lambda case, number: case.pad.inject(number, 30, 1)),
+    ("code", lambda case, number: case.pad.inject(1, number, 1)),
+    ("value", lambda case, number: case.pad.inject("KEY_A", number)),
+    ("now", lambda case, number: case.pad.inject("KEY_A", 1, now=number)),
+    ("value", lambda case, number: case.pad.frame(("KEY_A", 1), ("KEY_A", number))),
+    ("now", lambda case, number: case.pad.frame(("KEY_A", 1), now=number)),
+    ("type", lambda case, number: case.pad.inject_all([(1, 30, 1, 0), (number, 30, 1, 0)])),
+    ("code", lambda case, number: case.pad.inject_all([(1, 30, 1, 0), (1, number, 1, 0)])),
+    ("value", lambda case, number: case.pad.inject_all([(1, 30, 1, 0), (1, 30, number, 0)])),
+    ("now", lambda case, number: case.pad.inject_all([(1, 30, 1, 0)] * 5000 + [(1, 30, 1, number)])),
+    ("step", lambda case, number: case.pad.step(number)),
+    *((field, lambda case, number, field=field: case.pad.step(0, **{field: number}))
+      for field in ("client", "type", "code", "value", "now", "count", "clock", "bits")),
+    *((field, lambda case, number, field=field: case.pad.step(Steps.SET_AXIS, axis=Axis(**{field: number})))
+      for field in Axis._fields),
+    ("client", lambda case, number: case.pad.read(number)),
+    ("count", lambda case, number: case.pad.read(0, number)),
+    ("count", lambda case, number: case.pad.feedback(number)),
+    ("first", lambda case, number: case.pad.history(number)),
+    ("number", lambda case, number: Device(PAD, number)),
+    ("type", lambda case, number: case.reader.value(number, 30)),
+    ("code", lambda case, number: case.reader.value(1, number)),
+    ("slot", lambda case, number: case.reader.slot_value(number, 0x35)),
+    ("code", lambda case, number: case.reader.slot_value(0, number)),
+    ("sync", lambda case, number: case.reader.next(number)),
+    ("code", lambda case, number: case.client.axis(number)),
+    ("line", lambda case, number: case.record.load(number, b"")),
+    ("number", lambda case, number: case.record.device(number)),
+    ("code", lambda case, number: inputplay.name_of(1, number)),
+]
+
+
+class Numbers(unittest.TestCase):
+    """A number that its C type does not have is refused by its name, and nothing is entered."""
+
+    def setUp(self):
+        self.pad, self.record = Device(PAD), Record(STREAM)
+        self.addCleanup(self.pad.close)
+        self.addCleanup(self.record.close)
+        self.client, self.reader = self.pad.open(), self.pad.reader()
+        self.before = len(self.pad.history())
+
+    def test_a_number_out_of_its_range(self):
+        for place, (name, call) in enumerate(WIDE):
+            for number in (2**64, -(2**31) - 1):
+                said = f"^{name} is {number}, and goes from -?[0-9]+ to [0-9]+$"
+                with self.subTest(name, place=place, number=number), self.assertRaisesRegex(OverflowError, said):
+                    call(self, number)
+        self.assertEqual(self.before, len(self.pad.history()))
+
+    def test_a_number_that_is_one_too_many(self):
+        for name, number, call in (
+            ("value", 2**31, lambda: self.pad.inject("KEY_A", 2**31)),
+            ("type", 2**16, lambda: self.pad.inject(2**16, 30, 1)),
+            ("code", -1, lambda: self.pad.inject(1, -1, 1)),
+            ("now", -1, lambda: self.pad.inject("KEY_A", 1, now=-1)),
+            ("count", -1, lambda: self.pad.feedback(-1)),
+        ):
+            with self.subTest(name), self.assertRaisesRegex(OverflowError, f"^{name} is {number}, "):
+                call()
+        self.assertEqual(self.before, len(self.pad.history()))
+
+    def test_what_is_no_number_or_no_field(self):
+        for call in (
+            lambda: self.pad.inject("KEY_A", 1.5), lambda: self.pad.inject("KEY_A", "1"),
+            lambda: self.pad.step(Steps.CLOSE, cilent=0),
+        ):
+            with self.assertRaises(TypeError):
+                call()
+        with self.assertRaises(ValueError):
+            self.pad.frame(("KEY_A", 1), ("KEY_NONE_SUCH", 1))
+        self.assertEqual(self.before, len(self.pad.history()))
+
+
 class Names(unittest.TestCase):
     def test_a_code_has_its_name(self):
         self.assertEqual((Type.EV_KEY, 30), inputplay.code_of("KEY_A"))
         self.assertEqual("ABS_MT_SLOT", inputplay.name_of(3, 0x2F))
         self.assertIsNone(inputplay.name_of(3, 0x3F))
-        for name in ("KEY_NONE_SUCH", "", "EV_KEY", "KEY_\N{SNOWMAN}"):
+        for name in ("KEY_NONE_SUCH", "", "EV_KEY", "KEY_MAX", "INPUT_PROP_DIRECT", "KEY_\N{SNOWMAN}", "#"):
             with self.subTest(name), self.assertRaises(ValueError):
                 inputplay.code_of(name)
+
+    def test_second_names_and_all_numbers(self):
+        for name, code, first in (
+            ("BTN_A", 0x130, "BTN_SOUTH"), ("BTN_GAMEPAD", 0x130, "BTN_SOUTH"),
+            ("BTN_MOUSE", 0x110, "BTN_LEFT"), ("BTN_MISC", 0x100, "BTN_0"),
+            ("KEY_SCREENLOCK", 152, "KEY_COFFEE"), ("KEY_OK", 0x160, "KEY_OK"),
+            ("BTN_TRIGGER_HAPPY40", 0x2E7, "BTN_TRIGGER_HAPPY40"),
+            ("KEY_BRIGHTNESS_MAX", 0x251, "KEY_BRIGHTNESS_MAX"),
+        ):
+            with self.subTest(name):
+                self.assertEqual((Type.EV_KEY, code), inputplay.code_of(name))
+                self.assertEqual(first, inputplay.name_of(Type.EV_KEY, code))
+        self.assertEqual("SW_MACHINE_COVER", inputplay.name_of(Type.EV_SW, 16))
+        for name, number in (("EV_FF", 0x15), ("KEY_CNT", 768), ("INPUT_PROP_BUTTONPAD", 2), ("ABS_MAX", 63)):
+            self.assertEqual(number, inputplay.number_of(name))
+        with self.assertRaises(ValueError):
+            inputplay.number_of("NONE_SUCH")
+
+    def test_types_have_the_header_s_numbers(self):
+        for kind in Type:
+            self.assertEqual(kind, inputplay.number_of(kind.name))
+
+
+class LibraryNames(unittest.TestCase):
+    def test_the_library_s_names_are_first_names(self):
+        out, count, named = (ctypes.c_uint8 * 64)(), ctypes.c_size_t(), 0
+        for kind in Type:
+            for code in range(768):
+                if library.inputplay_name_of(kind, code, out, len(out), ctypes.byref(count)) == Status.OK:
+                    named += 1
+                    self.assertEqual(bytes(out[: count.value]).decode(), inputplay.name_of(kind, code))
+        self.assertEqual(272, named)
 
 
 class Devices(unittest.TestCase):
@@ -70,8 +182,9 @@ class Devices(unittest.TestCase):
         self.pad.inject(Type.EV_ABS, "ABS_X", 4)
         self.pad.frame()
         self.assertEqual(["KEY_A", "KEY_A", "ABS_X", "SYN_REPORT"], [event.name for event in client.read()])
-        with self.assertRaises(ValueError):
-            self.pad.inject("EV_ABS", "KEY_A", 1)
+        for event in (("EV_ABS", "KEY_A", 1), ("EV_NONE", "KEY_A", 1), ("KEY_A", 3, 1), ("EV_MAX", 3, 1)):
+            with self.subTest(event), self.assertRaises(ValueError):
+                self.pad.inject(*event)
 
     def test_a_history_is_full_at_its_limit(self):
         for _ in range(700):
@@ -85,7 +198,7 @@ class Devices(unittest.TestCase):
         self.assertEqual(2, self.pad.inject_all([(1, 30, 1, 7), (0, 0, 0, 8)]))
         self.assertEqual([Event(1, 30, 1, 8, 2), Event(0, 0, 0, 8, 2)], client.read())
         with self.assertRaises(inputplay.CallRefused):
-            self.pad.inject_all([(1, 30, 0, 9), (0, 0, 0, 2**63)])
+            self.pad.inject_all([(1, 30, 0, 9)] * 5000 + [(0, 0, 0, 2**63)])
         self.assertEqual(696, self.pad.inject_all((1, 30, i % 2, 9) for i in range(5000)))
 
     def test_an_owner_takes_what_was_written(self):

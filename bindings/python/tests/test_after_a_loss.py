@@ -35,23 +35,29 @@ class NaiveProgram:
             events = self.client.read(16)
             if not events:
                 return
-            for event in events:
-                self.take(event)
+            self.take_all(events)
+
+    def take_all(self, events):
+        for event in events:
+            self.take(event)
 
 
 class Program(NaiveProgram):
-    """It drops what comes up to the next SYN_REPORT behind a SYN_DROPPED, and then asks for the keys."""
+    """It drops what comes up to the next SYN_REPORT behind a SYN_DROPPED, and then asks for the keys. What it had read
+    before it asked is older than they are, and is dropped too."""
 
     drops = False
 
-    def take(self, event):
-        if event.is_dropped:
-            self.drops = True
-        elif not self.drops:
-            super().take(event)
-        elif event.is_report:
-            self.drops = False
-            self.down = {inputplay.name_of(inputplay.Type.EV_KEY, code) for code in self.client.keys()}
+    def take_all(self, events):
+        for event in events:
+            if event.is_dropped:
+                self.drops = True
+            elif not self.drops:
+                self.take(event)
+            elif event.is_report:
+                self.drops = False
+                self.down = {inputplay.name_of(inputplay.Type.EV_KEY, code) for code in self.client.keys()}
+                return
 
 
 @pytest.fixture

@@ -1,27 +1,12 @@
 //! Devices, their clients and their readers.
 
+use crate::codes::EV_SYN;
 use crate::errors::{check, check_made, check_step, Error, NotMade};
+use crate::step::replies;
 use crate::sys::{self, Event, Handle, Picture, Reply, Stamped, Step};
 
-/// The type of the events that separate frames.
-pub const EV_SYN: u16 = 0;
-/// The type of keys and buttons.
-pub const EV_KEY: u16 = 1;
-/// The type of absolute axes.
-pub const EV_ABS: u16 = 3;
-/// The type of switches.
-pub const EV_SW: u16 = 5;
-/// The type of LEDs.
-pub const EV_LED: u16 = 0x11;
 /// The client of a reader that has opened none.
 pub const NO_CLIENT: u32 = u32::MAX;
-
-const OPEN: u32 = 2;
-const CLOSE: u32 = 3;
-const GET_KEYS: u32 = 6;
-const GRAB: u32 = 15;
-const UNGRAB: u32 = 16;
-const STEP_REFUSED: u32 = 8;
 
 /// How a reader is asked for its next event.
 #[derive(Clone, Copy, Debug, PartialEq, Eq)]
@@ -85,9 +70,22 @@ pub enum Phase {
     Handing,
 }
 
-/// A client of a device: what a program has that opened its file. It is good for calls on the device that opened it.
-#[derive(Clone, Copy, Debug, PartialEq, Eq)]
+/// A client of a device: what a program has that opened its file. It is good for calls on the device that opened it, and its
+/// number stands in steps and replies.
+#[derive(Clone, Copy, Debug, PartialEq, Eq, Hash, PartialOrd, Ord)]
 pub struct Client(u32);
+
+impl From<Client> for u32 {
+    fn from(client: Client) -> u32 {
+        client.0
+    }
+}
+
+impl From<u32> for Client {
+    fn from(number: u32) -> Client {
+        Client(number)
+    }
+}
 
 /// A device of a record's text, with its reader.
 pub struct Device {
@@ -127,7 +125,7 @@ impl Device {
 
     fn must(&mut self, step: &Step) -> Result<Reply, Error> {
         let reply = self.step(step, &mut [], &mut [])?;
-        if reply.reply == STEP_REFUSED {
+        if reply.reply == replies::REFUSED {
             check_step(reply.why)?;
         }
         Ok(reply)
@@ -211,7 +209,7 @@ impl Device {
 
     /// Opens a client.
     pub fn open(&mut self) -> Result<Client, Error> {
-        let reply = self.must(&Step { step: OPEN, ..Step::default() })?;
+        let reply = self.must(&Step::open())?;
         Ok(Client(reply.client))
     }
 
@@ -248,25 +246,26 @@ impl Device {
 
     /// Which keys are down, as bits. The client's queued key events go.
     pub fn keys(&mut self, client: Client) -> Result<[u64; 12], Error> {
-        Ok(self.must(&Step { step: GET_KEYS, client: client.0, ..Step::default() })?.words)
+        Ok(self.must(&Step::get_keys(client))?.words)
     }
 
     /// Takes the grab.
     pub fn grab(&mut self, client: Client) -> Result<(), Error> {
-        self.must(&Step { step: GRAB, client: client.0, ..Step::default() }).map(|_| ())
+        self.must(&Step::grab(client)).map(|_| ())
     }
 
     /// Gives up the grab.
     pub fn ungrab(&mut self, client: Client) -> Result<(), Error> {
-        self.must(&Step { step: UNGRAB, client: client.0, ..Step::default() }).map(|_| ())
+        self.must(&Step::ungrab(client)).map(|_| ())
     }
 
     /// Closes a client.
     pub fn close(&mut self, client: Client) -> Result<(), Error> {
-        self.must(&Step { step: CLOSE, client: client.0, ..Step::default() }).map(|_| ())
+        self.must(&Step::close(client)).map(|_| ())
     }
 
-    /// Opens a client for the reader and asks for its whole state; gives the client's number.
+    /// Opens a client for the reader and asks for its whole state; gives the client's number, of which `Client::from` makes
+    /// what a step takes.
     pub fn start_reader(&mut self) -> Result<u32, Error> {
         let (mut client, mut why) = (0, 0);
         // SAFETY: all are places of their own.

@@ -36,11 +36,17 @@ macro_rules! numbered {
         pub enum $name { $($(#[$what])* $variant = $number),* }
 
         impl $name {
-            pub(crate) fn of(number: u32) -> Option<$name> {
+            /// The one of this number, as the header has it, if there is one.
+            pub const fn of(number: u32) -> Option<$name> {
                 match number {
                     $($number => Some($name::$variant),)*
                     _ => None,
                 }
+            }
+
+            /// Its number, as the header has it.
+            pub const fn number(self) -> u32 {
+                self as u32
             }
         }
 

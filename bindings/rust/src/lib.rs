@@ -1,29 +1,40 @@
 //! An input device and its reader, in memory: safe Rust over `libinputplay`.
 //!
 //! ```
-//! use inputplay::{Device, EV_KEY, Mode, Next};
+//! use inputplay::codes::{EV_KEY, KEY_A};
+//! use inputplay::{replies, Device, Event, Mode, Next, Step};
 //!
 //! let text = "inputrecord 1\ndevice pad\ncap EV_KEY KEY_A\nlog 1000\nsource s\n";
 //! let mut pad = Device::new(text, 0).unwrap();
+//! let program = pad.open().unwrap();
 //! pad.start_reader().unwrap();
-//! pad.inject(EV_KEY, 30, 1, 0).unwrap();
+//! pad.inject(EV_KEY, KEY_A, 1, 0).unwrap();
 //! pad.report(0).unwrap();
-//! assert!(matches!(pad.next(Mode::Normal), Next::Event(event) if event.code == 30));
-//! assert_eq!(pad.value(EV_KEY, 30), Some(1));
+//! assert!(matches!(pad.next(Mode::Normal), Next::Event(event) if event.code == KEY_A));
+//! assert_eq!(pad.value(EV_KEY, KEY_A), Some(1));
+//!
+//! let mut events = [Event::default(); 8];
+//! let reply = pad.step(&Step::read(program, 8), &mut events, &mut []).unwrap();
+//! assert_eq!((reply.reply, reply.count), (replies::TOOK, 2));
 //! ```
 //!
 //! A [`Device`] answers as evdev does, and its reader as libevdev does. That the library keeps these rules is proved; this
 //! crate is tested, and not proved. What a handle keeps stays on the thread that made it, so no type here is `Send`.
 #![no_std]
+#![warn(missing_docs)]
 
+pub mod codes;
 mod device;
 mod errors;
 mod record;
+mod step;
 mod sys;
 
-pub use device::{Client, Device, Events, JoyRead, Mode, Next, Phase, EV_ABS, EV_KEY, EV_LED, EV_SW, EV_SYN, NO_CLIENT};
+pub use codes::{EV_ABS, EV_KEY, EV_LED, EV_SW, EV_SYN};
+pub use device::{Client, Device, Events, JoyRead, Mode, Next, Phase, NO_CLIENT};
 pub use errors::{Cause, Error, NotMade, Refusal};
 pub use record::Record;
+pub use step::{replies, steps, Clock};
 pub use sys::{Event, Info as Axis, Picture, Reply, Stamped, Step};
 
 /// Whether the library that was linked has the interface that this crate is written for.

@@ -16,68 +16,109 @@ impl Handle {
     pub const NOTHING: Handle = Handle { kind: 0, at: ptr::null_mut() };
 }
 
+/// An axis (`struct input_absinfo`).
 #[repr(C)]
 #[derive(Clone, Copy, Debug, Default, PartialEq, Eq)]
 pub struct Info {
+    /// Its value.
     pub value: i32,
+    /// Its least value.
     pub minimum: i32,
+    /// Its greatest value.
     pub maximum: i32,
+    /// By how much a value may differ that is filtered out.
     pub fuzz: i32,
+    /// What a joystick takes for the middle.
     pub flat: i32,
+    /// Units a millimetre, or a radian.
     pub resolution: i32,
 }
 
+/// A step of a device: its number, and what it takes. It is made by the functions of its name, as [`Step::read`].
 #[repr(C)]
 #[derive(Clone, Copy, Debug, Default, PartialEq, Eq)]
 pub struct Step {
+    /// Which step it is, of [`steps`](crate::steps).
     pub step: u32,
+    /// The number of a client.
     pub client: u32,
+    /// The type of an event or of a mask.
     pub kind: u16,
+    /// The code of an event or an axis, or the number of a mask's word.
     pub code: u16,
+    /// The value of an event.
     pub value: i32,
+    /// The moment in microseconds.
     pub now: u64,
+    /// How many events are read at most.
     pub count: u32,
+    /// The number of a clock: see [`Clock`](crate::Clock).
     pub clock: u32,
+    /// A word of a mask.
     pub bits: u64,
+    /// What an axis is set to.
     pub info: Info,
 }
 
+/// A reply to a step. What it does not tell is 0.
 #[repr(C)]
 #[derive(Clone, Copy, Debug, Default, PartialEq, Eq)]
 pub struct Reply {
+    /// Which reply it is, of [`replies`](crate::replies).
     pub reply: u32,
+    /// The step's place in the history, or where it was not entered the history's length.
     pub at: u32,
+    /// The number of the client that was opened.
     pub client: u32,
+    /// How many there are: see [`replies`](crate::replies).
     pub count: u32,
+    /// The slot that was announced last.
     pub slot: i32,
+    /// Why the step was refused: see [`Reply::refusal`].
     pub why: u32,
+    /// Bit i of the 768 for code i.
     pub words: [u64; 12],
+    /// The axis that was asked for.
     pub info: Info,
 }
 
+/// An event as a client reads it.
 #[repr(C)]
 #[derive(Clone, Copy, Debug, Default, PartialEq, Eq)]
 pub struct Event {
+    /// Its type.
     pub kind: u16,
+    /// Its code.
     pub code: u16,
+    /// Its value.
     pub value: i32,
+    /// When its frame ended, in microseconds.
     pub time: u64,
+    /// The place in the history of the step that ended its frame.
     pub place: u32,
 }
 
+/// An event with its moment.
 #[repr(C)]
 #[derive(Clone, Copy, Debug, Default, PartialEq, Eq)]
 pub struct Stamped {
+    /// Its type.
     pub kind: u16,
+    /// Its code.
     pub code: u16,
+    /// Its value.
     pub value: i32,
+    /// The moment in microseconds.
     pub now: u64,
 }
 
+/// How the buttons and axes of a joystick client stand.
 #[repr(C)]
 #[derive(Clone, Copy, Debug, PartialEq, Eq)]
 pub struct Picture {
+    /// Bit k of the 64 for button k.
     pub buttons: u64,
+    /// The value of each axis.
     pub axes: [i16; 64],
 }
 

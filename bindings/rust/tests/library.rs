@@ -1,11 +1,12 @@
 //! The library through this crate: a flooded reader, a grab, refusals, and a whole record.
 
+use inputplay::codes::{self, ABS_MT_POSITION_X, KEY_A};
 use inputplay::{
-    Cause, Device, Error, JoyRead, Mode, Next, NotMade, Phase, Record, Refusal, Stamped, Step, EV_ABS, EV_KEY,
+    replies, steps, Axis, Cause, Client, Clock, Device, Error, Event, JoyRead, Mode, Next, NotMade, Phase, Record, Refusal,
+    Stamped, Step, EV_ABS, EV_KEY,
 };
 
 const PAD: &str = "inputrecord 1\ndevice pad\ncap EV_KEY KEY_A\naxis ABS_X 0 0 255 0 0 0\nlog 1000\nsource s\n";
-const KEY_A: u16 = 30;
 
 fn press(pad: &mut Device, value: i32) {
     pad.inject(EV_KEY, KEY_A, value, 5).unwrap();
@@ -21,7 +22,7 @@ fn a_reader_synchronises_after_a_loss() {
     }
     assert!(matches!(pad.next(Mode::Normal), Next::Dropped(_)));
     assert_eq!(pad.reader_state().1, Phase::Needed);
-    assert_eq!(pad.reader_call(0).map(|(step, reply)| (step.step, reply.reply)), Some((4, 2)));
+    assert_eq!(pad.reader_call(0).map(|(step, reply)| (step.step, reply.reply)), Some((steps::READ, replies::TOOK)));
     assert_eq!(pad.reader_call(1), None);
     let last = pad.events().last();
     assert!(last.is_some());
@@ -44,14 +45,81 @@ fn a_grab_keeps_events_from_others() {
 }
 
 #[test]
+fn a_client_stands_in_a_step() {
+    let mut pad = Device::new(PAD, 0).unwrap();
+    let opened = pad.step(&Step::open(), &mut [], &mut []).unwrap();
+    let client = opened.opened().unwrap();
+    assert_eq!((opened.reply, opened.refusal(), u32::from(client)), (replies::OPENED, None, 0));
+    let reader = Client::from(pad.start_reader().unwrap());
+    pad.grab(reader).unwrap();
+    let mut events = [Event::default(); 8];
+    let mut reply_to = |step: Step| pad.step(&step, &mut events, &mut [0; 14]).unwrap();
+    assert_eq!(reply_to(Step::grab(client)).refusal(), Some(Refusal::Busy));
+    assert_eq!(reply_to(Step::ungrab(reader)).reply, replies::DONE);
+    assert_eq!(reply_to(Step::inject(EV_KEY, KEY_A, 1, 5)).reply, replies::DONE);
+    assert_eq!(reply_to(Step::inject(0, 0, 0, 5)).reply, replies::DONE);
+    let took = reply_to(Step::read(client, 8));
+    assert_eq!((took.reply, took.count), (replies::TOOK, 2));
+    assert_eq!(reply_to(Step::get_keys(client)).words[0], 1 << KEY_A);
+    assert_eq!(reply_to(Step::get_axis(client, codes::ABS_X)).info.maximum, 255);
+    assert_eq!(reply_to(Step::clock(client, Clock::Boottime, 6)).reply, replies::DONE);
+    assert_eq!(reply_to(Step::revoke(client)).reply, replies::DONE);
+    assert_eq!(reply_to(Step::discard(client)).refusal().map(Refusal::number), Some(2));
+    assert_eq!(reply_to(Step::close(client)).opened(), None);
+}
+
+#[test]
+fn each_step_is_made_with_its_fields() {
+    let (client, all) = (Client::from(3), Step::default());
+    let (of_client, axis) = (Step { client: 3, ..all }, Axis { maximum: 9, ..Axis::default() });
+    let event = Step { kind: 1, code: 30, value: -1, now: 7, ..all };
+    for (made, step, fields) in [
+        (Step::inject(1, 30, -1, 7), steps::INJECT, event),
+        (Step::tick(7), steps::TICK, Step { now: 7, ..all }),
+        (Step::open(), steps::OPEN, all),
+        (Step::close(client), steps::CLOSE, of_client),
+        (Step::read(client, 5), steps::READ, Step { count: 5, ..of_client }),
+        (Step::discard(client), steps::DISCARD, of_client),
+        (Step::get_keys(client), steps::GET_KEYS, of_client),
+        (Step::get_switches(client), steps::GET_SWITCHES, of_client),
+        (Step::get_leds(client), steps::GET_LEDS, of_client),
+        (Step::get_sounds(client), steps::GET_SOUNDS, of_client),
+        (Step::get_axis(client, 2), steps::GET_AXIS, Step { code: 2, ..of_client }),
+        (Step::set_axis(client, 2, axis), steps::SET_AXIS, Step { code: 2, info: axis, ..of_client }),
+        (Step::get_slots(client, 2), steps::GET_SLOTS, Step { code: 2, ..of_client }),
+        (Step::sync_slots(client), steps::SYNC_SLOTS, of_client),
+        (Step::write(client, 1, 30, -1, 7), steps::WRITE, Step { client: 3, ..event }),
+        (Step::grab(client), steps::GRAB, of_client),
+        (Step::ungrab(client), steps::UNGRAB, of_client),
+        (Step::mask(client, 1, 2, 8), steps::MASK, Step { kind: 1, code: 2, bits: 8, ..of_client }),
+        (Step::clock(client, Clock::Monotonic, 7), steps::CLOCK, Step { clock: 1, now: 7, ..of_client }),
+        (Step::revoke(client), steps::REVOKE, of_client),
+        (Step::inhibit(7), steps::INHIBIT, Step { now: 7, ..all }),
+        (Step::uninhibit(), steps::UNINHIBIT, all),
+        (Step::end(), steps::END, all),
+    ] {
+        assert_eq!(made, Step { step, ..fields });
+    }
+}
+
+#[test]
+fn codes_have_their_names() {
+    assert_eq!((codes::BTN_A, codes::BTN_GAMEPAD, codes::BTN_SOUTH), (0x130, 0x130, 0x130));
+    assert_eq!(codes::code_of("BTN_MOUSE"), Some((EV_KEY, codes::BTN_LEFT)));
+    assert_eq!(codes::name_of(EV_KEY, codes::BTN_MOUSE), Some("BTN_LEFT"));
+    assert_eq!((codes::code_of("KEY_CNT"), codes::KEY_CNT, codes::INPUT_PROP_DIRECT), (None, 768, 1));
+    assert_eq!(codes::name_of(EV_KEY, 0x2ff), None);
+}
+
+#[test]
 fn what_is_refused_is_told() {
     assert_eq!(Device::new("x\n", 0).err(), Some(NotMade::Line(1, Cause::BadHeader)));
     assert_eq!(Device::new(PAD, 1).err(), Some(NotMade::Call(Error::BadArgument)));
     let mut pad = Device::new(PAD, 0).unwrap();
     assert_eq!(pad.inject(EV_KEY, KEY_A, 1, u64::MAX), Err(Error::BadArgument));
     assert_eq!(pad.value(EV_KEY, 0x300), None);
-    assert_eq!(pad.value(EV_ABS, 0x35), None);
-    assert_eq!(pad.slot_value(0, 0x35), None);
+    assert_eq!(pad.value(EV_ABS, ABS_MT_POSITION_X), None);
+    assert_eq!(pad.slot_value(0, ABS_MT_POSITION_X), None);
 }
 
 #[test]
