@@ -443,7 +443,7 @@ class Many(CheckCase):
     def test_processes_end_with_the_one_that_started_them(self):
         slow = self.record(STICKS, "desktop agrees", name="slow.rec")
         started = self.start("slow", "-j", "3", slow, *self.records[:3])
-        self.assertIn("0.rec:2", started.stdout.readline())
+        self.assertIn(".rec:2: desktop takes KEY_A 0", started.stdout.readline())
         children = Path(f"/proc/{started.pid}/task/{started.pid}/children").read_text().split()
         self.assertEqual(3, len(children))
         started.kill()
