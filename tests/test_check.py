@@ -74,6 +74,14 @@ do o feedback 8
 """
 
 
+def is_alive(pid):
+    """Is this process there, and not just waited for?"""
+    try:
+        return Path(f"/proc/{pid}/stat").read_text().rsplit(")", 1)[1].split()[0] != "Z"
+    except OSError:
+        return False
+
+
 class CheckCase(DeskCase):
     def record(self, text, *expectations, name="case.rec"):
         """A record with these expectations from line 2 on."""
@@ -449,7 +457,7 @@ class Many(CheckCase):
         started.kill()
         started.wait()
         for _ in range(100):
-            left = [pid for pid in children if (Path("/proc") / pid).exists()]
+            left = list(filter(is_alive, children))
             if len(left) <= 1:
                 break
             time.sleep(0.1)
