@@ -64,9 +64,11 @@ class TreeCase(DeskCase):
 
     def run_tree(self, *words, path=None, **more):
         """Runs a command of the tree: its status, its output, and the lines that it says."""
-        env = {**os.environ, "PATH": path or self.path, "ASKED": str(self.asked), "FAILS": "", "PYTHONDONTWRITEBYTECODE": "1", **more}
+        env = {**os.environ, "PATH": path or self.path, "ASKED": str(self.asked), "FAILS": "",
+               "PYTHONDONTWRITEBYTECODE": "1", **more}
         env.pop("INPUTPLAY", None)
-        done = subprocess.run([self.tree / words[0], *words[1:]], env=env, cwd=self.folder, capture_output=True, text=True)
+        done = subprocess.run([self.tree / words[0], *words[1:]], env=env, cwd=self.folder,
+                              capture_output=True, text=True)
         return done.returncode, done.stdout, done.stderr.splitlines()
 
     def asked_for(self):
@@ -83,7 +85,8 @@ class TreeCase(DeskCase):
 class Inputplay(TreeCase):
     def test_the_built_program(self):
         self.built()
-        self.assertEqual((3, "played: --history a b\n", []), self.run_tree("bin/inputplay", "--history", "a b"))
+        self.assertEqual((3, "played: --history a b\n", []),
+                         self.run_tree("bin/inputplay", "--history", "a b"))
         self.assertEqual([], self.asked_for())
         # by a link, and from anywhere
         (self.folder / "link").symlink_to(self.tree / "bin" / "inputplay")
@@ -93,7 +96,8 @@ class Inputplay(TreeCase):
     def test_it_is_built_first(self):
         status, written, lines = self.run_tree("bin/inputplay", "x.rec")
         self.assertEqual((6, "played: x.rec\n", 1), (status, written, len(lines)), lines)
-        self.assertIn("inputplay: the program is not built: 4 crates are proved and built now, without tests", lines[0])
+        self.assertIn("inputplay: the program is not built: 4 crates are proved and built now, without tests",
+                      lines[0])
         asked = self.asked_for()
         self.assertEqual("low: lib", asked[0])
         self.assertEqual({"middle: lib", "aside: lib"}, set(asked[1:3]))
@@ -107,7 +111,8 @@ class Inputplay(TreeCase):
         self.addCleanup(os.close, terminal)
         env = {**os.environ, "PATH": self.path, "ASKED": str(self.asked), "FAILS": ""}
         words = [self.tree / "bin" / "inputplay", "x.rec"]
-        done = subprocess.run(words, env=env, cwd=self.folder, stdin=subprocess.DEVNULL, stdout=subprocess.PIPE, stderr=other,
+        done = subprocess.run(words, env=env, cwd=self.folder, stdin=subprocess.DEVNULL,
+                              stdout=subprocess.PIPE, stderr=other,
                               check=False)
         os.close(other)
         said = all_of(terminal).replace("\x1b[K", "")
@@ -117,27 +122,31 @@ class Inputplay(TreeCase):
         self.assertTrue(said.endswith("\r"), said)
 
     def test_a_terminal_is_asked(self):
-        """What it is about to do is one line, with how long it takes and what plays at once. No other answer builds."""
+        """What it is about to do is one line, with how long it takes and what plays at once. No other answer
+        builds."""
         for answer, status in (("n\n", 2), ("\n", 6)):
             with self.subTest(answer):
                 terminal, other = pty.openpty()
                 os.write(terminal, answer.encode())
                 env = {**os.environ, "PATH": self.path, "ASKED": str(self.asked), "FAILS": ""}
                 words = [self.tree / "bin" / "inputplay", "x.rec"]
-                done = subprocess.run(words, env=env, cwd=self.folder, stdin=other, stdout=subprocess.PIPE, stderr=other,
+                done = subprocess.run(words, env=env, cwd=self.folder, stdin=other, stdout=subprocess.PIPE,
+                                      stderr=other,
                                       check=False)
                 said = os.read(terminal, 65536).decode()
                 os.close(terminal)
                 os.close(other)
                 self.assertEqual(status, done.returncode, said)
-                self.assertIn(f"without tests, in {RECKONED}; bin/inputplay --unproved FILE plays at once\r\n", said)
+                at_once = "bin/inputplay --unproved FILE plays at once"
+                self.assertIn(f"without tests, in {RECKONED}; {at_once}\r\n", said)
                 self.assertIn("inputplay: build it now? [Y/n] ", said)
                 self.assertEqual(4 if status == 6 else 0, len(self.asked_for()))
 
     def test_how_long_it_takes(self):
         """By the seconds of the page, as much longer as the toolchain's first library took here."""
         page = "| Crate | Proofs | Tests | Edits | All |\n|---|---|---|---|---|\n| low | 60 | 1 | 2 | 63 |\n"
-        page += "| inp_main | 30 | 0 | 0 | 30 |\n\nThe toolchain's first library took 2.0 seconds in the same run.\n"
+        page += "| inp_main | 30 | 0 | 0 | 30 |\n\n"
+        page += "The toolchain's first library took 2.0 seconds in the same run.\n"
         measured = "by bench/gate_cost's measure of this machine"
         self.assertEqual(f"some 2 minutes {measured}", time_text(page, ["low", "inp_main"], 2.0))
         self.assertEqual(f"some 6 minutes {measured}", time_text(page, ["low", "inp_main"], 8.0))
@@ -148,7 +157,8 @@ class Inputplay(TreeCase):
     def test_a_build_that_fails(self):
         status, written, lines = self.run_tree("bin/inputplay", "x.rec", FAILS="middle")
         self.assertEqual((2, ""), (status, written), lines)
-        self.assertIn("inputplay: middle was not built (rt ended with 1): error: it is not proved; all that was said is in ", lines[1])
+        said = "inputplay: middle was not built (rt ended with 1): error: it is not proved; all that was "
+        self.assertIn(f"{said}said is in ", lines[1])
         log = lines[1].rsplit(" in ", 1)[1]
         self.addCleanup(shutil.rmtree, os.path.dirname(log))
         self.assertEqual("error: it is not proved\n", open(log, encoding="ascii").read())
@@ -164,35 +174,63 @@ class Inputplay(TreeCase):
             status, written, lines = self.run_tree("bin/inputplay", *words, path=str(commands))
             self.assertEqual((2, "", 1), (status, written, len(lines)), lines)
             self.assertIn("there is no toolchain (rt)", lines[0])
+        self.assertIn("; bin/inputplay --unproved FILE plays without it",
+                      self.run_tree("bin/inputplay", "x", path=str(commands))[2][0])
+
+    def test_closed_streams(self):
+        """As the other tools: a closed output is said, and a closed standard error is nothing."""
+        program = self.built()
+        (self.folder / "x.rec").write_text("inputrecord 1\ndevice d\n")
+        shutil.copytree(TOP / "second", self.tree / "second", ignore=shutil.ignore_patterns("__pycache__"))
+        said = "inputplay: standard output is closed\n"
+        program.write_text("#!/bin/sh\necho device d steps 0\n")
+        for words, closed, wanted in (
+            ("bin/inputplay x.rec", ">&-", (4, "", said)),
+            ("bin/inputplay --unproved x.rec", ">&-", (4, "", said)),
+            ("bin/inputplay x.rec", "2>&-", (0, "device d steps 0\n", "")),
+            ("bin/inputplay --unproved x.rec", "2>&-", (0, "device d steps 0\n", "")),
+            ("tools/play x.rec", "2>&-", (0, "device d steps 0\n", "")),
+            ("tools/play x.rec", "<&- >&- 2>&-", (4, "", "")),
+        ):
+            with self.subTest(words, closed=closed):
+                env = {key: value for key, value in os.environ.items() if key != "INPUTPLAY"}
+                done = subprocess.run(["sh", "-c", f"{self.tree}/{words} {closed}"], cwd=self.folder, env=env,
+                                      capture_output=True, text=True, check=False)
+                self.assertEqual(wanted, (done.returncode, done.stdout, done.stderr))
 
     def test_unproved(self):
         (self.folder / "x.rec").write_text("inputrecord 1\n")
         status, written, lines = self.run_tree("bin/inputplay", "--unproved", "--history", "x.rec")
         self.assertEqual((0, "device d steps 0\n", []), (status, written, lines))
-        self.assertEqual([f"inp_main: try --data x.rec={self.folder}/x.rec -- --history ./x.rec"], self.asked_for())
+        self.assertEqual([f"inp_main: try --data x.rec={self.folder}/x.rec -- --history ./x.rec"],
+                         self.asked_for())
         self.run_tree("bin/inputplay", "--unproved", "--make", "7")
         self.assertEqual("inp_main: try -- --make 7", self.asked_for()[-1])
         status, _, lines = self.run_tree("bin/inputplay", "--unproved", "missing.rec")
         self.assertEqual((2, ["inputplay: missing.rec: no such file"]), (status, lines))
 
     def test_unproved_by_the_second_program(self):
-        """Where it is there it plays a record, also beside a built program and with no toolchain on the path."""
+        """Where it is there it plays a record, also beside a built program and with no toolchain on the
+        path."""
         shutil.copytree(TOP / "second", self.tree / "second", ignore=shutil.ignore_patterns("__pycache__"))
         self.built()
         example = TOP / "examples" / "stuck_key.rec"
         report = example.with_suffix(".report").read_text()
         self.assertEqual((0, report, []), self.run_tree("bin/inputplay", "--unproved", str(example)))
         full = TOP / "tests" / "records" / "owner_alone_is_full.rec"
-        self.assertEqual((6, full.with_suffix(".report").read_text(), []), self.run_tree("bin/inputplay", "--unproved", str(full)))
+        self.assertEqual((6, full.with_suffix(".report").read_text(), []),
+                         self.run_tree("bin/inputplay", "--unproved", str(full)))
         status, written, _ = self.run_tree("bin/inputplay", "--unproved", "--history", str(example))
-        self.assertEqual((0, True), (status, written != report and set(report.splitlines()) <= set(written.splitlines())))
+        self.assertEqual((0, True), (status, written != report
+                                     and set(report.splitlines()) <= set(written.splitlines())))
         (self.folder / "x.rec").write_text("inputrecord 1\nrubbish\n")
         refused = (1, "inputplay: line 2: bad-line\n", [])
         self.assertEqual(refused, self.run_tree("bin/inputplay", "--unproved", "x.rec"))
         self.assertEqual([], self.asked_for())
         # with other words the toolchain plays
         self.run_tree("bin/inputplay", "--unproved", "--threads", "x.rec")
-        self.assertEqual([f"inp_main: try --data x.rec={self.folder}/x.rec -- --threads ./x.rec"], self.asked_for())
+        self.assertEqual([f"inp_main: try --data x.rec={self.folder}/x.rec -- --threads ./x.rec"],
+                         self.asked_for())
 
     def test_broken_second_program(self):
         """It is told by its own name, whatever INPUTPLAY names."""
@@ -213,7 +251,8 @@ class Inputplay(TreeCase):
     def test_needed_crates(self):
         order = in_order(needed_crates(CRATES))
         self.assertEqual(("low", {"middle", "aside"}, "inp_main"), (order[0], set(order[1:3]), order[3]))
-        self.assertEqual({"low": [], "middle": ["low"], "aside": ["low"], "inp_main": ["middle", "aside"]}, needed_crates(CRATES))
+        self.assertEqual({"low": [], "middle": ["low"], "aside": ["low"], "inp_main": ["middle", "aside"]},
+                         needed_crates(CRATES))
         crates = needed_crates((TOP / "crates.txt").read_text())
         self.assertEqual("inp_main", list(crates)[-1])
         self.assertFalse([name for name in crates if name.startswith("tests_") or name == "bench_turn"])
@@ -317,7 +356,8 @@ class Install(TreeCase):
         tools = {path.name for path in TOOLS.iterdir() if path.is_file()} - {"build", "install"}
         programs = {path.name for path in (prefix / "bin").iterdir()}
         self.assertEqual({"inputplay"} | {f"inputplay-{tool}" for tool in tools}, programs)
-        self.assertEqual((TOP / "docs" / "inputplay.1").read_bytes(), (prefix / "share" / "man" / "man1" / "inputplay.1").read_bytes())
+        self.assertEqual((TOP / "docs" / "inputplay.1").read_bytes(),
+                         (prefix / "share" / "man" / "man1" / "inputplay.1").read_bytes())
         self.assertFalse([path for path in prefix.rglob("*") if path.name.endswith(".new")])
         # again, over it
         self.assertEqual((0, written, []), self.install(prefix))
@@ -328,7 +368,8 @@ class Install(TreeCase):
         moved = self.folder / "moved"
         (self.folder / "here").rename(moved)
         record = self.file("x.rec", "inputrecord 1\n#= status 0\ndevice d\n")
-        for words, wanted in ((["inputplay", record], "device d steps 0\n"), (["inputplay-play", record], "device d steps 0\n"),
+        for words, wanted in ((["inputplay", record], "device d steps 0\n"),
+                              (["inputplay-play", record], "device d steps 0\n"),
                               (["inputplay-check", record], "1 of 1 expectation held, in 1 record\n"),
                               (["inputplay-explore", "--fail", record], "")):
             with self.subTest(words[0]):
@@ -343,6 +384,22 @@ class Install(TreeCase):
         self.assertEqual((0, record.with_suffix(".report").read_text()), (status, written), said)
         self.assertIn("played by the second program (second), in Python, without proof", said)
 
+    def test_installed_tools_speak_of_the_installed_program(self):
+        self.built()
+        self.install("here")
+        program = self.folder / "here" / "lib" / "inputplay" / "inputplay"
+        record = self.file("x.rec", "inputrecord 1\ndevice d\n")
+        play = self.folder / "here" / "bin" / "inputplay-play"
+        program.write_text("#!/bin/sh\necho rubbish\n")
+        said = f"inputplay-play: {program} is not inputplay, or is broken: what it wrote is no report"
+        self.assertIn(said, self.run_installed(play, record)[2])
+        program.unlink()
+        shutil.rmtree(self.folder / "here" / "lib" / "inputplay" / "second")
+        status, _, said = self.run_installed(play, record)
+        self.assertEqual(2, status)
+        self.assertIn(f"there is no installed program ({program}) and no second one (", said)
+        self.assertNotIn("inp_main", said)
+
     def test_it_is_built_first(self):
         status, written, lines = self.install("prefix")
         self.assertEqual((0, 1), (status, len(lines)), lines)
@@ -350,7 +407,8 @@ class Install(TreeCase):
         self.assertIn("inp_main: run -- --make 1 --count 1", self.asked_for())
 
     def test_wrong_input(self):
-        for words, because in (([], "required: PREFIX"), ([""], "PREFIX is empty"), (["p", "--program", "no"], "no is no program")):
+        for words, because in (([], "required: PREFIX"), ([""], "PREFIX is empty"),
+                               (["p", "--program", "no"], "no is no program")):
             with self.subTest(words):
                 status, written, lines = self.install(*words)
                 self.assertEqual((2, "", 1), (status, written, len(lines)), lines)

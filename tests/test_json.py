@@ -1,9 +1,10 @@
-"""docs/JSON.md: each object that `play`, `stuck`, `show` and `describe` write with --json is told there, with all of
-its fields, and each that is told there is written."""
+"""docs/JSON.md: each object that `play`, `stuck`, `show` and `describe` write with --json is told there, with
+all of its fields, and each that is told there is written."""
 
 import json
 import re
 
+from tests import test_stuck
 from tests.desk_cases import DATA, TOP, DeskCase, needs_program
 from tests.test_play import PlayCase
 
@@ -29,7 +30,8 @@ def fields(name):
 def causes():
     """The causes that the page tells."""
     rows = section("stuck").split("| `cause` |")[1].splitlines()[2:]
-    return {word for row in rows if row.startswith("|") for word in re.findall(r"`([a-z-]+)`", row.split("|")[1])}
+    return {word for row in rows if row.startswith("|")
+            for word in re.findall(r"`([a-z-]+)`", row.split("|")[1])}
 
 
 class Page(PlayCase):
@@ -49,30 +51,37 @@ class Page(PlayCase):
 
     def test_play(self):
         letter = self.file("letter.rec", "dear all\n")
-        records = [RECORDS / "owners_stand_behind_all_joysticks.rec", EXAMPLES / "views.rec", EXAMPLES / "joystick.rec"]
+        records = [RECORDS / "owners_stand_behind_all_joysticks.rec", EXAMPLES / "views.rec",
+                   EXAMPLES / "joystick.rec"]
         text = self.play_tool("--json", "--history", *records, letter)[1]
         self.assertEqual(set(), self.check("play", [text], common=["file"]))
 
     def test_stuck(self):
         needs_program(self)
-        records = [*sorted(EXAMPLES.glob("*.rec")), RECORDS / "filters_decide_anew.rec", RECORDS / "slot_255.rec"]
+        records = [*sorted(EXAMPLES.glob("*.rec")), RECORDS / "filters_decide_anew.rec",
+                   RECORDS / "slot_255.rec"]
         texts = [self.written("stuck", "--json", record) for record in records]
         texts.append(self.written("stuck", "--json", "--end", records[0]))
+        texts.append(self.tool("stuck", "--json", self.file("cut.rec", test_stuck.Cut.record))[1])
         self.assertEqual(set(), self.check("stuck", texts))
-        partings = [each for text in texts for each in map(json.loads, text.splitlines()) if each["kind"] == "parting"]
+        partings = [each for text in texts for each in map(json.loads, text.splitlines())
+                    if each["kind"] == "parting"]
         self.assertLessEqual({each["cause"] for each in partings}, causes())
 
     def test_show(self):
         texts = [self.written("show", "--json", record) for record in sorted(EXAMPLES.glob("*.rec"))]
         self.assertEqual(set(), self.check("show", texts))
         told = set(re.findall("`([a-z]+)`", section("show").split("\n`what` is ")[1]))
-        rows = [each for text in texts for each in map(json.loads, text.splitlines()) if each["kind"] == "row"]
-        steps = {"open", "close", "read", "grab", "ungrab", "revoke", "mask", "clock", "write", "discard", "setaxis"}
+        rows = [each for text in texts for each in map(json.loads, text.splitlines())
+                if each["kind"] == "row"]
+        steps = {"open", "close", "read", "grab", "ungrab", "revoke", "mask", "clock", "write", "discard",
+                 "setaxis"}
         self.assertEqual(told, {row["what"] for row in rows} - steps - {"tick", "inhibit", "uninhibit"})
 
     def test_causes(self):
         """Each cause that is made anywhere is told, in the page and in the summary."""
-        sources = "".join((TOP / "tools" / "inputtools" / f"{name}.py").read_text() for name in ("causes", "joysticks", "owners"))
+        sources = "".join((TOP / "tools" / "inputtools" / f"{name}.py").read_text()
+                          for name in ("causes", "joysticks", "owners"))
         made = set(re.findall(r'Cause\(\s*"([a-z-]+)"', sources))
         summary = (TOP / "tools" / "inputtools" / "summary.py").read_text()
         self.assertEqual(made, causes())
@@ -83,7 +92,8 @@ class Described(DeskCase):
     check = Page.check
 
     def test_describe(self):
-        lines = ["inputrecord 2", "device d", "log 9", "type EV_REP", "clock realtime 5", "filter norepeat", "cap EV_KEY KEY_A"]
+        lines = ["inputrecord 2", "device d", "log 9", "type EV_REP", "clock realtime 5", "filter norepeat",
+                 "cap EV_KEY KEY_A"]
         record = self.file("d.rec", "".join(line + "\n" for line in lines))
         texts = [self.written("describe", "--json", each) for each in (DATA / "touchpad.evtest", record)]
         self.assertEqual(set(), self.check("describe", texts))

@@ -12,7 +12,7 @@ from tests.playing import PROGRAM, TOP, needs_program
 
 PROMPT, MORE = "    $ ", "    > "
 # How many commands each page shows at least.
-PAGES = {"STUCK": 9, "EXPLORE": 9, "CI": 13}
+PAGES = {"STUCK": 9, "EXPLORE": 9, "CI": 15}
 
 
 def commands(text: str) -> List[Tuple[str, List[str]]]:

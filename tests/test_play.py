@@ -9,9 +9,10 @@ import stat
 import struct
 import subprocess
 import time
+from unittest import mock
 
-from tests.desk_cases import PROGRAM, TOOLS, TOP, DeskCase, heed_stops, needs_program
-from inputtools.refusal_hints import REFUSAL_HINTS
+from tests.desk_cases import DATA, PROGRAM, TOOLS, TOP, DeskCase, heed_stops, needs_program
+from inputtools.refusal_hints import LIMIT_HINTS, REFUSAL_HINTS
 
 EXAMPLES = TOP / "examples"
 
@@ -58,11 +59,13 @@ class Played(PlayCase):
         self.assertEqual((0, (EXAMPLES / "views.report").read_text()), (status, text))
 
     def test_json(self):
-        status, text, _ = self.play_tool("--json", "--history", EXAMPLES / "views.rec", EXAMPLES / "joystick.rec")
+        status, text, _ = self.play_tool("--json", "--history", EXAMPLES / "views.rec",
+                                         EXAMPLES / "joystick.rec")
         self.assertEqual(0, status)
         objects = [json.loads(line) for line in text.splitlines()]
         reports = [self.play_tool("--history", EXAMPLES / name)[1] for name in ("views.rec", "joystick.rec")]
-        played = [{"kind": "played", "file": str(EXAMPLES / name), "status": 0} for name in ("views.rec", "joystick.rec")]
+        played = [{"kind": "played", "file": str(EXAMPLES / name), "status": 0}
+                  for name in ("views.rec", "joystick.rec")]
         self.assertEqual(played, [each for each in objects if each["kind"] == "played"])
         self.assertEqual(sum(len(report.splitlines()) for report in reports), len(objects) - 2)
         took = {"kind": "took", "file": str(EXAMPLES / "joystick.rec"), "device": "gamepad", "role": "client"}
@@ -92,9 +95,34 @@ class Refused(PlayCase):
             with self.subTest(cause):
                 program = self.stand_in(1, f"inputplay: line 3: {cause}")
                 wanted = [f"inputplay: line 3: {cause}", f"  {record}:3: axis ABS_X 0 x"]
-                wanted.append(f"  usual mistakes: {hint}")
+                wanted.append("  x is no number" if cause == "bad-word" else f"  usual mistakes: {hint}")
                 status, text, lines = self.play_tool(record, INPUTPLAY=program)
                 self.assertEqual((1, "", wanted), (status, text, lines[1:]))
+
+    def test_a_bad_word_is_named(self):
+        """With the nearest name, where it is to be one."""
+        head = "inputrecord 2\ndevice d\ncap EV_KEY KEY_A\n"
+        actors = f"{head}source s\nclient c\ntap t\n"
+        for text, said in (
+            (f"{head}cap EV_KEY KEY_ENTR", "KEY_ENTR is no code of EV_KEY; the nearest name is KEY_ENTER"),
+            (f"{head}cap EV_KEY ABS_X", "ABS_X is no code of EV_KEY, but of EV_ABS"),
+            (f"{head}cap EV_KYE KEY_A", "EV_KYE is no type; the nearest name is EV_KEY"),
+            (f"{head}axis ABS_XX 0 0 1 0 0 0", "ABS_XX is no code of EV_ABS; the nearest name is ABS_X"),
+            (f"{head}clock monotonic 1", "monotonic is none of realtime, boottime"),
+            (f"{head}filter bonce KEY_A 5",
+             "bonce is none of eat, norepeat, chord, bounce; the nearest name is bounce"),
+            (f"{head}filter chord KEY_A KEY_CTRL", "KEY_CTRL is no code of EV_KEY; the nearest name is KEY_"),
+            (f"{head}tap T", "T is not 1 to 32 of a to z, 0 to 9, _ and -"),
+            (f"{actors}do s event 9000000000000001 EV_KEY KEY_A 1",
+             "the number 9000000000000001 is not in 0 to 9000000000000000"),
+            (f"{actors}do s event 1 EV_KEY KEY_A 1.5", "1.5 is no number"),
+            (f"{actors}do c clock wall 1", "wall is none of realtime, monotonic, boottime"),
+            (f"{actors}do t axis KEY_A", "KEY_A is no code of EV_ABS, but of EV_KEY"),
+        ):
+            with self.subTest(text.splitlines()[-1]):
+                status, _, lines = self.play_tool(self.file("case.rec", text + "\n"))
+                self.assertEqual((1, "bad-word"), (status, lines[1].split()[-1]), lines)
+                self.assertTrue(lines[-1].startswith(f"  {said}"), lines)
 
     def test_each_cause_has_its_hint(self):
         formats = (TOP / "docs" / "FORMATS.md").read_text()
@@ -115,11 +143,13 @@ class Refused(PlayCase):
     def test_a_stream_that_is_none(self):
         """What is wrong with its file is told, by the number of the record."""
         keyboard = (TOP / "tests" / "data" / "keyboard.bin").read_bytes()
-        record = self.file("s.rec", "inputrecord 1\ndevice d\ncap EV_KEY KEY_A\nsource s\ndo s stream keys.bin\n")
+        record = self.file("s.rec",
+                           "inputrecord 1\ndevice d\ncap EV_KEY KEY_A\nsource s\ndo s stream keys.bin\n")
         bad = struct.pack("<QQHHi", 5, 1000000, 1, 30, 1)
         late = struct.pack("<QQHHi", 9000000001, 0, 1, 30, 1)
         for data, said in (
-            (keyboard[:24] + bad, "its record 2, of 24 bytes from byte 24 on, is no event: its microseconds are 1000000"),
+            (keyboard[:24] + bad,
+             "its record 2, of 24 bytes from byte 24 on, is no event: its microseconds are 1000000"),
             (late, "its record 1, of 24 bytes from byte 0 on, is no event: its time is 9000000001 s"),
             (keyboard[:25], "it has 1 record of 24 bytes and 1 byte more"),
         ):
@@ -147,7 +177,8 @@ class Refused(PlayCase):
         letter = self.file("letter.rec", "dear all\n")
         status, text, _ = self.play_tool(EXAMPLES / "one_key.rec", letter, self.folder / "missing.rec")
         report = (EXAMPLES / "one_key.report").read_text()
-        files = [f"file {EXAMPLES / 'one_key.rec'}\n", report, f"file {letter}\n", f"file {self.folder / 'missing.rec'}\n"]
+        files = [f"file {EXAMPLES / 'one_key.rec'}\n", report, f"file {letter}\n",
+                 f"file {self.folder / 'missing.rec'}\n"]
         self.assertEqual((1, "".join(files)), (status, text))
 
     def test_messages_and_statuses_are_handed_on(self):
@@ -155,8 +186,18 @@ class Refused(PlayCase):
         for status, text in {3: "read failed", 5: "out of memory", 7: "input too long"}.items():
             message = f"inputplay: {text}"
             with self.subTest(message):
-                came, text, lines = self.play_tool(record, INPUTPLAY=self.stand_in(status, message))
-                self.assertEqual((status, "", [message, f"  in {record}"]), (came, text, lines[1:]))
+                came, written, lines = self.play_tool(record, INPUTPLAY=self.stand_in(status, message))
+                hint = [f"  {hint}" for end, hint in LIMIT_HINTS.items() if end == text]
+                self.assertEqual(status != 3, bool(hint))
+                self.assertEqual((status, "", [message, f"  in {record}", *hint]), (came, written, lines[1:]))
+
+    def test_limits_of_a_capture_say_what_helps(self):
+        with mock.patch("inputtools.writing.GREATEST_TEXT", 100):
+            said = "would have more than 100 bytes: take a part with --from and --to"
+            self.refused("record", DATA / "lid.evtest",
+                         because=f"the record {said}, fewer readers, or have")
+            self.refused("record", DATA / "mouse.evtest", "--stream", self.folder / "x.bin",
+                         because=f"{said}")
 
     def test_a_full_device(self):
         needs_program(self)
@@ -179,7 +220,8 @@ class Refused(PlayCase):
             stderr=subprocess.PIPE,
             text=True,
         )
-        self.assertEqual((4, "play: standard output is closed"), (done.returncode, done.stderr.splitlines()[-1]))
+        self.assertEqual((4, "play: standard output is closed"),
+                         (done.returncode, done.stderr.splitlines()[-1]))
 
     def test_files_that_are_no_records(self):
         """What a file is that was played by mistake is told in place of the usual mistakes."""
@@ -191,9 +233,9 @@ class Refused(PlayCase):
             data / "lid.libinput.yml": f"this is a recording of libinput: {made}",
             data / "lid.proc": "this is /proc/bus/input/devices: tools/describe reads it",
             data / "lid.bin": f"this is a raw capture of a device's events: {made}",
-            self.file("packed", gzip.compress(b"inputrecord 1\n")): "this is a gzip file: unpack it with gunzip",
+            self.file("packed", gzip.compress(b"some")): "this is a gzip file: unpack it with gunzip",
             self.file("shot", b"\x89PNG\r\n\x1a\n\0\0"): "this is a picture (PNG), and no record",
-            TOP / "docs" / "stuck_key.svg": "this is a picture (SVG), as tools/draw writes one, and no record",
+            TOP / "docs" / "stuck_key.svg": "this is a picture (SVG), as tools/draw writes one",
             EXAMPLES / "lid.report": "this is a report, as playing a record writes it, and no record",
         }
         for path, said in other.items():
@@ -233,7 +275,8 @@ class Words(PlayCase):
         others = {
             "true": ("#!/bin/sh\n", "is not inputplay, or is broken: it wrote nothing"),
             "echo": ("#!/bin/sh\necho hello\n", "is not inputplay, or is broken: what it wrote is no report"),
-            "status": ("#!/bin/sh\necho device d steps 0\nexit 77\n", "is not inputplay: it ended in status 77"),
+            "status": ("#!/bin/sh\necho device d steps 0\nexit 77\n",
+                       "is not inputplay: it ended in status 77"),
             "killed": (f"{endless}", "not inputplay, or is broken: it wrote nothing"),
             "no_program": ("#!/no/such/shell\n", "does not start: No such file or directory"),
             "no_format": ("\x7fELF", "does not start: Exec format error"),
@@ -270,7 +313,8 @@ class Words(PlayCase):
                 time.sleep(0.2)
                 os.killpg(started.pid, signal.SIGINT)
                 text, said = started.communicate(timeout=20)
-                self.assertEqual((130, "", f"{tool}: stopped"), (started.returncode, text, said.splitlines()[-1]))
+                self.assertEqual((130, "", f"{tool}: stopped"),
+                                 (started.returncode, text, said.splitlines()[-1]))
 
     def test_the_second_program(self):
         """In a copy of the tools with the second program beside them, with no toolchain on the path."""
@@ -283,11 +327,13 @@ class Words(PlayCase):
         records = {EXAMPLES / "views.rec": 0, TOP / "tests" / "records" / "owner_alone_is_full.rec": 6}
         for record, status in records.items():
             with self.subTest(record.name):
-                done = subprocess.run([self.folder / "tools" / "play", record], env=env, capture_output=True, text=True)
+                done = subprocess.run([self.folder / "tools" / "play", record], env=env, capture_output=True,
+                                      text=True)
                 said = ["play: played by the second program (second), in Python, without proof"]
                 self.assertEqual((status, said), (done.returncode, done.stderr.splitlines()))
                 self.assertEqual(record.with_suffix(".report").read_text(), done.stdout)
-        done = subprocess.run([self.folder / "tools" / "stuck", EXAMPLES / "stuck_key.rec"], env=env, capture_output=True, text=True)
+        done = subprocess.run([self.folder / "tools" / "stuck", EXAMPLES / "stuck_key.rec"], env=env,
+                              capture_output=True, text=True)
         self.assertEqual((0, ""), (done.returncode, done.stderr))
         self.assertIn("KEY_LEFTCTRL: down for it, up on the device", done.stdout)
 
@@ -337,13 +383,17 @@ class Toolchain(PlayCase):
 
     def test_each_end_that_is_not_the_programs(self):
         """Whatever status the toolchain has: its last line tells that the program did not end."""
-        long = "checked: no-answer: the run wrote more than 1048576 bytes to standard output or to standard error, the limit on each"
+        long = "checked: no-answer: the run wrote more than 1048576 bytes to standard output or to "
+        long += "standard error, the limit on each"
         ends = {
             "a long report": (6, [long, "run=no-answer proved=no"], "hands on 1 MiB of a report at most"),
-            "a long run": (6, ["checked: no-answer: 60 seconds", "run=no-answer proved=no"], "took more than it grants"),
-            "a fault": (4, ["checked: fault: an index", "run=fault proved=no"], "stopped at a fault under the toolchain"),
+            "a long run": (6, ["checked: no-answer: 60 seconds", "run=no-answer proved=no"],
+                           "took more than it grants"),
+            "a fault": (4, ["checked: fault: an index", "run=fault proved=no"],
+                        "stopped at a fault under the toolchain"),
             "two answers": (5, ["run=differs proved=no"], "the toolchain's two runs of the program differ"),
-            "no program": (1, ["error[type]: it is none", "run=none proved=no"], "built no program and played nothing"),
+            "no program": (1, ["error[type]: it is none", "run=none proved=no"],
+                           "built no program and played nothing"),
             "nothing said": (0, [], "built no program and played nothing"),
             "said by the crate": (0, ["run=ended status=0 proved=no", "more"], "built no program"),
         }
@@ -351,7 +401,8 @@ class Toolchain(PlayCase):
             for tool in ("play", "stuck", "draw"):
                 with self.subTest(case, tool=tool):
                     done = self.by_toolchain(tool, status, *lines, write="true")
-                    said = [line for line in done.stderr.splitlines() if "played by the toolchain" not in line]
+                    said = [line for line in done.stderr.splitlines()
+                            if "played by the toolchain" not in line]
                     self.assertEqual((2, "", 1), (done.returncode, done.stdout, len(said)), said)
                     self.assertTrue(said[0].startswith(f"{tool}: "), said)
                     self.assertIn(wanted, said[0])

@@ -9,7 +9,8 @@ import stat
 import subprocess
 from unittest import mock
 
-from tests.desk_cases import PROGRAM, TOOLS, TOP, DeskCase, needs_program
+from tests.desk_cases import PROGRAM, TOOLS, TOP, DeskCase, needs_program, raw_capture
+from inputtools.names import ABS, SYN
 from inputtools.played import play
 from inputtools.program import find_player
 from inputtools.progress import Progress
@@ -61,7 +62,13 @@ def without_times(text):
 class StuckCase(DeskCase):
     def all_said(self, text):
         """What the tool says of a record."""
-        return self.written("stuck", self.file("case.rec", text))
+        return self.said_of(self.file("case.rec", text))
+
+    def said_of(self, path):
+        """The same of a file. It ends in status 6 where it says first that the play was cut, else in 0."""
+        status, written, lines = self.tool("stuck", path)
+        self.assertEqual((6 if written.startswith("the play was cut: ") else 0, []), (status, lines))
+        return written
 
     def said(self, text):
         """The same without times, and without the device's state at the end."""
@@ -121,7 +128,8 @@ the device at the end
 
 
 class Descriptions(StuckCase):
-    opened = "inputrecord 1\ndevice slider\naxis ABS_X 0 0 100 0 0 0\nsource s\nclient c\ntap g\ndo c open\ndo g open\n"
+    opened = "inputrecord 1\ndevice slider\naxis ABS_X 0 0 100 0 0 0\nsource s\nclient c\ntap g\n"
+    opened += "do c open\ndo g open\n"
     anew = "do g setaxis ABS_X 9 0 200 8 0 0\n"
 
     def test_an_axis_described_anew(self):
@@ -351,7 +359,10 @@ class Frames(StuckCase):
     def test_a_full_history(self):
         text = KEYBOARD.replace("hint 8", "hint 8\nlog 4") + "client c\ndo c open\n"
         text += frame(1, press("KEY_A"))
-        self.assertIn("since place 3: not read yet\n", self.said(text + frame(2, release("KEY_A"))))
+        said = self.said(text + frame(2, release("KEY_A")))
+        cut = "the play was cut: s stopped, since the history was full at place 4"
+        self.assertIn(f"since place 3: {cut}\n", said)
+        self.assertNotIn("not read yet", said)
 
     def test_written_events(self):
         text = "inputrecord 1\ndevice d\ncap EV_LED LED_CAPSL\nclient c\ntap t\ndo c open\ndo t open\n"
@@ -405,7 +416,8 @@ class Records(StuckCase):
         text += "do p event 1 EV_ABS ABS_MT_POSITION_X 5\ndo p event 1 EV_SYN SYN_REPORT 0\ndo d follow\n"
         said = without_times(self.all_said(text))
         held = "  KEY_A: down on the device itself since place 3: no release followed\n"
-        self.assertIn(f"  keys KEY_A\n{held}device pad steps 5\nclient d\n  at the end: as the device\n", said)
+        self.assertIn(f"  keys KEY_A\n{held}device pad steps 5\nclient d\n  at the end: as the device\n",
+                      said)
         self.assertIn("client c\n  KEY_A: up for it, down on the device\n", said)
 
     def test_sixty_four_clients(self):
@@ -445,8 +457,10 @@ class Filters(StuckCase):
     def test_each_form(self):
         forms = {
             "eat EV_KEY KEY_A": frame(1, press("KEY_A")),
-            "chord KEY_B KEY_A": frame(1, press("KEY_B")) + frame(2, press("KEY_A")) + frame(3, release("KEY_B")),
-            "bounce KEY_A 9000": frame(1, press("KEY_A")) + frame(2, release("KEY_A")) + frame(9, press("KEY_A")),
+            "chord KEY_B KEY_A":
+                frame(1, press("KEY_B")) + frame(2, press("KEY_A")) + frame(3, release("KEY_B")),
+            "bounce KEY_A 9000":
+                frame(1, press("KEY_A")) + frame(2, release("KEY_A")) + frame(9, press("KEY_A")),
         }
         for form, pressed in forms.items():
             with self.subTest(form):
@@ -464,7 +478,8 @@ class Filters(StuckCase):
         self.says(text, "c", "at the end: as the device")
 
     def test_under_a_grab_nothing_is_eaten(self):
-        text = filtered("eat EV_KEY KEY_A") + "do g grab\n" + frame(1, press("KEY_A")) + "do g read 9\ndo c follow\n"
+        text = filtered("eat EV_KEY KEY_A") + "do g grab\n" + frame(1, press("KEY_A"))
+        text += "do g read 9\ndo c follow\n"
         self.says(text, "g", "at the end: as the device")
         self.assertIn("since place 5: grab of g from place 3 on\n", self.part(text, "c"))
 
@@ -477,8 +492,9 @@ class Filters(StuckCase):
                 self.assertNotIn("it did not ask", said)
 
     def test_a_slot_whose_announcement_is_eaten(self):
-        text = TOUCHPAD.replace("inputrecord 1", "inputrecord 2").replace("slots 2", "slots 2\nfilter eat EV_ABS ABS_MT_SLOT")
-        text += "client c\ndo c open\n" + frame(1, "EV_ABS ABS_MT_SLOT 1", "EV_ABS ABS_MT_TRACKING_ID 5") + "do c follow\n"
+        text = TOUCHPAD.replace("inputrecord 1", "inputrecord 2")
+        text = text.replace("slots 2", "slots 2\nfilter eat EV_ABS ABS_MT_SLOT") + "client c\ndo c open\n"
+        text += frame(1, "EV_ABS ABS_MT_SLOT 1", "EV_ABS ABS_MT_TRACKING_ID 5") + "do c follow\n"
         said = self.part(text, "c")
         self.assertIn("the current slot: 0 for it, 1 on the device\n", said)
         self.assertIn("eaten by filter 1 (eat ABS_MT_SLOT)\n", said)
@@ -492,19 +508,23 @@ class Filters(StuckCase):
                 text = random_filtered(random.Random(seed))
                 played = play(Given(self.file("case.rec", text)), find_player())[0]
                 frames = played.state.frames
-                left = [e for f in frames for e, by in zip(f.events, f.eaten) if by is None and e[0] != "EV_SYN"]
+                events = [each for frame in frames for each in zip(frame.events, frame.eaten)]
+                left = [event for event, by in events if by is None and event[0] != "EV_SYN"]
                 taken = [entry.event for entry in played.clients[0].part.all_of(Took)]
                 self.assertEqual(left, [event for event in taken if event[0] != "EV_SYN"])
                 self.assertLess(len(left), sum(len(f.events) - 1 for f in frames))
 
 
 def random_filtered(r):
-    """A record with random filters and frames of three keys, some of them under a grab of the tap that reads."""
+    """A record with random filters and frames of three keys, some of them under a grab of the tap that
+    reads."""
     keys = ["KEY_A", "KEY_B", "KEY_C"]
     forms = ["norepeat", "eat EV_REL REL_X", *(f"chord {a} {b}" for a in keys for b in keys if a != b)]
     forms += [f"bounce {key} {micros}" for key in keys for micros in (5, 20)]
-    lines = KEYBOARD.replace("inputrecord 1", "inputrecord 2").splitlines()[:-1] + ["cap EV_KEY KEY_C", "type EV_REP"]
-    lines += [f"filter {form}" for form in r.sample(forms, r.randint(2, 5))] + ["source s", "tap t", "do t open"]
+    lines = KEYBOARD.replace("inputrecord 1", "inputrecord 2").splitlines()[:-1]
+    lines += ["cap EV_KEY KEY_C", "type EV_REP"]
+    lines += [f"filter {form}" for form in r.sample(forms, r.randint(2, 5))]
+    lines += ["source s", "tap t", "do t open"]
     now, is_grabbed = 10, False
     for _ in range(120):
         now += r.choice([0, 1, 3, 7, 30, -4])
@@ -537,7 +557,8 @@ class Joysticks(StuckCase):
         return self.part(STICK.replace("FILTER\n", filter_line) + actions, "j")
 
     def test_that_follows(self):
-        said = self.joy(frame(1, press("BTN_TRIGGER"), press("KEY_A"), "EV_ABS ABS_X 40000") + "do j read 99\n")
+        said = self.joy(frame(1, press("BTN_TRIGGER"), press("KEY_A"),
+                              "EV_ABS ABS_X 40000") + "do j read 99\n")
         self.assertEqual("  at the end: as the device", said)
 
     def test_under_a_grab(self):
@@ -569,7 +590,8 @@ class Joysticks(StuckCase):
         said = self.joy("do j read 9\n" + moves + "do j read 200\n")
         self.assertIn("  it synchronised anew: at place ", said)
         self.assertTrue(said.endswith("  at the end: as the device"), said)
-        self.assertIn("loss (its ring was full), of which it has not read yet\n", self.joy("do j read 9\n" + moves))
+        self.assertIn("loss (its ring was full), of which it has not read yet\n",
+                      self.joy("do j read 9\n" + moves))
 
     def test_a_start_that_is_refused(self):
         text = STICK.replace("FILTER\n", "log 3\n").replace("do g open\n", frame(1, press("BTN_TRIGGER")))
@@ -580,7 +602,7 @@ class Joysticks(StuckCase):
     def test_records(self):
         for record in sorted([*RECORDS.glob("joystick*.rec"), EXAMPLES / "joystick.rec"]):
             with self.subTest(record.name):
-                self.assertIn("\njoy ", self.written("stuck", record))
+                self.assertIn("\njoy ", self.said_of(record))
 
 
 LAMP = """inputrecord 2
@@ -618,17 +640,19 @@ class Owners(StuckCase):
     def test_what_was_lost(self):
         bells = [f"t write {n} EV_SND SND_BELL {n}" for n in range(2, 18)]
         said = self.lamp("t write 1 EV_LED LED_CAPSL 1", *bells, "o feedback 64")
-        self.assertIn("lost, since 15 wait at most: 2 events: LED_CAPSL 1 of place 1, SND_BELL 2 of place 2\n", said)
-        self.assertIn("LED_CAPSL: off for it, on on the device\n    since place 1: lost before it asked", said)
+        lost = "lost, since 15 wait at most: 2 events: LED_CAPSL 1 of place 1, SND_BELL 2 of place 2\n"
+        self.assertIn(lost, said)
+        self.assertIn("LED_CAPSL: off for it, on on the device\n    since place 1: lost before it asked",
+                      said)
 
     def test_that_may_not_ask_any_more(self):
-        said = without_times(self.written("stuck", RECORDS / "owner_of_a_full_list.rec"))
+        said = without_times(self.said_of(RECORDS / "owner_of_a_full_list.rec"))
         self.assertIn("since place 1: it waits: no more of the owner's calls are kept\n", said)
 
     def test_records(self):
         for record in sorted([*RECORDS.glob("*owner*.rec"), EXAMPLES / "feedback.rec"]):
             with self.subTest(record.name):
-                self.assertIn("\nowner ", self.written("stuck", record))
+                self.assertIn("\nowner ", self.said_of(record))
 
 
 class Held(StuckCase):
@@ -645,7 +669,8 @@ class Held(StuckCase):
         self.assertEqual([], self.held(text + frame(12400000, release("KEY_A"))))
 
     def test_a_key_in_a_frame_that_has_not_ended(self):
-        text = KEYBOARD + "client c\ndo c open\n" + frame(1, "EV_REL REL_X 1") + "do s event 2 EV_KEY KEY_A 1\n"
+        text = KEYBOARD + "client c\ndo c open\n" + frame(1, "EV_REL REL_X 1")
+        text += "do s event 2 EV_KEY KEY_A 1\n"
         wanted = "KEY_A: down on the device itself since place 4 (0.000002 s): no release followed"
         self.assertEqual([wanted], self.held(text))
 
@@ -655,7 +680,8 @@ class Held(StuckCase):
         self.assertEqual([wanted], self.held(text))
         lifted = frame(600000, "EV_ABS ABS_MT_TRACKING_ID -1")
         self.assertEqual([], self.held(text + lifted))
-        self.assertIn("since place 6 (0.7 s)", self.held(text + lifted + frame(700000, "EV_ABS ABS_MT_TRACKING_ID 6"))[0])
+        self.assertIn("since place 6 (0.7 s)",
+                      self.held(text + lifted + frame(700000, "EV_ABS ABS_MT_TRACKING_ID 6"))[0])
 
     def test_times_stand_beside_places(self):
         text = KEYBOARD + "client c\ntap g\ndo c open\ndo g open\n" + frame(1500000, press("KEY_A"))
@@ -663,6 +689,82 @@ class Held(StuckCase):
         said = self.all_said(text)
         self.assertIn("since place 8 (2.0 s): grab of g from place 6 (1.5 s) on\n", said)
         self.assertIn("seen at: nothing left to read at place 9 (2.0 s); the end\n", said)
+
+
+class Cut(StuckCase):
+    """A play that a full history cut: it is said first, in JSON and by status 6."""
+
+    record = KEYBOARD.replace("hint 8\n", "hint 8\nlog 4\n") + "client c\ndo c open\n"
+    record += frame(1, press("KEY_A")) + "do c follow\n"
+    who = "c stopped, since the history was full at place 4"
+
+    def cut(self, tool, *words, text=record):
+        needs_program(self)
+        status, written, lines = self.tool(tool, *words, self.file("cut.rec", text))
+        self.assertEqual(6, status, lines)
+        return written, lines
+
+    def test_said_first(self):
+        first = f"the play was cut: {self.who}; a greater `log` of its device lets it go on"
+        for words in ([], ["--summary"], ["--fail"]):
+            with self.subTest(words):
+                written, _ = self.cut("stuck", *words)
+                self.assertEqual(first, written.splitlines()[0])
+                self.assertIn(f"(0.000001 s): the play was cut: {self.who}\n", written)
+                self.assertNotIn("not read yet", written)
+        self.assertEqual([f"export: note: {first}", "export: note: c read no event"],
+                         self.cut("export", "--raw", "c")[1])
+
+    def test_json(self):
+        first, *others = map(json.loads, self.cut("stuck", "--json")[0].splitlines())
+        self.assertEqual({"kind": "cut", "role": "client", "name": "c", "place": 4, "text": self.who}, first)
+        self.assertEqual(["cut"], [each["cause"] for each in others if each["kind"] == "parting"])
+
+    def test_a_source_that_stopped(self):
+        """Its frame has not ended since there was no room for its report."""
+        text = self.record.replace("log 4", "log 3").replace("do c follow\n", "")
+        self.assertIn("the play was cut: s stopped, since the history was full at place 3\n",
+                      self.cut("stuck", text=text)[0])
+
+    def test_what_kept_an_event_is_told_still(self):
+        grabs = "tap g\ndo c open\ndo g open\ndo g grab\n"
+        text = self.record.replace("log 4", "log 6").replace("do c open\n", grabs)
+        self.assertIn("grab of g from place 3 on\n",
+                      self.cut("stuck", text=text + frame(2, release("KEY_A")))[0])
+
+
+class Long(StuckCase):
+    """Streams of hundreds of thousands of events."""
+
+    def stream(self, count):
+        """A record of so many events, of which each third is a report."""
+        values = ((ABS, 53, 7), (ABS, 54, 9), (SYN, 0, 0))
+        events = (values[number % 3] for number in range(count))
+        data = raw_capture((number // 3 * 7000, kind, code, number % 50 + value if kind else 0)
+                           for number, (kind, code, value) in enumerate(events))
+        self.file("long.bin", data)
+        text = TOUCHPAD + "axis ABS_MT_POSITION_Y 0 0 100 0 0 0\n"
+        text = text.replace("source s\n", "") + "source s\nclient c\ndo c open\n"
+        text += "do s stream long.bin\ndo c follow\n"
+        return self.file("long.rec", text)
+
+    def test_400_000_events(self):
+        needs_program(self)
+        said = self.written("stuck", self.stream(400000))
+        self.assertRegex(said,
+                         r"^device pad steps 4000\d\d\nclient c\n  it lost events: SYN_DROPPED of place ")
+
+    def test_too_many_are_refused_before_they_are_played(self):
+        begun = self.folder / "begun"
+        program = self.file("program", f"#!/bin/sh\n: > {begun}\n")
+        program.chmod(0o755)
+        with mock.patch.dict(os.environ, {"INPUTPLAY": str(program)}):
+            record = self.stream(690000)
+            for said in ("long.rec: its devices' state can be asked for after about 5",
+                         "000 steps at most, and there "
+                         "are 690000: take a part of the capture by tools/record --from and --to"):
+                self.refused("stuck", record, because=said)
+        self.assertFalse(begun.exists())
 
 
 class Ends(StuckCase):
@@ -675,7 +777,8 @@ class Ends(StuckCase):
         needs_program(self)
         together = self.file("together.rec", self.apart + "do c force\ndo c follow\n")
         apart = self.file("apart.rec", self.apart)
-        self.assertEqual((0, 1), (self.tool("stuck", "--fail", together)[0], self.tool("stuck", "--fail", apart)[0]))
+        self.assertEqual((0, 1),
+                         (self.tool("stuck", "--fail", together)[0], self.tool("stuck", "--fail", apart)[0]))
         self.assertEqual(0, self.tool("stuck", apart)[0])
 
     def test_summary(self):
@@ -693,7 +796,8 @@ device kbd steps """
         kinds = ["device", "reader", "parting", "end", "reader", "end", "held", "state"]
         self.assertEqual(kinds, [each["kind"] for each in objects])
         parting = objects[2]
-        told = {"device": "kbd", "role": "client", "name": "c", "thing": "KEY_A", "type": "EV_KEY", "code": "KEY_A"}
+        told = {"device": "kbd", "role": "client", "name": "c", "thing": "KEY_A", "type": "EV_KEY",
+                "code": "KEY_A"}
         told.update(believed=0, present=1, since={"place": 5, "time": 1}, cause="grab", met=None)
         self.assertEqual(told, {name: parting[name] for name in told})
         self.assertEqual([{"at": "nothing-left", "place": 7, "time": 1}, {"at": "end"}], parting["seen"])
@@ -739,18 +843,22 @@ device kbd steps """
 
     def test_a_file_that_is_no_record(self):
         made = "make a record of it with tools/record"
-        self.refused("stuck", TOP / "tests" / "data" / "lid.evtest", because=f"this is what evtest prints: {made}")
+        self.refused("stuck", TOP / "tests" / "data" / "lid.evtest",
+                     because=f"this is what evtest prints: {made}")
 
     def test_how_far_it_is(self):
         """Of a long record each part of the work says what it is, and how much of it is done."""
         told = []
         tell = mock.patch.object(Progress, "tell", lambda _, *words: told.append(words))
-        with tell, mock.patch("inputtools.report.TOLD_EVERY", 20), mock.patch("inputtools.divergences.TOLD_EVERY", 5):
+        often = mock.patch("inputtools.report.TOLD_EVERY", 20)
+        with tell, often, mock.patch("inputtools.divergences.TOLD_EVERY", 5):
             self.written("stuck", EXAMPLES / "stuck_key.rec")
-        whole = subprocess.run([PROGRAM, "--history", EXAMPLES / "stuck_key.rec"], capture_output=True, check=True)
+        whole = subprocess.run([PROGRAM, "--history", EXAMPLES / "stuck_key.rec"], capture_output=True,
+                               check=True)
         lines = len(whole.stdout.splitlines())
         self.assertEqual(("stuck_key.rec is played",), told[0])
-        self.assertEqual([("the report is read, line", done, lines) for done in range(0, lines, 20)], told[1 : 1 - -lines // 20])
+        self.assertEqual([("the report is read, line", done, lines) for done in range(0, lines, 20)],
+                         told[1 : 1 - -lines // 20])
         compared = [words[1:] for words in told if words[0] == "desktop is compared with its device, entry"]
         self.assertEqual([(0, 12), (5, 12), (10, 12)], compared)
 

@@ -156,14 +156,14 @@ def stop(process: "subprocess.Popen[bytes]") -> None:
 class Teller:
     """Says how far a build is: on a terminal in one line that is written over, else not at all or a line a crate."""
 
-    def __init__(self, program: str, stream: TextIO, has_lines: bool = False) -> None:
+    def __init__(self, program: str, stream: Optional[TextIO], has_lines: bool = False) -> None:
         self.program, self.stream, self.begun, self.told = program, stream, time.monotonic(), 0.0
         self.has_lines, self.named = has_lines, ""
 
     def tell(self, done: int, count: int, name: str) -> None:
         minutes, seconds = divmod(int(time.monotonic() - self.begun), 60)
         text = f"{self.program}: {done} of {count} crates are built, {minutes}:{seconds:02d}: {name}"
-        if self.stream.isatty():
+        if self.stream is not None and self.stream.isatty():
             self.write_over(text)
         elif self.has_lines and name != self.named:
             print(text, file=self.stream, flush=True)
@@ -181,9 +181,9 @@ class Teller:
             print("\r\x1b[K", end="", file=self.stream, flush=True)
 
 
-def is_wanted(program: str, stream: TextIO) -> bool:
+def is_wanted(program: str, stream: Optional[TextIO]) -> bool:
     """Asks whether to build, where there is somebody to ask."""
-    if sys.stdin is None or not (sys.stdin.isatty() and stream.isatty()):
+    if sys.stdin is None or stream is None or not (sys.stdin.isatty() and stream.isatty()):
         return True
     print(f"{program}: build it now? [Y/n] ", end="", file=stream, flush=True)
     return sys.stdin.readline().strip().lower() in ("", "y", "yes")
@@ -227,10 +227,11 @@ def build_library(program: str, stream: TextIO) -> None:
     build_crates(crates, Teller(program, stream, has_lines=True))
 
 
-def build(program: str, stream: TextIO) -> None:
+def build(program: str, stream: Optional[TextIO]) -> None:
     """Builds the program, proved; `program` is who says so, to the stream."""
     if shutil.which("rt") is None:
-        raise Wrong("the program is not built (crates/inp_main/out/inp_main), and there is no toolchain (rt) to build it")
+        raise Wrong("the program is not built (crates/inp_main/out/inp_main), and there is no toolchain (rt) to build it; "
+                    "bin/inputplay --unproved FILE plays without it")
     text = read(os.path.join(REPOSITORY, "crates.txt"))
     if not text:
         raise Wrong("the program is not built, and crates.txt cannot be read")

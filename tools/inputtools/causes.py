@@ -5,27 +5,37 @@ was open and not revoked, nobody else held the grab), left by the device's filte
 kept in its ring (no loss, no discard), and read.
 """
 
-from typing import Callable, Dict, List, Optional
+from typing import Callable, Dict, List, Optional, Sequence
 
 from inputtools.belief import Origin, Thing
 from inputtools.devicestate import DESCRIPTION, DeviceState
 from inputtools.divergences import Cause, Point, Walk, Why
-from inputtools.report import Call, Device, Step
+from inputtools.record import ROLES
+from inputtools.report import Call, Device, Step, cut_text
 
 
 class Causes:
     """The causes of one device: its state, what its history says of the clients, and whose the clients
     are."""
 
-    def __init__(self, state: DeviceState, device: Device, losses: Callable[[str], List[Optional[int]]]) -> None:
+    def __init__(self, state: DeviceState, device: Device,
+                 losses: Callable[[str], List[Optional[int]]]) -> None:
         self.state, self.handles, self.at, self.unread_losses = state, state.handles, state.at, losses
         self.openers: Dict[int, str] = {}
+        self.cut = [part for part in device.all_parts() if part.end.is_full]
         for part in device.parts + device.joysticks:
             opened = (call for call in part.all_of(Call) if call.reply.name == "opened")
             self.openers.update({call.reply.number: part.name for call in opened})
 
     def cause_of(self, walk: Walk, thing: Thing, point: Point) -> Why:
         """Since which place a belief is not the device's state, None for the start, and why."""
+        why = self.found(walk, thing, point)
+        roles = UNDONE.get(why.cause.kind, ())
+        cut = next((part for part in self.cut if part.role in roles), None)
+        return Why(why.since, Cause("cut", f"the play was cut: {cut_text(cut)}")) if cut else why
+
+    def found(self, walk: Walk, thing: Thing, point: Point) -> Why:
+        """The same, whether or not the play was cut."""
         own = walk.own_cause(thing, point)
         if own:
             return own
@@ -89,7 +99,8 @@ class Causes:
     def of_later_belief(self, thing: Thing, origin: Origin, point: Point) -> Optional[Cause]:
         """The cause where the belief was told later than the device took its value."""
         where = self.at.text(origin.place)
-        if origin.is_answer and point.kind == "report" and point.place is not None and origin.place > point.place:
+        is_behind = point.place is not None and origin.place > point.place
+        if origin.is_answer and point.kind == "report" and is_behind:
             return Cause("asked-later", f"it asked at {where}, behind this report's frame")
         if not origin.is_answer and thing.slot is not None:
             text = f"it took the value of {where} for this slot, which is not the device's current one there"
@@ -174,3 +185,5 @@ class Causes:
 
 
 NOT_READ = Cause("not-read", "not read yet")
+# What might have come yet where the play had gone on, by the roles of those who stopped.
+UNDONE: Dict[str, Sequence[str]] = {"not-read": ROLES, "startup": ROLES, "open-frame": ("source",)}

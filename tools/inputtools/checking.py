@@ -1,21 +1,32 @@
 """Checks what a record expects of its play: each expectation, and what came."""
 
 import os
-from typing import Dict, List, NamedTuple, Optional
+from typing import Dict, List, NamedTuple, Optional, Sequence
 
 from inputtools.command import Wrong, counted
-from inputtools.expectations import AT_END, FLAG_KINDS, Expectation, ends_well, expectations_of
+from inputtools.expectations import (
+    AT_END, FLAG_KINDS, Expectation, ends_well, expectations_of, why_not_seen, why_not_sent,
+)
 from inputtools.places import Places, time_text
-from inputtools.played import PlayedDevice, Reader, play
+from inputtools.played import PlayedDevice, Reader
+from inputtools.played import played as devices_of
 from inputtools.program import PLAYED, Player
+from inputtools.progress import progress
+from inputtools.record import Device as RecordDevice
+from inputtools.record import Record
 from inputtools.refusal_hints import refusal_text
 from inputtools.report import (
-    ActorLine, Call, Device, DeviceLine, Entry, Fed, Made, Part, Report, SourceLine, Took, entry_of, without_history,
+    ActorLine, Again, Call, Device, DeviceLine, Entry, Fed, Feedback, Made, Part, Report, SourceLine, Took,
+    cut_text,
+    entry_of, without_history,
 )
-from inputtools.source import Given, read_text
+from inputtools.source import Given, read_text, write_bytes
 from inputtools.wall import wall
 
 OF_A_VIEW = (AT_END, "agrees")
+# The words with which a record is played once, and on threads.
+ALONE = ("--history",)
+THREADED = ("--threads", "--history")
 
 
 class Where(NamedTuple):
@@ -38,15 +49,28 @@ class Outcome:
         self.is_held = came is None
 
 
-class Played:
-    """A record that was played once, with its history."""
+class Expecting:
+    """A record with what it expects of its play, and what plays it."""
 
     def __init__(self, path: str, player: Player) -> None:
         self.given, self.player = Given(path), player
         self.name, self.folder, self.text = self.given.name, self.given.folder, read_text(self.given.path)
         self.expectations = expectations_of(self.text)
+        self.records: List[Record] = []
         wall.begin(self.name, self.text)
-        self.status, self.written = player.play(self.given.path, self.folder, ["--history"])
+
+    def device_of(self, actor: str) -> RecordDevice:
+        """The device of an actor, of a record that was played."""
+        self.records = self.records or [Record(self.text)]
+        return self.records[0].devices[self.records[0].actors[actor].device]
+
+
+class Played:
+    """A record that was played once, with its history."""
+
+    def __init__(self, of: Expecting, flags: Sequence[str]) -> None:
+        self.of, self.flags = of, flags
+        self.status, self.written = of.player.play(of.given.path, of.folder, flags)
         self.report: Optional[Report] = None
         self.places: Dict[str, Places] = {}
         if self.status in PLAYED:
@@ -57,17 +81,18 @@ class Played:
 
     def refusal(self) -> str:
         """Why it was not played."""
-        return refusal_text(self.text, self.written, self.status, self.folder)
+        return refusal_text(self.of.text, self.written, self.status, self.of.folder)
 
     def device_of(self, part: Part) -> Optional[Device]:
-        """The actor's device. That of a joystick and of an owner no report tells, but where there is one alone."""
+        """The actor's device. That of a joystick and of an owner no report tells where there are several."""
         devices = self.report.devices if self.report else []
         return part.device or (devices[0] if len(devices) == 1 else None)
 
     def at(self, part: Part, place: Optional[int]) -> Where:
         """A place of the actor's device, with its time."""
         device = self.device_of(part)
-        return Where(place, None if device is None or place is None else self.places[device.name].moment(place))
+        return Where(place,
+                     None if device is None or place is None else self.places[device.name].moment(place))
 
     def place_text(self, part: Part, place: int) -> str:
         """A place with its time."""
@@ -82,20 +107,64 @@ class Played:
     def client(self, name: str) -> Reader:
         """A client, as it was compared with its device."""
         if self.devices is None:
-            self.devices = play(self.given, self.player)
+            of = self.of
+            is_threaded = self.flags == THREADED
+            self.devices = devices_of(of.name, of.text, of.folder, of.player, self.written, is_threaded)
         return next(each for device in self.devices for each in device.readers() if each.name == name)
 
 
-def outcomes_of(path: str, player: Player) -> List[Outcome]:
-    """The result of each expectation of a record."""
-    played = Played(path, player)
-    expectations = list(played.expectations)
+def outcomes_of(path: str, player: Player, runs: Optional[int] = None) -> List[Outcome]:
+    """The result of each expectation of a record: of one play, or of so many runs on threads."""
+    of = Expecting(path, player)
+    return outcomes_of_play(Played(of, ALONE)) if runs is None else outcomes_of_runs(of, runs)
+
+
+def outcomes_of_play(played: Played) -> List[Outcome]:
+    expectations = list(played.of.expectations)
     if all(each.kind != "status" for each in expectations):
         if played.status not in PLAYED:
             raise Wrong(played.refusal())
         if played.status:
             expectations.insert(0, ends_well())
     return [outcome_of(played, each) for each in expectations]
+
+
+class Run(NamedTuple):
+    """A run on threads: its number, its results, and the file that it left, where one of them fails."""
+
+    number: int
+    outcomes: Dict[str, Outcome]
+    left: Optional[str]
+
+
+def outcomes_of_runs(of: Expecting, runs: int) -> List[Outcome]:
+    """The results over so many runs: each expectation has to hold in each."""
+    done = [run_of(of, number) for number in range(1, runs + 1)]
+    return [over_runs(key, done) for key in sorted({key for run in done for key in run.outcomes})]
+
+
+def run_of(of: Expecting, number: int) -> Run:
+    """A run. Of one that fails the report with its history is left beside the record, for second.replay."""
+    progress.tell(f"{of.name} is played on threads, run {number}")
+    played = Played(of, THREADED)
+    outcomes = {f"{outcome.number or 0:9} {outcome.text}": outcome for outcome in outcomes_of_play(played)}
+    if all(outcome.is_held for outcome in outcomes.values()):
+        return Run(number, outcomes, None)
+    stem = os.path.basename(of.name)[:-4] if of.name.endswith(".rec") else os.path.basename(of.name)
+    left = os.path.join(os.path.dirname(of.name), f"{stem}.run{number}.history")
+    write_bytes(os.path.join(of.folder, os.path.basename(left)), played.written.encode("ascii", "replace"))
+    return Run(number, outcomes, left)
+
+
+def over_runs(key: str, runs: Sequence[Run]) -> Outcome:
+    """What came of an expectation over all runs: in how many it failed, and what came in the first one."""
+    failed = [run for run in runs if key in run.outcomes and not run.outcomes[key].is_held]
+    if not failed:
+        return next(run.outcomes[key] for run in runs if key in run.outcomes)
+    first = failed[0].outcomes[key]
+    where = f"first in run {failed[0].number} ({failed[0].left})"
+    first.came = f"{first.came}; in {len(failed)} of {counted(len(runs), 'run')}, {where}"
+    return first
 
 
 def outcome_of(played: Played, expectation: Expectation) -> Outcome:
@@ -106,20 +175,38 @@ def outcome_of(played: Played, expectation: Expectation) -> Outcome:
     if expectation.kind == "report":
         return of_report(played, expectation)
     part = played.report.parts[expectation.name]
-    if expectation.kind in OF_A_VIEW and not is_opened(part):
-        raise wrong_expectation(played, expectation, f"{expectation.actor} never opened the device")
-    checks = {AT_END: of_view, "never": of_never, "takes": of_takes, "drops": of_drops, "agrees": of_agreement}
+    check_meaning(played, expectation, part)
+    checks = {
+        AT_END: of_view, "never": of_never, "takes": of_takes, "drops": of_drops, "agrees": of_agreement,
+    }
     return checks[expectation.kind](played, expectation, part)
 
 
-def is_opened(part: Part) -> bool:
-    """Did this actor open its device? Without that it has no view to speak of."""
-    return any(call.reply.name == "opened" for call in part.all_of(Call))
+def check_meaning(played: Played, expectation: Expectation, part: Part) -> None:
+    """Refuses what no play can meet, or each play does."""
+    kind, is_whole = expectation.kind, played.report is not None and played.report.cut is None
+    is_opened = part.role == "owner" or any(call.reply.name == "opened" for call in part.all_of(Call))
+    if not is_opened and (is_whole or kind in OF_A_VIEW):
+        raise wrong_expectation(played, expectation, f"{expectation.actor} never opened the device")
+    if kind in ("never", "drops") and is_whole and not any(map(is_reading, part.sight)):
+        raise wrong_expectation(played, expectation,
+                                f"{expectation.actor} never reads, so each play meets it")
+    device = played.of.device_of(expectation.name)
+    why_not = why_not_sent if kind in ("never", "takes") else why_not_seen
+    why = why_not(device, expectation)
+    if why:
+        raise wrong_expectation(played, expectation, why)
 
 
 def wrong_expectation(played: Played, expectation: Expectation, why: str) -> Wrong:
     """An expectation that cannot be met or missed."""
-    return Wrong(f"{played.name}: line {expectation.number}: {expectation.text}: {why}")
+    return Wrong(f"{played.of.name}: line {expectation.number}: {expectation.text}: {why}")
+
+
+def is_reading(entry: Entry) -> bool:
+    """Does this entry of a sight come of a read?"""
+    is_handed = isinstance(entry, (Took, Made, Fed, Again, Feedback))
+    return is_handed or (isinstance(entry, Call) and entry.step.name == "read")
 
 
 def of_status(played: Played, expectation: Expectation) -> Outcome:
@@ -128,17 +215,14 @@ def of_status(played: Played, expectation: Expectation) -> Outcome:
     came = f"status {played.status} came"
     if played.report is None:
         return Outcome(expectation, came=f"{came}: {played.refusal()}")
-    return Outcome(expectation, came=came + full_text(played.report))
-
-
-def full_text(report: Report) -> str:
-    """Whose history was full, after a status."""
-    full = next((part for part in report.parts.values() if part.end.is_full), None)
-    return f": {full.name} stopped, since the history was full at place {full.end.place_told()}" if full else ""
+    cut = played.report.cut
+    return Outcome(expectation, came=f"{came}: {cut_text(cut)}" if cut else came)
 
 
 def of_report(played: Played, expectation: Expectation) -> Outcome:
-    path = os.path.join(played.folder, expectation.words[0])
+    folder, path = os.path.realpath(played.of.folder), os.path.join(played.of.folder, expectation.words[0])
+    if os.path.commonpath([folder, os.path.realpath(path)]) != folder:
+        raise wrong_expectation(played, expectation, "the file is not below the record's folder")
     wanted = read_text(path)
     came = played.written if "\nstep " in wanted else without_history(played.written)
     number = first_difference(wanted, came)
@@ -178,7 +262,8 @@ def of_view(played: Played, expectation: Expectation, part: Part) -> Outcome:
     line = next((line for line in part.view if list(line.words[:size]) == expectation.line), None)
     if line is None:
         what = " ".join(expectation.line)
-        raise wrong_expectation(played, expectation, f"its view has no line {what}, since the device has no such thing")
+        raise wrong_expectation(played, expectation,
+                                f"its view has no line {what}, since the device has no such thing")
     words, wanted = list(line.words[size:]), expectation.wanted
     if is_line_held(expectation, words):
         return Outcome(expectation)

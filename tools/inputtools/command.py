@@ -8,12 +8,13 @@ import signal
 import sys
 from enum import Enum
 from types import FrameType
-from typing import Any, Callable, IO, List, NamedTuple, NoReturn, Optional, Union
+from typing import Any, Callable, IO, List, NamedTuple, NoReturn, Optional, Sequence, Union
 
 from inputtools.progress import progress
 
 VERSION = "1.0.0"
 WRONG, CUT_OFF, STOPPED = 2, 4, 130
+MOST = 10**9
 
 # What stands before a tool's name where it is installed, and a tool's name in a clone.
 PREFIX = "inputplay-"
@@ -71,6 +72,12 @@ class Words(argparse.ArgumentParser):
     def error(self, message: str) -> NoReturn:
         raise Wrong(message)
 
+    def parse_args(self, args: Optional[Sequence[str]] = None, namespace: Any = None) -> Any:
+        """(options may stand between files, but where words stand behind `--`)"""
+        if "--" in (args or ()):
+            return super().parse_args(args, namespace)
+        return self.parse_intermixed_args(args, namespace)
+
     def print_help(self, file: Optional[IO[str]] = None) -> None:
         status = write(self.prog, with_pages(named(self.format_help())))
         if status:
@@ -84,16 +91,25 @@ class Version(argparse.Action):
         sys.exit(write(parser.prog, f"{parser.prog} (inputplay) {VERSION}\n"))
 
 
-def say(program: str, text: str) -> None:
-    """One line on standard error, whatever characters a file's own names have."""
+def plain(text: str) -> str:
+    """A text in printable ASCII, whatever characters a file's own names and words have."""
+    ascii_text = text.encode("ascii", "backslashreplace").decode()
+    return re.sub(r"[^ -~]", lambda found: f"\\x{ord(found[0]):02x}", ascii_text)
+
+
+def tell(line: str) -> None:
+    """A line on standard error, where that is open."""
     progress.clear()
-    line = " ".join(named(text).split())
     if sys.stderr is not None:
         try:
-            plain = line.encode("ascii", "backslashreplace").decode()
-            print(f"{name_of(program)}: {plain}", file=sys.stderr, flush=True)
+            print(plain(named(line)), file=sys.stderr, flush=True)
         except OSError:
             pass
+
+
+def say(program: str, text: str) -> None:
+    """One line on standard error, by who says it."""
+    tell(f"{name_of(program)}: {' '.join(text.split())}")
 
 
 class Wrote(Enum):
@@ -152,9 +168,19 @@ def status_of(program: str, body: Callable[[], int]) -> int:
         return WRONG
 
 
+def fill_closed() -> None:
+    """Has no file that is opened later take the number of a standard stream that is closed."""
+    for number in range(3):
+        try:
+            os.fstat(number)
+        except OSError:
+            os.open(os.devnull, os.O_RDWR)
+
+
 def ends(program: str, body: Callable[[], int]) -> None:
     """Does what a command does, and ends in its status: 130 where it is stopped from the keyboard. Before and
     after that a stop ends the process at once."""
+    fill_closed()
     # (a tool ends soon, and what it reads has no cycles: to look for some would take a third of its time)
     gc.disable()
     progress.begin(name_of(program))
@@ -192,6 +218,32 @@ def number(text: str, low: int, high: int, what: str, base: int = 10) -> int:
     if not low <= value <= high:
         raise Wrong(f"{what} {text[:40]} is not in {low} to {high}")
     return value
+
+
+def natural(text: Optional[str], what: str, low: int = 0) -> Optional[int]:
+    """A number of a command's words, or None where none was given."""
+    if text is None:
+        return None
+    if not re.fullmatch("[0-9]+", text):
+        raise Wrong(f"{what} {text[:40]} is no number")
+    return number(text, low, MOST, what)
+
+
+class Shard(NamedTuple):
+    """The K-th of N parts of what is to be done."""
+
+    number: int
+    parts: int
+
+
+def shard_of(text: Optional[str]) -> Shard:
+    """The part that `K/N` names; all where none is named."""
+    if text is None:
+        return Shard(1, 1)
+    found = re.fullmatch("([0-9]{1,4})/([0-9]{1,4})", text)
+    if not found or not 1 <= int(found[1]) <= int(found[2]):
+        raise Wrong(f"--shard {text[:40]} is not K/N, the K-th of N parts")
+    return Shard(int(found[1]), int(found[2]))
 
 
 def counted(count: int, one: str) -> str:

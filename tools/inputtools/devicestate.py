@@ -23,15 +23,18 @@ import bisect
 import itertools
 import os
 import tempfile
-from typing import Callable, Dict, List, NamedTuple, Optional, Set, Tuple
+from functools import lru_cache
+from typing import Callable, Dict, List, NamedTuple, Optional, Sequence, Set, Tuple
 
 from inputtools.belief import CURRENT, QUERIED_KIND, Belief, Thing, first_difference, view_of_lines
 from inputtools.command import Wrong
 from inputtools.filters import eater
 from inputtools.handles import Handles
+from inputtools.names import number_of_code, number_of_kind
 from inputtools.places import Places
 from inputtools.program import Player
 from inputtools.record import GREATEST_LOG, Device
+from inputtools.recording import Event as Captured
 from inputtools.report import Again, Call, Event, Feedback, Fed, Made, Part, Report, Step, Took, ViewLine
 from inputtools.report import Device as ReportedDevice
 
@@ -168,20 +171,37 @@ def sync_points(state: DeviceState) -> Set[int]:
     return {bisect.bisect_left(state.places, place) for place in places}
 
 
-def action_line(number: int, step: Step) -> str:
-    """The line by which the source makes a step, or the tap describes an axis. A written event is a raw event as an
-    injected one is."""
-    actor = f"axes{number} {DESCRIPTION}" if step.name == DESCRIPTION else f"s{number} event"
-    if step.name in ("write", DESCRIPTION):
-        return f"do {actor} {step.rest.split(' ', 1)[1]}"
-    return f"do {actor} {step.rest}" if step.name == "inject" else f"do s{number} {step.text()}"
+@lru_cache(maxsize=None)
+def numbers_of(kind: str, code: str) -> str:
+    """A type and a code by their numbers, which are shorter than their names."""
+    number = number_of_kind(kind) or 0
+    return f"{number} {number_of_code(number, code)}"
+
+
+def action_line(number: int, step: Step, base: int) -> str:
+    """The line by which the source makes a step, or the tap describes an axis. A written event is a raw event
+    as an injected one is. Moments count from `base` on, so that they are short."""
+    if step.name == DESCRIPTION:
+        return f"do axes{number} {DESCRIPTION} {step.rest.split(' ', 1)[1]}"
+    moment, event = step.moment, step.event
+    if moment is None:
+        return f"do s{number} {step.text()}"
+    if event is None:
+        return f"do s{number} {step.name} {moment - base}"
+    return f"do s{number} event {moment - base} {numbers_of(event.kind, event.code)} {event.value}"
+
+
+def base_of(state: DeviceState) -> int:
+    """The least moment of the device's steps; 0 where the first one has none: its frames have 0 then too."""
+    moments = [state.history[place].moment for place in state.places]
+    known = [moment for moment in moments if moment is not None]
+    return min(known) if known and moments[0] is not None else 0
 
 
 def is_read_behind(step: Step, waiting: int, hint: int) -> bool:
-    """Is to be read after this step? Where frames may have ended, and before more events wait than a ring
-    holds."""
-    is_event = step.name in ("inject", "write")
-    return not is_event or " EV_SYN SYN_REPORT " in step.rest or waiting >= hint
+    """Is to be read after this step? Where more may have come than an event, and long before more events wait
+    than a ring holds, which is eight times the hint."""
+    return step.name not in ("inject", "write") or waiting >= hint
 
 
 def is_sent(step: Step) -> bool:
@@ -192,7 +212,8 @@ def is_sent(step: Step) -> bool:
 
 def sending_places(state: DeviceState) -> List[int]:
     """The places of the steps after which the owner asks, where there is one."""
-    return [place for place in state.places if state.description.is_requested and is_sent(state.history[place])]
+    return [place for place in state.places if state.description.is_requested
+            and is_sent(state.history[place])]
 
 
 def device_lines(number: int, state: DeviceState) -> List[str]:
@@ -209,14 +230,14 @@ def action_lines(number: int, state: DeviceState) -> List[str]:
     """What the source and both clients of a device do."""
     read, ask = [f"do frames{number} follow"], [f"do state{number} force", f"do state{number} follow"]
     axes = [f"do axes{number} axis {code}" for code in state.described]
-    points, sending = sync_points(state), set(sending_places(state))
+    points, sending, base = sync_points(state), set(sending_places(state)), base_of(state)
     lines = [f"do frames{number} open", f"do frames{number} clock monotonic 0", f"do state{number} open"]
     lines += [f"do axes{number} open"] if state.described else []
     lines += ask if 0 in points else []
     waiting = 0
     for index, place in enumerate(state.places, 1):
         step = state.history[place]
-        lines.append(action_line(number, step))
+        lines.append(action_line(number, step, base))
         lines += axes
         lines += [f"do owner{number} feedback 1"] if place in sending else []
         waiting += 1
@@ -225,6 +246,22 @@ def action_lines(number: int, state: DeviceState) -> List[str]:
             waiting = 0
         lines += ask if index in points else []
     return lines + read + ask
+
+
+def too_long(count: int, size: int) -> Wrong:
+    """So many steps would need a record of this size: how many can be, and what helps."""
+    most = count * TEXT_LIMIT // size // 1000 * 1000
+    return Wrong(f"its devices' state can be asked for after about {most} steps at most, and there are "
+                 f"{count}: take a part of the capture by tools/record --from and --to")
+
+
+def check_length(events: Sequence[Captured]) -> None:
+    """Refuses so many events of streams at once, where it is known before they are played."""
+    base = min((event.time for event in events), default=0)
+    lines = (f"do s0 event {time - base} {kind} {code} {value}\n" for time, kind, code, value in events)
+    size = sum(map(len, lines))
+    if size > TEXT_LIMIT:
+        raise too_long(len(events), size)
 
 
 def second_record(states: List[DeviceState]) -> str:
@@ -237,7 +274,7 @@ def second_record(states: List[DeviceState]) -> str:
         lines += action_lines(number, state)
     text = "\n".join(lines) + "\n"
     if len(text) > TEXT_LIMIT:
-        raise Wrong("the history is too long for its device's state to be asked for")
+        raise too_long(sum(len(state.places) for state in states), len(text))
     return text
 
 
@@ -245,7 +282,8 @@ def second_record(states: List[DeviceState]) -> str:
 
 
 class SourcePlaces:
-    """Of the second history's places those that are the source's, each with its place in the first history."""
+    """Of the second history's places those that are the source's, each with its place in the first
+    history."""
 
     def __init__(self, device: ReportedDevice, state: DeviceState) -> None:
         taken = {call.reply.place for part in device.readers() for call in part.all_of(Call)
@@ -264,7 +302,8 @@ def start_values(part: Part) -> Dict[Thing, int]:
     """The state at the start, as the answers to a client's first queries tell it."""
     belief = Belief(0)
     starts = ("open", "getaxis", "syncslots", *QUERIED_KIND)
-    for call in itertools.takewhile(lambda entry: isinstance(entry, Call) and entry.step.name in starts, part.sight):
+    for call in itertools.takewhile(lambda entry: isinstance(entry, Call) and entry.step.name in starts,
+                                    part.sight):
         assert isinstance(call, Call)
         if call.reply.name == "bits":
             belief.answer_bits(QUERIED_KIND[call.step.name], call.reply.rest, None)
@@ -273,7 +312,7 @@ def start_values(part: Part) -> Dict[Thing, int]:
     return belief.values
 
 
-def frames_of(part: Part, places: SourcePlaces) -> List[Frame]:
+def frames_of(part: Part, places: SourcePlaces, base: int) -> List[Frame]:
     """The frames that the client read. Events that it made itself, since its ring ran over, stand for those
     lost."""
     frames: List[Frame] = []
@@ -281,7 +320,7 @@ def frames_of(part: Part, places: SourcePlaces) -> List[Frame]:
     time = called = 0
     for entry in part.sight:
         if isinstance(entry, Took):
-            place, time = entry.place, entry.time
+            place, time = entry.place, base + entry.time
         elif isinstance(entry, Made):
             place = called
         else:
@@ -300,7 +339,7 @@ def read_frames(state: DeviceState, part: Part, places: SourcePlaces) -> None:
     belief = Belief(state.description.slots)
     belief.values = start_values(part)
     changes = state.changes = {thing: Changes(value) for thing, value in belief.values.items()}
-    state.frames = frames_of(part, places)
+    state.frames = frames_of(part, places, base_of(state))
     state.frame_places = [frame.place for frame in state.frames]
     for number, frame in enumerate(state.frames):
         things = (thing for event in frame.events for thing in [belief.take(event, None)] if thing)

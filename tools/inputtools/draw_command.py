@@ -7,7 +7,7 @@ from inputtools.command import Result, Words, Wrong, number
 from inputtools.export_command import refuse_own_file
 from inputtools.page import page, svg, why_nothing
 from inputtools.played import play
-from inputtools.program import find_player
+from inputtools.program import CUT, find_player
 from inputtools.source import Given, write_bytes
 from inputtools.wall import add_wall, wall
 from inputtools.endings import cuts_of
@@ -29,7 +29,6 @@ the range. 4: standard output failed. 6: it was written, of a play that was cut.
 keyboard."""
 
 GREATEST_PLACE = 8388608
-CUT = 6
 
 
 def place(text: Optional[str]) -> Optional[int]:

@@ -7,7 +7,8 @@ from inputtools.belief import TRACKING_ID
 from inputtools.command import counted
 from inputtools.divergences import Divergence
 from inputtools.owners import Owner
-from inputtools.played import PlayedDevice, Reader
+from inputtools.played import PlayedDevice, Reader, cut_of
+from inputtools.report import cut_text
 from inputtools.still_down import still_down_of
 from inputtools.stuck_text import name_of, since_text
 
@@ -147,8 +148,5 @@ def passed_of(devices: Sequence[PlayedDevice]) -> List[Ending]:
 
 def cuts_of(devices: Sequence[PlayedDevice]) -> List[str]:
     """Who stopped before its last line, since no more of a history or of its calls is kept."""
-    reports = [device.report for device in devices]
-    parts = [part for report in reports for part in report.parts + report.joysticks + report.owners]
-    cut = [part for part in parts if part.end.is_full][:1]
-    why = "stopped, since the history was full at place"
-    return [f"the play was cut: {part.name} {why} {part.end.place_told()}" for part in cut]
+    cut = cut_of(devices)
+    return [] if cut is None else [f"the play was cut: {cut_text(cut)}"]

@@ -13,11 +13,15 @@ They are comments, so a record with them is played as one without.
 """
 
 import re
-from typing import Dict, Iterable, List, Optional, Tuple
+from typing import Dict, Iterable, List, Optional, Set, Tuple
 
-from inputtools.command import Wrong
-from inputtools.names import CODES, KEY, LED, SW, TYPES, code_text, kind_text, number_of_code, number_of_kind
-from inputtools.record import roles_of
+from inputtools.command import Wrong, counted
+from inputtools.names import (
+    ABS, CODES, KEY, LED, REP, SW, SYN, TYPES, code_text, kind_text, nearest, number_of_code, number_of_kind,
+)
+from inputtools.devicestate import OUTPUT_KINDS, OUTPUT_SYN
+from inputtools.joysticks import things_of
+from inputtools.record import Device, roles_of
 from inputtools.report import Event
 
 MARK = "#="
@@ -26,22 +30,25 @@ FLAG_KINDS = {"keys": KEY, "switches": SW, "leds": LED}
 
 # What can be expected of an actor, by its role.
 OF_READER = ("at-end", "never", "takes", "drops", "agrees")
-KINDS = {"client": OF_READER, "tap": OF_READER, "joy": ("at-end", "agrees"), "owner": ("never", "takes"), "source": ()}
+KINDS = {"client": OF_READER, "tap": OF_READER, "joy": ("at-end", "agrees"), "owner": ("never", "takes"),
+         "source": ()}
 LINES = {"client": ("keys", "switches", "leds", "axes", "current", "slot"), "joy": ("buttons", "axes")}
 LINES["tap"] = LINES["client"]
 
 AT_END = "at-end"
 SIGNED = re.compile(r"-?[0-9]{1,10}$")
 NUMBER = re.compile(r"[0-9]{1,7}$")
-ROLE_TEXT = {"client": "client", "tap": "tap", "joy": "joystick", "owner": "owner", "source": "source"}
+ROLE_TEXT = {"client": "a client", "tap": "a tap", "joy": "a joystick", "owner": "an owner",
+             "source": "a source"}
 
 
 class Expectation:
     """A line of a record that expects something: its number, its words, the actor that it is of (or None),
     what it expects (`kind`), and the words after that.
 
-    Of a line of the view `line` has the words that it begins with, and `wanted` those that are to stand behind. Of an
-    event `event` has its type and its code, or None for each, and `value` its value, or None for each.
+    Of a line of the view `line` has the words that it begins with, and `wanted` those that are to stand
+    behind. Of an event `event` has its type and its code, or None for each, and `value` its value, or None
+    for each.
     """
 
     event: Tuple[str, Optional[str]]
@@ -83,7 +90,7 @@ class Expectation:
     def check_of_actor(self) -> None:
         kinds = KINDS[self.role]
         if self.kind not in kinds:
-            of_it = f"of a {ROLE_TEXT[self.role]} one expects {' or '.join(kinds)}" if kinds else (
+            of_it = f"of {ROLE_TEXT[self.role]} one expects {' or '.join(kinds)}" if kinds else (
                 "nothing is expected of a source: expect it of a client")
             raise Wrong(f"{self.kind} is not known here: {of_it}")
         {AT_END: self.check_line, "never": self.check_event, "takes": self.check_event,
@@ -132,6 +139,65 @@ class Expectation:
         self.wanted = [str(int(word)) for word in self.wanted]
 
 
+# What cannot be met or missed
+
+
+def codes_of(device: Device, number: int) -> List[str]:
+    """The codes of a type that a device has, in their order."""
+    described = device.described
+    codes = set(described.axes) if number == ABS else described.codes.get(number, set())
+    return [code_text(number, code) for code in sorted(codes)]
+
+
+def sent_codes(device: Device, kind: str, role: str) -> Set[str]:
+    """The codes of a type that a device may send to an actor of a role."""
+    if role == "owner" and kind not in OUTPUT_KINDS:
+        return {OUTPUT_SYN} if kind == "EV_SYN" else set()
+    number = TYPES.get(kind, -1)
+    is_whole = number == SYN or (number == REP and REP in device.described.codes)
+    return set(CODES[number] if is_whole else codes_of(device, number))
+
+
+def why_not_sent(device: Device, expectation: Expectation) -> Optional[str]:
+    """Why no actor of the role is ever handed the event of an expectation by this device, or None."""
+    kind, code = expectation.event
+    codes = sent_codes(device, kind, expectation.role)
+    if code in codes or (code is None and codes):
+        return None
+    others = codes or {each for name in TYPES if name != "EV_SYN"
+                       for each in sent_codes(device, name, expectation.role)}
+    who = "no owner is told" if expectation.role == "owner" else f"the device {device.name} cannot send"
+    return f"{who} {code or kind}{nearest(code or kind, sorted(others), 0.0)}"
+
+
+def why_not_seen(device: Device, expectation: Expectation) -> Optional[str]:
+    """Why the view of an actor at its end never has what is wanted, or always has it, or None."""
+    if expectation.kind != AT_END:
+        return None
+    if expectation.role == "joy":
+        return why_no_joystick(device, expectation)
+    if expectation.line[0] == "current":
+        is_one = int(expectation.wanted[0]) in range(device.slots)
+        return None if is_one else f"it has {counted(device.slots, 'slot')}, from 0 on"
+    kind = FLAG_KINDS.get(expectation.line[0], ABS)
+    has = codes_of(device, kind)
+    wanted = (word.split("=")[0] for word in expectation.wanted)
+    other = next((code for code in wanted if code not in has), None)
+    if other is None or not has:
+        return None
+    return f"the device {device.name} has no {other}{nearest(other, has, 0.0)}"
+
+
+def why_no_joystick(device: Device, expectation: Expectation) -> Optional[str]:
+    """The same of a joystick, whose buttons and axes have numbers."""
+    buttons, axes = map(len, things_of(device))
+    if expectation.line[0] == "axes":
+        what = "1 axis" if axes == 1 else f"{axes} axes"
+        return None if len(expectation.wanted) == axes else f"the joystick has {what}"
+    is_one = buttons > 0 and all(int(number) in range(buttons) for number in expectation.wanted)
+    return None if is_one else f"the joystick has {counted(buttons, 'button')}, from 0 on"
+
+
 def ends_well() -> Expectation:
     """What is expected of a record that tells no status."""
     return Expectation(None, ["status", "0"], {})
@@ -146,7 +212,7 @@ def written_code(kind: int, word: str) -> str:
     """A code as a report writes it."""
     number = number_of_code(kind, word)
     if number is None:
-        raise Wrong(f"{word} is no code of {kind_text(kind)}")
+        raise Wrong(f"{word} is no code of {kind_text(kind)}{nearest(word, CODES[kind])}")
     return code_text(kind, number)
 
 
@@ -166,9 +232,19 @@ def kind_and_code(word: str) -> Tuple[str, Optional[str]]:
         kind = next((kind for kind, names in CODES.items() if first in names), None)
         second = first if kind is not None else ""
     code = number_of_code(kind, second) if kind is not None and second else None
+    if kind is not None and kind not in TYPES.values() and not slash:
+        raise Wrong(f"{word} is no type: a code is written with its own, as EV_KEY/{word}{named_key(kind)}")
     if kind is None or (code is None and (slash or second)):
-        raise Wrong(f"{word} is no code (KEY_A), no type (EV_KEY) and no TYPE/CODE (EV_KEY/656)")
+        names = [*TYPES, *(name for names in CODES.values() for name in names)]
+        other = nearest(word, names)
+        raise Wrong(f"{word} is no code (KEY_A), no type (EV_KEY) and no TYPE/CODE (EV_KEY/656){other}")
     return kind_text(kind), None if code is None else code_text(kind, code)
+
+
+def named_key(code: int) -> str:
+    """The name of a key, where it has one."""
+    name = code_text(KEY, code)
+    return "" if name == str(code) else f", which is {name}"
 
 
 def words_of(line: str) -> Optional[List[str]]:

@@ -5,15 +5,15 @@ from __future__ import annotations
 import json
 import os
 import re
-from typing import Any, List, Optional, Sequence, Tuple
+from typing import Any, List, Optional, Sequence
 
-from inputtools.command import STOPPED, Result, Words, Wrong, number, say
+from inputtools.command import STOPPED, Result, Words, Wrong, natural, say, shard_of
 from inputtools.explore_run import Settings, explored, items_of
 from inputtools.explored_answers import Answer, Found, answer_lines, joined, shard_line
 from inputtools.explored_record import GRAINS
 from inputtools.explored_words import answer_text
 from inputtools.exploring import Asked
-from inputtools.source import Given, read_bytes, shown
+from inputtools.source import Given, paths_of, read_bytes, shown
 
 HELP = """Says in how many orders of a record's lines a client believes something wrong at the end, and
 shows a short one of them, as a record that plays in that order.
@@ -40,7 +40,6 @@ orders were looked at. 4: standard output failed. 5: an order that is shown is n
 again. 130: stopped from the keyboard; what was found until then is written."""
 
 FOUND_WRONG, NOT_ALL, DIFFERS = 1, 3, 5
-MOST = 10**9
 
 
 # The words of the command, each with how argparse takes it.
@@ -80,15 +79,6 @@ def words_of_command() -> Words:
     return words
 
 
-def natural(text: Optional[str], what: str, low: int = 0) -> Optional[int]:
-    """A number of the command's words, or None where none was given."""
-    if text is None:
-        return None
-    if not re.fullmatch("[0-9]+", text):
-        raise Wrong(f"{what} {text[:40]} is no number")
-    return int(number(text, low, MOST, what))
-
-
 def settings_of(asked: Any) -> Settings:
     if asked.waits and asked.grain != "call":
         raise Wrong("--waits wants --grain call")
@@ -107,29 +97,6 @@ def settings_of(asked: Any) -> Settings:
         natural(asked.seconds, "--seconds", 1) or 1,
         shard_of(asked.shard),
     )
-
-
-def shard_of(text: Optional[str]) -> Tuple[int, int]:
-    if text is None:
-        return 1, 1
-    found = re.fullmatch("([0-9]{1,4})/([0-9]{1,4})", text)
-    if not found or not 1 <= int(found[1]) <= int(found[2]):
-        raise Wrong(f"--shard {text[:40]} is not K/N, the K-th of N parts")
-    return int(found[1]), int(found[2])
-
-
-def givens_of(paths: Sequence[str]) -> List[Given]:
-    """The records that are named, and those of folders."""
-    givens = []
-    for path in paths:
-        if not os.path.isdir(path):
-            givens.append(Given(path))
-            continue
-        names = sorted(name for name in os.listdir(path) if name.endswith(".rec"))
-        if not names:
-            raise Wrong(f"{path}: the folder has no record (*.rec)")
-        givens += [Given(os.path.join(path, name)) for name in names]
-    return givens
 
 
 # What was found
@@ -204,7 +171,7 @@ def command(arguments: Sequence[str]) -> Result:
         return Result(output.text(), [], output.status())
     settings = settings_of(asked)
     processes = natural(asked.j, "-j", 1) or 1
-    items, wrong = items_of(givens_of(asked.records), settings)
+    items, wrong = items_of([Given(path) for path in paths_of(asked.records)], settings)
     for text in wrong:
         say("explore", text)
     if asked.shard:

@@ -3,34 +3,38 @@
 import argparse
 import os
 import sys
-from typing import List, Optional, Union
+from typing import List, NamedTuple, Optional, Union
 
 from inputtools.command import Result, Words, Wrong
 from inputtools.exporting import Source, evemu_text, raw_bytes
-from inputtools.program import PLAYED, find_player
+from inputtools.program import CUT, PLAYED, find_player
 from inputtools.refusal_hints import refusal_text
-from inputtools.report import Report
+from inputtools.report import CUT_HELP, Part, Report, cut_text
 from inputtools.source import Given, read_text, write_bytes
 from inputtools.umockdev import umockdev_text
 
 HELP = """Writes the events of a record for other tools, to stdout or to a file.
 
---evemu writes the device and all events of its sources, as evemu-record does: for evemu-device and evemu-play,
-and as the events of umockdev-run --evemu-events. Nothing is played for that. The events are those that the
-sources send, before filters; times are the record's moments. A description by evemu cannot tell which keys
-are down: a record that tools/record wrote sends them in its first frame.
+--evemu writes the device and all events of its sources, as evemu-record does: for evemu-device and
+evemu-play, and as the events of umockdev-run --evemu-events. Nothing is played for that. The events are those
+that the sources send, before filters; times are the record's moments. A description by evemu cannot tell
+which keys are down: a record that tools/record wrote sends them in its first frame.
 
 --raw CLIENT plays the record and writes what this client or tap read, SYN_DROPPED among it: the bytes that
-`read` of /dev/input/event5 gives, 24 for an event, or 16 with --16 as on a 32-bit machine. So one's own code can
-read them in the place of the node. What a reader made up itself is no part of it. Times are those of the client's clock.
+`read` of /dev/input/event5 gives, 24 for an event, or 16 with --16 as on a 32-bit machine. So one's own code
+can read them in the place of the node. What a reader made up itself is no part of it. Times are those of the
+client's clock.
 
---umockdev writes who the devices are and what they have, for `umockdev-run -d`: names, ids, properties and udev's
-ID_INPUT_..; programs that look for devices by udev find them so. It has no events. Fuzz and ranges are no part.
+--umockdev writes who the devices are and what they have, for `umockdev-run -d`: names, ids, properties and
+udev's ID_INPUT_..; programs that look for devices by udev find them so. It has no events. Fuzz and ranges are
+no part.
 
-tools/record makes a record of either of the first two again: of the second with the device's description beside it."""
+tools/record makes a record of either of the first two again: of the second with the device's description
+beside it."""
 
-STATUSES = """Status 0: it was written. 2: wrong words, or a record that cannot be exported or played. 4: standard output
-failed. 130: stopped from the keyboard."""
+STATUSES = """Status 0: it was written. 2: wrong words, or a record that cannot be exported or played. 4:
+standard output failed. 6: what --raw had played until a history was full was written. 130: stopped from the
+keyboard."""
 
 
 def written(path: Optional[str], data: Union[str, bytes], notes: List[str]) -> Result:
@@ -43,18 +47,26 @@ def written(path: Optional[str], data: Union[str, bytes], notes: List[str]) -> R
     return Result(data, notes)
 
 
-def read_by(given: Given, name: str, size: int) -> bytes:
-    """What a client of a record read, as bytes."""
+class ReadBy(NamedTuple):
+    """What a client of a record read, as bytes, and who stopped since a history was full, if anybody did."""
+
+    data: bytes
+    cut: Optional[Part]
+
+
+def read_by(given: Given, name: str, size: int) -> ReadBy:
+    """What a client of a record read."""
     text = read_text(given.path)
     status, written = find_player().play(given.path, given.folder)
     if status not in PLAYED:
         raise Wrong(f"{given.name}: {refusal_text(text, written, status, given.folder)}")
-    parts = Report(written).parts
+    report = Report(written)
+    parts = report.parts
     readers = [part.name for part in parts.values() if part.role in ("client", "tap")]
     if name not in readers:
         listed = f"there are {', '.join(readers)}" if readers else "it has none"
         raise Wrong(f"{given.name}: no client or tap is named {name}; {listed}")
-    return raw_bytes(parts[name], size)
+    return ReadBy(raw_bytes(parts[name], size), report.cut)
 
 
 def refuse_own_file(path: str, output: Optional[str]) -> None:
@@ -79,11 +91,13 @@ def command(arguments: List[str]) -> Result:
     words = Words(prog="export", description=HELP, epilog=STATUSES)
     words.add_argument("record", metavar="RECORD", help="a record; - is standard input")
     forms = words.add_mutually_exclusive_group(required=True)
-    forms.add_argument("--evemu", action="store_true", help="the device and its sources' events, as evemu has them")
+    forms.add_argument("--evemu", action="store_true",
+                       help="the device and its sources' events, as evemu has them")
     forms.add_argument("--umockdev", action="store_true", help="all devices, as umockdev-run -d takes them")
     forms.add_argument("--raw", metavar="CLIENT", help="what this client or tap read, as bytes")
     words.add_argument("--16", dest="is_16", action="store_true", help="--raw: 16 bytes an event")
-    words.add_argument("--device", metavar="N", help="--evemu: of several devices the N-th, from 1, or the one of this name")
+    words.add_argument("--device", metavar="N",
+                       help="--evemu: of several devices the N-th, from 1, or the one of this name")
     words.add_argument("--output", metavar="FILE", help="write to FILE")
     asked = words.parse_args(arguments)
     refuse_own_file(asked.record, asked.output)
@@ -99,5 +113,7 @@ def command(arguments: List[str]) -> Result:
         return written(asked.output, evemu_text(source), source.notes)
     if asked.device is not None:
         raise Wrong("--device goes with --evemu: the client tells the device")
-    data = read_by(given, asked.raw, 16 if asked.is_16 else 24)
-    return written(asked.output, data, [] if data else [f"{asked.raw} read no event"])
+    read = read_by(given, asked.raw, 16 if asked.is_16 else 24)
+    notes = [f"the play was cut: {cut_text(read.cut)}; {CUT_HELP}"] if read.cut else []
+    result = written(asked.output, read.data, notes + ([] if read.data else [f"{asked.raw} read no event"]))
+    return result._replace(status=CUT if read.cut else 0)

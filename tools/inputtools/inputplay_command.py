@@ -5,16 +5,17 @@ import sys
 from typing import List
 
 from inputtools.building import build, is_built
-from inputtools.command import VERSION, Result
+from inputtools.command import CUT_OFF, VERSION, Result, say
 from inputtools.program import BUILT
 from inputtools.unproved import play
 
 HELP = """usage: bin/inputplay [--unproved] WORDS ..
 
-Runs the program with these words: crates/inp_main/out/inp_main of this repository. Where it is not there, it is
-proved and built first, once, without the tests and the edits of the gate. It says before how long that takes, by
-what bench/gate_cost measures of this machine; without that it is reckoned to be ten minutes on four processors.
-On a terminal it asks before, and says how far it is. What is proved is kept, so a build that was stopped goes on.
+Runs the program with these words: crates/inp_main/out/inp_main of this repository. Where it is not there, it
+is proved and built first, once, without the tests and the edits of the gate. It says before how long that
+takes, by what bench/gate_cost measures of this machine; without that it is reckoned to be ten minutes on four
+processors. On a terminal it asks before, and says how far it is. What is proved is kept, so a build that was
+stopped goes on.
 
 With --unproved as the first word a record is played at once, without proof: by the second program, which is
 in Python (second) and plays on one thread. The tests compare its reports with the program's. With any
@@ -43,6 +44,9 @@ def command(words: List[str]) -> Result:
         return Result(f"inputplay {VERSION}\n")
     if words[:1] == ["--unproved"]:
         return play(words[1:])
+    if sys.stdout is None:
+        say("inputplay", "standard output is closed")
+        return Result(status=CUT_OFF)
     if not is_built():
         build("inputplay", sys.stderr)
     sys.stdout.flush()

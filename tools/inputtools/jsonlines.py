@@ -10,10 +10,11 @@ from inputtools.divergences import Divergence, Point
 from inputtools.joysticks import JoyWalk
 from inputtools.owners import Owner
 from inputtools.places import Places
-from inputtools.played import PlayedDevice, Reader
+from inputtools.played import PlayedDevice, Reader, cut_of
 from inputtools.report import (
-    BEHIND, ActorLine, Again, Call, DeviceLine, Entry, Event, Fed, Feedback, JoyRecord, Made, SourceLine, StepLine, Stop,
-    Took, ViewLine, entry_of,
+    BEHIND, ActorLine, Again, Call, DeviceLine, Entry, Event, Fed, Feedback, JoyRecord, Made, SourceLine,
+    StepLine, Stop,
+    Took, ViewLine, cut_text, entry_of,
 )
 from inputtools.still_down import still_down_of
 
@@ -141,9 +142,17 @@ def end_line(device: PlayedDevice, reader: Reader) -> str:
     return line_of("end", **named(device, reader), agrees=not things, things=things)
 
 
+def cut_lines(devices: Sequence[PlayedDevice]) -> List[str]:
+    """The object of a play that was cut, if it was."""
+    cut = cut_of(devices)
+    if cut is None:
+        return []
+    return [line_of("cut", role=cut.role, name=cut.name, place=cut.end.place_told(), text=cut_text(cut))]
+
+
 def stuck_lines(devices: Sequence[PlayedDevice]) -> List[str]:
     """The objects that say where beliefs and devices part."""
-    lines = []
+    lines = cut_lines(devices)
     for device in devices:
         lines.append(line_of("device", device=device.name, steps=device.report.steps))
         for reader in device.readers():
@@ -153,7 +162,8 @@ def stuck_lines(devices: Sequence[PlayedDevice]) -> List[str]:
                 lines.append(end_line(device, reader))
         for held in still_down_of(device.state):
             since = moment_fields(device.state.at, held.since)
-            lines.append(line_of("held", device=device.name, **thing_fields(held.thing), value=held.value, since=since))
+            lines.append(line_of("held", device=device.name, **thing_fields(held.thing), value=held.value,
+                                 since=since))
         lines += [line_of("state", device=device.name, **fields_of(line)) for line in device.state.view]
     return lines
 

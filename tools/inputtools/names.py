@@ -5,7 +5,7 @@ The table is a file, which the second program reads too.
 
 import re
 from pathlib import Path
-from typing import Dict, Optional
+from typing import Dict, Iterable, Optional
 
 TABLE = Path(__file__).parent / "event_codes.txt"
 
@@ -81,6 +81,15 @@ def number_of_kind(word: str) -> Optional[int]:
 def number_of_code(kind: int, word: str) -> Optional[int]:
     names = CODES.get(kind, {})
     return names[word] if word in names else _number(word)
+
+
+def nearest(word: str, names: Iterable[str], least: float = 0.6) -> str:
+    """What is said of the name that is most like a word, empty where none is like it."""
+    import difflib  # (it is for what is wrong alone, and takes a while)
+
+    written = {name.upper(): name for name in names}
+    found = difflib.get_close_matches(word.upper(), written, 1, least)
+    return f"; the nearest name is {written[found[0]]}" if found else ""
 
 
 def _number(word: str) -> Optional[int]:

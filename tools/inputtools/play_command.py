@@ -5,12 +5,12 @@ import os
 import sys
 from typing import List, Optional, Union
 
-from inputtools.command import CUT_OFF, Result, Words, Wrote, name_of, named, put
+from inputtools.command import CUT_OFF, Result, Words, Wrong, Wrote, name_of, put, tell
 from inputtools.jsonlines import ReportLines, line_of
 from inputtools.program import MESSAGES, PLAYED, Player, Run, find_player
 from inputtools.progress import progress
-from inputtools.refusal_hints import Refusal, hint_of, line_text, other_kind, refused_line
-from inputtools.source import Given, read_text, shown
+from inputtools.refusal_hints import Refusal, hint_of, limit_hint, line_text, other_kind, refused_line
+from inputtools.source import INPUT, Given, read_text, shown
 from inputtools.wall import WallLines, add_wall, wall
 
 HELP = """Plays records: by the built program where there is one, else by the second program, without proof.
@@ -19,23 +19,17 @@ The report goes to stdout. Of several files a line `file FILE` stands before eac
 goes to stderr: which program plays, and, where it refuses a line, the line's text and what is usually wrong
 with such a line.
 
-The program is the one that the environment variable INPUTPLAY names, else crates/inp_main/out/inp_main of
-this repository, else the second program, which is in Python (second). It runs in the record's
-folder, so the files of `stream` lines are looked for there; for standard input, in the present folder.
-Where the tools stand without it, the toolchain's `rt try` plays in its place: in one to three minutes,
-reports of 1 MiB at most."""
+The program is the one that the environment variable INPUTPLAY names, else the built one of this repository
+(crates/inp_main/out/inp_main) or the installed one (bin/inputplay), else the second program, which is in
+Python. It runs in the record's folder, so the files of `stream` lines are looked for there; for standard
+input, in the present folder. Where the tools stand without it, the toolchain's `rt try` plays in its place:
+in one to three minutes, reports of 1 MiB at most."""
 
 STATUSES = """Statuses are the program's: 0 played; 1 a line is refused; 2 wrong words, or no program, or one
 that is not inputplay; 3 a file could not be read; 4 stdout failed; 5 no memory; 6 played, and a history was
 full; 7 a file is too long. 130: stopped from the keyboard. Of several files it is the first that is not 0."""
 
 UNREAD = 3
-
-
-def tell(text: str) -> None:
-    progress.clear()
-    if sys.stderr is not None:
-        print(named(text).encode("ascii", "backslashreplace").decode(), file=sys.stderr, flush=True)
 
 
 def has_put(data: bytes) -> bool:
@@ -47,15 +41,21 @@ class File:
     """A record that is played: the name by which it is told, and the file that has it."""
 
     def __init__(self, path: str, asked: argparse.Namespace) -> None:
-        given = Given(path)
-        self.name, self.folder, self.path = given.name, given.folder, given.path
+        self.why: Optional[str] = None
+        try:
+            given = Given(path)
+            self.name, self.folder, self.path = given.name, given.folder, given.path
+        except Wrong as wrong:
+            if path == INPUT:
+                raise
+            self.name, self.folder, self.path, self.why = path, "", path, str(wrong)[len(path) + 2 :]
         self.is_json: bool = asked.json
         self.flags = ["--history"] if asked.history else []
 
     def why_unread(self) -> Optional[str]:
         """Why it cannot be read, or None."""
-        if not os.path.isfile(self.path):
-            return "which is no file"
+        if self.why or not os.path.isfile(self.path):
+            return self.why or "which is no file"
         try:
             with open(self.path, "rb") as file:
                 file.read(1)
@@ -99,7 +99,8 @@ class File:
                 data = first + written.read(1 << 16) + written.readline()
                 size += len(data)
                 if self.is_json or wall.is_asked:
-                    data = "".join(lines.line(text) + "\n" for text in data.decode("ascii").splitlines()).encode()
+                    data = "".join(lines.line(text) + "\n"
+                                   for text in data.decode("ascii").splitlines()).encode()
                 if not has_put(data):
                     return False
                 tell_how_far(f"{self.name}: {size} bytes of its report are handed on")
@@ -114,12 +115,14 @@ class File:
         tell(message)
         if refused is None:
             tell(f"  in {self.name}" + (f", {why}" if why else ""))
+            if limit_hint(message):
+                tell(f"  {limit_hint(message)}")
             return
         text = read_text(self.path)
         tell(f"  {self.name}:{refused.line}: {line_text(text, refused.line)}")
         other = other_kind(text, refused.cause)
         hint = hint_of(text, refused, self.folder)
-        tell(f"  {other}" if other else f"  {hint}" if hint.startswith("of ") else f"  usual mistakes: {hint}")
+        tell(f"  {other or (hint.text if hint.is_certain else f'usual mistakes: {hint.text}')}")
 
     def refusal(self, message: str, refused: Optional[Refusal]) -> str:
         number, cause = (refused.line, refused.cause) if refused else (None, None)

@@ -15,7 +15,7 @@ from inputtools.joysticks import JoyWalk
 from inputtools.owners import Owner
 from inputtools.program import PLAYED, Player
 from inputtools.progress import progress
-from inputtools.record import Line, Record
+from inputtools.record import Line, Record, lines_of
 from inputtools.refusal_hints import refusal_text
 from inputtools.report import Call, Device, Entry, Part, Report, Took, entry_of
 from inputtools.source import Given, read_text
@@ -129,9 +129,24 @@ def add_parts_behind(report: Report, record: Record) -> None:
             device.owners.append(part)
 
 
+def check_streams(name: str, text: str, folder: str) -> None:
+    """Refuses streams that are too long at once, and not once they were played."""
+    streams = [line.stream for line in lines_of(text) if line.stream]
+    try:
+        events = [event for stream in streams for event in stream.events(folder)]
+    except Wrong:
+        # (who plays them says what is wrong with them)
+        return
+    try:
+        devicestate.check_length(events)
+    except Wrong as wrong:
+        raise Wrong(f"{name}: {wrong}") from None
+
+
 def play(given: Given, player: Player) -> List[PlayedDevice]:
     """Plays a record and asks for its devices' states; the played devices."""
     text, folder = read_text(given.path), given.folder
+    check_streams(given.name, text, folder)
     wall.begin(given.name, text)
     status, written = player.play(given.path, folder, ["--history"])
     if status not in PLAYED:
@@ -139,12 +154,22 @@ def play(given: Given, player: Player) -> List[PlayedDevice]:
     return played(given.name, text, folder, player, written)
 
 
-def played(name: str, text: str, folder: str, player: Player, written: str) -> List[PlayedDevice]:
+def cut_of(devices: Sequence[PlayedDevice]) -> Optional[Part]:
+    """The first actor that stopped since a history was full, or None."""
+    return next((part for device in devices for part in device.report.all_parts() if part.end.is_full), None)
+
+
+def played(name: str, text: str, folder: str, player: Player, written: str,
+           is_threaded: bool = False) -> List[PlayedDevice]:
     """The played devices of a record, by the report that was written of it."""
     record, report = Record(text), Report(written)
     add_parts_behind(report, record)
-    states = [DeviceState(description, device.history) for description, device in zip(record.devices, report.devices)]
-    progress.tell(f"{name}: the devices are played alone, {sum(len(state.history) for state in states)} steps")
+    histories = [device.history for device in report.devices]
+    states = [DeviceState(*each) for each in zip(record.devices, histories)]
+    progress.tell(f"{name}: the devices are played alone, {sum(map(len, histories))} steps")
     devicestate.ask(states, player)
     unread = Unread(text, record, folder, player, report)
+    if is_threaded:
+        # (another play would go another way)
+        unread.parts = {}
     return [PlayedDevice(device, state, unread) for device, state in zip(report.devices, states)]

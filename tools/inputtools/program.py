@@ -19,7 +19,7 @@ import tempfile
 from abc import ABC, abstractmethod
 from typing import IO, List, NamedTuple, Optional, Sequence
 
-from inputtools.command import Wrong
+from inputtools.command import Wrong, is_installed
 from inputtools.progress import progress
 from inputtools.record import stream_names
 
@@ -32,7 +32,8 @@ SOURCE = os.path.join(REPOSITORY, "crates", "inp_main")
 SECOND = os.path.join(REPOSITORY, "second")
 
 # The statuses with which a report was written.
-PLAYED = (0, 6)
+CUT = 6
+PLAYED = (0, CUT)
 GREATEST_STATUS = 7
 
 # How the program's output begins: with a device of a report, or with a message.
@@ -47,10 +48,11 @@ TOO_LONG = re.compile(r"more than \d+ bytes|the limit on each|standard output")
 
 
 class Launch(NamedTuple):
-    """The words of a command, and the folder in which it runs."""
+    """The words of a command, the folder in which it runs, and the file that it has as standard input."""
 
     words: List[str]
     folder: str
+    given: str = os.devnull
 
 
 class Ended(NamedTuple):
@@ -61,15 +63,15 @@ class Ended(NamedTuple):
 
 
 class Run:
-    """A running program. What it says beside its output goes to a file, so that it never waits for a reader."""
+    """A running program. What it says beside its output goes to a file, so it never waits for a reader."""
 
     def __init__(self, player: "Player", launch: Launch) -> None:
         self.player = player
         self.beside = tempfile.TemporaryFile()
         try:
-            self.process = subprocess.Popen(
-                launch.words, cwd=launch.folder, stdin=subprocess.DEVNULL, stdout=subprocess.PIPE, stderr=self.beside
-            )
+            with open(launch.given, "rb") as given:
+                self.process = subprocess.Popen(launch.words, cwd=launch.folder, stdin=given,
+                                                stdout=subprocess.PIPE, stderr=self.beside)
         except OSError as fault:
             raise Wrong(f"{player.who()} does not start: {fault.strerror}") from None
 
@@ -96,12 +98,13 @@ class Run:
         return [line for line in self.lines_beside() if not line.startswith(TOOLCHAIN_LINES)]
 
     def status(self) -> int:
-        """The program's status, once its output was read. Every other end is one line that says what to do."""
+        """The program's status, once its output was read. Each other end is one line that says what to do."""
         return self.player.status_of(self.process.wait(), self.lines_beside())
 
 
 class Player(ABC):
-    """What plays records. `name` is that by which it is told, and `takes` how long it takes, where that is long."""
+    """What plays records. `name` is that by which it is told, and `takes` how long it takes, where that is
+    long."""
 
     name: str
     takes = ""
@@ -134,13 +137,15 @@ class Player(ABC):
             wrote = "what it wrote is no report" if written else "it wrote nothing"
             raise Wrong(f"{self.who()} is not inputplay, or is broken: {wrote}")
 
-    def start(self, path: Optional[str], folder: str, flags: Sequence[str] = (), what: Optional[str] = None) -> Run:
+    def start(self, path: Optional[str], folder: str, flags: Sequence[str] = (),
+              what: Optional[str] = None) -> Run:
         """The running program. `what` says what it is played for."""
         launch = self.launch(path, folder, flags)
         progress.tell((what or f"{os.path.basename(path or '')} is played") + self.takes)
         return Run(self, launch)
 
-    def play(self, path: Optional[str], folder: str, flags: Sequence[str] = (), what: Optional[str] = None) -> Ended:
+    def play(self, path: Optional[str], folder: str, flags: Sequence[str] = (),
+             what: Optional[str] = None) -> Ended:
         """The status, and what was written."""
         run = self.start(path, folder, flags, what)
         try:
@@ -163,10 +168,16 @@ class BuiltProgram(Player):
         return f"played by {self.name}"
 
     def who(self) -> str:
-        return f"{self.name}, which INPUTPLAY names," if self.is_named else self.name
+        if self.is_named:
+            return f"{self.name}, which INPUTPLAY names,"
+        return INSTALLED if self.program == INSTALLED else self.name
 
     def launch(self, path: Optional[str], folder: str, flags: Sequence[str]) -> Launch:
-        return Launch([self.program, *flags, *([os.path.abspath(path)] if path else [])], folder)
+        path = os.path.abspath(path) if path else ""
+        if path.isascii() or os.fsencode(path) == path.encode("utf-8", "replace"):
+            return Launch([self.program, *flags, *filter(None, [path])], folder)
+        # (it takes no name that is not in UTF-8)
+        return Launch([self.program, *flags, "/dev/stdin"], folder, path)
 
 
 class SecondProgram(Player):
@@ -181,7 +192,8 @@ class SecondProgram(Player):
         return self.name
 
     def launch(self, path: Optional[str], folder: str, flags: Sequence[str]) -> Launch:
-        return Launch([sys.executable, "-B", SECOND, *flags, *([os.path.abspath(path)] if path else [])], folder)
+        return Launch([sys.executable, "-B", SECOND, *flags, *([os.path.abspath(path)] if path else [])],
+                      folder)
 
 
 class Toolchain(Player):
@@ -191,6 +203,9 @@ class Toolchain(Player):
     takes = " by the toolchain, which takes one to three minutes"
 
     def __init__(self) -> None:
+        if is_installed():
+            raise Wrong(f"there is no installed program ({INSTALLED}) and no second one ({SECOND}): "
+                        "install them again")
         if shutil.which("rt") is None:
             raise Wrong("there is no built program (crates/inp_main/out/inp_main) and no toolchain (rt)")
 
@@ -225,7 +240,7 @@ class Toolchain(Player):
 
 
 def find_player() -> Player:
-    """What plays: the built program, else the second one, else the toolchain."""
+    """What plays: the built or installed program, else the second one, else the toolchain."""
     named = os.environ.get("INPUTPLAY")
     program = os.path.abspath(named) if named else BUILT
     if os.access(program, os.X_OK) and os.path.isfile(program):

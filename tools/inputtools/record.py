@@ -276,7 +276,7 @@ class Device:
         parser = Parser(name)
         for words in lines:
             parser.take(words)
-        described = parser.finished()
+        self.described = described = parser.finished()
         self.hint, self.slots, self.codes = described.hint or DEFAULT_HINT, described.slots or 0, described.codes
         self.codes[ABS] = {code for code in described.axes if not is_slot_value(code)} - {SLOT}
         self.filters = filters_of(described.other_lines)

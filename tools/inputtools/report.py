@@ -1,7 +1,7 @@
 """Reads a report: its devices with their histories, and the part of each actor.
 
-The forms of its lines are in docs/FORMATS.md, "The report". `entry_of` reads one line, and `Report` a whole one. Each
-line is an entry with its number, from 1, and its text, so that it can be named and compared.
+The forms of its lines are in docs/FORMATS.md, "The report". `entry_of` reads one line, and `Report` a whole
+one. Each line is an entry with its number, from 1, and its text, so that it can be named and compared.
 """
 
 import re
@@ -103,7 +103,7 @@ def step_of(text: str) -> Step:
 
 
 class Reply(NamedTuple):
-    """The reply of a call: its name, its place, and the words behind that, which of an answer of bits are codes."""
+    """The reply of a call: its name, its place, and the words behind that: codes in an answer of bits."""
 
     name: str
     place: int
@@ -342,8 +342,8 @@ Kind = TypeVar("Kind")
 
 
 class Part:
-    """What a report has of an actor: `sight` has what it saw, `view` what it knows at its end, and `end` how it
-    ended. Joysticks and owners have no device, since their parts stand after all devices."""
+    """What a report has of an actor: `sight` has what it saw, `view` what it knows at its end, and `end` how
+    it ended. Joysticks and owners have no device, since their parts stand after all devices."""
 
     def __init__(self, role: str, name: str, device: "Optional[Device]", first: Entry) -> None:
         self.role, self.name, self.device, self.first = role, name, device, first
@@ -375,6 +375,9 @@ class Device:
         if place >= len(self.history):
             return None
         return Line(self.line.number + 1 + place, f"step {place} {self.history[place].text()}")
+
+    def all_parts(self) -> List[Part]:
+        return [*self.parts, *self.joysticks, *self.owners]
 
     def readers(self) -> List[Part]:
         """Its clients and taps."""
@@ -409,6 +412,11 @@ class Report:
         if cut_off:
             raise Wrong(f"the report was cut off: the part of {cut_off.name} has no end")
 
+    @property
+    def cut(self) -> Optional[Part]:
+        """The first actor that stopped since a history was full, or None."""
+        return next((part for part in self.parts.values() if part.end.is_full), None)
+
     def take(self, entry: Entry) -> None:
         if isinstance(entry, SIGHT) and self.part:
             self.part.sight.append(entry)
@@ -438,6 +446,14 @@ class Report:
         if part.device:
             part.device.parts.append(part)
         return part
+
+
+CUT_HELP = "a greater `log` of its device lets it go on"
+
+
+def cut_text(part: Part) -> str:
+    """What is said of an actor that stopped since a history was full."""
+    return f"{part.name} stopped, since the history was full at place {part.end.place_told()}"
 
 
 def is_report(text: str) -> bool:

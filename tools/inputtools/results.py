@@ -5,7 +5,7 @@ from typing import List, Optional, Sequence
 from xml.etree.ElementTree import Element, SubElement, tostring
 
 from inputtools.checking import Outcome
-from inputtools.command import counted
+from inputtools.command import counted, plain
 from inputtools.source import write_bytes
 
 
@@ -37,45 +37,89 @@ def failure_text(outcome: Outcome) -> str:
     return where_text(outcome) + (outcome.came or "")
 
 
-def plain(text: str) -> str:
-    """A line, whatever characters a file's own names and words have."""
-    return " ".join(text.split()).encode("ascii", "backslashreplace").decode()
+class Form:
+    """How results are written: what stands before them, each record's as it comes, and what stands last."""
+
+    begin = ""
+
+    def of(self, checked: Checked) -> str:
+        raise NotImplementedError
+
+    def end(self, records: Sequence[Checked], is_stopped: bool) -> str:
+        return ""
+
+
+class ForPeople(Form):
+    """A line for each expectation that failed, and at the end one that counts."""
+
+    def of(self, checked: Checked) -> str:
+        texts = [f"{name_of(checked, outcome)}: {failure_text(outcome)}" for outcome in checked.failed()]
+        return "".join(one_line(text) + "\n" for text in texts)
+
+    def end(self, records: Sequence[Checked], is_stopped: bool) -> str:
+        if all(checked.wrong is not None for checked in records) and (records or is_stopped):
+            return ""
+        held = [outcome.is_held for checked in records for outcome in checked.outcomes]
+        of_all = counted(len(held), "expectation")
+        return f"{sum(held)} of {of_all} held, in {counted(len(records), 'record')}\n"
 
 
 def lines_for_people(records: Sequence[Checked]) -> str:
-    """A line for each expectation that failed, and one that counts."""
-    lines = [f"{name_of(checked, outcome)}: {failure_text(outcome)}"
-             for checked in records for outcome in checked.failed()]
-    held = sum(outcome.is_held for checked in records for outcome in checked.outcomes)
-    of_all = counted(held + len(lines), "expectation")
-    lines.append(f"{held} of {of_all} held, in {counted(len(records), 'record')}")
-    return "".join(plain(line) + "\n" for line in lines)
+    """All that is written for people."""
+    form = ForPeople()
+    return "".join(map(form.of, records)) + form.end(records, False)
 
 
-def tap_lines(records: Sequence[Checked]) -> str:
+class Tap(Form):
     """The Test Anything Protocol, version 13: a test for each expectation, and one for each record that could
-    not be checked."""
-    texts: List[str] = []
-    for checked in records:
-        if checked.wrong is not None:
-            texts.append(tap_test(len(texts), checked.path, checked.wrong))
+    not be checked. Its plan stands at the end."""
+
+    begin = "TAP version 13\n"
+    count = 0
+
+    def of(self, checked: Checked) -> str:
+        texts = [] if checked.wrong is None else [self.test(checked.path, checked.wrong)]
         for outcome in checked.outcomes:
-            why = None if outcome.is_held else failure_text(outcome)
-            texts.append(tap_test(len(texts), name_of(checked, outcome), why))
-    return "".join(line + "\n" for line in ["TAP version 13", f"1..{len(texts)}", *texts])
+            texts.append(self.test(name_of(checked, outcome),
+                                   None if outcome.is_held else failure_text(outcome)))
+        return "".join(line + "\n" for line in texts)
+
+    def test(self, name: str, why: Optional[str]) -> str:
+        self.count += 1
+        return f"{'ok' if why is None else 'not ok'} {self.count} - {escape_tap(name)}{diagnostic(why)}"
+
+    def end(self, records: Sequence[Checked], is_stopped: bool) -> str:
+        return "Bail out! stopped\n" if is_stopped else f"1..{self.count}\n"
 
 
-def tap_test(number: int, name: str, why: Optional[str]) -> str:
-    return f"{'ok' if why is None else 'not ok'} {number + 1} - {escape_tap(name)}{diagnostic(why)}"
+class Json(Form):
+    """One object a line: of each expectation, and of each record that could not be checked."""
+
+    def of(self, checked: Checked) -> str:
+        wrong = {"record": checked.path, "wrong": checked.wrong}
+        objects: List[object] = [] if checked.wrong is None else [wrong]
+        objects += [
+            {
+                "record": checked.path, "line": outcome.number, "expectation": outcome.text,
+                "client": outcome.client, "held": outcome.is_held, "place": outcome.place,
+                "time": outcome.time, "came": outcome.came,
+            }
+            for outcome in checked.outcomes
+        ]
+        return "".join(json.dumps(each) + "\n" for each in objects)
+
+
+def one_line(text: str) -> str:
+    return plain(" ".join(text.split()))
 
 
 def escape_tap(text: str) -> str:
     """(a `#` begins a directive in TAP)"""
-    return plain(text).replace("\\", "\\\\").replace("#", "\\#")
+    return one_line(text).replace("\\", "\\\\").replace("#", "\\#")
 
 
 def diagnostic(why: Optional[str]) -> str:
-    return "" if why is None else f"\n  ---\n  message: {json.dumps(plain(why))}\n  ..."
+    return "" if why is None else f"\n  ---\n  message: {json.dumps(one_line(why))}\n  ..."
 
 
 def junit(records: Sequence[Checked]) -> bytes:
@@ -89,39 +133,23 @@ def junit(records: Sequence[Checked]) -> bytes:
 
 
 def junit_suite(checked: Checked) -> Element:
-    path = plain(checked.path)
+    path = one_line(checked.path)
     suite = Element("testsuite", name=path, failures=str(len(checked.failed())), errors="0")
     suite.set("time", f"{checked.seconds:.3f}")
     for outcome in checked.outcomes:
         line = "" if outcome.number is None else f"line {outcome.number}: "
-        case = SubElement(suite, "testcase", classname=path, name=plain(line + outcome.text))
+        case = SubElement(suite, "testcase", classname=path, name=one_line(line + outcome.text))
         if outcome.came is not None:
             why = failure_text(outcome)
-            failure = SubElement(case, "failure", message=plain(why))
-            failure.text = plain(f"{name_of(checked, outcome)}: {why}")
+            failure = SubElement(case, "failure", message=one_line(why))
+            failure.text = one_line(f"{name_of(checked, outcome)}: {why}")
     if checked.wrong is not None:
         suite.set("errors", "1")
-        SubElement(SubElement(suite, "testcase", classname=path, name="the record"), "error", message=plain(checked.wrong))
+        SubElement(SubElement(suite, "testcase", classname=path, name="the record"), "error",
+                   message=one_line(checked.wrong))
     suite.set("tests", str(len(suite)))
     return suite
 
 
 def write_junit(path: str, records: Sequence[Checked]) -> None:
     write_bytes(path, junit(records))
-
-
-def json_lines(records: Sequence[Checked]) -> str:
-    """One object a line: of each expectation, and of each record that could not be checked."""
-    objects: List[object] = []
-    for checked in records:
-        if checked.wrong is not None:
-            objects.append({"record": checked.path, "wrong": checked.wrong})
-        objects += [
-            {
-                "record": checked.path, "line": outcome.number, "expectation": outcome.text,
-                "client": outcome.client, "held": outcome.is_held, "place": outcome.place,
-                "time": outcome.time, "came": outcome.came,
-            }
-            for outcome in checked.outcomes
-        ]
-    return "".join(json.dumps(each) + "\n" for each in objects)

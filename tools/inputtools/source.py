@@ -7,7 +7,7 @@ import re
 import shutil
 import sys
 import tempfile
-from typing import List
+from typing import Iterable, List
 
 from inputtools.command import Wrong
 
@@ -45,11 +45,23 @@ def read_bytes(path: str, most: int = -1) -> bytes:
 
 
 def write_bytes(path: str, data: bytes) -> None:
+    """Writes a file beside its name, and renames it: whoever reads it has the one before or all of the new
+    one. What is no regular file is written to as it is."""
+    target, is_file = os.path.realpath(path), os.path.isfile(path) or not os.path.exists(path)
+    is_replaced = is_file and not path.startswith(("/dev/", "/proc/"))
+    written = f"{target}.{os.getpid()}.new" if is_replaced else path
     try:
-        with open(path, "wb") as file:
+        with open(written, "wb") as file:
             file.write(data)
+        if is_replaced and os.path.isfile(target):
+            shutil.copymode(target, written)
+        if is_replaced:
+            os.replace(written, target)
     except (OSError, ValueError) as fault:
         raise Wrong(f"{path}: {fault_text(fault)}") from None
+    finally:
+        if is_replaced and os.path.isfile(written):
+            os.remove(written)
 
 
 def is_stream(path: str) -> bool:
@@ -75,6 +87,24 @@ def folder_of(path: str) -> str:
     """The folder in which a record is played, which has the files of its `stream` lines: for standard input
     or a pipe the present one."""
     return os.getcwd() if is_stream(path) else os.path.dirname(os.path.abspath(path))
+
+
+def paths_of(paths: Iterable[str]) -> List[str]:
+    """The files that are named, and the records of folders."""
+    found: List[str] = []
+    for path in paths:
+        found += records_of(path) if os.path.isdir(path) else [path]
+    return found
+
+
+def records_of(folder: str) -> List[str]:
+    try:
+        names = sorted(name for name in os.listdir(folder) if name.endswith(".rec"))
+    except OSError as fault:
+        raise Wrong(f"{folder}: {fault_text(fault)}") from None
+    if not names:
+        raise Wrong(f"{folder}: the folder has no record (*.rec)")
+    return [os.path.join(folder, name) for name in names]
 
 
 class Given:

@@ -5,8 +5,9 @@ from typing import List
 from inputtools.command import Result, Words
 from inputtools.jsonlines import line_of, stuck_lines
 from inputtools.narrowing import Asked, add_client, narrow
-from inputtools.played import play
-from inputtools.program import find_player
+from inputtools.played import cut_of, play
+from inputtools.program import CUT, find_player
+from inputtools.report import CUT_HELP, cut_text
 from inputtools.source import Given
 from inputtools.summary import ends_apart, summary_lines
 from inputtools.stuck_text import device_lines
@@ -29,7 +30,8 @@ release behind."""
 
 STATUSES = """Status 0: it was compared, whether or not something differs. Status 1: with --fail, a client,
 tap, joystick or owner ends apart from its device. Status 2: the record cannot be played, or what is computed
-here is not what the program tells. Status 4: standard output failed. Status 130: stopped from the keyboard."""
+here is not what the program tells. Status 4: standard output failed. Status 6: it was compared, and the play
+was cut, since a history was full: the first line says where. Status 130: stopped from the keyboard."""
 
 
 def command(arguments: List[str]) -> Result:
@@ -47,12 +49,14 @@ def command(arguments: List[str]) -> Result:
     only = Asked(asked.client, asked.thing, asked.end)
     wall.ask(asked.wall, asked.json)
     devices = narrow(play(Given(asked.file), find_player()), only)
+    cut = cut_of(devices)
     if asked.json:
         asked_for = line_of("only", clients=only.readers, things=only.things, end=only.is_end)
         lines = ([] if only.is_all else [asked_for]) + stuck_lines(devices)
     else:
-        lines = wall.heading() + ([] if only.is_all else [only.text()])
+        lines = [f"the play was cut: {cut_text(cut)}; {CUT_HELP}"] if cut else []
+        lines += wall.heading() + ([] if only.is_all else [only.text()])
         lines += summary_lines(devices) if asked.summary else []
         lines += [line for device in devices for line in device_lines(device)]
-    status = int(asked.fail and bool(ends_apart(devices)))
+    status = CUT if cut else int(asked.fail and bool(ends_apart(devices)))
     return Result("".join(line + "\n" for line in lines), [], status)

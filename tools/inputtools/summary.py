@@ -30,6 +30,7 @@ CAUSES = {
     "start-refused": "a start that was refused",
     "owner-lost": "lost before the owner asked",
     "owner-waits": "the owner has not asked since",
+    "cut": "the play was cut",
     "unknown": "nothing that is known here",
 }
 
