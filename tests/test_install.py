@@ -1,11 +1,9 @@
 """What tools/install puts in place: its list, modes and names; manual pages and completion; and Debian's packages."""
 
-import json
 import os
 import re
 import shutil
 import subprocess
-import sys
 import tempfile
 import unittest
 from pathlib import Path
@@ -152,6 +150,23 @@ class Removed(FolderCase):
         self.assertEqual((2, 1), (status, len(said)), said)
         self.assertIn("Not a directory", said[0])
         self.assertEqual(set(files_of(self.folder)), {*listed.splitlines(), str(self.folder / "share")})
+
+    def test_the_library(self):
+        """It names the folder in which it is to be, and its links are listed."""
+        top, made = self.folder / "top", self.folder / "top" / "out" / "library"
+        for name in ("tools", "include"):
+            shutil.copytree(TOP / name, top / name, ignore=shutil.ignore_patterns("__pycache__"))
+        made.mkdir(parents=True)
+        for name in ("libinputplay.a", "libinputplay.so", "libinputplay.so.1", "libinputplay.so.1.0.0"):
+            (made / name).write_text("")
+        (made / "inputplay.pc").write_text("prefix=/nowhere\nlibdir=${prefix}/lib\n")
+        stage = self.folder / "stage"
+        status, listed, said = run(top / "tools" / "install", "--library", "--destdir", stage, "/opt/it", umask=0o077)
+        self.assertEqual((0, []), (status, said))
+        self.assertEqual({path[len(str(stage)) :] for path in files_of(stage)}, set(listed.splitlines()))
+        self.assertEqual("libinputplay.so.1.0.0", os.readlink(stage / "opt" / "it" / "lib" / "libinputplay.so.1"))
+        page = (stage / "opt" / "it" / "lib" / "pkgconfig" / "inputplay.pc").read_text()
+        self.assertEqual("prefix=/opt/it\nlibdir=${prefix}/lib\n", page)
 
     def test_the_program_alone(self):
         program = self.folder / "program"

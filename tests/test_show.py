@@ -72,6 +72,11 @@ class Show(DeskCase):
         for text in (("s", "BTN_TOUCH 1 .."), ("s", "ABS_X -5, EV_MSC 7 3"), ("t", "grab is refused"), ("s", "tick")):
             self.assertIn(text, texts)
 
+    def test_who_stopped_early(self):
+        said = self.shown(TOP / "tests" / "records" / "owner_of_a_full_history.rec")
+        self.assertIn("at the end: s: stopped full 2\n", said)
+        self.assertNotIn("stopped", self.shown(EXAMPLES / "joystick.rec"))
+
     def test_json(self):
         rows = self.rows(EXAMPLES / "stuck_key.rec")
         pressed = [{"type": "EV_KEY", "code": "KEY_LEFTCTRL", "value": 1}, {"type": "EV_SYN", "code": "SYN_REPORT", "value": 0}]

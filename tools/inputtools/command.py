@@ -45,7 +45,7 @@ def name_of(program: str) -> str:
     return PREFIX + program if is_installed() and not program.startswith(PREFIX) else program
 
 
-def named(text: str) -> str:
+def with_names(text: str) -> str:
     """A text that names tools of a clone, with the names that they have for its user."""
     return IN_A_CLONE.sub(PREFIX, text) if is_installed() else text
 
@@ -72,7 +72,7 @@ class Words(argparse.ArgumentParser):
         raise Wrong(message)
 
     def print_help(self, file: Optional[IO[str]] = None) -> None:
-        status = write(self.prog, with_pages(named(self.format_help())))
+        status = write(self.prog, with_pages(with_names(self.format_help())))
         if status:
             sys.exit(status)
 
@@ -87,7 +87,7 @@ class Version(argparse.Action):
 def say(program: str, text: str) -> None:
     """One line on standard error, whatever characters a file's own names have."""
     progress.clear()
-    line = " ".join(named(text).split())
+    line = " ".join(with_names(text).split())
     if sys.stderr is not None:
         try:
             plain = line.encode("ascii", "backslashreplace").decode()

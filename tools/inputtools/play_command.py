@@ -5,7 +5,7 @@ import os
 import sys
 from typing import List, Optional, Union
 
-from inputtools.command import CUT_OFF, Result, Words, Wrote, name_of, named, put
+from inputtools.command import CUT_OFF, Result, Words, Wrote, name_of, with_names, put
 from inputtools.jsonlines import ReportLines, line_of
 from inputtools.program import MESSAGES, PLAYED, Player, Run, find_player
 from inputtools.progress import progress
@@ -35,7 +35,7 @@ UNREAD = 3
 def tell(text: str) -> None:
     progress.clear()
     if sys.stderr is not None:
-        print(named(text).encode("ascii", "backslashreplace").decode(), file=sys.stderr, flush=True)
+        print(with_names(text).encode("ascii", "backslashreplace").decode(), file=sys.stderr, flush=True)
 
 
 def has_put(data: bytes) -> bool:

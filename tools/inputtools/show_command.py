@@ -4,7 +4,7 @@ import shutil
 from typing import List
 
 from inputtools.command import Result, Words
-from inputtools.narrowing import Asked, add_client, narrow
+from inputtools.narrowing import Scope, add_client, narrow
 from inputtools.played import play
 from inputtools.program import find_player
 from inputtools.show import device_lines, json_lines
@@ -29,7 +29,7 @@ def command(arguments: List[str]) -> Result:
     add_client(words)
     words.add_argument("--json", action="store_true", help="write one JSON object a line (docs/JSON.md)")
     asked = words.parse_args(arguments)
-    devices = narrow(play(Given(asked.file), find_player()), Asked(asked.client))
+    devices = narrow(play(Given(asked.file), find_player()), Scope(asked.client))
     width = shutil.get_terminal_size((110, 24)).columns
     lines = (json_lines(device) if asked.json else device_lines(device, width) for device in devices)
     return Result("".join(line + "\n" for group in lines for line in group))
