@@ -163,7 +163,7 @@ def install_program(installer: Installer, program: str) -> None:
     installer.put(LAUNCHER.encode(), "bin", "inputplay", is_program=True)
     for name in (SERVER, SHIM):
         if os.path.isfile(os.path.join(RUN, name)):
-            installer.copy(os.path.join(RUN, name), *LIB, "out", "run", name, is_program=True)
+            installer.copy(os.path.join(RUN, name), *LIB, "out", "run", name, is_program=name == SERVER)
     installer.copy(os.path.join(REPOSITORY, "docs", "inputplay.1"), *MANUAL, "inputplay.1")
     installer.complete("inputplay")
 
@@ -201,7 +201,10 @@ def command(arguments: List[str]) -> Result:
     if not asked.prefix:
         raise Wrong("PREFIX is empty")
     if asked.program is None and not asked.library and asked.only != "tools" and not is_built():
-        build("install", sys.stderr)
+        try:
+            build("install", sys.stderr)
+        except Wrong as wrong:
+            raise Wrong(f"{wrong}; --only tools installs the tools, which play by the second program") from None
     installer, notes = Installer(asked.prefix, asked.destdir), []
     os.umask(0o022)
     try:
