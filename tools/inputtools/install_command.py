@@ -1,5 +1,6 @@
 """Puts the program, the tools, the pages and the library below a folder."""
 
+import argparse
 import os
 import py_compile
 import sys
@@ -79,7 +80,7 @@ class Installer:
     """Writes files below a prefix, which may stand below another folder at first, and keeps which."""
 
     def __init__(self, prefix: str, stage: str) -> None:
-        self.prefix, self.stage = os.path.abspath(prefix), os.path.abspath(stage) if stage else ""
+        self.prefix, self.stage = os.path.abspath(prefix), os.path.realpath(stage) if stage else ""
         self.written: List[str] = []
         self.own: List[str] = []
 
@@ -90,7 +91,10 @@ class Installer:
     def new(self, path: str) -> str:
         """The name by which a file is written, before it replaces another. (One may run.)"""
         os.makedirs(os.path.dirname(path), exist_ok=True)
-        return f"{path}.new"
+        new = f"{path}.new"
+        if os.path.lexists(new):
+            os.remove(new)
+        return new
 
     def done(self, path: str) -> None:
         os.replace(f"{path}.new", path)
@@ -189,6 +193,15 @@ def install_tools(installer: Installer) -> List[str]:
     return []
 
 
+def install(installer: Installer, asked: argparse.Namespace) -> List[str]:
+    """Installs what was asked for; what is to be noted."""
+    if asked.library:
+        install_library(installer)
+    elif asked.only != "tools":
+        install_program(installer, asked.program or BUILT)
+    return install_tools(installer) if not asked.library and asked.only != "program" else []
+
+
 def command(arguments: List[str]) -> Result:
     words = Words(prog="install", description=HELP, epilog=STATUSES)
     words.add_argument("prefix", metavar="PREFIX", help="the folder that has bin, lib and share")
@@ -205,17 +218,14 @@ def command(arguments: List[str]) -> Result:
             build("install", sys.stderr)
         except Wrong as wrong:
             raise Wrong(f"{wrong}; --only tools installs the tools, which play by the second program") from None
-    installer, notes = Installer(asked.prefix, asked.destdir), []
+    installer = Installer(asked.prefix, asked.destdir)
     os.umask(0o022)
     try:
-        if asked.library:
-            install_library(installer)
-        elif asked.only != "tools":
-            install_program(installer, asked.program or BUILT)
-        if not asked.library and asked.only != "program":
-            notes = install_tools(installer)
-    except OSError as fault:
+        notes = install(installer, asked)
+        return Result(installer.text(), notes)
+    except (OSError, Wrong, KeyboardInterrupt) as fault:
         # (what was written until then is to be removed too)
         put("install", installer.text())
-        raise Wrong(f"{fault.filename}: {fault.strerror}") from None
-    return Result(installer.text(), notes)
+        if isinstance(fault, OSError):
+            raise Wrong(f"{fault.filename}: {fault.strerror}") from None
+        raise
