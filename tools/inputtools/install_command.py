@@ -43,7 +43,9 @@ be written. 4: standard output failed. 130: stopped from the keyboard."""
 
 LAUNCHER = f"""#!/bin/sh
 # Runs inputplay. Its version and its words are told here.
-program=$(dirname "$(readlink -f "$0")")/../lib/inputplay/inputplay
+here=$0
+test -L "$here" && here=$(readlink -f "$here")
+program=${{here%/*}}/../lib/inputplay/inputplay
 case "$1" in
 --version) echo "inputplay {VERSION}" ;;
 --help) "$program" || : ;;
