@@ -164,11 +164,10 @@ class Table:
     """The rows of a device as lines: seconds, gaps and places; sources left, readers right."""
 
     def __init__(self, device: PlayedDevice, rows: Sequence[Row], width: int) -> None:
-        at = device.state.at
-        self.rows, self.moments = rows, [at.moment(row.place) for row in rows]
+        self.rows, self.moments = rows, [device.state.at.moment(row.place) for row in rows]
         told = [moment for moment in self.moments if moment is not None]
         gaps = [after - before for before, after in zip(told, told[1:])]
-        self.digits = 6 if any(moment % 1000 for moment in at.moments) else 3
+        self.digits = 6 if any(moment % 1000 for moment in told) else 3
         self.wide = max(len(self.seconds(max(told, default=0))), len("seconds"))
         # (times may go back)
         self.gap = max(len(self.seconds(max((abs(gap) for gap in gaps), default=0))), len("gap")) + 1
