@@ -1,4 +1,4 @@
-"""What tools/install puts in place: its list, modes, names, manual pages, completion; and Debian's packages."""
+"""What tools/install puts in place: list, modes, names, manual pages, completion; and Debian's packages."""
 
 import os
 import platform
@@ -34,7 +34,7 @@ ALONE = "is not there, which bin/inputplay builds: the tools alone are packaged"
 
 
 def run(*words, umask=0o022, **more):
-    """A command from elsewhere, for which no variable names a program: its status, its output and its lines."""
+    """A command from elsewhere, for which no variable names a program: its status, its output, its lines."""
     env = {**{key: value for key, value in os.environ.items() if key not in NOT_HANDED_ON}, **more}
     status, text, errors = said(*words, cwd="/", env=env, preexec_fn=lambda: os.umask(umask))
     return status, text, errors.splitlines()
@@ -226,7 +226,7 @@ class Packages(FolderCase):
             shutil.copy(TOP / name, self.source)
 
     def build(self, program):
-        """Builds packages, in which lintian finds no error, and unpacks them; their names, and what was said."""
+        """Builds and unpacks packages, in which lintian finds no error; their names, and what was said."""
         env = {**os.environ, "INPUTPLAY": str(program)}
         command = ["dpkg-buildpackage", "-b", "-us", "-uc"]
         done = subprocess.run(command, cwd=self.source, env=env, text=True, check=False,
