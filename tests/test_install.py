@@ -119,11 +119,13 @@ class Tools(unittest.TestCase):
         link.symlink_to(self.prefix / "bin" / "inputplay-stuck")
         self.assertIn("KEY_LEFTCTRL: down for it", run(link, RECORD)[1])
 
-    def test_the_pages_and_the_examples(self):
-        for folder, pattern in (("docs", "*.md"), ("examples", "*.rec"), ("examples", "*.bin")):
-            there = self.prefix / "share" / "doc" / "inputplay" / folder
-            names = [{path.name for path in each.glob(pattern)} for each in (TOP / folder, there)]
-            self.assertEqual(*names)
+    def test_all_files_of_a_kind(self):
+        docs, lib = self.prefix / "share" / "doc" / "inputplay", self.prefix / "lib" / "inputplay"
+        for pattern, below in (("docs/*.md", docs), ("examples/*.rec", docs), ("examples/*.bin", docs),
+                               ("tools/inputtools/*.*", lib), ("second/*.*", lib)):
+            with self.subTest(pattern):
+                names = [{str(path.relative_to(top)) for path in top.glob(pattern)} for top in (TOP, below)]
+                self.assertEqual(*names)
 
     def test_each_has_a_manual_page(self):
         needs(self, "help2man", "help2man")
