@@ -73,7 +73,9 @@ class Show(DeskCase):
         self.assertLessEqual(wanted, texts)
 
     def test_who_stopped_early(self):
-        said = self.shown(TOP / "tests" / "records" / "owner_of_a_full_history.rec")
+        """It is said beside the timeline too, and by the status."""
+        status, said, notes = self.tool("show", TOP / "tests" / "records" / "owner_of_a_full_history.rec")
+        self.assertEqual((6, True), (status, bool(notes)), notes)
         self.assertIn("at the end: s: stopped full 2\n", said)
         self.assertNotIn("stopped", self.shown(EXAMPLES / "joystick.rec"))
 

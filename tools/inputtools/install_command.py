@@ -219,7 +219,7 @@ def command(arguments: List[str]) -> Result:
         try:
             build("install", sys.stderr)
         except Wrong as wrong:
-            raise Wrong(f"{wrong}; --only tools installs the tools, which play by the second program") from None
+            raise Wrong(f"{wrong}; --only tools installs the tools, with the second program") from None
     installer = Installer(asked.prefix, asked.destdir)
     os.umask(0o022)
     try:

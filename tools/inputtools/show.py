@@ -8,6 +8,7 @@ from itertools import groupby, zip_longest
 from typing import Dict, Iterator, List, Optional, Sequence, Tuple
 
 from inputtools.command import counted
+from inputtools.endings import names_text
 from inputtools.jsonlines import Fields, end_line, event_fields, line_of, moment_fields
 from inputtools.played import PlayedDevice, Reader
 from inputtools.report import Again, Call, Entry, Event, Fed, Feedback, JoyRecord, Made, Step, Took
@@ -15,7 +16,6 @@ from inputtools.stuck_text import end_text, name_of
 
 # What comes first at one place: what a reader found before the step, the step, and what was so since it.
 BEFORE, STEP, SINCE = range(3)
-MOST_NAMED = 4
 # A blank line stands before what comes so many microseconds later.
 LONG_GAP = 1000000
 FINISHED = "finished"
@@ -126,12 +126,6 @@ def text_of(what: str, entries: Sequence[Entry], events: Sequence[Event]) -> str
 # Where belief and device part
 
 
-def first_of(texts: Sequence[str]) -> str:
-    """The first of several texts, and how many more there are."""
-    more = len(texts) - MOST_NAMED
-    return ", ".join(texts[:MOST_NAMED]) + (f" and {counted(more, 'thing')} more" if more > 0 else "")
-
-
 def divergence_rows(reader: Reader, last: int) -> Iterator[Row]:
     """A row for what parts, and for what meets, at one place. (The end is told at the last place.)"""
     parted: Dict[Tuple[int, str], List[str]] = {}
@@ -142,8 +136,8 @@ def divergence_rows(reader: Reader, last: int) -> Iterator[Row]:
         parted.setdefault((min(each.since or 0, last), each.cause.text), []).append(values)
         if each.met_by is not None:
             met.setdefault(min(each.met_at or 0, last), []).append(name)
-    told = [("parts", place, f"{first_of(texts)}: {cause}") for (place, cause), texts in parted.items()]
-    told += [("meets", place, first_of(names)) for place, names in met.items()]
+    told = [("parts", place, f"{names_text(texts)}: {cause}") for (place, cause), texts in parted.items()]
+    told += [("meets", place, names_text(names)) for place, names in met.items()]
     for what, place, text in told:
         yield Row(place, SINCE, reader.role, reader.name, what, f"{what}: {text}")
 
