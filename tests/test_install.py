@@ -106,11 +106,13 @@ class Tools(unittest.TestCase):
                 self.assertIn("as inputplay-draw writes one", lines)
                 self.assertIn(str(picture), lines)
 
-    def test_what_explore_says(self):
-        status, told, _ = self.installed("explore", "--out", self.folder / "out", RECORD)
-        self.assertEqual(0, status)
-        self.assertIn("    why in full:  inputplay-stuck ", told)
-        self.assertNotIn("tools/", told)
+    def test_what_they_write_of_each_other(self):
+        long, out = TOP / "examples" / "touchpad.rec", self.folder / "out"
+        for words, wanted in ((["explore", "--out", out, RECORD], "why in full:  inputplay-stuck "),
+                              (["draw", long], "<code>inputplay-draw --from PLACE ")):
+            with self.subTest(words[0]):
+                status, told, _ = self.installed(*words)
+                self.assertEqual((0, True, False), (status, wanted in told, "tools/" in told))
 
     def test_they_play(self):
         told = "inputplay-play: played by the second program (second), in Python, without proof"
