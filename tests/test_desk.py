@@ -19,7 +19,7 @@ class Desk(FolderCase):
         self.assertEqual(int(found[1]), sum(int(line.split()[0]) for line in ends))
         self.assertRegex(parts,
                          r"^of the random records \d have filters, \d have joysticks, \d have an owner$")
-        for tool in ("play", "stuck", "draw", "check", "compare", "export", "describe", "record"):
+        for tool in ("play", "stuck", "show", "draw", "check", "compare", "export", "describe", "record"):
             self.assertRegex(text, rf"\b{tool} +status \d +\d+\.\d s\n")
 
     def test_what_fails(self):

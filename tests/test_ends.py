@@ -20,9 +20,9 @@ class EndsCase(DeskCase):
         super().setUp()
         needs_program(self)
         expects = self.file("expects.rec", "#= desktop takes KEY_LEFTCTRL\n" + RECORD.read_text())
-        self.playing = [("play", [RECORD]), ("stuck", [RECORD]), ("draw", [RECORD]), ("check", [expects]),
-                        ("compare", [RECORD, OTHER]), ("export", [RECORD, "--raw", "desktop"]),
-                        ("record", [CAPTURE, "--verify"])]
+        self.playing = [("play", [RECORD]), ("stuck", [RECORD]), ("show", [RECORD]), ("draw", [RECORD]),
+                        ("check", [expects]), ("compare", [RECORD, OTHER]),
+                        ("export", [RECORD, "--raw", "desktop"]), ("record", [CAPTURE, "--verify"])]
         self.all = [*self.playing, ("export", [RECORD, "--evemu"]), ("describe", [CAPTURE]),
                     ("shrink", [RECORD, "--", "grep", "-q", "grab"])]
 

@@ -413,6 +413,13 @@ class Install(TreeCase):
                 status, written, lines = self.install(*words)
                 self.assertEqual((2, "", 1), (status, written, len(lines)), lines)
                 self.assertIn(because, lines[0])
+        commands = self.folder / "few"
+        commands.mkdir()
+        for name in ("python3", "env"):
+            (commands / name).symlink_to(shutil.which(name))
+        status, written, lines = self.install("p", path=str(commands))
+        self.assertEqual((2, "", 1), (status, written, len(lines)), lines)
+        self.assertIn("no toolchain (rt) to build it; --only tools installs the tools", lines[0])
         self.built()
         (self.folder / "file").write_text("")
         status, written, lines = self.install("file")

@@ -1,21 +1,24 @@
-"""What tools/install puts in place: its list, modes and names; manual pages and completion; and Debian's packages."""
+"""What tools/install puts in place: list, modes, names, manual pages, completion; and Debian's packages."""
 
-import json
 import os
+import platform
 import re
 import shutil
 import subprocess
-import sys
 import tempfile
 import unittest
 from pathlib import Path
 
 from inputtools.command import VERSION
-from tests.playing import TOP, FolderCase
+from tests.playing import TOP, FolderCase, said
 from tests.run_cases import needs
 
-TOOLS = sorted(path.name for path in (TOP / "tools").iterdir() if path.is_file() and path.name not in ("build", "install"))
+INSTALL = TOP / "tools" / "install"
+TOOLS = sorted({path.name for path in (TOP / "tools").iterdir() if path.is_file()} - {"build", "install"})
 RECORD = TOP / "examples" / "stuck_key.rec"
+REPORT = RECORD.with_suffix(".report").read_text()
+NOT_HANDED_ON = ("INPUTPLAY", "DESTDIR", "PYTHONDONTWRITEBYTECODE")
+SECTIONS = ["NAME", "SYNOPSIS", "DESCRIPTION", "OPTIONS", "EXIT STATUS", "SEE ALSO"]
 COMPLETION = "/usr/share/bash-completion/bash_completion"
 COMPLETED = f""". {COMPLETION}
 _completion_loader inputplay-stuck
@@ -24,20 +27,23 @@ COMP_WORDS=(inputplay-stuck --cl) COMP_CWORD=1 COMP_LINE="inputplay-stuck --cl" 
 _longopt inputplay-stuck --cl inputplay-stuck
 echo "${{COMPREPLY[*]}}"
 """
+# What the packages are built with: programs, and the packages that have them.
+BUILT_WITH = {"dpkg-buildpackage": "dpkg-dev", "dh": "debhelper", "dh_python3": "dh-python",
+              "help2man": "help2man", "lintian": "lintian"}
+ALONE = "is not there, which bin/inputplay builds: the tools alone are packaged"
 
 
 def run(*words, umask=0o022, **more):
-    """A command from elsewhere, in the test's own environment but for what names a program: status, output, lines."""
-    env = {key: value for key, value in os.environ.items() if key not in ("INPUTPLAY", "DESTDIR", "PYTHONDONTWRITEBYTECODE")}
-    env.update(more)
-    done = subprocess.run([*map(str, words)], cwd="/", env=env, capture_output=True, text=True, check=False,
-                          preexec_fn=lambda: os.umask(umask))
-    return done.returncode, done.stdout, done.stderr.splitlines()
+    """A command from elsewhere, for which no variable names a program: its status, its output, its lines."""
+    env = {**{key: value for key, value in os.environ.items() if key not in NOT_HANDED_ON}, **more}
+    status, text, errors = said(*words, cwd="/", env=env, preexec_fn=lambda: os.umask(umask))
+    return status, text, errors.splitlines()
 
 
-def files_of(folder):
-    """All that is below a folder and no folder, each with its mode."""
-    return {str(path): path.lstat().st_mode & 0o777 for path in folder.rglob("*") if path.is_symlink() or not path.is_dir()}
+def files_of(folder, below=""):
+    """All that is below a folder and no folder, by its path below another one, each with its mode."""
+    paths = (path for path in folder.rglob("*") if path.is_symlink() or not path.is_dir())
+    return {str(path)[len(str(below)) :]: path.lstat().st_mode & 0o777 for path in paths}
 
 
 class Tools(unittest.TestCase):
@@ -47,97 +53,107 @@ class Tools(unittest.TestCase):
     def setUpClass(cls):
         folder = tempfile.TemporaryDirectory()
         cls.addClassCleanup(folder.cleanup)
-        cls.stage = Path(folder.name).resolve() / "stage"
+        cls.folder = Path(folder.name)
+        cls.stage = cls.folder / "stage"
         cls.prefix = cls.stage / "usr"
-        cls.ended = run(TOP / "tools" / "install", "--only", "tools", "/usr", umask=0o077, DESTDIR=str(cls.stage))
-        cls.listed = cls.ended[1].splitlines()
+        cls.ended = run(INSTALL, "--only", "tools", "/usr", umask=0o077, DESTDIR=str(cls.stage))
+
+    def installed(self, tool, *words, **more):
+        return run(self.prefix / "bin" / f"inputplay-{tool}", *words, **more)
 
     def test_each_is_listed_where_it_is_to_be(self):
-        self.assertEqual(0, self.ended[0], self.ended[2])
-        own = ["/usr/lib/inputplay", "/usr/share/doc/inputplay"]
-        self.assertEqual(own, self.listed[-2:])
-        self.assertEqual({path[len(str(self.stage)) :] for path in files_of(self.stage)}, set(self.listed[:-2]))
-        self.assertEqual([f"inputplay-{tool}" for tool in TOOLS], sorted(path.name for path in (self.prefix / "bin").iterdir()))
+        status, listed, lines = self.ended
+        self.assertEqual(0, status, lines)
+        *files, lib, docs = listed.splitlines()
+        self.assertEqual(("/usr/lib/inputplay", "/usr/share/doc/inputplay"), (lib, docs))
+        self.assertEqual(set(files_of(self.stage, self.stage)), set(files))
+        programs = sorted(path.name for path in (self.prefix / "bin").iterdir())
+        self.assertEqual([f"inputplay-{tool}" for tool in TOOLS], programs)
 
     def test_modes_do_not_hang_on_the_umask(self):
         modes = {path.stat().st_mode & 0o777 for path in self.stage.rglob("*") if path.is_dir()}
         self.assertEqual({0o755}, modes)
-        programs = {path for path, mode in files_of(self.stage).items() if mode == 0o755}
-        self.assertEqual({str(self.prefix / "lib" / "inputplay" / "tools" / tool) for tool in TOOLS}, programs)
-        self.assertEqual({0o644, 0o755, 0o777}, set(files_of(self.stage).values()))
+        files = files_of(self.stage, self.stage)
+        programs = {path for path, mode in files.items() if mode == 0o755}
+        self.assertEqual({f"/usr/lib/inputplay/tools/{tool}" for tool in TOOLS}, programs)
+        self.assertEqual({0o644, 0o755, 0o777}, set(files.values()))
 
     def test_they_say_the_names_that_they_have(self):
         pages = set()
         for tool in TOOLS:
             with self.subTest(tool):
-                program = self.prefix / "bin" / f"inputplay-{tool}"
-                self.assertEqual((0, f"inputplay-{tool} (inputplay) {VERSION}\n", []), run(program, "--version"))
-                status, told, _ = run(program, "--help")
-                self.assertEqual((0, f"usage: inputplay-{tool} "), (status, told[: len(f"usage: inputplay-{tool} ")]))
+                name = f"inputplay-{tool}"
+                version = f"{name} (inputplay) {VERSION}\n"
+                self.assertEqual((0, version, []), self.installed(tool, "--version"))
+                _, told, _ = self.installed(tool, "--help")
+                self.assertTrue(told.startswith(f"usage: {name} "), told[:80])
                 self.assertEqual(set(), set(re.findall(r"(?<![\w/])tools/\w+", told)) - {"tools/build"})
-                pages.update(re.findall(r"\S*docs/[A-Z]+\.md", told))
-                status, _, said = run(program, "--no-such-word")
+                pages.update(re.findall(r"[^\s(]*docs/[A-Z]+\.md", told))
+                status, _, (line,) = self.installed(tool, "--no-such-word")
                 self.assertIn(status, (2, 126))
-                self.assertEqual([f"inputplay-{tool}: "], [line[: len(f"inputplay-{tool}: ")] for line in said])
-        self.assertEqual({"JSON.md", "RUN.md"}, {Path(page.strip("(")).name for page in pages})
-        self.assertEqual([], [page for page in pages if not Path(page.strip("(")).is_file()])
+                self.assertTrue(line.startswith(f"{name}: "), line)
+        self.assertEqual({"JSON.md", "RUN.md"}, {Path(page).name for page in pages})
+        self.assertEqual([], [page for page in pages if not Path(page).is_file()])
 
     def test_what_they_say_of_other_files(self):
         """A file of the user's keeps its name, whatever that is."""
-        folder = self.stage.parent / "tools"
-        folder.mkdir()
-        (folder / "check.svg").write_text("<svg>")
+        picture = self.folder / "tools" / "check.svg"
+        picture.parent.mkdir()
+        picture.write_text("<svg>")
         for tool in ("play", "record"):
             with self.subTest(tool):
-                said = run(self.prefix / "bin" / f"inputplay-{tool}", folder / "check.svg")[2]
-                self.assertIn("as inputplay-draw writes one", " ".join(said))
-                self.assertIn(f"{folder}/check.svg", " ".join(said))
+                lines = " ".join(self.installed(tool, picture)[2])
+                self.assertIn("as inputplay-draw writes one", lines)
+                self.assertIn(str(picture), lines)
 
-    def test_what_explore_says(self):
-        status, told, _ = run(self.prefix / "bin" / "inputplay-explore", "--out", self.stage.parent / "out", RECORD)
-        self.assertEqual(0, status)
-        self.assertIn("    why in full:  inputplay-stuck ", told)
-        self.assertNotIn("tools/", told)
+    def test_what_they_write_of_each_other(self):
+        long, out = TOP / "examples" / "touchpad.rec", self.folder / "out"
+        for words, wanted in ((["explore", "--out", out, RECORD], "why in full:  inputplay-stuck "),
+                              (["draw", long], "<code>inputplay-draw --from PLACE ")):
+            with self.subTest(words[0]):
+                status, told, _ = self.installed(*words)
+                self.assertEqual((0, True, False), (status, wanted in told, "tools/" in told))
 
     def test_they_play(self):
-        status, report, said = run(self.prefix / "bin" / "inputplay-play", RECORD)
-        self.assertEqual((0, RECORD.with_suffix(".report").read_text()), (status, report))
-        self.assertEqual(["inputplay-play: played by the second program (second), in Python, without proof"], said)
-        here = self.stage.parent / "inputplay-stuck"
-        here.symlink_to(self.prefix / "bin" / "inputplay-stuck")
-        self.assertIn("KEY_LEFTCTRL: down for it", run(here, RECORD)[1])
+        told = "inputplay-play: played by the second program (second), in Python, without proof"
+        self.assertEqual((0, REPORT, [told]), self.installed("play", RECORD))
+        link = self.folder / "inputplay-stuck"
+        link.symlink_to(self.prefix / "bin" / "inputplay-stuck")
+        self.assertIn("KEY_LEFTCTRL: down for it", run(link, RECORD)[1])
 
-    def test_the_pages_and_the_examples(self):
-        docs = self.prefix / "share" / "doc" / "inputplay"
-        self.assertEqual({path.name for path in (TOP / "docs").glob("*.md")}, {path.name for path in (docs / "docs").glob("*.md")})
-        self.assertEqual({path.name for path in (TOP / "examples").glob("*.rec")},
-                         {path.name for path in (docs / "examples").glob("*.rec")})
+    def test_all_files_of_a_kind(self):
+        docs, lib = self.prefix / "share" / "doc" / "inputplay", self.prefix / "lib" / "inputplay"
+        for pattern, below in (("docs/*.md", docs), ("examples/*.rec", docs), ("examples/*.bin", docs),
+                               ("tools/inputtools/*.*", lib), ("second/*.*", lib)):
+            with self.subTest(pattern):
+                names = [{str(path.relative_to(top)) for path in top.glob(pattern)} for top in (TOP, below)]
+                self.assertEqual(*names)
 
     def test_each_has_a_manual_page(self):
         needs(self, "help2man", "help2man")
         for tool in TOOLS:
             with self.subTest(tool):
                 page = (self.prefix / "share" / "man" / "man1" / f"inputplay-{tool}.1").read_text()
-                sections = re.findall(r'^\.SH "?([A-Z ]+)"?$', page, re.MULTILINE)
-                self.assertEqual(["NAME", "SYNOPSIS", "DESCRIPTION", "OPTIONS", "EXIT STATUS", "SEE ALSO"], sections)
+                self.assertEqual(SECTIONS, re.findall(r'^\.SH "?([A-Z ]+)"?$', page, re.MULTILINE))
                 self.assertRegex(page, rf"\ninputplay-{tool} \\- [a-z].*[^.]\n")
                 self.assertIn(f'"inputplay {VERSION}"', page)
-                self.assertNotIn(str(self.stage).replace("-", "\\-"), page)
+                self.assertNotIn(self.folder.name, page.replace("\\", ""))
 
     def test_bash_completes_their_options(self):
         if not os.path.exists(COMPLETION):
             self.skipTest("bash-completion is not installed (Debian: bash-completion)")
         path = f"{self.prefix / 'bin'}:{os.environ['PATH']}"
-        words = {"PATH": path, "XDG_DATA_DIRS": str(self.prefix / "share")}
-        told = run("bash", "-c", COMPLETED, **words)[1].splitlines()
-        self.assertEqual(["complete -F _longopt inputplay-stuck", {"--client"}], [told[0], set(told[1].split())])
+        _, told, _ = run("/bin/bash", "-c", COMPLETED, PATH=path, XDG_DATA_DIRS=str(self.prefix / "share"))
+        how, words = told.splitlines()
+        self.assertEqual("complete -F _longopt inputplay-stuck", how)
+        self.assertEqual({"--client"}, set(words.split()))
 
 
-class Removed(FolderCase):
+class Parts(FolderCase):
     def test_the_list_removes_all(self):
         """What was used by root meanwhile has more files, which go too."""
         prefix = self.folder / "prefix"
-        listed = run(TOP / "tools" / "install", "--only", "tools", prefix)[1]
+        listed = run(INSTALL, "--only", "tools", prefix)[1]
         for path in (prefix / "lib" / "inputplay").rglob("__pycache__"):
             shutil.rmtree(path)
         run(prefix / "bin" / "inputplay-stuck", RECORD)
@@ -148,40 +164,54 @@ class Removed(FolderCase):
 
     def test_what_was_written_before_a_fault_is_listed(self):
         (self.folder / "share").write_text("")
-        status, listed, said = run(TOP / "tools" / "install", "--only", "tools", self.folder)
-        self.assertEqual((2, 1), (status, len(said)), said)
-        self.assertIn("Not a directory", said[0])
+        status, listed, (line,) = run(INSTALL, "--only", "tools", self.folder)
+        self.assertEqual(2, status)
+        self.assertIn("Not a directory", line)
         self.assertEqual(set(files_of(self.folder)), {*listed.splitlines(), str(self.folder / "share")})
 
-    def test_the_program_alone(self):
-        program = self.folder / "program"
-        program.write_text("#!/bin/sh\necho \"played: $*\"\nexit 3\n")
-        program.chmod(0o755)
-        prefix = self.folder / "prefix"
-        status, listed, said = run(TOP / "tools" / "install", "--only", "program", "--program", program, prefix, umask=0o077)
-        self.assertEqual((0, []), (status, said))
+    def test_the_library(self):
+        """It names the folder in which it is to be, and its links are listed."""
+        top, stage = self.folder / "top", self.folder / "stage"
+        for name in ("tools", "include"):
+            shutil.copytree(TOP / name, top / name, ignore=shutil.ignore_patterns("__pycache__"))
+        for name in ("libinputplay.a", "libinputplay.so", "libinputplay.so.1", "libinputplay.so.1.0.0"):
+            self.write(f"top/out/library/{name}", "")
+        self.write("top/out/library/inputplay.pc", "prefix=/nowhere\nlibdir=${prefix}/lib\n")
+        words = ["--library", "--destdir", stage, "/opt/it"]
+        status, listed, lines = run(top / "tools" / "install", *words, umask=0o077)
+        self.assertEqual((0, []), (status, lines))
+        self.assertEqual(set(files_of(stage, stage)), set(listed.splitlines()))
+        lib = stage / "opt" / "it" / "lib"
+        self.assertEqual("libinputplay.so.1.0.0", os.readlink(lib / "libinputplay.so.1"))
+        page = (lib / "pkgconfig" / "inputplay.pc").read_text()
+        self.assertEqual("prefix=/opt/it\nlibdir=${prefix}/lib\n", page)
+
+    def test_the_program(self):
+        program = self.write("program", "#!/bin/sh\necho \"played: $*\"\nexit 3\n", 0o755)
+        prefix, link = self.folder / "prefix", self.folder / "link"
+        words = ["--only", "program", "--program", program, prefix]
+        status, listed, lines = run(INSTALL, *words, umask=0o077)
+        self.assertEqual((0, []), (status, lines))
         self.assertEqual(set(files_of(prefix)), set(listed.splitlines()))
-        installed = prefix / "bin" / "inputplay"
-        self.assertEqual((3, "played: --history a b\n", []), run(installed, "--history", "a b"))
-        self.assertEqual((0, f"inputplay {VERSION}\n", []), run(installed, "--version"))
-        self.assertEqual(0, run(installed, "--help")[0])
-        (self.folder / "link").symlink_to(installed)
-        self.assertEqual((3, "played: x\n", []), run(self.folder / "link", "x"))
+        link.symlink_to(prefix / "bin" / "inputplay")
+        for installed in (prefix / "bin" / "inputplay", link):
+            with self.subTest(installed.name):
+                self.assertEqual((3, "played: --history a b\n", []), run(installed, "--history", "a b"))
+                self.assertEqual((0, f"inputplay {VERSION}\n", []), run(installed, "--version"))
+                self.assertEqual((0, "played: \n", []), run(installed, "--help"))
 
 
 class Versions(unittest.TestCase):
     def test_all_name_one(self):
-        """The commands, the library, its callers and the packages."""
-        python = (TOP / "bindings" / "python" / "pyproject.toml").read_text()
-        rust = (TOP / "bindings" / "rust" / "Cargo.toml").read_text()
-        for text in (python, rust):
-            self.assertIn(f'\nversion = "{VERSION}"\n', text)
+        """The commands, the library's callers and the packages."""
+        for name in ("python/pyproject.toml", "rust/Cargo.toml"):
+            self.assertIn(f'\nversion = "{VERSION}"\n', (TOP / "bindings" / name).read_text())
         self.assertTrue((TOP / "debian" / "changelog").read_text().startswith(f"inputplay ({VERSION}) "))
-        self.assertEqual((0, f"tools/build (inputplay) {VERSION}\n", []), run(TOP / "tools" / "build", "--version"))
-        self.assertEqual((0, f"inputplay {VERSION}\n", []), run(TOP / "bin" / "inputplay", "--version"))
-        for tool in (*TOOLS, "install"):
-            with self.subTest(tool):
-                self.assertEqual((0, f"{tool} (inputplay) {VERSION}\n", []), run(TOP / "tools" / tool, "--version"))
+        told = {f"tools/{tool}": f"{tool} (inputplay)" for tool in (*TOOLS, "install")}
+        told.update({"tools/build": "tools/build (inputplay)", "bin/inputplay": "inputplay"})
+        for command, name in told.items():
+            with self.subTest(command):
+                self.assertEqual((0, f"{name} {VERSION}\n", []), run(command, "--version"))
 
 
 class Packages(FolderCase):
@@ -189,48 +219,47 @@ class Packages(FolderCase):
 
     def setUp(self):
         super().setUp()
-        for program, package in (("dpkg-buildpackage", "dpkg-dev"), ("dh", "debhelper"), ("dh_python3", "dh-python"),
-                                 ("help2man", "help2man"), ("lintian", "lintian")):
+        for program, package in BUILT_WITH.items():
             needs(self, program, package)
-        self.source = self.folder / "inputplay"
-        for name in ("tools", "second", "docs", "examples", "debian", "run"):
-            shutil.copytree(TOP / name, self.source / name, ignore=shutil.ignore_patterns("__pycache__", ".debhelper"))
+        self.source, self.here = self.folder / "inputplay", self.folder / "here"
+        made_here = shutil.ignore_patterns("__pycache__", ".debhelper", "files", "*.substvars", "inputplay*")
+        for name in ("tools", "second", "docs", "examples", "run"):
+            shutil.copytree(TOP / name, self.source / name, ignore=shutil.ignore_patterns("__pycache__"))
+        shutil.copytree(TOP / "debian", self.source / "debian", ignore=made_here)
         for name in ("README.md", "CHANGELOG.md"):
             shutil.copy(TOP / name, self.source)
 
-    def build(self, *words, **more):
-        """Builds packages, looks at them by lintian; the names of those that were made, and what was said."""
-        env = {**os.environ, "INPUTPLAY": "", **more}
-        done = subprocess.run(["dpkg-buildpackage", "-us", "-uc", *words], cwd=self.source, env=env, text=True,
-                              stdout=subprocess.PIPE, stderr=subprocess.STDOUT, check=False)
+    def build(self, program):
+        """Builds and unpacks packages, in which lintian finds no error; their names, and what was said."""
+        env = {**os.environ, "INPUTPLAY": str(program)}
+        command = ["dpkg-buildpackage", "-b", "-us", "-uc"]
+        done = subprocess.run(command, cwd=self.source, env=env, text=True, check=False,
+                              stdout=subprocess.PIPE, stderr=subprocess.STDOUT)
         self.assertEqual(0, done.returncode, done.stdout[-2000:])
-        changes = list(self.folder.glob("*.changes"))
-        judged = subprocess.run(["lintian", "--fail-on", "error", *changes], capture_output=True, text=True, check=False)
-        self.assertEqual(0, judged.returncode, judged.stdout)
-        return sorted(path.name for path in self.folder.glob("*.deb")), done.stdout
+        status, judged, _ = run(shutil.which("lintian"), "--fail-on", "error", *self.folder.glob("*.changes"))
+        self.assertEqual(0, status, judged)
+        made = sorted(self.folder.glob("*.deb"))
+        for each in made:
+            subprocess.run(["dpkg-deb", "-x", each, self.here], check=True)
+        return [path.name for path in made], done.stdout
 
     def test_the_tools(self):
         """They come alone where the program is not built, which is said."""
-        made, said = self.build("-b")
+        made, told = self.build("")
         self.assertEqual([f"inputplay-tools_{VERSION}_all.deb"], made)
-        told = "inputplay: crates/inp_main/out/inp_main is not there, which bin/inputplay builds: the tools alone are packaged"
-        self.assertEqual(1, said.splitlines().count(told))
-        here = self.folder / "here"
-        subprocess.run(["dpkg-deb", "-x", self.folder / made[0], here], check=True)
-        status, report, _ = run(here / "usr" / "bin" / "inputplay-play", RECORD)
-        self.assertEqual((0, RECORD.with_suffix(".report").read_text()), (status, report))
-        self.assertTrue((here / "usr" / "share" / "man" / "man1" / "inputplay-stuck.1.gz").is_file())
+        self.assertEqual(1, told.count(f"\ninputplay: crates/inp_main/out/inp_main {ALONE}\n"))
+        self.assertEqual((0, REPORT), run(self.here / "usr" / "bin" / "inputplay-play", RECORD)[:2])
+        self.assertTrue((self.here / "usr" / "share" / "man" / "man1" / "inputplay-stuck.1.gz").is_file())
 
     def test_the_program(self):
         needs(self, "gcc", "gcc")
-        program = self.folder / "program"
+        if platform.machine() != "x86_64":
+            self.skipTest("the program is packaged for amd64")
         source = 'int puts(const char *);\nint main(void) { puts("device d steps 0"); return 0; }\n'
-        hardened = ["-O2", "-fPIE", "-pie", "-Wl,-z,relro,-z,now"]
-        subprocess.run(["gcc", *hardened, "-x", "c", "-", "-o", program], input=source, text=True, check=True)
-        made, _ = self.build("-b", INPUTPLAY=str(program))
-        arch = subprocess.run(["dpkg", "--print-architecture"], capture_output=True, text=True, check=True).stdout.strip()
-        self.assertEqual([f"inputplay-tools_{VERSION}_all.deb", f"inputplay_{VERSION}_{arch}.deb"], made)
-        for each in made:
-            subprocess.run(["dpkg-deb", "-x", self.folder / each, self.folder / "here"], check=True)
-        played = run(self.folder / "here" / "usr" / "bin" / "inputplay-play", RECORD)
+        program = self.folder / "program"
+        flags = ["-O2", "-fPIE", "-pie", "-Wl,-z,relro,-z,now"]
+        subprocess.run(["gcc", *flags, "-x", "c", "-", "-o", program], input=source, text=True, check=True)
+        made, _ = self.build(program)
+        self.assertEqual([f"inputplay-tools_{VERSION}_all.deb", f"inputplay_{VERSION}_amd64.deb"], made)
+        played = run(self.here / "usr" / "bin" / "inputplay-play", RECORD)
         self.assertEqual((0, "device d steps 0\n", ["inputplay-play: played by inputplay"]), played)

@@ -1,5 +1,5 @@
-"""docs/JSON.md: each object that `play`, `stuck`, `show` and `describe` write with --json is told there, with
-all of its fields, and each that is told there is written."""
+"""docs/JSON.md: each object that `play`, `stuck`, `show` and `describe` write with --json is told there, with all
+of its fields, and each that is told there is written."""
 
 import json
 import re
@@ -72,11 +72,10 @@ class Page(PlayCase):
         texts = [self.written("show", "--json", record) for record in sorted(EXAMPLES.glob("*.rec"))]
         self.assertEqual(set(), self.check("show", texts))
         told = set(re.findall("`([a-z]+)`", section("show").split("\n`what` is ")[1]))
-        rows = [each for text in texts for each in map(json.loads, text.splitlines())
-                if each["kind"] == "row"]
-        steps = {"open", "close", "read", "grab", "ungrab", "revoke", "mask", "clock", "write", "discard",
-                 "setaxis"}
-        self.assertEqual(told, {row["what"] for row in rows} - steps - {"tick", "inhibit", "uninhibit"})
+        rows = [each for text in texts for each in map(json.loads, text.splitlines()) if "what" in each]
+        steps = ("open close read grab ungrab revoke mask clock write discard setaxis "
+                 "tick inhibit uninhibit").split()
+        self.assertEqual(told, {row["what"] for row in rows} - {*steps})
 
     def test_causes(self):
         """Each cause that is made anywhere is told, in the page and in the summary."""

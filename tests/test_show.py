@@ -68,13 +68,21 @@ class Show(DeskCase):
         at = lines.index("")
         self.assertEqual("2.000000 +1.000000       7 | s: tick                 |", lines[at + 1])
         self.assertIn("1.000000                 1 | s: BTN_TOUCH 1 ..       |", lines)
-        texts = [(row["name"], row["text"]) for row in self.rows(self.folder / "pad.rec")]
-        for text in (("s", "BTN_TOUCH 1 .."), ("s", "ABS_X -5, EV_MSC 7 3"), ("t", "grab is refused"), ("s", "tick")):
-            self.assertIn(text, texts)
+        texts = {f"{row['name']}: {row['text']}" for row in self.rows(self.folder / "pad.rec")}
+        wanted = {"s: BTN_TOUCH 1 ..", "s: ABS_X -5, EV_MSC 7 3", "t: grab is refused", "s: tick"}
+        self.assertLessEqual(wanted, texts)
+
+    def test_who_stopped_early(self):
+        """It is said beside the timeline too, and by the status."""
+        status, said, notes = self.tool("show", TOP / "tests" / "records" / "owner_of_a_full_history.rec")
+        self.assertEqual((6, True), (status, bool(notes)), notes)
+        self.assertIn("at the end: s: stopped full 2\n", said)
+        self.assertNotIn("stopped", self.shown(EXAMPLES / "joystick.rec"))
 
     def test_json(self):
         rows = self.rows(EXAMPLES / "stuck_key.rec")
-        pressed = [{"type": "EV_KEY", "code": "KEY_LEFTCTRL", "value": 1}, {"type": "EV_SYN", "code": "SYN_REPORT", "value": 0}]
+        pressed = [{"type": "EV_KEY", "code": "KEY_LEFTCTRL", "value": 1},
+                   {"type": "EV_SYN", "code": "SYN_REPORT", "value": 0}]
         took = {"kind": "row", "device": "kbd", "role": "client", "name": "desktop", "place": 6, "time": 1000,
                 "what": "took", "text": "KEY_LEFTCTRL 1 (of 5)", "events": pressed, "frame": 5}
         self.assertEqual(took, next(row for row in rows if row["what"] == "took"))
@@ -93,8 +101,9 @@ class Show(DeskCase):
             with self.subTest(path.name):
                 report = path.with_suffix(".report").read_text().splitlines()
                 taken = [line.split()[3:] for line in report if line.startswith("took ")]
-                events = [event for row in self.rows(path) if row["what"] == "took" for event in row["events"]]
-                self.assertEqual(sorted(taken), sorted([e["type"], e["code"], str(e["value"])] for e in events))
+                rows = [row for row in self.rows(path) if row["what"] == "took"]
+                events = [[*map(str, event.values())] for row in rows for event in row["events"]]
+                self.assertEqual(sorted(taken), sorted(events))
 
     def test_no_line_is_wider_and_none_parts_a_value(self):
         for columns in (60, 110, 200):
@@ -117,7 +126,8 @@ class Stuck(DeskCase):
         touchpad, key = EXAMPLES / "touchpad.rec", EXAMPLES / "stuck_key.rec"
         wanted = self.written("stuck", key).replace("client remapper\n  at the end: as the device\n", "")
         self.assertEqual("only: client desktop\n" + wanted, self.written("stuck", "--client", "desktop", key))
-        said = self.written("stuck", "--client", "probe", "--thing", "ABS_Y", "--thing", "slot 0 ABS_MT_POSITION_Y", touchpad)
+        words = ["--client", "probe", "--thing", "ABS_Y", "--thing", "slot 0 ABS_MT_POSITION_Y"]
+        said = self.written("stuck", *words, touchpad)
         lines = [line for line in said.splitlines() if not line.startswith("    ")]
         wanted = """only: client probe; thing ABS_Y, slot 0 ABS_MT_POSITION_Y
 device touchpad steps 802
@@ -141,14 +151,14 @@ the device at the end
 
     def test_fail(self):
         """The status is that of what was asked for."""
-        cases = (("desktop", "ABS_Y", 0), ("taps", "ABS_Y", 1), ("taps", "ABS_MT_PRESSURE", 1), ("taps", "BTN_TOUCH", 0))
-        for client, thing, status in cases:
+        for client, thing, status in (("desktop", "ABS_Y", 0), ("taps", "ABS_Y", 1), ("taps", "BTN_TOUCH", 0),
+                                      ("taps", "ABS_MT_PRESSURE", 1)):
             with self.subTest(client=client, thing=thing):
                 words = ("--fail", "--client", client, "--thing", thing, EXAMPLES / "touchpad.rec")
                 self.assertEqual(status, self.tool("stuck", *words)[0])
 
     def test_what_is_not_there(self):
         record = EXAMPLES / "stuck_key.rec"
-        self.refused("stuck", "--thing", "KEY_LEFTCTR", record, because="named KEY_LEFTCTR; the nearest is KEY_LEFTCTRL")
-        self.refused("stuck", "--client", "usb", record, because="no client, tap, joystick or owner is named usb")
+        self.refused("stuck", "--thing", "KEY_LEFTCTR", record, because="the nearest is KEY_LEFTCTRL")
+        self.refused("stuck", "--client", "usb", record, because="tap, joystick or owner is named usb")
         self.assertEqual(0, self.tool("stuck", "--thing", "REP_DELAY", EXAMPLES / "feedback.rec")[0])

@@ -58,6 +58,7 @@ class StandardInput(DeskCase):
     def test_records_with_streams(self):
         self.is_one("play", "-")
         self.is_one("stuck", "-")
+        self.is_one("show", "-")
         self.is_one("draw", "-", named=self.record.name)
         self.is_one("check", "-")
         self.is_one("check", "--json", "-")

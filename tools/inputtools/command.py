@@ -46,7 +46,7 @@ def name_of(program: str) -> str:
     return PREFIX + program if is_installed() and not program.startswith(PREFIX) else program
 
 
-def named(text: str) -> str:
+def with_names(text: str) -> str:
     """A text that names tools of a clone, with the names that they have for its user."""
     return IN_A_CLONE.sub(PREFIX, text) if is_installed() else text
 
@@ -79,7 +79,7 @@ class Words(argparse.ArgumentParser):
         return self.parse_intermixed_args(args, namespace)
 
     def print_help(self, file: Optional[IO[str]] = None) -> None:
-        status = write(self.prog, with_pages(named(self.format_help())))
+        status = write(self.prog, with_pages(with_names(self.format_help())))
         if status:
             sys.exit(status)
 
@@ -102,7 +102,7 @@ def tell(line: str) -> None:
     progress.clear()
     if sys.stderr is not None:
         try:
-            print(plain(named(line)), file=sys.stderr, flush=True)
+            print(plain(with_names(line)), file=sys.stderr, flush=True)
         except OSError:
             pass
 

@@ -5,7 +5,7 @@ from __future__ import annotations
 
 from typing import List, Optional, Sequence
 
-from inputtools.command import counted, named
+from inputtools.command import counted, with_names
 from inputtools.explored_answers import Answer, Found
 
 
@@ -97,7 +97,7 @@ def count_text(answer: Answer, found: Found) -> str:
     share = found.orders / answer.orders
     if found.orders == answer.orders:
         every = "in the order" if answer.orders == 1 else f"in each of {of_text(answer)}"
-        more = "" if answer.drawn is not None else f": this is no race, and {named('tools/stuck')} tells it"
+        more = "" if answer.drawn is not None else f": this is no race, and {with_names('tools/stuck')} tells it"
         return f"{every}{more}"
     chance = "" if found.chance is None else f", by chance {share_text(found.chance)}"
     is_bounded = answer.drawn is not None or bounds_text(answer) != ""
@@ -124,8 +124,8 @@ def found_lines(answer: Answer, found: Found, path: Optional[str]) -> List[str]:
         lines.append("    BUT: played again, this order does not have it; keep the record, and report it")
     lines += order_lines(found)
     if path is not None:
-        lines.append(f"    why in full:  {named('tools/stuck')} {path}")
-        lines.append(f"    the picture:  {named('tools/draw')} {path} > order.html")
+        lines.append(f"    why in full:  {with_names('tools/stuck')} {path}")
+        lines.append(f"    the picture:  {with_names('tools/draw')} {path} > order.html")
     return lines
 
 

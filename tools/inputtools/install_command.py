@@ -1,5 +1,6 @@
 """Puts the program, the tools, the pages and the library below a folder."""
 
+import argparse
 import os
 import py_compile
 import sys
@@ -42,7 +43,9 @@ be written. 4: standard output failed. 130: stopped from the keyboard."""
 
 LAUNCHER = f"""#!/bin/sh
 # Runs inputplay. Its version and its words are told here.
-program=$(dirname "$(readlink -f "$0")")/../lib/inputplay/inputplay
+here=$0
+test -L "$here" && here=$(readlink -f "$here")
+program=${{here%/*}}/../lib/inputplay/inputplay
 case "$1" in
 --version) echo "inputplay {VERSION}" ;;
 --help) "$program" || : ;;
@@ -79,7 +82,7 @@ class Installer:
     """Writes files below a prefix, which may stand below another folder at first, and keeps which."""
 
     def __init__(self, prefix: str, stage: str) -> None:
-        self.prefix, self.stage = os.path.abspath(prefix), os.path.abspath(stage) if stage else ""
+        self.prefix, self.stage = os.path.abspath(prefix), os.path.realpath(stage) if stage else ""
         self.written: List[str] = []
         self.own: List[str] = []
 
@@ -90,7 +93,10 @@ class Installer:
     def new(self, path: str) -> str:
         """The name by which a file is written, before it replaces another. (One may run.)"""
         os.makedirs(os.path.dirname(path), exist_ok=True)
-        return f"{path}.new"
+        new = f"{path}.new"
+        if os.path.lexists(new):
+            os.remove(new)
+        return new
 
     def done(self, path: str) -> None:
         os.replace(f"{path}.new", path)
@@ -163,7 +169,7 @@ def install_program(installer: Installer, program: str) -> None:
     installer.put(LAUNCHER.encode(), "bin", "inputplay", is_program=True)
     for name in (SERVER, SHIM):
         if os.path.isfile(os.path.join(RUN, name)):
-            installer.copy(os.path.join(RUN, name), *LIB, "out", "run", name, is_program=True)
+            installer.copy(os.path.join(RUN, name), *LIB, "out", "run", name, is_program=name == SERVER)
     installer.copy(os.path.join(REPOSITORY, "docs", "inputplay.1"), *MANUAL, "inputplay.1")
     installer.complete("inputplay")
 
@@ -189,6 +195,15 @@ def install_tools(installer: Installer) -> List[str]:
     return []
 
 
+def install(installer: Installer, asked: argparse.Namespace) -> List[str]:
+    """Installs what was asked for; what is to be noted."""
+    if asked.library:
+        install_library(installer)
+    elif asked.only != "tools":
+        install_program(installer, asked.program or BUILT)
+    return install_tools(installer) if not asked.library and asked.only != "program" else []
+
+
 def command(arguments: List[str]) -> Result:
     words = Words(prog="install", description=HELP, epilog=STATUSES)
     words.add_argument("prefix", metavar="PREFIX", help="the folder that has bin, lib and share")
@@ -201,18 +216,18 @@ def command(arguments: List[str]) -> Result:
     if not asked.prefix:
         raise Wrong("PREFIX is empty")
     if asked.program is None and not asked.library and asked.only != "tools" and not is_built():
-        build("install", sys.stderr)
-    installer, notes = Installer(asked.prefix, asked.destdir), []
+        try:
+            build("install", sys.stderr)
+        except Wrong as wrong:
+            raise Wrong(f"{wrong}; --only tools installs the tools, with the second program") from None
+    installer = Installer(asked.prefix, asked.destdir)
     os.umask(0o022)
     try:
-        if asked.library:
-            install_library(installer)
-        elif asked.only != "tools":
-            install_program(installer, asked.program or BUILT)
-        if not asked.library and asked.only != "program":
-            notes = install_tools(installer)
-    except OSError as fault:
+        notes = install(installer, asked)
+        return Result(installer.text(), notes)
+    except (OSError, Wrong, KeyboardInterrupt) as fault:
         # (what was written until then is to be removed too)
         put("install", installer.text())
-        raise Wrong(f"{fault.filename}: {fault.strerror}") from None
-    return Result(installer.text(), notes)
+        if isinstance(fault, OSError):
+            raise Wrong(f"{fault.filename}: {fault.strerror}") from None
+        raise

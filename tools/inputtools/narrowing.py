@@ -2,7 +2,7 @@
 
 import difflib
 from dataclasses import dataclass
-from typing import Iterable, Iterator, List, Sequence, Set, TypeVar
+from typing import Iterable, Iterator, List, Sequence, Set, Tuple, TypeVar
 
 from inputtools.belief import SLOT, Thing
 from inputtools.command import Words, Wrong
@@ -18,7 +18,7 @@ Kind = TypeVar("Kind", bound=Reader)
 
 
 @dataclass(frozen=True)
-class Asked:
+class Scope:
     """The names of readers and of things, all where there is none, and whether the end alone is asked for."""
 
     readers: Sequence[str] = ()
@@ -51,9 +51,19 @@ def add_client(words: Words) -> None:
                        help="this client, tap, joystick or owner alone (several times: these)")
 
 
-def slot_name(line: ViewLine) -> str:
-    """What stands before the names of a line's values: the slot, where it is one's."""
-    return f"slot {line.words[1]} " if line.name == "slot" else ""
+@dataclass(frozen=True)
+class Told:
+    """A word of a line of the state at the end, and the names of what it tells of."""
+
+    word: str
+    names: Tuple[str, ...]
+
+
+def told_in(line: ViewLine) -> Iterator[Told]:
+    slot = f"slot {line.words[1]} " if line.name == "slot" else ""
+    for word in line.words[2 if slot else 1 :]:
+        name = SLOT if line.name == "current" else word.split("=")[0]
+        yield Told(word, (name, slot + name))
 
 
 def names_in(device: PlayedDevice) -> Iterator[str]:
@@ -61,12 +71,9 @@ def names_in(device: PlayedDevice) -> Iterator[str]:
     for kind, codes in device.state.description.codes.items():
         yield from CODES[REP] if kind == REP else (code_text(kind, code) for code in codes)
     for line in device.state.view:
-        for word in line.words[1:]:
-            name = word.split("=")[0]
-            yield from (name, slot_name(line) + name) if "=" in word else ()
+        yield from (name for told in told_in(line) for name in told.names)
     for reader in device.readers():
         yield from (each.thing.code for each in reader.divergences)
-    yield from (SLOT,) if device.state.description.slots else ()
 
 
 def check_names(given: Sequence[str], known: Set[str], what: str) -> None:
@@ -77,40 +84,37 @@ def check_names(given: Sequence[str], known: Set[str], what: str) -> None:
             raise Wrong(f"no {what} is named {name}" + (f"; the nearest is {near[0]}" if near else ""))
 
 
-def narrowed_line(line: ViewLine, asked: Asked) -> ViewLine:
+def narrowed_line(line: ViewLine, scope: Scope) -> ViewLine:
     """A line of the state at the end with the things alone that were asked for."""
-    count = 2 if line.name == "slot" else 1
-    kept = []
-    for word in line.words[count:]:
-        name = word.split("=")[0] if "=" in word or line.name in TELLS_NONE else SLOT
-        kept += [word] if asked.has(name, slot_name(line) + name) else []
-    words = (*line.words[:count], *kept) if kept or line.name in TELLS_NONE else ()
+    told = list(told_in(line))
+    kept = [each.word for each in told if scope.has(*each.names)]
+    words = (*line.words[: len(line.words) - len(told)], *kept) if kept or line.name in TELLS_NONE else ()
     return ViewLine(line.number, " ".join(words), words)
 
 
-def named(readers: List[Kind], asked: Asked) -> List[Kind]:
-    return [reader for reader in readers if not asked.readers or reader.name in asked.readers]
+def chosen(readers: List[Kind], scope: Scope) -> List[Kind]:
+    return [reader for reader in readers if not scope.readers or reader.name in scope.readers]
 
 
-def narrow_device(device: PlayedDevice, asked: Asked) -> None:
-    device.clients, device.joysticks = named(device.clients, asked), named(device.joysticks, asked)
-    device.owners = named(device.owners, asked)
+def narrow_device(device: PlayedDevice, scope: Scope) -> None:
+    device.clients, device.joysticks = chosen(device.clients, scope), chosen(device.joysticks, scope)
+    device.owners = chosen(device.owners, scope)
     for reader in device.readers():
-        reader.at_end = asked.wanted(reader.at_end)
-        reader.divergences = reader.at_end if asked.is_end else asked.wanted(reader.divergences)
-    if asked.things:
+        reader.at_end = scope.wanted(reader.at_end)
+        reader.divergences = reader.at_end if scope.is_end else scope.wanted(reader.divergences)
+    if scope.things:
         state = device.state
-        state.view = [line for line in (narrowed_line(each, asked) for each in state.view) if line.words]
-        state.end = {thing: value for thing, value in state.end.items() if asked.has_thing(thing)}
-        state.changes = {thing: changes for thing, changes in state.changes.items() if asked.has_thing(thing)}
+        state.view = [line for line in (narrowed_line(each, scope) for each in state.view) if line.words]
+        state.end = {thing: value for thing, value in state.end.items() if scope.has_thing(thing)}
+        state.changes = {thing: changes for thing, changes in state.changes.items() if scope.has_thing(thing)}
 
 
-def narrow(devices: Sequence[PlayedDevice], asked: Asked) -> List[PlayedDevice]:
+def narrow(devices: Sequence[PlayedDevice], scope: Scope) -> List[PlayedDevice]:
     """The devices that have what was asked for, each with that alone."""
     readers = {reader.name for device in devices for reader in device.readers()}
-    check_names(asked.readers, readers, "client, tap, joystick or owner")
+    check_names(scope.readers, readers, "client, tap, joystick or owner")
     things = {name for device in devices for name in names_in(device)}
-    check_names(asked.things, things, "thing of the record")
+    check_names(scope.things, things, "thing of the record")
     for device in devices:
-        narrow_device(device, asked)
-    return [device for device in devices if device.readers() or not asked.readers]
+        narrow_device(device, scope)
+    return [device for device in devices if device.readers() or not scope.readers]

@@ -6,7 +6,7 @@ from html import escape
 from typing import List, Optional, Sequence, Tuple
 
 from inputtools.colours import read_rules, style
-from inputtools.command import counted
+from inputtools.command import counted, with_names
 from inputtools.lanes import Lanes
 from inputtools.picture import AXIS, Legend, no_picture, panes, picture
 from inputtools.played import PlayedDevice
@@ -140,7 +140,7 @@ class DevicePart:
     def ranges_part(self) -> List[str]:
         if self.end - self.begin <= 1 or self.steps < 2:
             return []
-        any_other = "<code>tools/draw --from PLACE --to PLACE FILE</code> draws any other range"
+        any_other = with_names("<code>tools/draw --from PLACE --to PLACE FILE</code> draws any other range")
         if self.ranges:
             told = f"The boxes below the axis lead to the ranges in which something {HAPPENS}; {any_other}."
             return [f"<p>{told}</p>"] + [self.range_part(*each) for each in self.ranges]

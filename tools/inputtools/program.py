@@ -24,11 +24,10 @@ from inputtools.progress import progress
 from inputtools.record import stream_names
 
 REPOSITORY = os.path.dirname(os.path.dirname(os.path.dirname(os.path.abspath(__file__))))
+SOURCE = os.path.join(REPOSITORY, "crates", "inp_main")
 # (what is installed has no crates, and the program beside its tools)
 INSTALLED = os.path.join(REPOSITORY, "inputplay")
-IN_A_CLONE = os.path.join(REPOSITORY, "crates", "inp_main", "out", "inp_main")
-BUILT = INSTALLED if os.path.isfile(INSTALLED) else IN_A_CLONE
-SOURCE = os.path.join(REPOSITORY, "crates", "inp_main")
+BUILT = INSTALLED if os.path.isfile(INSTALLED) else os.path.join(SOURCE, "out", "inp_main")
 SECOND = os.path.join(REPOSITORY, "second")
 
 # The statuses with which a report was written.

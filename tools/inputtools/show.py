@@ -5,10 +5,10 @@ import re
 import textwrap
 from dataclasses import dataclass
 from itertools import groupby, zip_longest
-from typing import Iterator, List, Optional, Sequence, Tuple
+from typing import Dict, Iterator, List, Optional, Sequence, Tuple
 
 from inputtools.command import counted
-from inputtools.divergences import Divergence
+from inputtools.endings import names_text
 from inputtools.jsonlines import Fields, end_line, event_fields, line_of, moment_fields
 from inputtools.played import PlayedDevice, Reader
 from inputtools.report import Again, Call, Entry, Event, Fed, Feedback, JoyRecord, Made, Step, Took
@@ -16,9 +16,9 @@ from inputtools.stuck_text import end_text, name_of
 
 # What comes first at one place: what a reader found before the step, the step, and what was so since it.
 BEFORE, STEP, SINCE = range(3)
-MOST_NAMED = 4
 # A blank line stands before what comes so many microseconds later.
 LONG_GAP = 1000000
+FINISHED = "finished"
 # The least width of a side, which the longest event takes.
 LEAST_SIDE = 26
 
@@ -126,31 +126,20 @@ def text_of(what: str, entries: Sequence[Entry], events: Sequence[Event]) -> str
 # Where belief and device part
 
 
-def named(reader: Reader, group: Sequence[Divergence], values: bool) -> str:
-    """Things of a reader, with the values in which they part."""
-    texts = [name_of(reader, each.thing) for each in group]
-    if values:
-        texts = [f"{text} {each.believed_text} for it, {each.present_text} on the device"
-                 for text, each in zip(texts, group)]
-    more = len(texts) - MOST_NAMED
-    return ", ".join(texts[:MOST_NAMED]) + (f" and {counted(more, 'thing')} more" if more > 0 else "")
-
-
 def divergence_rows(reader: Reader, last: int) -> Iterator[Row]:
     """A row for what parts, and for what meets, at one place. (The end is told at the last place.)"""
-    def since(each: Divergence) -> Tuple[int, str]:
-        return min(each.since or 0, last), each.cause.text
-
-    def met(each: Divergence) -> int:
-        return min(each.met_at or 0, last)
-
-    for (place, cause), group in groupby(sorted(reader.divergences, key=since), since):
-        text = f"parts: {named(reader, list(group), True)}: {cause}"
-        yield Row(place, SINCE, reader.role, reader.name, "parts", text)
-    ended = [each for each in reader.divergences if each.met_by is not None]
-    for place, again in groupby(sorted(ended, key=met), met):
-        text = f"meets: {named(reader, list(again), False)}"
-        yield Row(place, SINCE, reader.role, reader.name, "meets", text)
+    parted: Dict[Tuple[int, str], List[str]] = {}
+    met: Dict[int, List[str]] = {}
+    for each in reader.divergences:
+        name = name_of(reader, each.thing)
+        values = f"{name} {each.believed_text} for it, {each.present_text} on the device"
+        parted.setdefault((min(each.since or 0, last), each.cause.text), []).append(values)
+        if each.met_by is not None:
+            met.setdefault(min(each.met_at or 0, last), []).append(name)
+    told = [("parts", place, f"{names_text(texts)}: {cause}") for (place, cause), texts in parted.items()]
+    told += [("meets", place, names_text(names)) for place, names in met.items()]
+    for what, place, text in told:
+        yield Row(place, SINCE, reader.role, reader.name, what, f"{what}: {text}")
 
 
 def rows_of(device: PlayedDevice) -> List[Row]:
@@ -169,24 +158,22 @@ class Table:
     """The rows of a device as lines: seconds, gaps and places; sources left, readers right."""
 
     def __init__(self, device: PlayedDevice, rows: Sequence[Row], width: int) -> None:
-        at = device.state.at
-        self.rows, self.moments = rows, [at.moment(row.place) for row in rows]
+        self.rows, self.moments = rows, [device.state.at.moment(row.place) for row in rows]
         told = [moment for moment in self.moments if moment is not None]
-        # (times of two devices' clients may go back)
         gaps = [after - before for before, after in zip(told, told[1:])]
-        self.digits = 6 if any(moment % 1000 for moment in at.moments) else 3
-        self.wide = [max(len(name), *(len(self.seconds(each)) for each in (0, *times)))
-                     for name, times in (("seconds", told[-1:]), ("gap", gaps))]
+        self.digits = 6 if any(moment % 1000 for moment in told) else 3
+        self.wide = max(len(self.seconds(max(told, default=0))), len("seconds"))
+        # (times may go back)
+        self.gap = max(len(self.seconds(max((abs(gap) for gap in gaps), default=0))), len("gap")) + 1
         widest = max((len(sides(row)[0]) for row in rows), default=0)
         self.left = max(min(widest, max(width // 2 - 20, LEAST_SIDE)), len("sources"))
-        self.right = max(width - self.left - sum(self.wide) - 16, LEAST_SIDE)
+        self.right = max(width - self.left - self.wide - self.gap - 15, LEAST_SIDE)
 
-    def seconds(self, micros: int) -> str:
-        return f"{micros / 1000000:.{self.digits}f}"
+    def seconds(self, micros: int, sign: str = "") -> str:
+        return f"{micros / 1000000:{sign}.{self.digits}f}"
 
     def line(self, seconds: str, gap: str, place: str, left: str, right: str) -> str:
-        wide, gap_wide = self.wide
-        head = f"{seconds:>{wide}} {gap:>{gap_wide + 1}} {place:>7}"
+        head = f"{seconds:>{self.wide}} {gap:>{self.gap}} {place:>7}"
         return f"{head} | {left:<{self.left}} | {right}".rstrip()
 
     def lines(self) -> Iterator[str]:
@@ -199,16 +186,24 @@ class Table:
             seconds = "" if moment in (None, before) else self.seconds(moment or 0)
             yield from [""] if gap >= LONG_GAP else []
             shown = "" if row.place == place else str(row.place)
-            yield from self.row_lines(row, seconds, f"+{self.seconds(gap)}" if gap else "", shown)
+            yield from self.row_lines(row, seconds, self.seconds(gap, "+") if gap else "", shown)
             before = before if moment is None else moment
 
     def row_lines(self, row: Row, seconds: str, gap: str, place: str) -> Iterator[str]:
-        """A row, on as many lines as its sides take. No line ends between a code and its value."""
-        texts = (textwrap.wrap(re.sub(r" (-?\d)", "\u00a0\\1", text), width, break_on_hyphens=False,
-                               break_long_words=False) for text, width in zip(sides(row), (self.left, self.right)))
+        """A row, on as many lines as its sides take."""
+        texts = (wrapped(text, width) for text, width in zip(sides(row), (self.left, self.right)))
         for left, right in zip_longest(*texts, fillvalue=""):
-            yield self.line(seconds, gap, place, left, right).replace("\u00a0", " ")
+            yield self.line(seconds, gap, place, left, right)
             seconds = gap = place = ""
+
+
+def wrapped(text: str, width: int) -> List[str]:
+    """A text on lines of this width, none of which ends between a code and its value."""
+    if len(text) <= width:
+        return [text]
+    joined = re.sub(r" (-?\d)", "\u00a0\\1", text)
+    lines = textwrap.wrap(joined, width, break_on_hyphens=False, break_long_words=False)
+    return [line.replace("\u00a0", " ") for line in lines]
 
 
 def sides(row: Row) -> Tuple[str, str]:
@@ -219,6 +214,9 @@ def sides(row: Row) -> Tuple[str, str]:
 def device_lines(device: PlayedDevice, width: int) -> List[str]:
     table = Table(device, rows_of(device), width)
     ends = [f"at the end: {reader.name}: {end_text(reader)}" for reader in device.readers()]
+    parts = [*device.report.parts, *device.report.joysticks, *device.report.owners]
+    stopped = [part for part in parts if part.end.reason != FINISHED]
+    ends += [f"at the end: {part.name}: stopped {part.end.reason}" for part in stopped]
     return [f"device {device.name} steps {device.report.steps}", *table.lines(), *ends]
 
 

@@ -4,7 +4,8 @@ import shutil
 from typing import List
 
 from inputtools.command import Result, Words
-from inputtools.narrowing import Asked, add_client, narrow
+from inputtools.endings import cuts_of
+from inputtools.narrowing import Scope, add_client, narrow
 from inputtools.played import play
 from inputtools.program import find_player
 from inputtools.show import device_lines, json_lines
@@ -20,7 +21,9 @@ what kept the event, and a row "meets" where both agree again. Answers that a re
 alone."""
 
 STATUSES = """Status 0: it was shown. 2: wrong words, or a record that cannot be played. 4: standard output
-failed. 130: stopped from the keyboard."""
+failed. 6: it was shown, of a play that was cut. 130: stopped from the keyboard."""
+
+CUT = 6
 
 
 def command(arguments: List[str]) -> Result:
@@ -29,7 +32,8 @@ def command(arguments: List[str]) -> Result:
     add_client(words)
     words.add_argument("--json", action="store_true", help="write one JSON object a line (docs/JSON.md)")
     asked = words.parse_args(arguments)
-    devices = narrow(play(Given(asked.file), find_player()), Asked(asked.client))
+    devices = narrow(play(Given(asked.file), find_player()), Scope(asked.client))
     width = shutil.get_terminal_size((110, 24)).columns
     lines = (json_lines(device) if asked.json else device_lines(device, width) for device in devices)
-    return Result("".join(line + "\n" for group in lines for line in group))
+    cuts = cuts_of(devices)
+    return Result("".join(line + "\n" for group in lines for line in group), cuts, CUT if cuts else 0)

@@ -4,7 +4,7 @@ from typing import List
 
 from inputtools.command import Result, Words
 from inputtools.jsonlines import line_of, stuck_lines
-from inputtools.narrowing import Asked, add_client, narrow
+from inputtools.narrowing import Scope, add_client, narrow
 from inputtools.played import cut_of, play
 from inputtools.program import CUT, find_player
 from inputtools.report import CUT_HELP, cut_text
@@ -46,7 +46,7 @@ def command(arguments: List[str]) -> Result:
                        help="this key, switch, light or axis alone: KEY_A, ABS_X, 'slot 0 ABS_MT_POSITION_X'")
     words.add_argument("--end", action="store_true", help="what is so at the end alone")
     asked = words.parse_args(arguments)
-    only = Asked(asked.client, asked.thing, asked.end)
+    only = Scope(asked.client, asked.thing, asked.end)
     wall.ask(asked.wall, asked.json)
     devices = narrow(play(Given(asked.file), find_player()), only)
     cut = cut_of(devices)
