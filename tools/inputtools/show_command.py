@@ -7,7 +7,7 @@ from inputtools.command import Result, Words
 from inputtools.endings import cuts_of
 from inputtools.narrowing import Scope, add_client, narrow
 from inputtools.played import play
-from inputtools.program import find_player
+from inputtools.program import CUT, find_player
 from inputtools.show import device_lines, json_lines
 from inputtools.source import Given
 
@@ -22,8 +22,6 @@ alone."""
 
 STATUSES = """Status 0: it was shown. 2: wrong words, or a record that cannot be played. 4: standard output
 failed. 6: it was shown, of a play that was cut. 130: stopped from the keyboard."""
-
-CUT = 6
 
 
 def command(arguments: List[str]) -> Result:
