@@ -76,8 +76,7 @@ def play_on(machines: Machines, cases: List[Case], keep: Path) -> bool:
     begun = time.monotonic()
     tally = tally_of(machines, cases)
     progress.clear()
-    kernel = machines.kernel
-    print(f"{kernel.version} ({kernel.package()}): {counted(len(cases), 'record')} in {time.monotonic() - begun:.0f} s")
+    print(f"  {counted(len(cases), 'record')} in {time.monotonic() - begun:.0f} s")
     print("\n".join(tally.lines()), flush=True)
     texts = {case.name: case for case in cases}
     for number, verdict in enumerate(tally.unexplained):
@@ -94,11 +93,11 @@ def run(program: str, text: str) -> int:
         raise Wrong("a RECORD is a file NAME.rec")
     cases = [] if asked.wrong else list(cases_of(asked))
     check_programs()
-    print(find_player().told())
-    is_right = True
+    told, is_right = find_player().told(), True
     for name in asked.kernel or PACKAGES:
         progress.tell(f"the kernel {name} is fetched and unpacked")
         machines = Machines(kernel_of(name, asked.cache), built_player(asked.cache), asked.jobs)
+        print(f"kernel {machines.kernel.version} ({machines.kernel.package()}), {told}", flush=True)
         if asked.wrong:
             is_right &= wrong.try_all(machines)
         elif asked.write:
