@@ -10,7 +10,7 @@ import unittest
 from pathlib import Path
 from typing import List
 
-from checks.kernels import scripts
+from checks.kernels import scripts, wrong
 from checks.kernels.answers import NotPlayed, report_of
 from checks.kernels.comparable import agreed, comparable
 from checks.kernels.judging import EQUAL, EXPLAINED, UNEXPLAINED, judge, why_not
@@ -115,6 +115,14 @@ class Answers(unittest.TestCase):
                 play(text)
                 play(text, ways=ALL)
         self.assertEqual(set(MAKERS), families)
+
+    def test_wrong_versions_can_be_made(self) -> None:
+        self.assertGreaterEqual(len(wrong.VERSIONS), 10)
+        for version in wrong.VERSIONS:
+            with self.subTest(version.name):
+                text = (TOP / "second" / version.file).read_text()
+                self.assertEqual(1, text.count(version.old))
+                compile(text.replace(version.old, version.new), version.file, "exec")
 
     def test_ways(self) -> None:
         self.assertEqual(RULES, ways_of(()))

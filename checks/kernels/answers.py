@@ -187,9 +187,9 @@ def report_of(text: str, said: Iterable[str], folder: str = ".") -> List[str]:
         actors[name] = MachineActor(name, role, devices[device])
     for name, *words in record.actions:
         actors[name].do(words, streams_of(folder))
-    for device in devices:
+    for each in devices:
         for actor in actors.values():
-            if actor.device is device and actor.role == "client":
+            if actor.device is each and actor.role == "client":
                 actor.ask_view()
     shown: Any = devices
     return report(shown, list(actors.values()), history=False)
@@ -197,7 +197,8 @@ def report_of(text: str, said: Iterable[str], folder: str = ".") -> List[str]:
 
 def parts_of(text: str) -> Iterator[Tuple[str, List[str]]]:
     """The names of the records that were played to their end, and what was said of each."""
-    name, lines = "", []
+    name = ""
+    lines: List[str] = []
     for line in text.splitlines():
         word, _, rest = line.partition(" ")
         if word == "record":

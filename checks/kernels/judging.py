@@ -77,6 +77,11 @@ def least_ways(kernel: List[str], text: str, folder: str, version: str) -> Optio
     return ways
 
 
+def is_explained(kernel: List[str], text: str, folder: str, version: str) -> bool:
+    """Whether the second program answers as the kernel by the rules, or with all ways."""
+    return is_same(kernel, text, folder, RULES) or is_same(kernel, text, folder, ways_of_kernel(version))
+
+
 def shown(wanted: List[str], came: List[str], text: str) -> Tuple[str, ...]:
     lines = difflib.unified_diff(wanted, agreed(came, wanted, is_live(text)), "the second program", "the kernel", n=2, lineterm="")
     return tuple(lines)[:SHOWN]

@@ -2,7 +2,7 @@
 
 from __future__ import annotations
 
-from typing import Iterator, List
+from typing import Dict, Iterator, List
 
 from second.device import Caps
 from second.model import code_of, event_of, kind_of, number, read_record, source_steps, streams_of
@@ -59,7 +59,7 @@ def lines_of(name: str, text: str, folder: str = ".") -> List[str]:
     """The lines of a record; behind them each reader's view is asked for."""
     record, streams = read_record(text), streams_of(folder)
     lines = [f"record {name}"] + (["live"] if is_live(text) else [])
-    numbers = {}
+    numbers: Dict[str, int] = {}
     for device, (_, caps) in enumerate(record.descriptions):
         lines += description(caps)
         for actor, role, of_device in record.actors:

@@ -3,12 +3,13 @@
 from __future__ import annotations
 
 from dataclasses import dataclass
+from functools import partial
 from random import Random
 from typing import Callable, Dict, List, Sequence, Tuple
 
-from second.device import SLOT, ID
+from second.device import FUZZ_MAX, ID, LAST, MASK_WORDS, SLOT
 from second.kernel import estimate
-from second.model import read_record
+from second.model import code_of, kind_of, read_record
 from second.names import ABS, KEY, LED, MSC, REL, SND, SW, SYN, code_text, kind_text
 from checks.random_devices import RandomDevice
 from checks.random_records import Actors, Codes, Generator
@@ -18,7 +19,9 @@ KEYS = (*range(2, 12), 30, 31, 48, 0x100, 0x101, 0x110, 0x120, 0x121, 0x130, 0x1
 CODES: Dict[int, Sequence[int]] = {
     KEY: KEYS, REL: range(16), MSC: range(8), SW: range(17), LED: (3, 5, 6, 7, 8, 15), SND: range(8),
 }
-AXES = (0, 1, 2, 5, 0x10, 0x18, 0x28, 0x2E, 0x3F)
+AXES = (0, 1, 2, 5, 6, 8, 0x10, 0x18, 0x28, 0x3F)
+# An axis by which libevdev has no slots: one in so many devices has it.
+RESERVED, RESERVED_EVERY = 0x2E, 12
 AXES_OF_SLOTS = (0x30, 0x31, 0x35, 0x36, 0x3A, 0x3D)
 MOST = 7800000
 
@@ -78,7 +81,8 @@ class Playable(Generator):
 
     def axes_of(self, slots: int, lines: List[str]) -> List[int]:
         r = self.r
-        axes = r.sample(AXES, r.randint(1, 4)) + r.sample(AXES_OF_SLOTS, r.randint(1, 4)) * (slots > 0 or r.random() < 0.2)
+        axes = r.sample(AXES, r.randint(1, 4)) + [RESERVED] * (r.randrange(RESERVED_EVERY) == 0)
+        axes += r.sample(AXES_OF_SLOTS, r.randint(1, 4)) * (slots > 0 or r.random() < 0.2)
         for code in axes:
             is_of_slots = SLOT <= code <= 0x3D
             fuzz = r.choice([0, 0, 1, 4, 8, 16, 300] + [2**30] * (r.random() < 0.1))
@@ -107,6 +111,24 @@ class Playable(Generator):
         """No time goes by between a record's lines but where keys repeat, so no tick comes."""
         actions = super().source_action(_, codes, slots, busy)
         return [action for action in actions if not action.startswith("tick ")]
+
+
+    def client_action(self, role: str, codes: Codes, slots: int, busy: bool) -> List[str]:
+        """Mostly no mask and no description of an axis that only the kernel takes: it hides other differences."""
+        actions = super().client_action(role, codes, slots, busy)
+        is_taken_by_kernel = is_refused(actions[0].split(), codes)
+        return self.client_action(role, codes, slots, busy) if is_taken_by_kernel and self.r.random() < 0.9 else actions
+
+
+def is_refused(words: List[str], codes: Codes) -> bool:
+    """Whether the rules refuse a mask or a description."""
+    if words[0] == "mask":
+        kind = kind_of(words[1])
+        return int(words[2]) >= MASK_WORDS.get(kind, 0)
+    if words[0] != "setaxis":
+        return False
+    axis = code_of(ABS, words[1])
+    return (ABS, axis) not in codes or SLOT <= axis <= LAST or not 0 <= int(words[5]) <= FUZZ_MAX
 
 
 class Repeating:
@@ -181,9 +203,17 @@ def driven(seed: int) -> str:
     return "\n".join(["inputrecord 2", *lines, "client c", "client d", "tap t", *rest]) + "\n"
 
 
+def of_family(name: str, seed: int) -> str:
+    return Playable(seed, name).record()
+
+
+def repeating(seed: int) -> str:
+    return Repeating(seed).record()
+
+
 MAKERS: Dict[str, Tuple[int, Callable[[int], str]]] = {
-    **{name: (family.weight, lambda seed, name=name: Playable(seed, name).record()) for name, family in FAMILIES.items()},
-    "repeating": (4, lambda seed: Repeating(seed).record()),
+    **{name: (family.weight, partial(of_family, name)) for name, family in FAMILIES.items()},
+    "repeating": (4, repeating),
     "driven": (8, driven),
 }
 

@@ -67,7 +67,8 @@ class Told:
     """How many records the machines of one kernel have played."""
 
     def __init__(self, version: str, total: int) -> None:
-        self.version, self.total, self.counts = version, total, Counter[int]()
+        self.version, self.total = version, total
+        self.counts: Counts[int] = Counter()
         self.lock = threading.Lock()
 
     def tell(self, machine: int, count: int) -> None:
