@@ -44,8 +44,8 @@ class Ways:
         """The names of those that are on."""
         return tuple(name for name in NAMES if getattr(self, name))
 
-    def without(self, name: str) -> "Ways":
-        return replace(self, **{name: False})
+    def without(self, *names: str) -> "Ways":
+        return replace(self, **{name: False for name in names})
 
 
 NAMES = tuple(field.name for field in fields(Ways))
@@ -56,5 +56,4 @@ def ways_of(names: Iterable[str]) -> Ways:
     return replace(RULES, **{name: True for name in names})
 
 
-# The ways of a real system: uinput takes the times of events from 6.12 on.
 ALL = ways_of(NAMES)

@@ -14,7 +14,7 @@ from inputtools.program import find_player
 from inputtools.progress import progress
 from second.record_text import Refused, streams_of_text
 from checks.kernels import scripts, wrong
-from checks.kernels.machine import PACKAGES, built_player, cache_folder, check_programs, kernel_of
+from checks.kernels.machine import PACKAGES, built_player, cache_folder, check_programs, kernel_of, library_of
 from checks.kernels.records import random_record
 from checks.kernels.running import Case, Machines, smallest, tally_of
 from checks.trial import positive
@@ -28,7 +28,9 @@ def words_of(program: str, text: str) -> argparse.ArgumentParser:
     words = Words(prog=program, description=text)
     words.add_argument("record", metavar="RECORD", nargs="*", type=Path, help="play these records")
     words.add_argument("--kernel", metavar="NAME", action="append",
-                       help=f"a version ({' or '.join(PACKAGES)}), a package's name, or its file; both versions else")
+                       help=f"a version ({' or '.join(PACKAGES)}), a package's name, its file, or a folder of a kernel's "
+                       "packages; both versions else")
+    words.add_argument("--libevdev", metavar="FILE", type=Path, help="a package of libevdev-dev; the one that is installed else")
     words.add_argument("--records", metavar="N", type=positive, help="play so many random records")
     words.add_argument("--seed", metavar="S", type=int, default=1, help="the number that these are made of (1)")
     words.add_argument("--scripts", action="store_true", help="play the records of tests/kernel/")
@@ -94,10 +96,11 @@ def run(program: str, text: str) -> int:
     cases = [] if asked.wrong else list(cases_of(asked))
     check_programs()
     told, is_right = find_player().told(), True
+    library = library_of(asked.libevdev, asked.cache)
     for name in asked.kernel or PACKAGES:
         progress.tell(f"the kernel {name} is fetched and unpacked")
-        machines = Machines(kernel_of(name, asked.cache), built_player(asked.cache), asked.jobs)
-        print(f"kernel {machines.kernel.version} ({machines.kernel.package()}), {told}", flush=True)
+        machines = Machines(kernel_of(name, asked.cache), built_player(asked.cache, library), asked.jobs)
+        print(f"kernel {machines.kernel.version} ({machines.kernel.package()}), {library.told}; {told}", flush=True)
         if asked.wrong:
             is_right &= wrong.try_all(machines)
         elif asked.write:

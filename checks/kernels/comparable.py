@@ -7,7 +7,7 @@ from typing import Callable, Dict, Iterator, List, Optional
 
 LIVE = "live"
 # How far the machine's measure of its clocks may be off, and how far what it does in real time, in microseconds.
-OFF, OFF_IN_REAL_TIME = 300, 45000
+OFF, OFF_IN_REAL_TIME = 300, 90000
 # The causes that evdev has one error for.
 INVALID = ("bad-kind", "bad-code", "bad-info", "not-grabber")
 WITHOUT_CLIENT = ("open",)

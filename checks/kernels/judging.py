@@ -9,7 +9,7 @@ from typing import Iterable, List, Optional, Tuple
 
 from second.kernel import estimate
 from second.model import play, read_record
-from second.ways import ALL, NAMES, RULES, Ways
+from second.ways import ALL, RULES, Ways
 from checks.kernels.answers import NotPlayed, report_of
 from checks.kernels.comparable import agreed, comparable
 from checks.kernels.lines import is_live
@@ -70,10 +70,16 @@ def least_ways(kernel: List[str], text: str, folder: str, version: str) -> Optio
     ways = ways_of_kernel(version)
     if not is_same(kernel, text, folder, ways):
         return None
-    for name in NAMES:
-        fewer = ways.without(name)
-        if fewer != ways and is_same(kernel, text, folder, fewer):
+    # (many that are not needed are left out at once)
+    waiting = [ways.on()]
+    while waiting:
+        names = waiting.pop()
+        fewer = ways.without(*names)
+        if is_same(kernel, text, folder, fewer):
             ways = fewer
+        elif len(names) > 1:
+            half = len(names) // 2
+            waiting += [names[half:], names[:half]]
     return ways
 
 

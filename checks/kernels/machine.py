@@ -12,7 +12,7 @@ import tempfile
 import time
 from dataclasses import dataclass
 from pathlib import Path
-from typing import Callable, Dict, List, Sequence
+from typing import Callable, Dict, Iterable, List, Optional, Sequence
 
 from inputtools.command import Wrong
 
@@ -20,8 +20,8 @@ GUEST = Path(__file__).resolve().parent / "guest"
 MODULES = ("input/evdev", "input/misc/uinput", "input/joydev")
 # The packages that bring the kernel of a version.
 PACKAGES = {"6.1": "linux-image-amd64", "6.12": "linux-image-6.12-amd64"}
-IMAGE = re.compile(r"linux-image-(\d+\.\d+)\S*")
-FLAGS = ("-std=c11", "-O1", "-Wall", "-Wextra", "-Wconversion", "-static", "-I/usr/include/libevdev-1.0")
+VERSION = re.compile(r"linux-[a-z]+-(\d+\.\d+)")
+FLAGS = ("-std=c11", "-O1", "-Wall", "-Wextra", "-Wconversion", "-static")
 # The Debian packages of the programs that are run.
 NEEDED = {
     "qemu-system-x86_64": "qemu-system-x86", "cpio": "cpio", "gcc": "gcc", "gzip": "gzip", "dpkg-deb": "dpkg",
@@ -70,6 +70,11 @@ def output(words: Sequence[object], folder: Path) -> str:
     return done.stdout
 
 
+def version_of(words: Sequence[object], folder: Path) -> str:
+    """A package's name and version."""
+    return " ".join(output(words, folder).replace(":amd64", "").split())
+
+
 # Kernels
 
 
@@ -82,65 +87,96 @@ def package_of(name: str, folder: Path) -> str:
     return name
 
 
-def fetched(name: str, folder: Path) -> Path:
-    """The file of a package that apt knows."""
+def fetched(name: str, folder: Path) -> List[Path]:
+    """The files of the packages of a kernel: those that are named, or the one that apt knows."""
+    named = Path(name)
+    if named.suffix == ".deb" or named.is_dir():
+        files = sorted(named.glob("*.deb")) if named.is_dir() else [named]
+        if not files or not all(file.is_file() for file in files):
+            raise Wrong(f"{name}: no such file" if files else f"{name} has no packages")
+        return files
     try:
         output(["apt-get", "-q", "download", package_of(PACKAGES.get(name, name), folder)], folder)
     except Wrong as wrong:
         raise Wrong(f"{wrong} (apt has no kernel {name}; 'apt-get update' brings its lists)") from None
-    return next(folder.glob("*.deb"))
+    return list(folder.glob("*.deb"))
 
 
-def plain_module(unpacked: Path, module: str) -> bytes:
-    for path in unpacked.glob(f"lib/modules/*/kernel/drivers/{module}.ko*"):
-        data = path.read_bytes()
-        return lzma.decompress(data) if path.suffix == ".xz" else data
-    raise Wrong(f"the kernel's package has no module {module}")
+def only(paths: Iterable[Path], what: str) -> Path:
+    for path in paths:
+        return path
+    raise Wrong(f"the packages have no {what}")
 
 
-def unpack(package: Path, kernel: Path) -> None:
-    """Takes from a package what a machine needs."""
+def unpack(packages: List[Path], kernel: Path) -> None:
+    """Takes from packages what a machine needs."""
     with tempfile.TemporaryDirectory(dir=kernel.parent) as name:
         folder, unpacked = Path(name) / "made", Path(name) / "unpacked"
         folder.mkdir()
-        output(["dpkg-deb", "-x", package.resolve(), unpacked], folder)
-        shutil.copy(next(unpacked.glob("boot/vmlinuz-*")), folder / "vmlinuz")
+        for package in packages:
+            output(["dpkg-deb", "-x", package.resolve(), unpacked], folder)
+        shutil.copy(only(unpacked.rglob("vmlinuz*"), "kernel"), folder / "vmlinuz")
         for module in MODULES:
-            (folder / f"{Path(module).name}.ko").write_bytes(plain_module(unpacked, module))
-        fields = output(["dpkg-deb", "-f", package.resolve(), "Package", "Version"], folder)
-        (folder / "package").write_text(" ".join(line.split(": ")[1] for line in fields.splitlines()), encoding="utf-8")
+            path = only(unpacked.rglob(f"kernel/drivers/{module}.ko*"), f"module {module}")
+            data = path.read_bytes()
+            (folder / f"{Path(module).name}.ko").write_bytes(lzma.decompress(data) if path.suffix == ".xz" else data)
+        (folder / "package").write_text(version_of(["dpkg-deb", "-W", packages[0].resolve()], folder), encoding="utf-8")
         folder.rename(kernel)
 
 
 def kernel_of(name: str, cache: Path) -> Kernel:
-    """A kernel by its version, the name of its package, or the path of its package's file."""
-    is_file = name.endswith(".deb")
-    folder = cache / (Path(name).stem if is_file else name)
+    """A kernel by its version, the name of its package, or the files of its packages."""
+    folder = cache / "kernels" / Path(name).name
     if not folder.is_dir():
-        cache.mkdir(parents=True, exist_ok=True)
-        if is_file and not Path(name).is_file():
-            raise Wrong(f"{name}: no such file")
+        folder.parent.mkdir(parents=True, exist_ok=True)
         with tempfile.TemporaryDirectory(dir=cache) as there:
-            unpack(Path(name) if is_file else fetched(name, Path(there)), folder)
-    image = IMAGE.match((folder / "package").read_text(encoding="utf-8"))
-    return Kernel(image[1] if image else name, folder)
+            unpack(fetched(name, Path(there)), folder)
+    version = VERSION.search((folder / "package").read_text(encoding="utf-8"))
+    return Kernel(version[1] if version else name, folder)
 
 
 # The machine
 
 
-def built_player(cache: Path) -> Path:
-    """The player, linked with the libevdev that is installed."""
-    sources = sorted(GUEST.glob("*.c"))
-    library = Path(output(["gcc", f"-print-file-name={LIBRARY}"], GUEST).strip())
-    if not library.is_file():
+@dataclass(frozen=True)
+class Library:
+    """The libevdev that the player is linked with."""
+
+    archive: Path
+    headers: Path
+    told: str
+
+
+def installed_library() -> Library:
+    archive = Path(output(["gcc", f"-print-file-name={LIBRARY}"], GUEST).strip())
+    if not archive.is_file():
         raise Wrong(f"{LIBRARY} is not there (Debian: libevdev-dev)")
-    key = hashlib.sha256(b"".join(path.read_bytes() for path in [*sources, GUEST / "guest.h", library]))
+    return Library(archive, Path("/usr/include/libevdev-1.0"), version_of(["dpkg-query", "-W", "libevdev-dev"], GUEST))
+
+
+def library_of(package: Optional[Path], cache: Path) -> Library:
+    """That of a package's file, or the one that is installed."""
+    if package is None:
+        return installed_library()
+    if not package.is_file():
+        raise Wrong(f"{package}: no such file")
+    folder = cache / "libraries" / package.stem
+    if not folder.is_dir():
+        folder.parent.mkdir(parents=True, exist_ok=True)
+        output(["dpkg-deb", "-x", package.resolve(), folder], cache)
+    headers = only(folder.glob("usr/include/libevdev-*"), "headers of libevdev")
+    return Library(only(folder.rglob(LIBRARY), LIBRARY), headers, version_of(["dpkg-deb", "-W", package.resolve()], cache))
+
+
+def built_player(cache: Path, library: Library) -> Path:
+    """The player, linked with libevdev."""
+    sources = sorted(GUEST.glob("*.c"))
+    key = hashlib.sha256(b"".join(path.read_bytes() for path in [*sources, GUEST / "guest.h", library.archive]))
     player = cache / f"player-{key.hexdigest()[:16]}"
     if not player.is_file():
         cache.mkdir(parents=True, exist_ok=True)
         made = player.with_suffix(f".{os.getpid()}")
-        output(["gcc", *FLAGS, *sources, library, "-s", "-o", made], cache)
+        output(["gcc", *FLAGS, "-I", library.headers, *sources, library.archive, "-s", "-o", made], cache)
         made.rename(player)
     return player
 

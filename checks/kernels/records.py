@@ -134,22 +134,22 @@ def is_refused(words: List[str], codes: Codes) -> bool:
 class Repeating:
     """Makes a record of a keyboard whose keys repeat, in real time: a tick comes where the timer has surely fired."""
 
-    PRESSES = (("KEY_A", 30), ("KEY_B", 48))
+    # When the timer has fired for the first time, in microseconds behind a press, and by a period of 250 for the second.
+    FIRST, SECOND = 290000, 590000
 
     def __init__(self, seed: int) -> None:
         self.r = Random(seed)
-        self.now = 100000
-        self.down: List[str] = []
+        self.now, self.period = 100000, 33
         self.lines = ["inputrecord 2", "device dev0", "hint 8", "type EV_REP", "cap EV_KEY KEY_A", "cap EV_KEY KEY_B"]
 
     def record(self) -> str:
         self.lines += ["source s", "source other", "tap t", "client c", "do t open", "do c open"]
-        for _ in range(self.r.randint(2, 6)):
+        for _ in range(self.r.randint(2, 8)):
             self.act()
         return "\n".join(self.lines + ["do t read 4096", "do c follow", "do t keys"]) + "\n"
 
-    def event(self, text: str) -> None:
-        self.lines.append(f"do s event {self.now} {text}")
+    def event(self, text: str, by: str = "s event") -> None:
+        self.lines.append(f"do {by} {self.now} {text}")
 
     def act(self) -> None:
         acts: Sequence[Callable[[], None]] = (self.press, self.press, self.press, self.set_repeat, self.inhibit, self.grab)
@@ -158,27 +158,35 @@ class Repeating:
             self.lines.append(self.r.choice(["do t read 4096", "do c follow", "do t read 3", "do c next 2"]))
 
     def press(self) -> None:
-        """A press that is held for some repetitions, and mostly a release. The timer fires after 252 to 288 ms."""
-        key = self.r.choice(["KEY_A", "KEY_B"])
-        self.event(f"EV_KEY {key} 1")
-        self.event("EV_SYN SYN_REPORT 0")
-        if self.r.random() < 0.6:
-            self.now += self.r.choice([200000, 100000])
-        else:
-            self.now += 290000
+        """A press that is held for some time, and its release."""
+        key, other = self.r.sample(["KEY_A", "KEY_B"], 2)
+        by = self.r.choice(["s event", "other event", "t write"])
+        self.event(f"EV_KEY {key} 1", by)
+        self.event("EV_SYN SYN_REPORT 0", by)
+        begun, held = self.now, self.r.choice((0, 0, self.FIRST, self.FIRST, self.SECOND if self.period == 250 else self.FIRST))
+        for at in (100000, self.FIRST, self.SECOND)[: 1 + (held > 0) + (held == self.SECOND)]:
+            self.now = begun + at
             self.lines.append(f"do s tick {self.now}")
-        self.event(f"EV_KEY {key} 0")
-        self.event("EV_SYN SYN_REPORT 0")
+            if at == 100000 and self.r.random() < 0.2:
+                self.event(f"EV_KEY {other} 1")
+                self.event(f"EV_KEY {other} 0")
+        self.event(f"EV_KEY {key} 0", by)
+        self.event("EV_SYN SYN_REPORT 0", by)
         self.now += 400000
 
     def set_repeat(self) -> None:
-        self.event(f"EV_REP {self.r.choice(['REP_PERIOD', 'REP_DELAY'])} {self.r.choice([0, 250, 33, 1000])}")
+        delay, self.period = self.r.choice([250, 250, 0, 1000]), self.r.choice([0, 33, 250, 1000])
+        self.event(f"EV_REP REP_DELAY {delay}")
+        self.event(f"EV_REP REP_PERIOD {self.period}")
         self.event("EV_SYN SYN_REPORT 0")
         self.now += 100000
 
     def inhibit(self) -> None:
-        self.lines += [f"do s inhibit {self.now}", "do s uninhibit"]
+        self.event(f"EV_KEY {self.r.choice(['KEY_A', 'KEY_B'])} 1")
+        self.event("EV_SYN SYN_REPORT 0")
         self.now += 100000
+        self.lines += [f"do s inhibit {self.now}", f"do s tick {self.now + self.FIRST}", "do s uninhibit"]
+        self.now += 400000
 
     def grab(self) -> None:
         self.lines += ["do t grab"] + (["do t ungrab"] if self.r.random() < 0.8 else [])
