@@ -9,10 +9,12 @@ import re
 import shutil
 import subprocess
 import tempfile
+import threading
 import time
+from contextlib import contextmanager
 from dataclasses import dataclass
 from pathlib import Path
-from typing import Callable, Dict, Iterable, List, Optional, Sequence
+from typing import Callable, Dict, Iterable, Iterator, List, Optional, Sequence
 
 from inputtools.command import Wrong
 
@@ -214,11 +216,25 @@ def play(kernel: Kernel, player: Path, lines: List[str], tell: Callable[[int], N
         return text
 
 
+# No machine goes on where one did not come to its end, or where all is stopped.
+stopped = threading.Event()
+
+
+@contextmanager
+def stopped_at_fault() -> Iterator[None]:
+    stopped.clear()
+    try:
+        yield
+    except BaseException:
+        stopped.set()
+        raise
+
+
 def watch(machine: "subprocess.Popen[bytes]", said: Path, tell: Callable[[int], None]) -> None:
     """Waits for the machine's end, and tells how far it is."""
     begun = time.monotonic()
     try:
-        while machine.poll() is None and time.monotonic() - begun < SECONDS:
+        while machine.poll() is None and time.monotonic() - begun < SECONDS and not stopped.is_set():
             tell(said.read_bytes().count(b"ended ") if said.is_file() else 0)
             time.sleep(0.5)
     finally:

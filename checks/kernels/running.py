@@ -3,6 +3,7 @@
 from __future__ import annotations
 
 import os
+import signal
 import tempfile
 import threading
 from collections import Counter
@@ -10,16 +11,17 @@ from concurrent.futures import ProcessPoolExecutor, ThreadPoolExecutor
 from dataclasses import dataclass, field
 from pathlib import Path
 from typing import Counter as Counts
-from typing import Dict, List, Optional, Sequence, Tuple
+from typing import Dict, Iterable, List, Optional, Sequence, Tuple
 
 from inputtools.program import BuiltProgram, find_player
 from inputtools.progress import progress
 from inputtools.shrinking import frames_of, text_of
 from second.record_text import Refused, streams_of_text
-from checks.kernels.answers import parts_of
-from checks.kernels.judging import UNEXPLAINED, Verdict, judge, why_not
+from checks.kernels.answers import NotPlayed, parts_of, report_of
+from checks.kernels.comparable import comparable
+from checks.kernels.judging import UNEXPLAINED, Verdict, is_explained, judge, why_not
 from checks.kernels.lines import lines_of
-from checks.kernels.machine import Kernel, play
+from checks.kernels.machine import Kernel, play, stopped_at_fault
 
 MOST_IN_A_BOOT = 250
 
@@ -51,7 +53,7 @@ class Machines:
             lines = [line for case in parts[number] for line in lines_of(case.name, case.text, case.folder)]
             return play(self.kernel, self.player, lines, lambda count: told.tell(number, count))
 
-        with ThreadPoolExecutor(self.jobs) as pool:
+        with ThreadPoolExecutor(self.jobs) as pool, stopped_at_fault():
             texts = list(pool.map(boot, range(len(parts))))
         return {name: lines for text in texts for name, lines in parts_of(text)}
 
@@ -59,8 +61,13 @@ class Machines:
         said = self.said(cases)
         progress.tell(f"what {self.kernel.version} answered is sorted")
         work = [(case, said.get(case.name, []), self.kernel.version) for case in cases]
-        with ProcessPoolExecutor(self.jobs) as pool:
+        with ProcessPoolExecutor(self.jobs, initializer=ignore_stops) as pool:
             return list(pool.map(judged, work, chunksize=8))
+
+
+def ignore_stops() -> None:
+    """For a process of a pool, which its parent ends."""
+    signal.signal(signal.SIGINT, signal.SIG_IGN)
 
 
 class Told:
@@ -133,11 +140,23 @@ def is_record(text: str) -> bool:
         return False
 
 
+def is_kept(work: Tuple[Case, List[str], str]) -> bool:
+    """Whether what was said of a record is not explained."""
+    case, said, version = work
+    try:
+        return not is_explained(comparable(report_of(case.text, said)), case.text, ".", version)
+    except NotPlayed:
+        return True
+
+
 def kept(machines: Machines, texts: Sequence[str]) -> List[bool]:
     """Which of the records are not explained still. All are played in one boot."""
     cases = [Case(str(number), text) for number, text in enumerate(texts) if is_record(text) and not why_not(text)]
-    names = {verdict.name for verdict in machines.verdicts(cases) if verdict.kind == UNEXPLAINED} if cases else set()
-    return [str(number) in names for number in range(len(texts))]
+    said = machines.said(cases) if cases else {}
+    work = [(case, said.get(case.name, []), machines.kernel.version) for case in cases]
+    with ProcessPoolExecutor(machines.jobs, initializer=ignore_stops) as pool:
+        flags = dict(zip((case.name for case in cases), pool.map(is_kept, work)))
+    return [flags.get(str(number), False) for number in range(len(texts))]
 
 
 def without_chunks(machines: Machines, parts: List[List[str]], size: int) -> List[List[str]]:
@@ -157,13 +176,17 @@ def without_chunks(machines: Machines, parts: List[List[str]], size: int) -> Lis
 def smallest(machines: Machines, text: str) -> str:
     """A record that is not explained either, of which no frame and then no line can be left out alone."""
     lines = text.splitlines()
-    for parts in (frames_of(lines), None):
-        parts = parts or [[line] for line in lines]
-        size = -(-len(parts) // 2)
-        while size:
-            progress.tell(f"{len(lines)} lines are left")
+    for parts_of in (frames_of, lines_alone):
+        parts = list(parts_of(lines))
+        size, count = -(-len(parts) // 2), 0
+        while size and count != len(parts):
+            count = len(parts) if size == 1 else 0
+            progress.tell(f"{len(parts)} parts are left of a record")
             parts = without_chunks(machines, parts, size)
-            lines = [line for part in parts for line in part]
-            size //= 2
+            size = max(1, size // 2)
+        lines = [line for part in parts for line in part]
     return text_of([lines])
 
+
+def lines_alone(lines: Iterable[str]) -> List[List[str]]:
+    return [[line] for line in lines]
