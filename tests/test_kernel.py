@@ -8,17 +8,20 @@ import subprocess
 import sys
 import unittest
 from pathlib import Path
-from typing import List
+from typing import List, Sequence
+from unittest import mock
 
-from checks.kernels import scripts, wrong
+from checks.kernels import machine, running, scripts, wrong
 from checks.kernels.answers import NotPlayed, report_of
 from checks.kernels.comparable import agreed, comparable
 from checks.kernels.judging import EQUAL, EXPLAINED, UNEXPLAINED, judge, why_not
 from checks.kernels.lines import lines_of
 from checks.kernels.records import MAKERS, random_record
+from checks.kernels.running import Case, Machines
+from inputtools.command import Wrong
 from second.model import play
 from second.ways import ALL, NAMES, RULES, ways_of
-from tests.playing import RECORDS, TOP, FolderCase, needs_program, run
+from tests.playing import PROGRAM, RECORDS, TOP, FolderCase, needs_program, run
 
 PAGE = TOP / "docs" / "KERNEL.md"
 ROW = re.compile(r"^\| .* \| `(\w+)` \|$", re.M)
@@ -129,6 +132,48 @@ class Answers(unittest.TestCase):
         self.assertEqual(NAMES, ALL.on())
         self.assertEqual(NAMES[1:], ALL.without(NAMES[0]).on())
         self.assertEqual(play(RECORD), play(RECORD, ways=RULES))
+
+
+class Player(FolderCase):
+    def test_it_is_compiled_without_a_warning(self) -> None:
+        try:
+            library = machine.installed_library()
+        except (Wrong, OSError):
+            self.skipTest("gcc or libevdev-dev is not there")
+        words = ["gcc", *machine.FLAGS, "-Werror", "-I", library.headers, "-c", *sorted(machine.GUEST.glob("*.c"))]
+        done = subprocess.run([str(word) for word in words], cwd=self.folder, capture_output=True, text=True, check=False)
+        self.assertEqual((0, ""), (done.returncode, done.stderr))
+
+    def test_a_kernel_that_was_fetched_before(self) -> None:
+        """It is booted, and plays a record."""
+        cache = machine.cache_folder()
+        try:
+            machine.check_programs()
+            library = machine.installed_library()
+        except Wrong as wrong:
+            self.skipTest(str(wrong))
+        if not (cache / "kernels" / "6.12").is_dir():
+            self.skipTest("no kernel was fetched by checks/kernel")
+        machines = Machines(machine.kernel_of("6.12", cache), machine.built_player(self.folder, library), 1)
+        with mock.patch.dict(os.environ):
+            if not os.access(PROGRAM, os.X_OK):
+                os.environ.pop("INPUTPLAY", None)
+            verdict, other = machines.verdicts([Case("one", SHORT + PRESS), Case("two", RECORD)])
+        self.assertEqual((EQUAL, EQUAL), (verdict.kind, other.kind), verdict.lines + other.lines)
+
+
+class Smallest(unittest.TestCase):
+    def test_no_line_can_be_left_out(self) -> None:
+        """Where a record is kept for two of its lines and what they need."""
+        wanted = ("do s event 9000 EV_KEY KEY_A 1", "do s event 30000 EV_KEY KEY_A 1")
+        text = SHORT + "".join(PRESS.replace("1000", f"{n}000") for n in range(1, 60))
+
+        def kept(_: object, texts: Sequence[str]) -> List[bool]:
+            return [all(f"{line}\n" in each for line in wanted) and running.is_record(each) for each in texts]
+
+        with mock.patch.object(running, "kept", kept):
+            short = running.smallest(mock.sentinel.machines, text)
+        self.assertEqual(["inputrecord 2", "device d", "source s", *wanted], short.splitlines())
 
 
 class Command(FolderCase):

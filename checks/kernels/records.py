@@ -112,7 +112,6 @@ class Playable(Generator):
         actions = super().source_action(_, codes, slots, busy)
         return [action for action in actions if not action.startswith("tick ")]
 
-
     def client_action(self, role: str, codes: Codes, slots: int, busy: bool) -> List[str]:
         """Mostly no mask and no description of an axis that only the kernel takes: it hides other differences."""
         actions = super().client_action(role, codes, slots, busy)
@@ -152,8 +151,8 @@ class Repeating:
         self.lines.append(f"do {by} {self.now} {text}")
 
     def act(self) -> None:
-        acts: Sequence[Callable[[], None]] = (self.press, self.press, self.press, self.set_repeat, self.inhibit, self.grab)
-        self.r.choice(acts)()
+        acts: Sequence[Callable[[], None]] = (self.set_repeat, self.inhibit, self.grab, self.choose_clock)
+        self.r.choice((self.press, self.press, self.press, *acts))()
         if self.r.random() < 0.5:
             self.lines.append(self.r.choice(["do t read 4096", "do c follow", "do t read 3", "do c next 2"]))
 
@@ -188,6 +187,10 @@ class Repeating:
         self.lines += [f"do s inhibit {self.now}", f"do s tick {self.now + self.FIRST}", "do s uninhibit"]
         self.now += 400000
 
+    def choose_clock(self) -> None:
+        self.lines.append(f"do {self.r.choice('tc')} clock {self.r.choice(['realtime', 'monotonic', 'boottime'])} {self.now}")
+        self.now += 200000
+
     def grab(self) -> None:
         self.lines += ["do t grab"] + (["do t ungrab"] if self.r.random() < 0.8 else [])
         self.now += 100000
@@ -221,7 +224,7 @@ def repeating(seed: int) -> str:
 
 MAKERS: Dict[str, Tuple[int, Callable[[int], str]]] = {
     **{name: (family.weight, partial(of_family, name)) for name, family in FAMILIES.items()},
-    "repeating": (4, repeating),
+    "repeating": (6, repeating),
     "driven": (8, driven),
 }
 

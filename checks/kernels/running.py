@@ -24,6 +24,8 @@ from checks.kernels.lines import lines_of
 from checks.kernels.machine import Kernel, play, stopped_at_fault
 
 MOST_IN_A_BOOT = 250
+# Of so many front parts of a record the shortest one is taken that is not explained.
+FRONTS = 40
 
 
 @dataclass(frozen=True)
@@ -173,9 +175,16 @@ def without_chunks(machines: Machines, parts: List[List[str]], size: int) -> Lis
     return without(removable)
 
 
+def front(machines: Machines, lines: List[str]) -> List[str]:
+    """The shortest of some front parts that is not explained."""
+    ends = sorted({-(-len(lines) * part // FRONTS) for part in range(1, FRONTS + 1)})
+    flags = kept(machines, [text_of([lines[:end]]) for end in ends])
+    return lines[: min((end for end, flag in zip(ends, flags) if flag), default=len(lines))]
+
+
 def smallest(machines: Machines, text: str) -> str:
     """A record that is not explained either, of which no frame and then no line can be left out alone."""
-    lines = text.splitlines()
+    lines = front(machines, text.splitlines())
     for parts_of in (frames_of, lines_alone):
         parts = list(parts_of(lines))
         size, count = -(-len(parts) // 2), 0
