@@ -21,8 +21,9 @@ MOUSE_KINDS = ({SYN, KEY, ABS}, {SYN, KEY, ABS, MSC}, {SYN, KEY, ABS, MSC, REL})
 def has_node(caps: Caps) -> bool:
     """Whether joydev takes a device for a joystick."""
     keys = caps.codes.get(KEY, set()) if KEY in caps.kinds else set()
-    is_mouse = keys == MOUSE_KEYS and set(caps.axes) == {0, 1} and caps.kinds in MOUSE_KINDS
-    return bool(WANTED_AXES & set(caps.axes) or WANTED_KEYS & keys) and not UNWANTED_KEYS & keys and not is_mouse
+    if keys & UNWANTED_KEYS or keys == MOUSE_KEYS and set(caps.axes) == {0, 1} and caps.kinds in MOUSE_KINDS:
+        return False
+    return bool(WANTED_AXES & set(caps.axes) or WANTED_KEYS & keys)
 
 
 def in_16_bits(value: int) -> int:

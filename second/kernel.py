@@ -1,4 +1,4 @@
-"""A device as the kernel has it, made by uinput: the ways of second/ways.py that are its core's, evdev's and uinput's."""
+"""A device as the kernel has it: the ways of second/ways.py that are its core's, evdev's and uinput's."""
 
 from typing import List, Optional
 
@@ -53,9 +53,8 @@ def estimate(caps: Caps) -> int:
 
 def is_refused(caps: Caps) -> bool:
     """Whether uinput makes no such device."""
-    infos = caps.axes.items()
-    is_bad = any(low > high or flat > high - low for _, (_, low, high, _, flat, _) in infos if high - low < 2**31)
-    return is_bad or caps.slots > MOST_SLOTS
+    ranges = ((high - low, flat) for _, low, high, _, flat, _ in caps.axes.values())
+    return caps.slots > MOST_SLOTS or any(size < 0 or flat > size for size, flat in ranges if size < 2**31)
 
 
 class RingOf16(Outputs):
@@ -155,8 +154,9 @@ class KernelDevice(Device):
         """An inhibition tells the device that all is off, and its end tells it all."""
         for kind in (LED, SND):
             codes = sorted(self.caps.codes.get(kind, ()))
+            on = () if self.inhibited else self.on[kind]
             told = [code for code in codes if code in self.on[kind] or not self.inhibited]
-            self.outputs.send([(kind, code, int(code in self.on[kind] and not self.inhibited)) for code in told])
+            self.outputs.send([(kind, code, int(code in on)) for code in told])
         if REP in self.caps.kinds and not self.inhibited:
             self.outputs.send([(REP, 1, self.repeat[1]), (REP, 0, self.repeat[0])])
 
@@ -182,4 +182,7 @@ class KernelDevice(Device):
         cells = [value for values in self.cells for value in values]
         return ("cells", place, len(cells), self.announced), cells
 
-    table = {**Device.table, "clock": do_clock, "getaxis": do_getaxis, "getslots": do_getslots, "syncslots": do_syncslots}
+    table = {
+        **Device.table, "clock": do_clock, "getaxis": do_getaxis, "getslots": do_getslots,
+        "syncslots": do_syncslots,
+    }

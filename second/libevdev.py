@@ -21,7 +21,7 @@ def has_slots(caps: Caps) -> bool:
 def most_at_once(caps: Caps) -> int:
     """How many events libevdev reads at once. It leaves the greatest code of each type out of its sum."""
     codes = {**caps.codes, ABS: set(caps.axes), REP: {0}}
-    has = sum(code != GREATEST[kind] for kind, of_kind in codes.items() if kind in caps.kinds for code in of_kind)
+    has = sum(len(codes.get(kind, set()) - {GREATEST[kind]}) for kind in caps.kinds - {SYN})
     more_slots = caps.slots - 1 if has_slots(caps) else 0
     return max(LEAST_AT_ONCE, 2 * (1 + has + more_slots * sum(code >= SLOT for code in caps.axes)))
 
@@ -41,8 +41,8 @@ class LibevdevView(View):
 
 
 class Loss:
-    """The events that lead from one view to another as libevdev makes them, and how many buttons of fingers are among
-    them that the device lacks."""
+    """The events that lead from one view to another as libevdev makes them, and how many buttons of fingers
+    among them the device lacks."""
 
     def __init__(self, old: View, new: View, caps: Caps) -> None:
         self.old, self.new, self.caps = copy.deepcopy(old), new, caps

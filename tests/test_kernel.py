@@ -1,5 +1,5 @@
-"""What real kernels answered on the records of tests/kernel/ is what the program answers, or what the second one does with
-the kernel's ways that a record names; and checks/kernel, without a kernel."""
+"""What real kernels answered on the records of tests/kernel/ is what the program answers, or what the second
+one does with the kernel's ways that a record names; and checks/kernel, without a kernel."""
 
 import os
 import re
@@ -63,7 +63,8 @@ class Stored(FolderCase):
         self.assertEqual(list(NAMES), ROW.findall(PAGE.read_text()))
 
     def test_each_report_has_its_record(self) -> None:
-        self.assertEqual({path.stem for path in scripts.paths()}, {path.stem for path in scripts.FOLDER.glob("*.report")})
+        reports = {path.stem for path in scripts.FOLDER.glob("*.report")}
+        self.assertEqual({path.stem for path in scripts.paths()}, reports)
 
 
 class Answers(unittest.TestCase):
@@ -140,9 +141,8 @@ class Player(FolderCase):
             library = machine.installed_library()
         except (Wrong, OSError):
             self.skipTest("gcc or libevdev-dev is not there")
-        words = ["gcc", *machine.FLAGS, "-Werror", "-I", library.headers, "-c", *sorted(machine.GUEST.glob("*.c"))]
-        done = subprocess.run([str(word) for word in words], cwd=self.folder, capture_output=True, text=True, check=False)
-        self.assertEqual((0, ""), (done.returncode, done.stderr))
+        sources = sorted(machine.GUEST.glob("*.c"))
+        machine.output(["gcc", *machine.FLAGS, "-Werror", "-I", library.headers, "-c", *sources], self.folder)
 
     def test_a_kernel_that_was_fetched_before(self) -> None:
         """It is booted, and plays a record."""
@@ -181,8 +181,8 @@ class Command(FolderCase):
         """The one line with which it refuses its words."""
         variables = {key: value for key, value in os.environ.items() if key != "INPUTPLAY"}
         variables.update(PATH=path or os.environ["PATH"], XDG_CACHE_HOME=str(self.folder))
-        done = subprocess.run([sys.executable, TOP / "checks" / "kernel", *map(str, words)], env=variables, text=True,
-                              capture_output=True, check=False)
+        command = [sys.executable, TOP / "checks" / "kernel", *map(str, words)]
+        done = subprocess.run(command, env=variables, text=True, capture_output=True, check=False)
         self.assertEqual((2, ""), (done.returncode, done.stdout), done.stderr)
         self.assertEqual(1, len(done.stderr.splitlines()), done.stderr)
         return done.stderr

@@ -84,7 +84,8 @@ class AnsweringDevice:
         self.history: List[Step] = []
 
     def events(self, said: Said) -> List[Item]:
-        return [(event_of(line[1:]), self.machine.time_of(int(line[0]), self.caps), ANY) for line in said.lines]
+        times = (self.machine.time_of(int(line[0]), self.caps) for line in said.lines)
+        return [(event_of(line[1:]), time, ANY) for line, time in zip(said.lines, times)]
 
     def step(self, step: Step) -> Answer:
         said, op = self.machine.next(), step[0]

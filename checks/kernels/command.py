@@ -7,7 +7,7 @@ import os
 import sys
 import time
 from pathlib import Path
-from typing import Iterator, List
+from typing import Any, Dict, Iterator, List
 
 from inputtools.command import Words, Wrong, counted, ends
 from inputtools.program import find_player
@@ -20,27 +20,33 @@ from checks.kernels.running import Case, Machines, smallest, tally_of
 from checks.trial import positive
 
 RECORDS = 1000
+SWITCH: Dict[str, Any] = {"action": "store_true"}
+KERNEL = (f"a version ({' or '.join(PACKAGES)}), a package's name, its file, or a folder of a kernel's "
+          "packages; both versions else")
 # So many records that are not explained are told, with the smallest one of each.
 MOST_TOLD = 3
 
 
 def words_of(program: str, text: str) -> argparse.ArgumentParser:
     words = Words(prog=program, description=text)
+    number: Dict[str, Any] = {"metavar": "N", "type": positive}
+    folder: Dict[str, Any] = {"metavar": "FOLDER", "type": Path}
+    file: Dict[str, Any] = {"metavar": "FILE", "type": Path}
     words.add_argument("record", metavar="RECORD", nargs="*", type=Path, help="play these records")
-    words.add_argument("--kernel", metavar="NAME", action="append",
-                       help=f"a version ({' or '.join(PACKAGES)}), a package's name, its file, or a folder of a kernel's "
-                       "packages; both versions else")
-    words.add_argument("--libevdev", metavar="FILE", type=Path, help="a package of libevdev-dev; the one that is installed else")
-    words.add_argument("--records", metavar="N", type=positive, help="play so many random records")
-    words.add_argument("--seed", metavar="S", type=int, default=1, help="the number that these are made of (1)")
-    words.add_argument("--scripts", action="store_true", help="play the records of tests/kernel/")
-    words.add_argument("--write", action="store_true", help="write beside these what each kernel answered")
-    words.add_argument("--wrong", action="store_true", help=f"try wrong versions of the second program on {wrong.RECORDS} "
-                       "random records: each has to leave one unexplained")
-    words.add_argument("-j", "--jobs", metavar="N", type=positive, default=os.cpu_count() or 1,
-                       help="so many machines at a time (one for each processor)")
-    words.add_argument("--cache", metavar="FOLDER", type=Path, default=cache_folder(), help="where kernels are kept (%(default)s)")
-    words.add_argument("--keep", metavar="FOLDER", type=Path, help="where records that are not explained are kept; in the cache else")
+    for option, told, more in (
+        ("--kernel", KERNEL, {"metavar": "NAME", "action": "append"}),
+        ("--libevdev", "a package of libevdev-dev; the one that is installed else", file),
+        ("--records", "play so many random records", number),
+        ("--seed", "the number that these are made of (1)", {"metavar": "S", "type": int, "default": 1}),
+        ("--scripts", "play the records of tests/kernel/", SWITCH),
+        ("--write", "write beside these what each kernel answered", SWITCH),
+        ("--wrong", f"try wrong versions of the second program on {wrong.RECORDS} random records", SWITCH),
+        ("--jobs", "so many machines at a time (%(default)s)", {**number, "default": os.cpu_count() or 1}),
+        ("--cache", "where kernels are kept (%(default)s)", {**folder, "default": cache_folder()}),
+        ("--keep", "where the smallest records are kept that are not explained; in the cache else", folder),
+    ):
+        names = ["-j", option] if option == "--jobs" else [option]
+        words.add_argument(*names, help=told, **more)
     return words
 
 
@@ -100,7 +106,8 @@ def run(program: str, text: str) -> int:
     for name in asked.kernel or PACKAGES:
         progress.tell(f"the kernel {name} is fetched and unpacked")
         machines = Machines(kernel_of(name, asked.cache), built_player(asked.cache, library), asked.jobs)
-        print(f"kernel {machines.kernel.version} ({machines.kernel.package()}), {library.told}; {told}", flush=True)
+        kernel = machines.kernel
+        print(f"kernel {kernel.version} ({kernel.package()}), {library.told}; {told}", flush=True)
         if asked.wrong:
             is_right &= wrong.try_all(machines)
         elif asked.write:

@@ -1,4 +1,4 @@
-"""What of a report can be compared with a real kernel: no places, no numbers of clients, and no inner calls of a reader."""
+"""What of a report can be compared with a real kernel: no places, no numbers of clients."""
 
 from __future__ import annotations
 
@@ -6,7 +6,7 @@ import re
 from typing import Callable, Dict, Iterator, List, Optional
 
 LIVE = "live"
-# How far the machine's measure of its clocks may be off, and how far what it does in real time, in microseconds.
+# How many microseconds the machine's measure of its clocks may be off, and what it does in real time.
 OFF, OFF_IN_REAL_TIME = 300, 90000
 # The causes that evdev has one error for.
 INVALID = ("bad-kind", "bad-code", "bad-info", "not-grabber")
@@ -71,7 +71,7 @@ def comparable(report: List[str]) -> List[str]:
 
 
 def agreed(kernel: List[str], ours: List[str], is_live: bool) -> List[str]:
-    """The kernel's lines, with our times where they agree. A time of the kernel's own clock agrees with any."""
+    """The kernel's lines, with our times where they agree. One of the kernel's own clock agrees with any."""
 
     def lines() -> Iterator[str]:
         for number, line in enumerate(kernel):

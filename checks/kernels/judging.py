@@ -1,4 +1,4 @@
-"""Sorts what a kernel answered: equal to the program's report, explained by ways of the kernel's, or neither."""
+"""Sorts what a kernel answered: equal to the program's report, explained by the kernel's ways, or neither."""
 
 from __future__ import annotations
 
@@ -65,8 +65,8 @@ def is_same(kernel: List[str], text: str, folder: str, ways: Ways) -> bool:
 
 
 def least_ways(kernel: List[str], text: str, folder: str, version: str) -> Optional[Ways]:
-    """Ways of which none can be left out, with which the second program answers as the kernel; None where it does not
-    with all."""
+    """Ways of which none can be left out, with which the second program answers as the kernel; None where it
+    does not with all."""
     ways = ways_of_kernel(version)
     if not is_same(kernel, text, folder, ways):
         return None
@@ -89,13 +89,14 @@ def is_explained(kernel: List[str], text: str, folder: str, version: str) -> boo
 
 
 def shown(wanted: List[str], came: List[str], text: str) -> Tuple[str, ...]:
-    lines = difflib.unified_diff(wanted, agreed(came, wanted, is_live(text)), "the second program", "the kernel", n=2, lineterm="")
+    came = agreed(came, wanted, is_live(text))
+    lines = difflib.unified_diff(wanted, came, "the second program", "the kernel", n=2, lineterm="")
     return tuple(lines)[:SHOWN]
 
 
 def judge(name: str, text: str, said: Iterable[str], version: str, folder: str = ".",
           program: Optional[List[str]] = None) -> Verdict:
-    """What a kernel's answer is. `program` is the report of the program, where it is not the second one that plays."""
+    """What a kernel's answer is. `program` is the report of the program, where it is built."""
     try:
         kernel = comparable(report_of(text, said, folder))
     except NotPlayed as fault:

@@ -32,8 +32,8 @@ NEEDED = {
 LIBRARY = "libevdev.a"
 # The machine counts instructions for its clock, so what it does hangs on nothing that its host does.
 MACHINE = (
-    "qemu-system-x86_64", "-accel", "tcg", "-icount", "shift=2,sleep=off", "-m", "512", "-smp", "1", "-nodefaults",
-    "-display", "none", "-monitor", "none", "-no-reboot", "-append", "console=ttyS0 quiet panic=-1 loglevel=4",
+    *"qemu-system-x86_64 -accel tcg -icount shift=2,sleep=off -m 512 -smp 1 -nodefaults".split(),
+    *"-display none -monitor none -no-reboot".split(), "-append", "console=ttyS0 quiet panic=-1 loglevel=4",
 )
 SECONDS = 1800
 
@@ -64,8 +64,8 @@ def check_programs() -> None:
 
 
 def output(words: Sequence[object], folder: Path) -> str:
-    done = subprocess.run([str(word) for word in words], cwd=folder, stdout=subprocess.PIPE, stderr=subprocess.PIPE,
-                          text=True, errors="replace", check=False)
+    command = [str(word) for word in words]
+    done = subprocess.run(command, cwd=folder, capture_output=True, text=True, errors="replace", check=False)
     if done.returncode:
         said = (done.stderr or done.stdout).strip().splitlines()
         raise Wrong(f"{words[0]}: {said[-1] if said else f'status {done.returncode}'}")
@@ -75,6 +75,10 @@ def output(words: Sequence[object], folder: Path) -> str:
 def version_of(words: Sequence[object], folder: Path) -> str:
     """A package's name and version."""
     return " ".join(output(words, folder).replace(":amd64", "").split())
+
+
+def file_of(module: str) -> str:
+    return f"{Path(module).name}.ko"
 
 
 # Kernels
@@ -120,9 +124,10 @@ def unpack(packages: List[Path], kernel: Path) -> None:
         shutil.copy(only(unpacked.rglob("vmlinuz*"), "kernel"), folder / "vmlinuz")
         for module in MODULES:
             path = only(unpacked.rglob(f"kernel/drivers/{module}.ko*"), f"module {module}")
-            data = path.read_bytes()
-            (folder / f"{Path(module).name}.ko").write_bytes(lzma.decompress(data) if path.suffix == ".xz" else data)
-        (folder / "package").write_text(version_of(["dpkg-deb", "-W", packages[0].resolve()], folder), encoding="utf-8")
+            data = lzma.decompress(path.read_bytes()) if path.suffix == ".xz" else path.read_bytes()
+            (folder / file_of(module)).write_bytes(data)
+        told = version_of(["dpkg-deb", "-W", packages[0].resolve()], folder)
+        (folder / "package").write_text(told, encoding="utf-8")
         folder.rename(kernel)
 
 
@@ -153,7 +158,8 @@ def installed_library() -> Library:
     archive = Path(output(["gcc", f"-print-file-name={LIBRARY}"], GUEST).strip())
     if not archive.is_file():
         raise Wrong(f"{LIBRARY} is not there (Debian: libevdev-dev)")
-    return Library(archive, Path("/usr/include/libevdev-1.0"), version_of(["dpkg-query", "-W", "libevdev-dev"], GUEST))
+    told = version_of(["dpkg-query", "-W", "libevdev-dev"], GUEST)
+    return Library(archive, Path("/usr/include/libevdev-1.0"), told)
 
 
 def library_of(package: Optional[Path], cache: Path) -> Library:
@@ -167,13 +173,15 @@ def library_of(package: Optional[Path], cache: Path) -> Library:
         folder.parent.mkdir(parents=True, exist_ok=True)
         output(["dpkg-deb", "-x", package.resolve(), folder], cache)
     headers = only(folder.glob("usr/include/libevdev-*"), "headers of libevdev")
-    return Library(only(folder.rglob(LIBRARY), LIBRARY), headers, version_of(["dpkg-deb", "-W", package.resolve()], cache))
+    told = version_of(["dpkg-deb", "-W", package.resolve()], cache)
+    return Library(only(folder.rglob(LIBRARY), LIBRARY), headers, told)
 
 
 def built_player(cache: Path, library: Library) -> Path:
     """The player, linked with libevdev."""
     sources = sorted(GUEST.glob("*.c"))
-    key = hashlib.sha256(b"".join(path.read_bytes() for path in [*sources, GUEST / "guest.h", library.archive]))
+    parts = [*sources, GUEST / "guest.h", library.archive]
+    key = hashlib.sha256(b"".join(path.read_bytes() for path in parts))
     player = cache / f"player-{key.hexdigest()[:16]}"
     if not player.is_file():
         cache.mkdir(parents=True, exist_ok=True)
@@ -196,23 +204,26 @@ def archive(files: Dict[str, bytes], folder: Path, to: Path) -> None:
     to.write_bytes(made.stdout)
 
 
+def text_of(path: Path) -> str:
+    return path.read_text(encoding="ascii", errors="replace") if path.is_file() else ""
+
+
 def play(kernel: Kernel, player: Path, lines: List[str], tell: Callable[[int], None]) -> str:
-    """Boots a kernel, has it play lines, and answers what it said. `tell` is told how many records were begun."""
+    """Boots a kernel, has it play lines, and answers what it said, and tells how many records are done."""
     with tempfile.TemporaryDirectory(prefix="inputplay-kernel") as name:
         folder = Path(name)
-        modules = {f"{Path(module).name}.ko": (kernel.folder / f"{Path(module).name}.ko").read_bytes() for module in MODULES}
-        records = "".join(line + "\n" for line in lines).encode()
-        archive({"init": player.read_bytes(), "records": records, **modules}, folder / "root", folder / "initrd")
-        console, said = folder / "console", folder / "said"
-        words = [*MACHINE, "-kernel", kernel.image, "-initrd", folder / "initrd", "-serial", f"file:{console}",
-                 "-serial", f"file:{said}"]
-        with subprocess.Popen([str(word) for word in words], stdin=subprocess.DEVNULL, stdout=subprocess.DEVNULL,
-                              stderr=subprocess.PIPE) as machine:
-            watch(machine, said, tell)
-            _, errors = machine.communicate()
-        text = said.read_text(encoding="ascii", errors="replace") if said.is_file() else ""
+        files = {file_of(module): (kernel.folder / file_of(module)).read_bytes() for module in MODULES}
+        files.update(init=player.read_bytes(), records="".join(line + "\n" for line in lines).encode())
+        archive(files, folder / "root", folder / "initrd")
+        console, said, errors = folder / "console", folder / "said", folder / "errors"
+        lines_of_machine = ["-serial", f"file:{console}", "-serial", f"file:{said}"]
+        words = [*MACHINE, "-kernel", str(kernel.image), "-initrd", str(folder / "initrd"), *lines_of_machine]
+        with errors.open("wb") as file:
+            watch(subprocess.Popen(words, stdin=subprocess.DEVNULL, stdout=file, stderr=file), said, tell)
+        text = text_of(said)
         if not text.endswith("all\n"):
-            raise Wrong(f"the machine of kernel {kernel.version} did not come to its end: {last_line(errors, console)}")
+            last = (text_of(errors) or text_of(console) or "it said nothing").strip().splitlines()[-1]
+            raise Wrong(f"the machine of kernel {kernel.version} did not come to its end: {last}")
         return text
 
 
@@ -239,9 +250,4 @@ def watch(machine: "subprocess.Popen[bytes]", said: Path, tell: Callable[[int], 
             time.sleep(0.5)
     finally:
         machine.kill()
-
-
-def last_line(errors: bytes, console: Path) -> str:
-    text = errors.decode("utf-8", "replace") or (console.read_text(errors="replace") if console.is_file() else "")
-    lines = text.strip().splitlines()
-    return lines[-1] if lines else "it said nothing"
+        machine.wait()

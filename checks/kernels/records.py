@@ -1,4 +1,4 @@
-"""Random records that a real kernel can play, by families, of which each says what its devices have and who reads them."""
+"""Random records that a real kernel can play, by families: what their devices have, and who reads them."""
 
 from __future__ import annotations
 
@@ -15,7 +15,9 @@ from checks.random_devices import RandomDevice
 from checks.random_records import Actors, Codes, Generator
 
 # Keys that the console does nothing by, and among them buttons of joysticks and those that tell fingers.
-KEYS = (*range(2, 12), 30, 31, 48, 0x100, 0x101, 0x110, 0x120, 0x121, 0x130, 0x145, 0x14D, 0x14E, 0x2C0, 0x2FF)
+KEYS = (
+    *range(2, 12), 30, 31, 48, 0x100, 0x101, 0x110, 0x120, 0x121, 0x130, 0x145, 0x14D, 0x14E, 0x2C0, 0x2FF,
+)
 CODES: Dict[int, Sequence[int]] = {
     KEY: KEYS, REL: range(16), MSC: range(8), SW: range(17), LED: (3, 5, 6, 7, 8, 15), SND: range(8),
 }
@@ -28,7 +30,7 @@ MOST = 7800000
 
 @dataclass(frozen=True)
 class Family:
-    """How many of a hundred records it has; the types of its devices; how many slots; and how many of each role."""
+    """How many of a hundred records it has; the types of its devices; their slots; how many of each role."""
 
     weight: int
     kinds: Tuple[int, ...]
@@ -47,7 +49,7 @@ FAMILIES: Dict[str, Family] = {
     "no-slots": Family(4, (KEY, ABS), (0,)),
     "clients": Family(16, (KEY, ABS, LED, SW), (0, 0, 2), clients=(1, 2), taps=(1, 3)),
     "readers": Family(18, (KEY, ABS, LED, SW), (0, 0, 2, 5), clients=(1, 3), taps=(0, 1), busy=0.8),
-    "joysticks": Family(10, (KEY, ABS), (0, 0, 0, 2), joysticks=(1, 3), clients=(0, 1), taps=(0, 1), busy=0.5),
+    "joysticks": Family(10, (KEY, ABS), (0, 0, 0, 2), joysticks=(1, 3), taps=(0, 1), busy=0.5),
     "owners": Family(10, (KEY, LED, SND, MSC), (0,), is_owned=True),
 }
 
@@ -89,7 +91,8 @@ class Playable(Generator):
             low, high = r.choice([(-500, 500), (0, 4096), (-32768, 32767), (0, 0), (-3, 9)])
             flat = r.choice([0, 0, 1, min(200, (high - low) // 4)])
             value = 0 if is_of_slots else r.choice([0, 5, -100, 100])
-            lines.append(f"axis {code_text(ABS, code)} {value} {low} {high} {fuzz} {min(flat, high - low)} {r.choice([0, 12])}")
+            info = (value, low, high, fuzz, min(flat, high - low), r.choice([0, 12]))
+            lines.append(" ".join(["axis", code_text(ABS, code), *map(str, info)]))
         return axes
 
     def hint(self, lines: List[str]) -> str:
@@ -100,8 +103,9 @@ class Playable(Generator):
     def actors(self, d: int, lines: List[str]) -> Actors:
         r, family = self.r, self.family
         counts = (
-            ("source", r.choice([1, 1, 2])), ("client", r.randint(*family.clients)), ("tap", r.randint(*family.taps)),
-            ("owner", int(family.is_owned)), ("joy", r.randint(*family.joysticks)),
+            ("source", r.choice([1, 1, 2])), ("client", r.randint(*family.clients)),
+            ("tap", r.randint(*family.taps)), ("owner", int(family.is_owned)),
+            ("joy", r.randint(*family.joysticks)),
         )
         actors = [(role, f"{role[0]}{d}{i}") for role, count in counts for i in range(count)]
         lines += [f"{role} {name}" for role, name in actors]
@@ -113,10 +117,11 @@ class Playable(Generator):
         return [action for action in actions if not action.startswith("tick ")]
 
     def client_action(self, role: str, codes: Codes, slots: int, busy: bool) -> List[str]:
-        """Mostly no mask and no description of an axis that only the kernel takes: it hides other differences."""
+        """Mostly nothing that only the kernel takes: it hides other differences."""
         actions = super().client_action(role, codes, slots, busy)
-        is_taken_by_kernel = is_refused(actions[0].split(), codes)
-        return self.client_action(role, codes, slots, busy) if is_taken_by_kernel and self.r.random() < 0.9 else actions
+        if is_refused(actions[0].split(), codes) and self.r.random() < 0.9:
+            return self.client_action(role, codes, slots, busy)
+        return actions
 
 
 def is_refused(words: List[str], codes: Codes) -> bool:
@@ -131,15 +136,16 @@ def is_refused(words: List[str], codes: Codes) -> bool:
 
 
 class Repeating:
-    """Makes a record of a keyboard whose keys repeat, in real time: a tick comes where the timer has surely fired."""
+    """Makes a record of a keyboard whose keys repeat, in real time. A tick comes where the timer has fired."""
 
-    # When the timer has fired for the first time, in microseconds behind a press, and by a period of 250 for the second.
+    # When it fired for the first time, in microseconds behind a press, and by a period of 250 for the second.
     FIRST, SECOND = 290000, 590000
 
     def __init__(self, seed: int) -> None:
         self.r = Random(seed)
         self.now, self.period = 100000, 33
-        self.lines = ["inputrecord 2", "device dev0", "hint 8", "type EV_REP", "cap EV_KEY KEY_A", "cap EV_KEY KEY_B"]
+        keys = ["cap EV_KEY KEY_A", "cap EV_KEY KEY_B"]
+        self.lines = ["inputrecord 2", "device dev0", "hint 8", "type EV_REP", *keys]
 
     def record(self) -> str:
         self.lines += ["source s", "source other", "tap t", "client c", "do t open", "do c open"]
@@ -162,7 +168,8 @@ class Repeating:
         by = self.r.choice(["s event", "other event", "t write"])
         self.event(f"EV_KEY {key} 1", by)
         self.event("EV_SYN SYN_REPORT 0", by)
-        begun, held = self.now, self.r.choice((0, 0, self.FIRST, self.FIRST, self.SECOND if self.period == 250 else self.FIRST))
+        longest = self.SECOND if self.period == 250 else self.FIRST
+        begun, held = self.now, self.r.choice((0, 0, self.FIRST, self.FIRST, longest))
         for at in (100000, self.FIRST, self.SECOND)[: 1 + (held > 0) + (held == self.SECOND)]:
             self.now = begun + at
             self.lines.append(f"do s tick {self.now}")
@@ -188,7 +195,8 @@ class Repeating:
         self.now += 400000
 
     def choose_clock(self) -> None:
-        self.lines.append(f"do {self.r.choice('tc')} clock {self.r.choice(['realtime', 'monotonic', 'boottime'])} {self.now}")
+        clock = self.r.choice(["realtime", "monotonic", "boottime"])
+        self.lines.append(f"do {self.r.choice('tc')} clock {clock} {self.now}")
         self.now += 200000
 
     def grab(self) -> None:

@@ -153,7 +153,8 @@ def is_kept(work: Tuple[Case, List[str], str]) -> bool:
 
 def kept(machines: Machines, texts: Sequence[str]) -> List[bool]:
     """Which of the records are not explained still. All are played in one boot."""
-    cases = [Case(str(number), text) for number, text in enumerate(texts) if is_record(text) and not why_not(text)]
+    played = [is_record(text) and not why_not(text) for text in texts]
+    cases = [Case(str(number), text) for number, text in enumerate(texts) if played[number]]
     said = machines.said(cases) if cases else {}
     work = [(case, said.get(case.name, []), machines.kernel.version) for case in cases]
     with ProcessPoolExecutor(machines.jobs, initializer=ignore_stops) as pool:

@@ -1,8 +1,8 @@
 """The scripted records of tests/kernel/, and what kernels answered on each.
 
-Beside NAME.rec stands NAME.report, what the kernels answered as it is compared. Where they answered otherwise there is a
-file NAME.VERSION.report for each. A line `# ways: NAME ..` of the record says with which ways the second program answers
-the same; where there is none the program does.
+Beside NAME.rec stands NAME.report, what the kernels answered, as it is compared. Where one answered otherwise
+there is a file NAME.VERSION.report too. A line `# ways: NAME ..` of the record says with which ways the
+second program answers the same; where there is none the program does.
 """
 
 from __future__ import annotations
@@ -37,7 +37,8 @@ def answers(machines: Machines, cases: Sequence[Case]) -> Dict[str, List[str]]:
     found: Dict[str, List[str]] = {}
     for case in cases:
         ours = comparable(play(case.text, case.folder, ways=ways_in(case.text)))
-        found[case.name] = agreed(comparable(report_of(case.text, said[case.name], case.folder)), ours, is_live(case.text))
+        kernel = comparable(report_of(case.text, said[case.name], case.folder))
+        found[case.name] = agreed(kernel, ours, is_live(case.text))
     return found
 
 

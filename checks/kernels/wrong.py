@@ -13,7 +13,7 @@ import tempfile
 from concurrent.futures import ThreadPoolExecutor
 from dataclasses import dataclass
 from pathlib import Path
-from typing import Dict, List, Optional
+from typing import Dict, List, Optional, Tuple
 
 from inputtools.command import Wrong
 from checks.kernels.answers import report_of
@@ -38,25 +38,27 @@ class Version:
     new: str
 
 
-VERSIONS = (
-    Version("an autorepeat changes whether a key is down", "device.py", "passes = value == 2 or self.turn", "passes = self.turn"),
-    Version("a ring holds one event more", "device.py", "if len(self.queue) == self.places - 1:", "if len(self.queue) == self.places:"),
-    Version("a report may follow a report", "device.py", "if is_report(event) and (not self.queue or is_report(self.queue[-1][0])):",
-            "if is_report(event) and not self.queue:"),
-    Version("all that is queued is visible", "device.py", "if is_report(item[0])), default=0)", "), default=0)"),
-    Version("a query takes the first report away", "device.py", "kept, alone = [], False", "kept, alone = [], True"),
-    Version("the same clock loses what is queued", "device.py", "if client.clock != clock:", "if clock:"),
-    Version("types are not masked", "device.py", "return (SYN, kind) not in self.clear_bits and (kind", "return (kind"),
-    Version("a slot is announced each time", "device.py", "self.announced = self.staged", "self.announced = -1"),
-    Version("keys are released from the highest on", "device.py", "for code in sorted(self.on[KEY])]", "for code in sorted(self.on[KEY], reverse=True)]"),
-    Version("a batch has one event more", "device.py", "len(self.batch) >= self.caps.hint", "len(self.batch) > self.caps.hint"),
-    Version("a description leaves the value", "device.py", "self.infos[code], self.axes[code] = info, info[0]", "self.infos[code] = info"),
-    Version("a revoked client keeps the grab", "device.py", 'elif op in ("ungrab", "close", "revoke"):\n            if self.holder == words[0]:',
-            'elif op in ("ungrab", "close", "revoke"):\n            if self.holder == words[0] and op != "revoke":'),
-    Version("a synchronisation keeps what was read", "reader.py", 'self.queue, self.synthesised, self.phase = [], [], "needed"',
-            'self.synthesised, self.phase = [], "needed"'),
-    Version("MSC is not sent to the owner", "device.py", "event[0] in (LED, SND, MSC, REP)", "event[0] in (LED, SND, REP)"),
+IN_DEVICE: Tuple[Tuple[str, str, str], ...] = (
+    ("an autorepeat changes whether a key is down", "passes = value == 2 or self.turn", "passes = self.turn"),
+    ("a ring holds one event more", "len(self.queue) == self.places - 1:", "len(self.queue) == self.places:"),
+    ("a report may follow a report", "(not self.queue or is_report(self.queue[-1][0])):", "not self.queue:"),
+    ("all that is queued is visible", "if is_report(item[0])), default=0)", "), default=0)"),
+    ("a query takes the first report away", "kept, alone = [], False", "kept, alone = [], True"),
+    ("the same clock loses what is queued", "if client.clock != clock:", "if clock:"),
+    ("types are not masked", "return (SYN, kind) not in self.clear_bits and (kind", "return (kind"),
+    ("a slot is announced each time", "self.announced = self.staged", "self.announced = -1"),
+    ("keys are released from the highest on", "in sorted(self.on[KEY])]", "in sorted(self.on[KEY])[::-1]]"),
+    ("a batch has one event more", "len(self.batch) >= self.caps.hint", "len(self.batch) > self.caps.hint"),
+    ("a description sets the value to 0", "self.axes[code] = info, info[0]", "self.axes[code] = info, 0"),
+    ("frames go to all under a grab", "client.revoked or self.holder not in", "client.revoked and self.holder in"),
+    ("MSC is not sent to the owner", "event[0] in (LED, SND, MSC, REP)", "event[0] in (LED, SND, REP)"),
 )
+IN_READER: Tuple[Tuple[str, str, str], ...] = (
+    ("a synchronisation keeps what was read", "self.queue, self.synthesised, self.phase = [], [], ",
+     "self.synthesised, self.phase = [], "),
+)
+VERSIONS = [Version(name, "device.py", old, new) for name, old, new in IN_DEVICE]
+VERSIONS += [Version(name, "reader.py", old, new) for name, old, new in IN_READER]
 
 
 def first_unexplained(folder: Path, version: str) -> Optional[int]:
@@ -95,12 +97,12 @@ def try_all(machines: Machines) -> bool:
     """Tells of each version by which record it is told, and whether all are."""
     records = [random_record(SEED, number)[1] for number in range(RECORDS)]
     said = machines.said([Case(str(number), text) for number, text in enumerate(records)])
-    answers = [
-        {"record": text.splitlines(), "kernel": comparable(report_of(text, said[str(number)]))} for number, text in enumerate(records)
-    ]
-    with tempfile.TemporaryDirectory(prefix="inputplay-answers") as name, ThreadPoolExecutor(machines.jobs) as pool:
+    kernel = [comparable(report_of(text, said[str(number)])) for number, text in enumerate(records)]
+    answers = [{"record": text.splitlines(), "kernel": lines} for text, lines in zip(records, kernel)]
+    with tempfile.TemporaryDirectory(prefix="inputplay-answers") as name:
         (Path(name) / "answers.json").write_text(json.dumps(answers))
-        found = list(pool.map(lambda version: tried(version, Path(name), machines.kernel.version), VERSIONS))
+        with ThreadPoolExecutor(machines.jobs) as pool:
+            found = list(pool.map(lambda each: tried(each, Path(name), machines.kernel.version), VERSIONS))
     for version, number in zip(VERSIONS, found):
         print(f"{version.name}: " + (f"record {number} tells it" if number is not None else "NOT TOLD"))
     return None not in found

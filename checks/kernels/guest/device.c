@@ -50,7 +50,8 @@ void set_axis_of(struct device *device, const long long *words)
 
 static bool set_up(struct device *device)
 {
-    struct uinput_setup setup = {.id = {.bustype = BUS_VIRTUAL, .vendor = 1, .product = 1}, .name = "inputplay"};
+    struct uinput_setup setup = {.id = {.bustype = BUS_VIRTUAL, .vendor = 1, .product = 1},
+                                 .name = "inputplay"};
     for (unsigned code = 0; code < ABS_CNT; code++) {
         struct uinput_abs_setup axis = {.code = (uint16_t)code, .absinfo = device->axes[code]};
         if (device->has_axis[code] && ioctl(open_uinput(device), UI_ABS_SETUP, &axis))

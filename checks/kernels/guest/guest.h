@@ -1,5 +1,5 @@
-/* What the files of the player share: it plays lines of numbers on real devices. checks/kernels/lines.py writes
- * them, and checks/kernels/answers.py reads what is said. */
+/* What the files of the player share: it plays lines of numbers on real devices. checks/kernels/lines.py
+ * writes them, and checks/kernels/answers.py reads what is said. */
 #ifndef GUEST_H
 #define GUEST_H
 

@@ -1,5 +1,5 @@
-/* The first process of a machine that plays records: it reads them from a file beside it, plays each in a process of
- * its own, says to the second serial line what came, and turns the machine off. */
+/* The first process of a machine that plays records: it reads them from a file beside it, plays each in a
+ * process of its own, says to the second serial line what came, and turns the machine off. */
 #define _GNU_SOURCE
 #include "guest.h"
 
@@ -118,8 +118,8 @@ static void describe(struct words words)
     else if (!strcmp(words.name, "abs"))
         set_axis_of(&devices[device_count - 1], words.of);
     else if (!strcmp(words.name, "actor"))
-        actors[actor_count++] = (struct actor){
-            .role = (enum role)words.of[0], .device = &devices[device_count - 1], .fd = -1};
+        actors[actor_count++] =
+            (struct actor){.role = (enum role)words.of[0], .device = &devices[device_count - 1], .fd = -1};
     else if (strcmp(words.name, "make"))
         give_up(words.name);
     else if (!make_device(&devices[device_count - 1])) {
@@ -136,7 +136,8 @@ static struct words words_of(char *line)
     bool is_act = word && !strcmp(word, "do");
     words.name = is_act ? strtok_r(NULL, " ", &rest) : word ? word : "";
     while ((word = strtok_r(NULL, " ", &rest)) && words.count < MOST_WORDS)
-        words.of[words.count++] = (long long)(word[0] == '-' ? strtoll(word, NULL, 10) : (long long)strtoull(word, NULL, 10));
+        words.of[words.count++] =
+            (long long)(word[0] == '-' ? strtoll(word, NULL, 10) : (long long)strtoull(word, NULL, 10));
     return words;
 }
 

@@ -65,7 +65,8 @@ static void hand_out(struct actor *actor, long long count, bool skips)
 static void force(struct actor *actor)
 {
     struct input_event event;
-    if (libevdev_next_event(actor->reader, LIBEVDEV_READ_FLAG_FORCE_SYNC, &event) == LIBEVDEV_READ_STATUS_SYNC)
+    if (libevdev_next_event(actor->reader, LIBEVDEV_READ_FLAG_FORCE_SYNC, &event) ==
+        LIBEVDEV_READ_STATUS_SYNC)
         actor->phase = NEEDED;
     say_status(0);
 }

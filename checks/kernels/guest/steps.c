@@ -11,7 +11,12 @@
 #include <time.h>
 #include <unistd.h>
 
-enum { LAST_OF_SLOTS = ABS_MT_TOOL_Y, FIRST_OF_SLOTS = ABS_MT_TOUCH_MAJOR, MOST_SLOTS = 256, BYTES_OF_KEYS = 96 };
+enum {
+    LAST_OF_SLOTS = ABS_MT_TOOL_Y,
+    FIRST_OF_SLOTS = ABS_MT_TOUCH_MAJOR,
+    MOST_SLOTS = 256,
+    BYTES_OF_KEYS = 96
+};
 
 typedef void step(struct actor *, const long long *);
 
@@ -68,7 +73,8 @@ static void mask(struct actor *actor, const long long *words)
     if ((word + 1) * 8 > size)
         size = (word + 1) * 8;
     uint64_t *bits = calloc(size / 8, 8);
-    struct input_mask of = {.type = (uint32_t)words[0], .codes_size = (uint32_t)size, .codes_ptr = (uintptr_t)bits};
+    struct input_mask of = {
+        .type = (uint32_t)words[0], .codes_size = (uint32_t)size, .codes_ptr = (uintptr_t)bits};
     int status = failed(ioctl(actor->fd, EVIOCGMASK, &of));
     if (bits && !status) {
         bits[word] = (uint64_t)words[2];
@@ -97,7 +103,8 @@ static void describe_axis(struct actor *actor, const long long *words)
 {
     struct input_absinfo info = {(int)words[1], (int)words[2], (int)words[3],
                                  (int)words[4], (int)words[5], (int)words[6]};
-    say_status(words[0] < ABS_CNT ? failed(ioctl(actor->fd, EVIOCSABS((unsigned)words[0]), &info)) : no_code(actor));
+    say_status(words[0] < ABS_CNT ? failed(ioctl(actor->fd, EVIOCSABS((unsigned)words[0]), &info))
+                                  : no_code(actor));
 }
 
 static void read_events(struct actor *actor, const long long *words)
@@ -184,13 +191,13 @@ static const struct {
     const char *name;
     step *does;
 } STEPS[] = {
-    {"close", close_client},     {"grab", grab},
-    {"ungrab", ungrab},          {"revoke", revoke_client},
-    {"mask", mask},              {"clock", choose_clock},
-    {"write", write_event},      {"setaxis", describe_axis},
-    {"read", read_events},       {"discard", discard},
-    {"bits", ask_bits},          {"axis", ask_axis},
-    {"slots", ask_slots},        {"syncslots", synchronise_slots},
+    {"close", close_client}, {"grab", grab},
+    {"ungrab", ungrab},      {"revoke", revoke_client},
+    {"mask", mask},          {"clock", choose_clock},
+    {"write", write_event},  {"setaxis", describe_axis},
+    {"read", read_events},   {"discard", discard},
+    {"bits", ask_bits},      {"axis", ask_axis},
+    {"slots", ask_slots},    {"syncslots", synchronise_slots},
 };
 
 bool do_step(struct actor *actor, const struct words *words)
