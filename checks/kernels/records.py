@@ -136,7 +136,7 @@ def is_refused(words: List[str], codes: Codes) -> bool:
 
 
 class Repeating:
-    """Makes a record of a keyboard whose keys repeat, in real time. A tick comes where the timer has fired."""
+    """Makes a record of a keyboard whose keys repeat, in real time. A tick comes where the timer fired."""
 
     # When it fired for the first time, in microseconds behind a press, and by a period of 250 for the second.
     FIRST, SECOND = 290000, 590000

@@ -50,7 +50,7 @@ IN_DEVICE: Tuple[Tuple[str, str, str], ...] = (
     ("keys are released from the highest on", "in sorted(self.on[KEY])]", "in sorted(self.on[KEY])[::-1]]"),
     ("a batch has one event more", "len(self.batch) >= self.caps.hint", "len(self.batch) > self.caps.hint"),
     ("a description sets the value to 0", "self.axes[code] = info, info[0]", "self.axes[code] = info, 0"),
-    ("frames go to all under a grab", "client.revoked or self.holder not in", "client.revoked and self.holder in"),
+    ("a grab works upside down", "client.revoked or self.holder not in", "client.revoked or self.holder in"),
     ("MSC is not sent to the owner", "event[0] in (LED, SND, MSC, REP)", "event[0] in (LED, SND, REP)"),
 )
 IN_READER: Tuple[Tuple[str, str, str], ...] = (
