@@ -100,6 +100,8 @@ def run(program: str, text: str) -> int:
     if asked.record and not all(path.suffix == ".rec" for path in asked.record):
         raise Wrong("a RECORD is a file NAME.rec")
     cases = [] if asked.wrong else list(cases_of(asked))
+    if len({case.name for case in cases}) < len(cases):
+        raise Wrong("two records have one name")
     check_programs()
     told, is_right = find_player().told(), True
     library = library_of(asked.libevdev, asked.cache)
