@@ -25,6 +25,8 @@ AXES = (0, 1, 2, 5, 6, 8, 0x10, 0x18, 0x28, 0x3F)
 # An axis by which libevdev has no slots: one in so many devices has it.
 RESERVED, RESERVED_EVERY = 0x2E, 12
 AXES_OF_SLOTS = (0x30, 0x31, 0x35, 0x36, 0x3A, 0x3D)
+# The types whose events of value 2 are passed each time.
+ALWAYS_PASSED = (KEY, REL, MSC, SND)
 MOST = 7800000
 
 
@@ -60,6 +62,8 @@ class Playable(Generator):
     def __init__(self, seed: int, family: str) -> None:
         super().__init__(seed)
         self.version, self.family = 2, FAMILIES[family]
+        # How many events the batches of its devices may have.
+        self.sizes: List[int] = []
 
     def moment(self) -> int:
         self.now = min(MOST, self.now + self.r.choice([0, 0, 1000, 1000, 4000, 20000]))
@@ -98,7 +102,8 @@ class Playable(Generator):
     def hint(self, lines: List[str]) -> str:
         """Mostly the kernel's own, which cannot be asked for a smaller one."""
         _, caps = read_record("\n".join(lines)).descriptions[0]
-        return f"hint {estimate(caps) if self.r.random() < 0.8 else self.r.randint(2, estimate(caps))}"
+        self.sizes.append(estimate(caps))
+        return f"hint {self.sizes[-1] if self.r.random() < 0.8 else self.r.randint(2, self.sizes[-1])}"
 
     def actors(self, d: int, lines: List[str]) -> Actors:
         r, family = self.r, self.family
@@ -113,8 +118,17 @@ class Playable(Generator):
 
     def source_action(self, _: str, codes: Codes, slots: int, busy: bool) -> List[str]:
         """No time goes by between a record's lines but where keys repeat, so no tick comes."""
+        always = [(kind, code) for kind, code in codes if kind in ALWAYS_PASSED]
+        if always and self.r.random() < 0.05:
+            return self.full_frame(*self.r.choice(always))
         actions = super().source_action(_, codes, slots, busy)
         return [action for action in actions if not action.startswith("tick ")]
+
+    def full_frame(self, kind: int, code: int) -> List[str]:
+        """A frame of nearly as many events as a batch may have, or of some more."""
+        count, moment = self.r.choice(self.sizes) + self.r.randint(-2, 2), self.moment()
+        event = f"event {moment} {kind_text(kind)} {code_text(kind, code)} 2"
+        return [event] * max(1, count) + [f"event {moment} EV_SYN SYN_REPORT 0"]
 
     def client_action(self, role: str, codes: Codes, slots: int, busy: bool) -> List[str]:
         """Mostly nothing that only the kernel takes: it hides other differences."""
