@@ -8,7 +8,7 @@ from __future__ import annotations
 
 import random
 import sys
-from typing import Dict, List, Tuple
+from typing import Dict, List, Sequence, Tuple
 
 KEYS = (30, 48, 46, 1, 0x110, 0x111, 0x145, 0x14A, 0x14D, 0x130, 0x2C0)
 LEDS, SWITCHES = (0, 1, 2), (0, 1, 5)
@@ -81,9 +81,9 @@ class RandomDevice:
         is_repeat = kind == KEY and self.is_raw and self.random.random() < 0.1
         return [(kind, code, AUTOREPEAT if is_repeat else value)]
 
-    def frames(self) -> List[str]:
+    def frames(self, counts: Sequence[int] = (200, 500, 1000)) -> List[str]:
         lines, now = [], 1000
-        for _ in range(self.random.choice((200, 500, 1000))):
+        for _ in range(self.random.choice(counts)):
             now += self.random.choice((1000, 8000, 12000))
             events = [event for _ in range(self.random.randint(0, 5)) for event in self.happening()]
             lines += [f"do s event {now} {kind} {code} {value}" for kind, code, value in [*events, (0, 0, 0)]]

@@ -8,6 +8,7 @@ from typing import Any, Callable, Dict, List, Optional, Sequence, Set, Tuple
 
 from second.names import ABS, KEY, LED, MSC, REL, REP, SND, SW, SYN
 from second.values import Answer, Event, Fed, Item, Step, Words
+from second.ways import RULES
 
 SLOT, FIRST, ID, LAST = 0x2F, 0x30, 0x39, 0x3D
 REPORT, CONFIG, DROPPED = 0, 1, 3
@@ -44,6 +45,7 @@ class Caps:
         self.slots, self.hint, self.log = 0, 16, 1048576
         self.filters: List[Tuple[Any, ...]] = []
         self.offsets = {"realtime": 0, "monotonic": 0, "boottime": 0}
+        self.ways = RULES
 
     def build(self) -> None:
         if self.slots:
@@ -229,6 +231,8 @@ class Device:
 
     # The core
 
+    defuzz = staticmethod(defuzz)
+
     def turn(self, kind: int, code: int, on: bool) -> bool:
         """Sets a bit, and answers whether that changed it."""
         changed = on != (code in self.on[kind])
@@ -268,7 +272,7 @@ class Device:
             return [(ABS, code, value)]
         values: Any = self.cells[self.staged] if is_slot_value(code) else self.axes
         index = code - FIRST if is_slot_value(code) else code
-        value = defuzz(value, values[index], self.infos[code][3])
+        value = self.defuzz(value, values[index], self.infos[code][3])
         if value == values[index]:
             return []
         values[index] = value
@@ -292,11 +296,20 @@ class Device:
     def frame(self, events: List[Event], now: int, place: int) -> None:
         self.at_frame = self.announced
         if {KEY, REP} <= self.caps.kinds:
-            for kind, code, value in events:
-                if kind == KEY and value == 0:
-                    self.due = None
-                elif kind == KEY and value != 2 and all(self.repeat):
-                    self.due, self.repeat_key = now + 1000 * self.repeat[0], code
+            self.arm(events, now)
+        self.offer(events, now, place)
+
+    def arm(self, events: List[Event], now: int) -> None:
+        for kind, code, value in events:
+            if kind == KEY and value == 0:
+                self.due = None
+            elif kind == KEY and value != 2 and all(self.repeat):
+                self.due, self.repeat_key = self.due_after(self.repeat[0], now), code
+
+    def due_after(self, milliseconds: int, now: int) -> int:
+        return now + 1000 * milliseconds
+
+    def offer(self, events: List[Event], now: int, place: int) -> None:
         if self.holder is None:
             for filter_ in self.filters:
                 events = [event for event in events if event[0] == SYN or not filter_.eats(event, now)]
@@ -315,19 +328,20 @@ class Device:
             self.raw((KEY, self.repeat_key, 2), now, place)
             self.raw((SYN, REPORT, 1), now, place)
             if self.repeat[1]:
-                self.due = now + 1000 * self.repeat[1]
+                self.due = self.due_after(self.repeat[1], now)
 
     def inhibit(self, now: int, place: int) -> None:
         if self.inhibited:
             return
-        events = []
-        for slot, values in enumerate(self.cells):
-            if values[ID - FIRST] >= 0:
-                events += [(ABS, SLOT, slot), (ABS, ID, -1)]
-        events += [(KEY, code, 0) for code in sorted(self.on[KEY])] + [(SYN, REPORT, 1)]
-        for event in events:
+        keys = [(KEY, code, 0) for code in sorted(self.on[KEY])]
+        for event in self.lifts() + keys + [(SYN, REPORT, 1)]:
             self.raw(event, now, place)
         self.inhibited = True
+
+    def lifts(self) -> List[Event]:
+        """The ends of all contacts."""
+        slots = [slot for slot, values in enumerate(self.cells) if values[ID - FIRST] >= 0]
+        return [event for slot in slots for event in ((ABS, SLOT, slot), (ABS, ID, -1))]
 
     # Steps, and what an owner does, which makes none
 
@@ -379,7 +393,8 @@ class Device:
         # (a device of another kind may open its clients otherwise)
         if op == "open":
             return self.do_open(op, words, place)
-        return WAYS.get(op, Device.do_plain)(self, op, words, place)
+        way = self.table.get(op)
+        return way(self, op, words, place) if way else self.do_plain(op, words, place)
 
     def do_plain(self, op: str, words: Words, place: int) -> Answer:
         if op == "inject" and not self.inhibited:
@@ -474,11 +489,9 @@ class Device:
                 client.queue = [((SYN, DROPPED, 0), now + self.caps.offsets[clock], place)]
         return ("done", place), None
 
-
-# What a step does that has more to reply than that it is done.
-WAYS: Dict[str, Callable[[Device, str, Words, int], Answer]] = {
-    "read": Device.do_read, "discard": Device.do_discard, "getkeys": Device.do_getkeys,
-    "getswitches": Device.do_getswitches, "getleds": Device.do_getleds, "getsounds": Device.do_getsounds,
-    "getaxis": Device.do_getaxis, "setaxis": Device.do_setaxis, "getslots": Device.do_getslots,
-    "syncslots": Device.do_syncslots, "mask": Device.do_mask, "clock": Device.do_clock,
-}
+    # What a step does that has more to reply than that it is done.
+    table: Dict[str, Callable[..., Answer]] = {
+        "read": do_read, "discard": do_discard, "getkeys": do_getkeys, "getswitches": do_getswitches,
+        "getleds": do_getleds, "getsounds": do_getsounds, "getaxis": do_getaxis, "setaxis": do_setaxis,
+        "getslots": do_getslots, "syncslots": do_syncslots, "mask": do_mask, "clock": do_clock,
+    }

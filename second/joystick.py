@@ -25,13 +25,20 @@ def cut(value: int) -> int:
     return max(-32767, min(32767, value))
 
 
+def buttons_of(caps: Caps) -> List[int]:
+    keys = sorted(caps.codes.get(KEY, ())) if KEY in caps.kinds else []
+    behind = [code for code in keys if FIRST_OF_ALL <= code < FIRST_OF_JOYSTICKS]
+    return [code for code in keys if FIRST_OF_JOYSTICKS <= code] + behind
+
+
+def axes_of(caps: Caps) -> List[int]:
+    return [code for code in sorted(caps.axes) if not SLOT <= code <= LAST]
+
+
 class Joystick:
     def __init__(self, caps: Caps) -> None:
         self.reader = Reader(caps)
-        keys = sorted(caps.codes.get(KEY, ())) if KEY in caps.kinds else []
-        behind = [code for code in keys if FIRST_OF_ALL <= code < FIRST_OF_JOYSTICKS]
-        self.buttons = ([code for code in keys if FIRST_OF_JOYSTICKS <= code] + behind)[:MOST_BUTTONS]
-        self.axes = [code for code in sorted(caps.axes) if not SLOT <= code <= LAST]
+        self.buttons, self.axes = buttons_of(caps)[:MOST_BUTTONS], axes_of(caps)
         self.startup: List[JoyRecord] = []
         self.calls: List[Tuple[Step, Reply]] = []
         self.clear()
@@ -53,6 +60,10 @@ class Joystick:
             self.startup = []
         elif self.calls[0][1][0] == "opened":
             self.begin_startup()
+
+    def close(self, device: Any) -> Tuple[Step, Reply]:
+        step = ("close", self.reader.client)
+        return step, device.step(step)[0]
 
     def ask(self, device: Any, in_sync_mode: bool) -> HandedOut:
         answer = self.reader.next(device, in_sync_mode)

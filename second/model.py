@@ -9,10 +9,14 @@ import struct
 from typing import Any, Callable, Dict, List, NamedTuple, Optional, Sequence, Tuple
 
 from second.device import Caps, Device, FIRST, LAST, SLOT
+from second.joydev import JoydevDevice, JoydevStick
 from second.joystick import Joystick
+from second.kernel import is_refused
+from second.libevdev import Libevdev
 from second.names import ABS, CODES, KEY, LED, SW, TYPES, code_text, event_text, kind_text
 from second.reader import NO_CLIENT, Reader, View
 from second.values import Event, Item, Reply, Step, Streams
+from second.ways import RULES, Ways
 
 
 def number(word: str) -> int:
@@ -69,13 +73,18 @@ def source_steps(words: List[str], streams: Streams) -> List[Step]:
     return [(command,) + tuple(number(word) for word in words)]
 
 
+def reader_and_joystick(caps: Caps) -> Tuple[Reader, Joystick]:
+    """Those of the rules, or those of libevdev and joydev."""
+    return (Reader(caps), Joystick(caps)) if caps.ways == RULES else (Libevdev(caps), JoydevStick(caps))
+
+
 class Actor:
     def __init__(self, name: str, role: str, device: Any) -> None:
         self.name, self.role, self.device = name, role, device
         self.sight: List[str] = []
         self.accepted, self.stop = 0, "finished"
-        self.reader, self.view, self.client = Reader(device.caps), View(device.caps), NO_CLIENT
-        self.joystick = Joystick(device.caps)
+        self.view, self.client = View(device.caps), NO_CLIENT
+        self.reader, self.joystick = reader_and_joystick(device.caps)
         # (how many events or records the present line has handed out)
         self.handed = 0
 
@@ -173,7 +182,7 @@ class Actor:
             self.reader.start(self.device)
             self.see_calls(self.reader.calls)
         elif words[0] == "force":
-            self.reader.phase = "needed"
+            self.reader.force(self.device)
         else:
             self.hand_out(words[0], number(words[1]) if words[1:] else None)
         self.view = self.reader.view
@@ -196,10 +205,8 @@ class Actor:
         self.handed = 0
 
     def do_joy(self, words: List[str], _: Streams) -> None:
-        step = self.single_step(self.joystick.reader.client, words)
-        if step:
-            reply, _ = self.device.step(step)
-            self.see(step, reply)
+        if words[0] == "close":
+            self.see(*self.joystick.close(self.device))
         elif words[0] == "open":
             self.joystick.start(self.device)
             self.see_calls(self.joystick.calls)
@@ -349,17 +356,26 @@ def report(devices: Sequence[Device], actors: Sequence[Actor], history: bool) ->
     return lines
 
 
-def run(text: str, folder: str = ".") -> Tuple[List[Device], List[Actor]]:
+def device_of(name: str, caps: Caps, ways: Ways) -> Device:
+    """A device by the rules, or one with ways of the kernel's."""
+    caps.ways = ways
+    return Device(name, caps) if ways == RULES else JoydevDevice(name, caps)
+
+
+def run(text: str, folder: str = ".", ways: Ways = RULES) -> Tuple[List[Device], List[Actor]]:
     """The devices and, in record order, the actors, once all lines are done."""
     record = read_record(text)
-    devices = [Device(name, caps) for name, caps in record.descriptions]
+    devices = [device_of(name, caps, ways) for name, caps in record.descriptions]
     actors = {name: Actor(name, role, devices[device]) for name, role, device in record.actors}
     for name, *words in record.actions:
         actors[name].do(words, streams_of(folder))
     return devices, list(actors.values())
 
 
-def play(text: str, folder: str = ".", history: bool = False) -> List[str]:
-    """The lines of the report."""
-    return report(*run(text, folder), history)
-
+def play(text: str, folder: str = ".", history: bool = False, ways: Ways = RULES) -> List[str]:
+    """The lines of the report. Where uinput refuses a device there are none but that."""
+    if ways.refused_devices:
+        refused = [name for name, caps in read_record(text).descriptions if is_refused(caps)]
+        if refused:
+            return [f"device {refused[0]} refused"]
+    return report(*run(text, folder, ways), history)

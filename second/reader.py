@@ -84,6 +84,7 @@ class Reader:
         self.queue: List[Item] = []
         self.synthesised: List[Event] = []
         self.calls: List[Tuple[Step, Reply]] = []
+        self.at_once = AT_ONCE
 
     def call(self, device: Any, step: Step) -> Answer:
         reply, written = device.step(step)
@@ -122,27 +123,40 @@ class Reader:
         view = self.ask(device) if reply[0] != "refused" else None
         if view is None:
             return False
-        self.synthesised, self.view, self.phase = synthesised(self.view, view), view, "handing"
+        self.synthesised, self.view, self.phase = self.synthesise(self.view, view), view, "handing"
         return True
+
+    def synthesise(self, old: View, new: View) -> List[Event]:
+        return synthesised(old, new)
+
+    def force(self, device: Any) -> None:
+        self.calls, self.phase = [], "needed"
 
     def next(self, device: Any, in_sync_mode: bool) -> HandedOut:
         """What is handed out: ("took", item), ("made", event), ("synced",), or ("end",) where a call says so."""
         self.calls = []
         if self.phase == "needed" and not self.synchronise(device):
             return ("end",)
-        if in_sync_mode:
-            if self.synthesised:
-                return ("made", self.synthesised.pop(0))
-            self.phase = "plain"
-            return ("synced",)
+        return self.next_made(device) if in_sync_mode else self.next_read(device)
+
+    def next_made(self, device: Any) -> HandedOut:
+        if self.synthesised:
+            return ("made", self.synthesised.pop(0))
+        self.phase = "plain"
+        return ("synced",)
+
+    def next_read(self, device: Any) -> HandedOut:
         self.synthesised, self.phase = [], "plain"
-        if not self.queue:
-            reply, written = self.call(device, ("read", self.client, AT_ONCE))
-            if reply[0] != "took":
-                return ("end",)
-            self.queue = written
+        if not self.queue and not self.read_more(device):
+            return ("end",)
         item = self.queue.pop(0)
         self.view.take(item[0])
         if item[0][:2] == (SYN, DROPPED):
             self.phase = "needed"
         return ("took", item)
+
+    def read_more(self, device: Any) -> bool:
+        """Reads into the empty queue, and answers whether there was anything."""
+        reply, written = self.call(device, ("read", self.client, self.at_once))
+        self.queue = written if reply[0] == "took" else []
+        return bool(self.queue)

@@ -8,15 +8,16 @@ from tests.playing import TOP, FolderCase
 
 PACKAGES = ("inputtools", "second", "inputplay")
 HELPERS = ("tests.playing", "tests.desk_cases", "tests.test_pages")
+LEFT_OUT = ("__init__", "repository_path")
 # The scripts have no ending by which mypy would find them; it takes each as a module of its own name.
 SCRIPTS = ("tools", "bin", "checks", "tests", "bindings")
 
 
 def modules():
     """The modules of checks/ but the one that its scripts import by its own name, and what tests share."""
-    names = [path.stem for path in sorted((TOP / "checks").glob("*.py"))
-             if path.stem not in ("__init__", "repository_path")]
-    return [*(f"checks.{name}" for name in names), *HELPERS]
+    paths = sorted((TOP / "checks").glob("*.py")) + sorted((TOP / "checks" / "kernels").glob("*.py"))
+    names = [".".join(path.relative_to(TOP).with_suffix("").parts) for path in paths if path.stem not in LEFT_OUT]
+    return [*names, *HELPERS]
 
 
 def scripts(folder):

@@ -1,0 +1,113 @@
+"""Sorts what a kernel answered: equal to the program's report, explained by the kernel's ways, or neither."""
+
+from __future__ import annotations
+
+import difflib
+import re
+from dataclasses import dataclass, replace
+from typing import Iterable, List, Optional, Tuple
+
+from second.kernel import estimate
+from second.model import play, read_record
+from second.ways import ALL, RULES, Ways
+from checks.kernels.answers import NotPlayed, report_of
+from checks.kernels.comparable import agreed, comparable
+from checks.kernels.lines import is_live
+
+EQUAL, EXPLAINED, UNEXPLAINED = "equal", "explained", "unexplained"
+# The greatest moment that uinput takes, and of a record that is played in real time.
+MOST, MOST_IN_REAL_TIME = 7900000, 20000000
+MOMENT = re.compile(r"^do \S+ (?:event|tick|inhibit|write|clock \S+) (\d+)", re.M)
+CONSOLE = re.compile(r"^cap EV_KEY (?:KEY_(?:CAPSLOCK|NUMLOCK|SCROLLLOCK|SYSRQ)|58|69|70|99)$", re.M)
+# The first version whose uinput takes the times of events.
+STAMPS = (6, 12)
+SHOWN = 40
+
+
+@dataclass(frozen=True)
+class Verdict:
+    """What the answer of one kernel on one record is. `lines` shows what is not explained."""
+
+    name: str
+    kernel: str
+    kind: str
+    ways: Tuple[str, ...] = ()
+    lines: Tuple[str, ...] = ()
+
+    def told(self) -> str:
+        return f"{self.name} on {self.kernel}: {self.kind} {' '.join(self.ways)}".rstrip()
+
+
+def ways_of_kernel(version: str) -> Ways:
+    """All ways of a kernel of a version."""
+    numbers = tuple(int(word) for word in version.split(".")[:2])
+    return replace(ALL, stamped_time=numbers >= STAMPS)
+
+
+def why_not(text: str) -> Optional[str]:
+    """Why a real kernel cannot play a record, or None."""
+    devices = [caps for _, caps in read_record(text).descriptions]
+    most = MOST_IN_REAL_TIME if is_live(text) else MOST
+    if any(caps.filters for caps in devices):
+        return "it has filters"
+    if any(line.startswith("log ") for line in text.splitlines()):
+        return "it has the limit of a history"
+    if any(caps.hint > estimate(caps) for caps in devices if not caps.slots > 100):
+        return "its hint is above the kernel's own"
+    if any(int(moment) > most for moment in MOMENT.findall(text)):
+        return f"it has a moment above {most}"
+    return "it has a key that the console heeds" if CONSOLE.search(text) else None
+
+
+def is_same(kernel: List[str], text: str, folder: str, ways: Ways) -> bool:
+    ours = comparable(play(text, folder, ways=ways))
+    return agreed(kernel, ours, is_live(text)) == ours
+
+
+def least_ways(kernel: List[str], text: str, folder: str, version: str) -> Optional[Ways]:
+    """Ways of which none can be left out, with which the second program answers as the kernel; None where it
+    does not with all."""
+    ways = ways_of_kernel(version)
+    if not is_same(kernel, text, folder, ways):
+        return None
+    # (many that are not needed are left out at once)
+    waiting = [ways.on()]
+    while waiting:
+        names = waiting.pop()
+        fewer = ways.without(*names)
+        if is_same(kernel, text, folder, fewer):
+            ways = fewer
+        elif len(names) > 1:
+            half = len(names) // 2
+            waiting += [names[half:], names[:half]]
+    return ways
+
+
+def is_explained(kernel: List[str], text: str, folder: str, version: str) -> bool:
+    """Whether the second program answers as the kernel by the rules, or with all ways."""
+    return is_same(kernel, text, folder, RULES) or is_same(kernel, text, folder, ways_of_kernel(version))
+
+
+def shown(wanted: List[str], came: List[str], text: str) -> Tuple[str, ...]:
+    came = agreed(came, wanted, is_live(text))
+    lines = difflib.unified_diff(wanted, came, "the second program", "the kernel", n=2, lineterm="")
+    return tuple(lines)[:SHOWN]
+
+
+def judge(name: str, text: str, said: Iterable[str], version: str, folder: str = ".",
+          program: Optional[List[str]] = None) -> Verdict:
+    """What a kernel's answer is. `program` is the report of the program, where it is built."""
+    try:
+        kernel = comparable(report_of(text, said, folder))
+    except NotPlayed as fault:
+        return Verdict(name, version, UNEXPLAINED, lines=(f"it was not played: {fault}",))
+    by_rules = play(text, folder)
+    if program is not None and program != by_rules:
+        return Verdict(name, version, UNEXPLAINED, lines=("the program and the second one differ",))
+    if is_same(kernel, text, folder, RULES):
+        return Verdict(name, version, EQUAL)
+    ways = least_ways(kernel, text, folder, version)
+    if ways is not None:
+        return Verdict(name, version, EXPLAINED, ways.on())
+    wanted = comparable(play(text, folder, ways=ways_of_kernel(version)))
+    return Verdict(name, version, UNEXPLAINED, lines=shown(wanted, kernel, text))
