@@ -419,7 +419,8 @@ class Install(TreeCase):
             (commands / name).symlink_to(shutil.which(name))
         status, written, lines = self.install("p", path=str(commands))
         self.assertEqual((2, "", 1), (status, written, len(lines)), lines)
-        self.assertIn("no toolchain (rt) to build it; --only tools installs the tools", lines[0])
+        self.assertIn("no toolchain (rt) to build it; bin/inputplay --unproved FILE plays without it; "
+                      "--only tools installs the tools", lines[0])
         self.built()
         (self.folder / "file").write_text("")
         status, written, lines = self.install("file")
