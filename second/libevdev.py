@@ -93,9 +93,11 @@ class Loss:
 
     def change_slot(self, slot: int) -> None:
         old, new = self.old.cells[slot], self.new.cells[slot]
-        if old[ID - FIRST] != -1 and new[ID - FIRST] == -1:
+        is_ended = old[ID - FIRST] != -1 and new[ID - FIRST] == -1
+        if is_ended and self.caps.ways.forgotten_values:
             return
         changes = [(ABS, FIRST + i, new[i]) for i in range(LAST - FIRST + 1) if old[i] != new[i]]
+        changes = [change for change in changes if change != (ABS, ID, -1)]
         if changes:
             self.events += [(ABS, SLOT, slot), *changes]
             self.slot = slot

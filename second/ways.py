@@ -25,6 +25,7 @@ class Ways:
     single_ids: bool = False
     long_reads: bool = False
     split_losses: bool = False
+    forgotten_values: bool = False
     counted_buttons: bool = False
     stale_view: bool = False
     forced_reads: bool = False

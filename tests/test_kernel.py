@@ -82,7 +82,7 @@ class Answers(unittest.TestCase):
 
     def test_an_answer_that_ends_before(self) -> None:
         self.assertRaises(NotPlayed, report_of, SHORT + PRESS, SAID[:-1])
-        verdict = judge("x", SHORT + PRESS, SAID[:-1], "6.12")
+        verdict = judge("x", SHORT + PRESS, SAID[:-1], ALL)
         self.assertEqual(UNEXPLAINED, verdict.kind)
 
     def test_verdicts(self) -> None:
@@ -94,7 +94,7 @@ class Answers(unittest.TestCase):
         )
         for kind, ways, more, said in cases:
             with self.subTest(kind):
-                verdict = judge("x", SHORT + more, said, "6.12")
+                verdict = judge("x", SHORT + more, said, ALL)
                 self.assertEqual((kind, ways), (verdict.kind, verdict.ways), verdict.lines)
 
     def test_what_a_kernel_cannot_play(self) -> None:
@@ -154,7 +154,7 @@ class Player(FolderCase):
             self.skipTest(str(wrong))
         if not (cache / "kernels" / "6.12").is_dir():
             self.skipTest("no kernel was fetched by checks/kernel")
-        machines = Machines(machine.kernel_of("6.12", cache), machine.built_player(self.folder, library), 1)
+        machines = Machines(machine.kernel_of("6.12", cache), machine.built_player(self.folder, library), ALL, 1)
         with mock.patch.dict(os.environ):
             if not os.access(PROGRAM, os.X_OK):
                 os.environ.pop("INPUTPLAY", None)

@@ -14,6 +14,7 @@ from inputtools.program import find_player
 from inputtools.progress import progress
 from second.record_text import Refused, streams_of_text
 from checks.kernels import scripts, wrong
+from checks.kernels.judging import ways_of_peers
 from checks.kernels.machine import PACKAGES, built_player, cache_folder, check_programs, kernel_of, library_of
 from checks.kernels.records import random_record
 from checks.kernels.running import Case, Machines, smallest, tally_of
@@ -107,8 +108,9 @@ def run(program: str, text: str) -> int:
     library = library_of(asked.libevdev, asked.cache)
     for name in asked.kernel or PACKAGES:
         progress.tell(f"the kernel {name} is fetched and unpacked")
-        machines = Machines(kernel_of(name, asked.cache), built_player(asked.cache, library), asked.jobs)
-        kernel = machines.kernel
+        kernel = kernel_of(name, asked.cache)
+        ways = ways_of_peers(kernel.version, library.told)
+        machines = Machines(kernel, built_player(asked.cache, library), ways, asked.jobs)
         print(f"kernel {kernel.version} ({kernel.package()}), {library.told}; {told}", flush=True)
         if asked.wrong:
             is_right &= wrong.try_all(machines)

@@ -19,8 +19,9 @@ EQUAL, EXPLAINED, UNEXPLAINED = "equal", "explained", "unexplained"
 MOST, MOST_IN_REAL_TIME = 7900000, 20000000
 MOMENT = re.compile(r"^do \S+ (?:event|tick|inhibit|write|clock \S+) (\d+)", re.M)
 CONSOLE = re.compile(r"^cap EV_KEY (?:KEY_(?:CAPSLOCK|NUMLOCK|SCROLLLOCK|SYSRQ)|58|69|70|99)$", re.M)
-# The first version whose uinput takes the times of events.
-STAMPS = (6, 12)
+# The first kernel whose uinput takes the times of events, and the first libevdev that makes all values of a contact
+# that ended.
+STAMPS, REMEMBERS = (6, 12), (1, 14)
 SHOWN = 40
 
 
@@ -29,19 +30,23 @@ class Verdict:
     """What the answer of one kernel on one record is. `lines` shows what is not explained."""
 
     name: str
-    kernel: str
     kind: str
     ways: Tuple[str, ...] = ()
     lines: Tuple[str, ...] = ()
 
     def told(self) -> str:
-        return f"{self.name} on {self.kernel}: {self.kind} {' '.join(self.ways)}".rstrip()
+        return f"{self.name}: {self.kind} {' '.join(self.ways)}".rstrip()
 
 
-def ways_of_kernel(version: str) -> Ways:
-    """All ways of a kernel of a version."""
-    numbers = tuple(int(word) for word in version.split(".")[:2])
-    return replace(ALL, stamped_time=numbers >= STAMPS)
+def version_of(told: str) -> Tuple[int, ...]:
+    """The first numbers in what is told of a version."""
+    return tuple(map(int, re.findall(r"\d+", told)[:2]))
+
+
+def ways_of_peers(kernel: str, libevdev: str) -> Ways:
+    """All ways of a kernel and a libevdev, by what is told of their versions."""
+    stamps, forgets = version_of(kernel) >= STAMPS, version_of(libevdev) < REMEMBERS
+    return replace(ALL, stamped_time=stamps, forgotten_values=forgets)
 
 
 def why_not(text: str) -> Optional[str]:
@@ -64,10 +69,9 @@ def is_same(kernel: List[str], text: str, folder: str, ways: Ways) -> bool:
     return agreed(kernel, ours, is_live(text)) == ours
 
 
-def least_ways(kernel: List[str], text: str, folder: str, version: str) -> Optional[Ways]:
-    """Ways of which none can be left out, with which the second program answers as the kernel; None where it
-    does not with all."""
-    ways = ways_of_kernel(version)
+def least_ways(kernel: List[str], text: str, folder: str, ways: Ways) -> Optional[Ways]:
+    """Those of the ways of which none can be left out, with which the second program answers as the kernel; None
+    where it does not with all."""
     if not is_same(kernel, text, folder, ways):
         return None
     # (many that are not needed are left out at once)
@@ -83,9 +87,9 @@ def least_ways(kernel: List[str], text: str, folder: str, version: str) -> Optio
     return ways
 
 
-def is_explained(kernel: List[str], text: str, folder: str, version: str) -> bool:
-    """Whether the second program answers as the kernel by the rules, or with all ways."""
-    return is_same(kernel, text, folder, RULES) or is_same(kernel, text, folder, ways_of_kernel(version))
+def is_explained(kernel: List[str], text: str, folder: str, ways: Ways) -> bool:
+    """Whether the second program answers as the kernel by the rules, or with these ways."""
+    return is_same(kernel, text, folder, RULES) or is_same(kernel, text, folder, ways)
 
 
 def shown(wanted: List[str], came: List[str], text: str) -> Tuple[str, ...]:
@@ -94,20 +98,20 @@ def shown(wanted: List[str], came: List[str], text: str) -> Tuple[str, ...]:
     return tuple(lines)[:SHOWN]
 
 
-def judge(name: str, text: str, said: Iterable[str], version: str, folder: str = ".",
+def judge(name: str, text: str, said: Iterable[str], ways: Ways, folder: str = ".",
           program: Optional[List[str]] = None) -> Verdict:
     """What a kernel's answer is. `program` is the report of the program, where it is built."""
     try:
         kernel = comparable(report_of(text, said, folder))
     except NotPlayed as fault:
-        return Verdict(name, version, UNEXPLAINED, lines=(f"it was not played: {fault}",))
+        return Verdict(name, UNEXPLAINED, lines=(f"it was not played: {fault}",))
     by_rules = play(text, folder)
     if program is not None and program != by_rules:
-        return Verdict(name, version, UNEXPLAINED, lines=("the program and the second one differ",))
+        return Verdict(name, UNEXPLAINED, lines=("the program and the second one differ",))
     if is_same(kernel, text, folder, RULES):
-        return Verdict(name, version, EQUAL)
-    ways = least_ways(kernel, text, folder, version)
-    if ways is not None:
-        return Verdict(name, version, EXPLAINED, ways.on())
-    wanted = comparable(play(text, folder, ways=ways_of_kernel(version)))
-    return Verdict(name, version, UNEXPLAINED, lines=shown(wanted, kernel, text))
+        return Verdict(name, EQUAL)
+    least = least_ways(kernel, text, folder, ways)
+    if least is not None:
+        return Verdict(name, EXPLAINED, least.on())
+    wanted = comparable(play(text, folder, ways=ways))
+    return Verdict(name, UNEXPLAINED, lines=shown(wanted, kernel, text))

@@ -17,6 +17,7 @@ from inputtools.program import BuiltProgram, find_player
 from inputtools.progress import progress
 from inputtools.shrinking import frames_of, text_of
 from second.record_text import Refused, streams_of_text
+from second.ways import Ways
 from checks.kernels.answers import NotPlayed, parts_of, report_of
 from checks.kernels.comparable import comparable
 from checks.kernels.judging import UNEXPLAINED, Verdict, is_explained, judge, why_not
@@ -39,10 +40,11 @@ class Case:
 
 @dataclass(frozen=True)
 class Machines:
-    """What plays records: a kernel, the player in its machine, and how many machines at a time."""
+    """What plays records: a kernel, the player in its machine, all ways of theirs, and how many machines at a time."""
 
     kernel: Kernel
     player: Path
+    ways: Ways
     jobs: int
 
     def said(self, cases: Sequence[Case]) -> Dict[str, List[str]]:
@@ -62,7 +64,7 @@ class Machines:
     def verdicts(self, cases: Sequence[Case]) -> List[Verdict]:
         said = self.said(cases)
         progress.tell(f"what {self.kernel.version} answered is sorted")
-        work = [(case, said.get(case.name, []), self.kernel.version) for case in cases]
+        work = [(case, said.get(case.name, []), self.ways) for case in cases]
         with ProcessPoolExecutor(self.jobs, initializer=ignore_stops) as pool:
             return list(pool.map(judged, work, chunksize=8))
 
@@ -86,9 +88,9 @@ class Told:
             progress.tell(f"kernel {self.version} plays", sum(self.counts.values()), self.total)
 
 
-def judged(work: Tuple[Case, List[str], str]) -> Verdict:
-    case, said, version = work
-    return judge(case.name, case.text, said, version, case.folder, program_report(case))
+def judged(work: Tuple[Case, List[str], Ways]) -> Verdict:
+    case, said, ways = work
+    return judge(case.name, case.text, said, ways, case.folder, program_report(case))
 
 
 def program_report(case: Case) -> Optional[List[str]]:
@@ -142,11 +144,11 @@ def is_record(text: str) -> bool:
         return False
 
 
-def is_kept(work: Tuple[Case, List[str], str]) -> bool:
+def is_kept(work: Tuple[Case, List[str], Ways]) -> bool:
     """Whether what was said of a record is not explained."""
-    case, said, version = work
+    case, said, ways = work
     try:
-        return not is_explained(comparable(report_of(case.text, said)), case.text, ".", version)
+        return not is_explained(comparable(report_of(case.text, said)), case.text, ".", ways)
     except NotPlayed:
         return True
 
@@ -156,7 +158,7 @@ def kept(machines: Machines, texts: Sequence[str]) -> List[bool]:
     played = [is_record(text) and not why_not(text) for text in texts]
     cases = [Case(str(number), text) for number, text in enumerate(texts) if played[number]]
     said = machines.said(cases) if cases else {}
-    work = [(case, said.get(case.name, []), machines.kernel.version) for case in cases]
+    work = [(case, said.get(case.name, []), machines.ways) for case in cases]
     with ProcessPoolExecutor(machines.jobs, initializer=ignore_stops) as pool:
         flags = dict(zip((case.name for case in cases), pool.map(is_kept, work)))
     return [flags.get(str(number), False) for number in range(len(texts))]

@@ -1,7 +1,7 @@
 """Wrong versions of the second program, each of which has to leave a random record unexplained.
 
 As a program of its own it says of a folder of answers which is the first record that is not explained:
-`python3 -m checks.kernels.wrong FOLDER VERSION`."""
+`python3 -m checks.kernels.wrong FOLDER WAY ..`."""
 
 from __future__ import annotations
 
@@ -16,6 +16,7 @@ from pathlib import Path
 from typing import Dict, List, Optional, Tuple
 
 from inputtools.command import Wrong
+from second.ways import Ways, ways_of
 from checks.kernels.answers import report_of
 from checks.kernels.comparable import comparable
 from checks.kernels.judging import is_explained
@@ -61,11 +62,11 @@ VERSIONS = [Version(name, "device.py", old, new) for name, old, new in IN_DEVICE
 VERSIONS += [Version(name, "reader.py", old, new) for name, old, new in IN_READER]
 
 
-def first_unexplained(folder: Path, version: str) -> Optional[int]:
+def first_unexplained(folder: Path, ways: Ways) -> Optional[int]:
     """The number of the first record that is not explained by this second program."""
     answers: List[Dict[str, List[str]]] = json.loads((folder / "answers.json").read_text())
     for number, answer in enumerate(answers):
-        if not is_explained(answer["kernel"], "\n".join(answer["record"]), ".", version):
+        if not is_explained(answer["kernel"], "\n".join(answer["record"]), ".", ways):
             return number
     return None
 
@@ -81,11 +82,11 @@ def tree_of(version: Version, folder: Path) -> None:
     path.write_text(text.replace(version.old, version.new))
 
 
-def tried(version: Version, answers: Path, kernel: str) -> Optional[int]:
+def tried(version: Version, answers: Path, ways: Ways) -> Optional[int]:
     with tempfile.TemporaryDirectory(prefix="inputplay-wrong") as name:
         tree_of(version, Path(name))
         path = [name, str(Path(name) / "tools")]
-        words = [sys.executable, "-B", "-m", "checks.kernels.wrong", str(answers), kernel]
+        words = [sys.executable, "-B", "-m", "checks.kernels.wrong", str(answers), *ways.on()]
         done = subprocess.run(words, cwd=name, env={"PYTHONPATH": ":".join(path)}, stdout=subprocess.PIPE,
                               stderr=subprocess.DEVNULL, text=True, check=False)
         if done.returncode:
@@ -102,12 +103,12 @@ def try_all(machines: Machines) -> bool:
     with tempfile.TemporaryDirectory(prefix="inputplay-answers") as name:
         (Path(name) / "answers.json").write_text(json.dumps(answers))
         with ThreadPoolExecutor(machines.jobs) as pool:
-            found = list(pool.map(lambda each: tried(each, Path(name), machines.kernel.version), VERSIONS))
+            found = list(pool.map(lambda each: tried(each, Path(name), machines.ways), VERSIONS))
     for version, number in zip(VERSIONS, found):
         print(f"{version.name}: " + (f"record {number} tells it" if number is not None else "NOT TOLD"))
     return None not in found
 
 
 if __name__ == "__main__":
-    told = first_unexplained(Path(sys.argv[1]), sys.argv[2])
+    told = first_unexplained(Path(sys.argv[1]), ways_of(sys.argv[2:]))
     print(NONE if told is None else told, end="")
