@@ -14,7 +14,7 @@ from unittest import mock
 from checks.kernels import machine, running, scripts, wrong
 from checks.kernels.answers import NotPlayed, report_of
 from checks.kernels.comparable import agreed, comparable
-from checks.kernels.judging import EQUAL, EXPLAINED, UNEXPLAINED, judge, why_not
+from checks.kernels.judging import EQUAL, EXPLAINED, UNEXPLAINED, judge, ways_of_peers, why_not
 from checks.kernels.lines import lines_of
 from checks.kernels.records import MAKERS, random_record
 from checks.kernels.running import Case, Machines
@@ -119,6 +119,15 @@ class Answers(unittest.TestCase):
                 play(text)
                 play(text, ways=ALL)
         self.assertEqual(set(MAKERS), families)
+
+    def test_ways_of_versions(self) -> None:
+        for kernel, libevdev, lacking in (
+            ("6.1", "libevdev-dev 1.13.0+dfsg-1", ["stamped_time"]), ("6.12", "libevdev-dev 1.13.0+dfsg-1", []),
+            ("6.12", "libevdev-dev 1.13.4+dfsg-1", ["forgotten_values"]),
+            ("7.3", "libevdev-dev 1.14.0+dfsg-1", ["forgotten_values"]),
+        ):
+            with self.subTest(kernel=kernel, libevdev=libevdev):
+                self.assertEqual(ALL.without(*lacking), ways_of_peers(kernel, libevdev))
 
     def test_wrong_versions_can_be_made(self) -> None:
         self.assertGreaterEqual(len(wrong.VERSIONS), 10)

@@ -19,9 +19,9 @@ EQUAL, EXPLAINED, UNEXPLAINED = "equal", "explained", "unexplained"
 MOST, MOST_IN_REAL_TIME = 7900000, 20000000
 MOMENT = re.compile(r"^do \S+ (?:event|tick|inhibit|write|clock \S+) (\d+)", re.M)
 CONSOLE = re.compile(r"^cap EV_KEY (?:KEY_(?:CAPSLOCK|NUMLOCK|SCROLLLOCK|SYSRQ)|58|69|70|99)$", re.M)
-# The first kernel whose uinput takes the times of events, and the first libevdev that makes all values of a contact
-# that ended.
-STAMPS, REMEMBERS = (6, 12), (1, 14)
+# The first kernel whose uinput takes the times of events, and the first libevdev that was seen to make all values of
+# a contact that ended.
+STAMPS, REMEMBERS = (6, 12), (1, 13, 4)
 SHOWN = 40
 
 
@@ -40,7 +40,7 @@ class Verdict:
 
 def version_of(told: str) -> Tuple[int, ...]:
     """The first numbers in what is told of a version."""
-    return tuple(map(int, re.findall(r"\d+", told)[:2]))
+    return tuple(map(int, re.findall(r"\d+", told)[:3]))
 
 
 def ways_of_peers(kernel: str, libevdev: str) -> Ways:
