@@ -122,7 +122,8 @@ class Answers(unittest.TestCase):
 
     def test_ways_of_versions(self) -> None:
         for kernel, libevdev, lacking in (
-            ("6.1", "libevdev-dev 1.13.0+dfsg-1", ["stamped_time"]), ("6.12", "libevdev-dev 1.13.0+dfsg-1", []),
+            ("6.1", "libevdev-dev 1.13.0+dfsg-1", ["stamped_time"]),
+            ("6.12", "libevdev-dev 1.13.0+dfsg-1", []),
             ("6.12", "libevdev-dev 1.13.4+dfsg-1", ["forgotten_values"]),
             ("7.3", "libevdev-dev 1.14.0+dfsg-1", ["forgotten_values"]),
         ):
@@ -163,7 +164,8 @@ class Player(FolderCase):
             self.skipTest(str(wrong))
         if not (cache / "kernels" / "6.12").is_dir():
             self.skipTest("no kernel was fetched by checks/kernel")
-        machines = Machines(machine.kernel_of("6.12", cache), machine.built_player(self.folder, library), ALL, 1)
+        player = machine.built_player(self.folder, library)
+        machines = Machines(machine.kernel_of("6.12", cache), player, ALL, 1)
         with mock.patch.dict(os.environ):
             if not os.access(PROGRAM, os.X_OK):
                 os.environ.pop("INPUTPLAY", None)
