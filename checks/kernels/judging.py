@@ -19,8 +19,8 @@ EQUAL, EXPLAINED, UNEXPLAINED = "equal", "explained", "unexplained"
 MOST, MOST_IN_REAL_TIME = 7900000, 20000000
 MOMENT = re.compile(r"^do \S+ (?:event|tick|inhibit|write|clock \S+) (\d+)", re.M)
 CONSOLE = re.compile(r"^cap EV_KEY (?:KEY_(?:CAPSLOCK|NUMLOCK|SCROLLLOCK|SYSRQ)|58|69|70|99)$", re.M)
-# The first kernel whose uinput takes the times of events, and the first libevdev that was seen to make all values
-# of a contact that ended.
+# The first kernel whose uinput takes the times of events, and the first libevdev that was seen to make all
+# values of a contact that ended.
 STAMPS, REMEMBERS = (6, 12), (1, 13, 4)
 SHOWN = 40
 
@@ -70,8 +70,8 @@ def is_same(kernel: List[str], text: str, folder: str, ways: Ways) -> bool:
 
 
 def least_ways(kernel: List[str], text: str, folder: str, ways: Ways) -> Optional[Ways]:
-    """Those of the ways of which none can be left out, with which the second program answers as the kernel; or
-    None, where it does not with all."""
+    """Those of the ways with which the second program answers as the kernel, and of which none can be left out;
+    None where it does not with all."""
     if not is_same(kernel, text, folder, ways):
         return None
     # (many that are not needed are left out at once)
