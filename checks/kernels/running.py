@@ -40,7 +40,7 @@ class Case:
 
 @dataclass(frozen=True)
 class Machines:
-    """What plays records: a kernel, the player in its machine, all their ways, and how many play at a time."""
+    """What plays records: a kernel, the player in its machine, all their ways, and how many at a time."""
 
     kernel: Kernel
     player: Path
