@@ -70,7 +70,7 @@ def is_same(kernel: List[str], text: str, folder: str, ways: Ways) -> bool:
 
 
 def least_ways(kernel: List[str], text: str, folder: str, ways: Ways) -> Optional[Ways]:
-    """Those of the ways with which the second program answers as the kernel, of which none can be left out; or
+    """Those ways with which the second program answers as the kernel, and of which none can be left out; or
     None."""
     if not is_same(kernel, text, folder, ways):
         return None
