@@ -59,7 +59,8 @@ static void hand_out(struct actor *actor, long long count, bool skips)
     int came = 0;
     while ((count < 0 || handed < count) && (came = advance(actor, skips)) >= 0)
         handed += came <= LIBEVDEV_READ_STATUS_SYNC;
-    say_status(came < 0 ? -came : 0);
+    /* (libevdev answers -1 where some of its requests fail) */
+    say_status(came == -1 ? errno : came < 0 ? -came : 0);
 }
 
 static void force(struct actor *actor)
