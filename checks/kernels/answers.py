@@ -19,10 +19,9 @@ ANY: Any = "*"
 BEFORE = 8000000
 LIVE = "live"
 BITS = {"getkeys": KEY, "getswitches": SW, "getleds": LED, "getsounds": SND}
-# (libevdev is not told that its file was closed. It fails by the error of a request, or by -1 where one asks for slots.)
 CAUSES = {
     errno.EINVAL: "invalid", errno.ENODEV: "no-device", errno.EBUSY: "busy", errno.EBADF: "bad-client",
-    errno.ENOTTY: "bad-client", errno.EPERM: "bad-client", errno.ENXIO: "no-node",
+    errno.ENOTTY: "bad-client", errno.ENXIO: "no-node",
 }
 
 
