@@ -116,28 +116,32 @@ static bool is_unread(const struct client *client) {
             !is_owned_by(client->device, client->owner));
 }
 
+static bool all_known(bool (*is_so)(pid_t)) {
+    for (int i = 0; i < PROCESSES; i++)
+        if (processes[i].id && !is_so(processes[i].id))
+            return false;
+    return true;
+}
+
+/* Whether it is so of who has a client's file. Where the one that asked last has ended another one has it, and
+ * it is not known which. */
+static bool is_of_owner(const struct client *client, bool (*is_so)(pid_t)) {
+    return is_so(client->owner) && (all_known(is_so) || !has_ended(client->owner));
+}
+
 /* Whether nothing is to be done for a client: it waits and has read all, or nobody cares for what is left. */
 static bool is_idle(const struct client *client) {
-    return is_unread(client) ? is_at_rest(client->owner) : waits(client->owner);
+    return is_of_owner(client, is_unread(client) ? is_at_rest : waits);
 }
 
 bool is_all_read(void) {
     bool any = false;
     for (int i = 0; i < CLIENTS; i++) {
-        if (clients[i].is_open && is_unread(&clients[i]) && !is_at_rest(clients[i].owner))
+        if (clients[i].is_open && is_unread(&clients[i]) && !is_of_owner(&clients[i], is_at_rest))
             return false;
         any |= clients[i].is_open && clients[i].device;
     }
     return any;
-}
-
-/* (Where time is virtual a process without a node waits too, as for a while to be over. Each says when it
- * begins.) */
-static bool all_known_wait(void) {
-    for (int i = 0; i < PROCESSES; i++)
-        if (processes[i].id && !waits(processes[i].id))
-            return false;
-    return true;
 }
 
 bool is_any_running(void) {
@@ -154,7 +158,9 @@ bool all_processes_wait(void) {
             return false;
         any |= clients[i].is_open && clients[i].device;
     }
-    return settings.is_virtual ? all_known_wait() : any;
+    /* (Where time is virtual a process without a node waits too, as for a while to be over. Each says when it
+     * begins.) */
+    return settings.is_virtual ? all_known(waits) : any;
 }
 
 enum possession files_of(pid_t id) {
