@@ -13,3 +13,4 @@ pub mod Stored
 pub mod Numbers
 pub mod RingsLeft
 pub mod Runs
+pub mod ReadableClients

@@ -11,6 +11,7 @@ use Rattle.slab.specs.Slab.{get, with_value}
 use Rattle.inp_model.specs.declared.stamped.TheConstants.{MOMENT_MAX}
 use Rattle.inp_model.specs.declared.taken.Taken.{Taken}
 use Rattle.inp_model.specs.declared.clock.Clock.{Clock}
+use Rattle.inp_model.specs.declared.clock.Clock.TheVariants.{Realtime}
 use Rattle.inp_model.specs.Description.{Description, offset}
 use Rattle.inp_model.specs.Event.{syn_dropped}
 use Rattle.inp_model.specs.Step.{Query, is_part_of}
@@ -22,8 +23,9 @@ use Rattle.inp_ring.specs.Ring.{times, cell_at, AreFit, AreHeld, IsRing}
 use Rattle.inp_ring.proofs.Times.{at_each}
 use Rattle.inp_ring.proofs.Moves.{moved_none}
 use Rattle.inp_client.specs.declared.clients.Clients.TheInside.{Inside}
+use Rattle.inp_client.specs.Masks.{full_masks}
 use Rattle.inp_client.specs.Client.{ClientView, new_client, cell_of_event, after_take, after_flush, after_mask, after_clock, after_revoke}
-use Rattle.inp_client.specs.Clients.{has_number, ClientsView, has_client, client_named, events_of, has_revoked_client, map_client}
+use Rattle.inp_client.specs.Clients.{has_number, ClientsView, has_client, client_named, events_of, has_revoked_client, clock_of_client, masks_of_client, map_client}
 use Rattle.inp_client.specs.Read.{client_on, clients_on}
 use Rattle.inp_client.specs.Member.{Member, ring_of, client_in, cells_in, times_in, wanted, AreStored, IsMemberChanged}
 use Rattle.inp_client.specs.Numbers.{held_numbers, stored_of, client_of_index, ring_of_index, loses_to_clock, is_lost_to_clock, event_under, IsClockStored, IsRingOnClock, IsRingChanged, IsRingFlushed}
@@ -115,6 +117,12 @@ module _ (k : Inside) (kept : AreKept k) (number key : ℕ) (location : Contains
 
   pub call_revoked : has_revoked_client number (kept_view k).list ≡ old.revoked
   call_revoked = ap (λ o. option_map_or (λ (c : ClientView Cell). c.revoked) o false) named
+
+  pub call_clock : clock_of_client number (kept_view k).list ≡ old.clock
+  call_clock = ap (λ o. option_map_or (λ (c : ClientView Cell). c.clock) o Realtime) named
+
+  pub call_masks : masks_of_client number (kept_view k).list ≡ old.masks
+  call_masks = ap (λ o. option_map_or (λ (c : ClientView Cell). c.masks) o full_masks) named
 
   -- what it reads
   pub call_read : (d : Description) → events_of number (clients_on d (kept_view k).list) ≡ map (cell_taken (offset d old.clock)) (map (cell_at k.store) old.ring.events)

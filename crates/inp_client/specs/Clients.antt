@@ -2,8 +2,13 @@
 use Rattle.std.specs.Prelude.{ℕ, Bool, false, not, if◌then◌else◌, nat_eq, nat_lt, List, [], ◌∷◌, map, filter, Option}
 use Rattle.std.specs.List.{find, list_any}
 use Rattle.std.specs.Option.{option_map_or}
+use Rattle.inp_model.specs.declared.event.Event.{Event}
+use Rattle.inp_model.specs.declared.clock.Clock.{Clock}
+use Rattle.inp_model.specs.declared.clock.Clock.TheVariants.{Realtime}
+use Rattle.inp_model.specs.Queue.{visible}
 use Rattle.inp_ring.specs.declared.cell.Cell.{Cell}
 use Rattle.inp_ring.specs.Ring.{times}
+use Rattle.inp_client.specs.Masks.{MaskView, full_masks}
 use Rattle.inp_client.specs.Client.{ClientView}
 
 -- The open clients, each with its queue of cells; and for each of them, in that order, the numbers of the
@@ -34,9 +39,25 @@ module _ {E : Type 0} where
   abbrev pub has_revoked_client : ℕ → List (ClientView E) → Bool
   has_revoked_client number clients = option_map_or (λ c. c.revoked) (client_named number clients) false
 
+  -- the clock by which it reads its events, that of a new client where it is not open
+  abbrev pub clock_of_client : ℕ → List (ClientView E) → Clock
+  clock_of_client number clients = option_map_or (λ c. c.clock) (client_named number clients) Realtime
+
+  -- its masks, those of a new client where it is not open
+  abbrev pub masks_of_client : ℕ → List (ClientView E) → MaskView
+  masks_of_client number clients = option_map_or (λ c. c.masks) (client_named number clients) full_masks
+
   -- its queue, empty where it is not open
   abbrev pub events_of : ℕ → List (ClientView E) → List E
   events_of number clients = option_map_or (λ c. c.ring.events) (client_named number clients) []
+
+  -- something of its queue is visible
+  abbrev pub can_read : (E → Event) → ClientView E → Bool
+  can_read event c = nat_lt 0 (visible event c.ring.events)
+
+  -- the numbers of the clients that could read something now
+  abbrev pub readable_in : (E → Event) → List (ClientView E) → List ℕ
+  readable_in event clients = map (λ c. c.number) (filter (can_read event) clients)
 
   -- one client is changed, and the others stay
   abbrev pub map_client : ℕ → (ClientView E → ClientView E) → List (ClientView E) → List (ClientView E)

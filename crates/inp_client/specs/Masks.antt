@@ -1,5 +1,5 @@
 -- Which events a client admits, by the bits of its masks.
-use Rattle.std.specs.Prelude.{ℕ, ◌+◌, ◌*◌, Bool, true, ◌&&◌, ◌||◌, if◌then◌else◌, nat_eq, List, [], ◌++◌, take, drop, map, replicate, slice_index_or}
+use Rattle.std.specs.Prelude.{ℕ, ◌+◌, ◌*◌, Bool, true, ◌&&◌, ◌||◌, if◌then◌else◌, nat_eq, List, [], ◌++◌, take, drop, map, replicate, slice_index_or, slice_range}
 use Rattle.std.specs.List.{range_with_len}
 use Rattle.inp_model.specs.declared.event.TheConstants.{EV_SYN, EV_KEY, EV_REL, EV_ABS, EV_MSC, EV_SW, EV_LED, EV_SND, EV_REP}
 use Rattle.inp_model.specs.declared.event.Event.{Event}
@@ -66,6 +66,10 @@ abbrev pub admits_of : MaskView → Event → Bool
 admits_of m e =
     nat_eq e.kind EV_SYN
     || (mask_bit_of m EV_SYN e.kind && (nat_eq e.kind EV_REP || mask_bit_of m e.kind e.code))
+
+-- the 64 bits of a word of a mask
+abbrev pub word_of : ℕ → List Bool → List Bool
+word_of word mask = slice_range mask (64 * word) (64 * word + 64)
 
 -- a mask with the 64 bits of a word set to the binary digits of a number, the lowest first
 abbrev pub with_word : ℕ → ℕ → List Bool → List Bool

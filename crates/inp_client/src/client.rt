@@ -10,7 +10,8 @@ ghost use Rattle.inp_model.specs.Reply.{written};
 ghost use Rattle.inp_model.specs.Step.{Codes, Slots, is_part_of};
 ghost use Rattle.inp_ring.specs.Store.{event_of_cell, dropped_cell, cell_taken, cell_in};
 ghost use Rattle.inp_ring.specs.Ring.{times, cell_at, AreFit, AreHeld, AreDifferent, IsPutAtEnd, IsRing};
-ghost use Rattle.inp_client.specs.Masks.{admits_of, full_masks};
+ghost use Rattle.inp_bits.specs.Bits.{word_bits};
+ghost use Rattle.inp_client.specs.Masks.{admits_of, full_masks, mask_of, word_of};
 ghost use Rattle.inp_client.specs.Client.{new_client, with_events, is_offered_to, after_take, after_flush, after_mask, after_clock, after_revoke};
 ghost use Rattle.inp_client.specs.Offered.{with_run};
 ghost use Rattle.inp_client.specs.Member.{ring_of, client_in, after_event, IsMemberChanged};
@@ -75,6 +76,22 @@ impl Client {
         ensures revoked { result ≡ self.now.revoked }
     {
         self.revoked
+    }
+
+    /// The clock by which its events are timed.
+    pub fn clock(&self) -> Clock
+        ensures clock { result ≡ self.now.clock }
+    {
+        self.clock
+    }
+
+    /// 64 bits of one of its masks, the first as the lowest bit.
+    pub fn mask_word(&self, kind: u16, word: u16) -> u64
+        requires kind { has_mask kind ≡ true }
+        requires word { word < mask_words kind }
+        ensures word { word_bits result ≡ word_of word (mask_of self.now.masks kind) }
+    {
+        self.masks.word(kind, word)
     }
 
     /// It loses the device for good. What is queued stays.

@@ -10,7 +10,9 @@ ghost use Rattle.inp_model.specs.Reply.{written};
 ghost use Rattle.inp_model.specs.Step.{Codes, Slots};
 ghost use Rattle.inp_ring.specs.Store.{event_of_cell};
 ghost use Rattle.inp_client.specs.Client.{new_client, after_offer, after_take, after_flush, after_mask, after_clock, after_revoke};
-ghost use Rattle.inp_client.specs.Clients.{has_client, has_revoked_client, events_of, map_client, with_client, without_client};
+ghost use Rattle.inp_bits.specs.Bits.{word_bits};
+ghost use Rattle.inp_client.specs.Masks.{mask_of, word_of};
+ghost use Rattle.inp_client.specs.Clients.{has_client, has_revoked_client, clock_of_client, masks_of_client, events_of, readable_in, map_client, with_client, without_client};
 ghost use Rattle.inp_client.specs.Read.{clients_on};
 ghost use Rattle.inp_client.specs.Locations.{clients_in, AreLocated};
 ghost use Rattle.inp_client.specs.Numbers.{held_numbers, stored_of, held_places, loses, is_lost_to_clock, IsStoredOnce, IsClockStored, IsRingChanged, IsRingFlushed, IsRingClosed};
@@ -20,6 +22,7 @@ use crate::client::Client;
 use crate::frame::{Frame, offer_events, offer_run, takers_of_all};
 use crate::location::{Location, index_of, place_for};
 use crate::open_refused::OpenRefused;
+use crate::readable::write_readable;
 use inp_caps::Caps;
 use inp_model::{CLIENTS_MAX, Clock, Event, MOMENT_MAX, NoMemory, Taken};
 use inp_ring::Store;
@@ -137,6 +140,28 @@ impl Clients {
         self.slab[key].is_revoked()
     }
 
+    /// The clock by which an open client reads its events.
+    pub fn clock(&self, number: u32) -> Clock
+        requires open { has_client number self.now.list ≡ true }
+        ensures clock { result ≡ clock_of_client number self.now.list }
+    {
+        let key = key_of(&self.locations, &self.slab, number);
+        self.slab[key].clock()
+    }
+
+    /// 64 bits of one of an open client's masks, from `64 * word` on, the first as the lowest bit. The mask of types goes
+    /// by `EV_SYN`.
+    pub fn mask_word(&self, number: u32, kind: u16, word: u16) -> u64
+        requires open { has_client number self.now.list ≡ true }
+        requires kind { has_mask kind ≡ true }
+        requires word { word < mask_words kind }
+        ensures word { word_bits result
+            ≡ word_of word (mask_of (masks_of_client number self.now.list) kind) }
+    {
+        let key = key_of(&self.locations, &self.slab, number);
+        self.slab[key].mask_word(kind, word)
+    }
+
     /// How many clients are open, at most 64. A client that was revoked is open until it is closed.
     pub fn count(&self) -> u32
         ensures count { result ≡ length self.now.list }
@@ -200,6 +225,17 @@ impl Clients {
     {
         let key = key_of(&self.locations, &self.slab, number);
         self.slab[key].visible(&self.store)
+    }
+
+    /// Writes the numbers of the open clients that could read something now, ascending, to the front of a buffer, as many
+    /// as fit, and says how many there are in all. The rest of the buffer stays.
+    pub fn readable(&self, numbers: &mut [u32]) -> u32
+        ensures count { result ≡ length (readable_in event_of_cell self.now.list) }
+        ensures few { result ≤ CLIENTS_MAX }
+        ensures written { let readable = readable_in event_of_cell self.now.list in
+            numbers.new ≡ written (take (length numbers.old) readable) numbers.old }
+    {
+        write_readable(&self.locations, &self.slab, &self.store, numbers)
     }
 
     /// Moves the first `count` visible events of an open client, or as many as there are, to the front of a buffer, and

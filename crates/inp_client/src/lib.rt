@@ -12,6 +12,9 @@
 //! and gives the exact result. What clients read of their cells is said in `specs/Read.antt`, and `proofs/OnClock.antt`
 //! has a lemma for each call.
 //!
+//! What a client has is told exactly too: how much it may read, its clock, whether it was revoked, the words of its
+//! masks, and which clients could read something ([`Clients::readable`]). These calls change nothing.
+//!
 //! That each event is kept once is said of the numbers (`specs/Numbers.antt`). [`Clients::stored`] is how many
 //! different ones there are. By [`Clients::offer`] each event of a frame has one number, whoever takes it, which no
 //! ring has when the event comes (`IsStoredOnce`). It stands behind the old numbers of each client that takes it. A
@@ -38,6 +41,7 @@ mod frame;
 mod location;
 mod masks;
 mod open_refused;
+mod readable;
 
 pub use clients::Clients;
 pub use open_refused::OpenRefused;

@@ -1,7 +1,8 @@
 //! The masks of a client.
 ghost use Rattle.std.specs.Prelude.{◌≡◌, ◌<◌, true, length, slice_index_or};
 ghost use Rattle.inp_model.specs.Past.{has_mask, mask_words};
-ghost use Rattle.inp_client.specs.Masks.{full_masks, mask_bit_of, admits_of, masks_after};
+ghost use Rattle.inp_bits.specs.Bits.{word_bits};
+ghost use Rattle.inp_client.specs.Masks.{full_masks, mask_of, mask_bit_of, admits_of, word_of, masks_after};
 
 use inp_bits::Bits;
 use inp_model::{EV_ABS, EV_KEY, EV_LED, EV_MSC, EV_REL, EV_REP, EV_SND, EV_SW, EV_SYN, Event};
@@ -82,6 +83,26 @@ impl Masks {
             EV_LED => code_bit(&self.leds, index),
             EV_SND => code_bit(&self.sounds, index),
             _ => true,
+        }
+    }
+
+    /// 64 bits of the mask that goes by a type, from `64 * word` on: the first is the lowest bit of the result.
+    pub fn word(&self, kind: u16, word: u16) -> u64
+        requires kind { has_mask kind ≡ true }
+        requires word { word < mask_words kind }
+        ensures word { word_bits result ≡ word_of word (mask_of self.now kind) }
+    {
+        let word = u32::from(word);
+        match kind {
+            EV_SYN => self.types.word(word),
+            EV_KEY => self.keys.word(word),
+            EV_REL => self.relatives.word(word),
+            EV_ABS => self.axes.word(word),
+            EV_MSC => self.miscs.word(word),
+            EV_SW => self.switches.word(word),
+            EV_LED => self.leds.word(word),
+            EV_SND => self.sounds.word(word),
+            _ => unreachable!(),
         }
     }
 
