@@ -99,7 +99,7 @@ numbered d past n = refl
 -- Who is open
 
 -- an open client is among the open clients
-among_open : (past : List Step) (n : ℕ) → is_open past n ≡ true → list_any (λ k. nat_eq k n) (open_clients past) ≡ true
+pub among_open : (past : List Step) (n : ℕ) → is_open past n ≡ true → list_any (λ k. nat_eq k n) (open_clients past) ≡ true
 among_open past n h =
     any_below n (opens past) (is_open past)
     ∙ ap (λ b. b && is_open past n) (lt-ltb n (opens past) (is_open-lt past n h)) ∙ h

@@ -11,3 +11,4 @@ pub mod StepParts
 pub mod EnteredSteps
 pub mod Injection
 pub mod WordLists
+pub mod QueryAnswers

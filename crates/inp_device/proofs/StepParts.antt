@@ -36,7 +36,8 @@ use Rattle.inp_client.specs.Read.{taken_event, client_on, clients_on}
 use Rattle.inp_client.proofs.OnClock.{clients_on-map_client, has_client-on, has_revoked_client-on, visible-on_clock, with_client-on}
 use Rattle.inp_client.proofs.ClientLists.{AllBelow, unused_above, with_client_above}
 use Rattle.inp_device.specs.Device.{StoringView, offered_count, lost_count}
-use Rattle.inp_device.specs.Present.{client_after, clients_after, HasBits, AsksBits, PresentStandsFor, IsReadyFor, IsAcceptedStep}
+use Rattle.inp_device.specs.Present.{client_after, clients_after, AsksBits, PresentStandsFor, IsReadyFor, IsAcceptedStep}
+use Rattle.inp_device.specs.Queries.{HasBits}
 use Rattle.inp_model.proofs.Opens.{opens-le}
 use Rattle.inp_device.proofs.Queues.{visible-map, visible-le}
 use Rattle.inp_model.proofs.Allowed.{IsAllowed, allowed, named_open}

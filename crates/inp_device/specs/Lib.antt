@@ -2,3 +2,4 @@ pub mod Device
 pub mod FrameFilters
 pub mod Handler
 pub mod Present
+pub mod Queries

@@ -1,6 +1,5 @@
 -- What a device keeps stands for its past, and what a step leaves of it.
-use Rattle.std.specs.Prelude.{◌≡◌, ℕ, ◌+◌, ◌*◌, ◌≤◌, ◌<◌, ◌⊎◌, ℤ, Bool, true, false, ◌&&◌, nat_lt, List, ◌∷◌, length, map, flat_map, reverse, Option, Some, None, Result, Ok, Err}
-use Rattle.inp_model.specs.declared.event.TheConstants.{EV_KEY, EV_SW, EV_LED, EV_SND}
+use Rattle.std.specs.Prelude.{◌≡◌, ℕ, ◌+◌, ◌*◌, ◌≤◌, ◌<◌, ℤ, Bool, true, false, ◌&&◌, nat_lt, List, ◌∷◌, length, map, flat_map, reverse, Option, Some, None, Result, Ok, Err}
 use Rattle.inp_model.specs.declared.limits.TheConstants.{LOG_MAX}
 use Rattle.inp_model.specs.declared.clock.Clock.TheVariants.{Realtime}
 use Rattle.inp_model.specs.declared.no_memory.NoMemory.{NoMemory}
@@ -116,10 +115,6 @@ StoresFewOrLacks history x old (Err e) new = stored_of new.handler.clients ≡ s
 abbrev pub NamesOpen : List (ClientView Cell) → Option ℕ → Type 0
 NamesOpen clients None = Unit {0}
 NamesOpen clients (Some client) = has_client client clients ≡ true
-
--- a type whose codes are on or off: keys, switches, LEDs or sounds
-abbrev pub HasBits : ℕ → Type 0
-HasBits kind = (kind ≡ EV_KEY) ⊎ (kind ≡ EV_SW) ⊎ (kind ≡ EV_LED) ⊎ (kind ≡ EV_SND)
 
 -- the step of this client asks for the codes of this type
 pub record AsksBits (x : Step) (client kind : ℕ) : Type 0 where

@@ -1,22 +1,32 @@
 //! The device.
-ghost use Rattle.std.specs.Prelude.{◌≡◌, ◌≤◌, ◌<◌, ◌+◌, true, false, [], ◌∷◌, length, reverse, IfOk, ◌↔◌, sum_by, All};
-ghost use Rattle.inp_model.specs.declared.limits.TheConstants.{LOG_MAX};
+ghost use Rattle.std.specs.Prelude.{◌≡◌, ◌≤◌, ◌<◌, ◌+◌, true, false, pos, [], ◌∷◌, length, take, reverse, IfOk, ◌↔◌, sum_by, All};
+ghost use Rattle.inp_model.specs.declared.event.TheConstants.{ABS_MAX};
+ghost use Rattle.inp_model.specs.declared.limits.TheConstants.{LOG_MAX, CLIENTS_MAX};
 ghost use Rattle.inp_model.specs.declared.stamped.TheConstants.{MOMENT_MAX};
 ghost use Rattle.inp_model.specs.declared.step.Step.TheVariants.{Inject};
 ghost use Rattle.inp_model.specs.History.{IsHistory};
 ghost use Rattle.inp_model.specs.Injection.{AreInTime, entered_count, history_with};
-ghost use Rattle.inp_model.specs.Past.{open_clients};
+ghost use Rattle.inp_model.specs.Description.{is_slot_code};
+ghost use Rattle.inp_model.specs.State.{cell};
+ghost use Rattle.inp_model.specs.Raw.{raw};
+ghost use Rattle.inp_model.specs.Past.{open_clients, has_mask, mask_words};
 ghost use Rattle.inp_model.specs.Queue.{queue};
 ghost use Rattle.inp_model.specs.Step.{moment_of};
-ghost use Rattle.inp_model.specs.Reply.{HasRoom, IsDeviceStep, is_accepted};
+ghost use Rattle.inp_model.specs.Reply.{HasRoom, IsDeviceStep, is_accepted, bitmap_of, code_on, axis_answer, written};
 ghost use Rattle.inp_model.specs.Evdev.{agains_after};
 ghost use Rattle.inp_device.specs.Device.{plain_view, stored_most, stored_since, goes_out, TellsSent};
 ghost use Rattle.inp_device.specs.Present.{queued_places};
+ghost use Rattle.inp_device.specs.Queries.{visible_to, readable_clients, state_of_client, mask_word_of, repeat_after, HasBits};
 
+use crate::client_state::ClientState;
 use crate::present::Present;
+use crate::queries;
+use crate::repeat::Repeat;
 use crate::replies::{count_again, refuse};
 use inp_caps::Caps;
-use inp_model::{Evdev, Event, History, Injected, NoMemory, Refusal, Reply, Stamped, Step, Taken};
+use inp_model::{
+    AxisInfo, Evdev, Event, History, Injected, NoMemory, Refusal, Reply, Stamped, Step, Taken,
+};
 use std::alloc::Global;
 use std::marker::Model;
 use std::mem::size_of;
@@ -254,6 +264,86 @@ impl Device {
             (open_clients self.now.past) }
     {
         self.present.handler.clients.stored()
+    }
+
+    /// How many events an open client could read now, and None where the client is not open.
+    pub fn visible(&self, client: u32) -> Option<u32>
+        ensures visible { result ≡ visible_to self.now.description self.now.past client }
+    {
+        self.present.visible(client)
+    }
+
+    /// Writes the numbers of the open clients that could read something now, ascending, to the front of a buffer, as many
+    /// as fit, and says how many there are in all, at most 64. The rest of the buffer stays.
+    pub fn readable(&self, clients: &mut [u32]) -> u32
+        ensures count { result ≡ length (readable_clients self.now.description self.now.past) }
+        ensures few { result ≤ CLIENTS_MAX }
+        ensures written { let readable = readable_clients self.now.description self.now.past in
+            clients.new ≡ written (take (length clients.old) readable) clients.old }
+    {
+        self.present.readable(clients)
+    }
+
+    /// The clock of an open client, whether it was revoked, and whether it holds the grab. None where the client is not
+    /// open.
+    pub fn client(&self, client: u32) -> Option<ClientState>
+        ensures client { result ≡ state_of_client self.now.past client }
+    {
+        self.present.client(client)
+    }
+
+    /// 64 bits of one of an open client's masks, from `64 * word` on, the first as the lowest bit, and None where the
+    /// client is not open. The mask of types goes by `EV_SYN`. A bit that was never set is 1.
+    ///
+    /// The caller must pass a type that has a mask, and a word that the mask has: it has 12 for `EV_KEY`, and else one.
+    pub fn mask(&self, client: u32, kind: u16, word: u16) -> Option<u64>
+        requires kind { has_mask kind ≡ true }
+        requires word { word < mask_words kind }
+        ensures mask { result ≡ mask_word_of self.now.past client kind word }
+    {
+        self.present.mask(client, kind, word)
+    }
+
+    /// Which keys are down, or which switches, LEDs or sounds are on, by the type: bit i for the code i, 64 a word.
+    ///
+    /// The caller must pass `EV_KEY`, `EV_SW`, `EV_LED` or `EV_SND`. No client's events are removed.
+    pub fn bits(&self, kind: u16) -> [u64; 12]
+        requires kind { HasBits kind }
+        ensures bits { let items = raw self.now.description self.now.past in
+            result ≡ bitmap_of (code_on self.now.description items kind) }
+    {
+        queries::bits(&self.present.core, kind)
+    }
+
+    /// An axis as it was described last, with its present value. All numbers of an axis that is not supported are 0.
+    ///
+    /// The caller must pass a code of at most `ABS_MAX`.
+    pub fn axis(&self, code: u16) -> AxisInfo
+        requires within { code ≤ ABS_MAX }
+        ensures axis { let items = raw self.now.description self.now.past in
+            result ≡ axis_answer self.now.description items code }
+    {
+        queries::axis(&self.present.core, &self.present.caps, code)
+    }
+
+    /// The value of a slot on the multi-touch axis with this code.
+    ///
+    /// The caller must pass a slot that the device has, and a code from `ABS_MT_TOUCH_MAJOR` to `ABS_MT_TOOL_Y`.
+    pub fn slot_value(&self, slot: u32, code: u16) -> i32
+        requires slot { slot < self.now.description.slots }
+        requires code { is_slot_code code ≡ true }
+        ensures value { let items = raw self.now.description self.now.past in
+            result ≡ cell self.now.description items (pos slot) code }
+    {
+        queries::slot_value(&self.present.core, slot, code)
+    }
+
+    /// The settings of the autorepeat in milliseconds as they are now, and its timer: the moment at which a key repeats
+    /// next, where one is to, and the key.
+    pub fn repeat(&self) -> Repeat
+        ensures repeat { result ≡ repeat_after self.now.description self.now.past }
+    {
+        queries::repeat(&self.present.core)
     }
 
     /// The history: the accepted steps, oldest first.

@@ -25,6 +25,12 @@
 //! `Device::inject_all` says from which place on it entered events and how many of them. They are no more than the log
 //! limit leaves room for, and the history is longer by these, in order.
 //!
+//! A caller may also look at a device with no step, which leaves no trace in the history and removes no event. It asks
+//! what a client could read now (`Device::visible`, `Device::readable`), which clock it has, whether it was revoked and
+//! holds the grab (`Device::client`), and for its masks (`Device::mask`). It also asks what is on (`Device::bits`), for
+//! an axis, a slot's value and the autorepeat. Each answer is an equation over the description and the past
+//! (`specs/Queries.antt`).
+//!
 //! A device is an `Evdev` (`IsEvdevCall`): what was seen stays, and each reply has its place in one history.
 //!
 //! A step goes three ways. `Present::refusal` says whether something refuses it, in one order for all steps. Where
@@ -37,6 +43,8 @@
 
 mod bitmap;
 mod cells;
+mod client_queries;
+mod client_state;
 mod client_steps;
 mod device;
 mod frame_filters;
@@ -47,7 +55,10 @@ mod present;
 mod queries;
 mod query_steps;
 mod refusals;
+mod repeat;
 mod replies;
 
+pub use client_state::ClientState;
 pub use device::Device;
+pub use repeat::Repeat;
 pub use replies::count_again;

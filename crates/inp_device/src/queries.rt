@@ -1,13 +1,15 @@
 //! What queries answer, from what the core keeps.
-ghost use Rattle.std.specs.Prelude.{◌≡◌, ◌≤◌, List};
+ghost use Rattle.std.specs.Prelude.{◌≡◌, ◌≤◌, ◌<◌, true, pos, List, length};
 ghost use Rattle.inp_model.specs.declared.step.Step.{Step};
-ghost use Rattle.inp_model.specs.Description.{Description};
+ghost use Rattle.inp_model.specs.Description.{Description, is_slot_code};
+ghost use Rattle.inp_model.specs.State.{cell};
 ghost use Rattle.inp_model.specs.Raw.{raw};
 ghost use Rattle.inp_model.specs.Reply.{bitmap_of, code_on, present_value, axis_answer};
 ghost use Rattle.inp_frames.specs.Core.{CoreStandsFor};
-ghost use Rattle.inp_device.specs.Present.{HasBits};
+ghost use Rattle.inp_device.specs.Queries.{HasBits, repeat_after};
 
 use crate::bitmap::bitmap_of;
+use crate::repeat::Repeat;
 use inp_caps::Caps;
 use inp_frames::Core;
 use inp_model::{
@@ -60,5 +62,28 @@ fn present_value(core: &Core, code: u16) -> i32
         0
     } else {
         core.state().axis(code)
+    }
+}
+
+/// The value of a slot on the axis with this code.
+pub fn slot_value(core: &Core, slot: u32, code: u16) -> i32
+    requires slot { slot < length core.now.slots.slots }
+    requires code { is_slot_code code ≡ true }
+    ensures value { (d : Description) (past : List Step) → CoreStandsFor d past core.now
+        → result ≡ cell d (raw d past) (pos slot) code }
+{
+    core.slots().value(slot, code)
+}
+
+/// The settings of the autorepeat, and its timer.
+pub fn repeat(core: &Core) -> Repeat
+    ensures repeat { (d : Description) (past : List Step) → CoreStandsFor d past core.now
+        → result ≡ repeat_after d past }
+{
+    let state = core.state();
+    Repeat {
+        delay: state.delay(),
+        period: state.period(),
+        timer: core.timer(),
     }
 }

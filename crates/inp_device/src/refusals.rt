@@ -160,8 +160,8 @@ impl Present {
     }
 }
 
-// Whether the holder is this client.
-fn is_same(holder: Option<u32>, client: u32) -> bool
+/// Whether the holder is this client.
+pub fn is_same(holder: Option<u32>, client: u32) -> bool
     ensures same { result ≡ is_same holder client }
 {
     match holder {

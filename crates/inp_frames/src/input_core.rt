@@ -205,6 +205,13 @@ impl Core {
         &self.slots
     }
 
+    /// The timer of the autorepeat.
+    pub fn timer(&self) -> Timer
+        ensures timer { result ≡ self.now.timer }
+    {
+        self.timer
+    }
+
     // Handles a raw event, gathers what is passed for it, and passes the frame on that it ends, if it ends one.
     fn gather<F: Frames>(&mut self, caps: &Caps, event: Event, now: u64, to: &mut F)
         requires timely { now ≤ MOMENT_MAX }

@@ -4,7 +4,7 @@ use Rattle.inp_model.specs.Reply.{code_on}
 use Rattle.inp_state.specs.State.{StateStandsFor}
 use Rattle.inp_device.proofs.WordLists.{words-same}
 use Rattle.inp_model.specs.declared.event.TheConstants.{EV_KEY, EV_SW, EV_LED, EV_SND}
-use Rattle.inp_device.specs.Present.{HasBits}
+use Rattle.inp_device.specs.Queries.{HasBits}
 use Rattle.inp_device.proofs.queries.bits.Goals as goal
 
 -- the one that is left
