@@ -11,11 +11,13 @@
 //!
 //! Its contract: a [`Udev`] keeps a list of its accepted steps, and between them of its feedback calls ([`UEntry`]).
 //! [`Udev::step`] (`IsDeviceStep`) and [`Udev::inject_all`] are those of a device that made the same steps, as if there
-//! were no feedback calls. So it is an `Evdev`, and a value that `inp_port` can serve. A feedback call writes the first
-//! events that wait, as many as fit, to the front of the buffer, and the rest of the buffer stays. What is sent and
-//! what waits is what `inp_feedback` says of the kept list. The last 15 at most wait of the events that were sent to
-//! the device and not taken yet. The call is kept, or `Full` comes exactly where as many are kept as the log limit
-//! says. The code asks its device before a step whether the step's event goes to it, and never looks back at its list.
+//! were no feedback calls. So it is an `Evdev`, and a value that `inp_port` can serve. What it has now is asked for with
+//! no step, as of a device ([`Udev::visible`] to [`Udev::repeat`], by the queries of `inp_device`). A feedback call
+//! writes the first events that wait, as many as fit, to the front of the buffer, and the rest of the buffer stays.
+//! What is sent and what waits is what `inp_feedback` says of the kept list. The last 15 at most wait of the events that
+//! were sent to the device and not taken yet. The call is kept, or `Full` comes exactly where as many are kept as the
+//! log limit says. The code asks its device before a step whether the step's event goes to it, and never looks back at
+//! its list.
 //!
 //! By a port ([`FeedbackPort::feedback`], `IsFeedbackTurn` of `specs/FeedbackTurn.antt`) one turn is taken. The call is
 //! answered, and the buffer written, as the device does it for what is kept then, which begins with all that the pass
@@ -50,6 +52,7 @@ mod udev;
 
 pub use bad_name::BadName;
 pub use create_refused::CreateRefused;
+pub use inp_device::{ClientState, Repeat};
 pub use inp_feedback::{FEEDBACK_MAX, Fed, UEntry};
 pub use maker::Maker;
 pub use owned::Owned;

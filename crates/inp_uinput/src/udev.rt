@@ -1,13 +1,19 @@
 //! A device that was made by requests.
-ghost use Rattle.std.specs.Prelude.{◌≡◌, ◌+◌, ◌≤◌, ◌<◌, [], ◌∷◌, length, take, reverse, IfOk};
-ghost use Rattle.inp_model.specs.declared.limits.TheConstants.{LOG_MAX};
+ghost use Rattle.std.specs.Prelude.{◌≡◌, ◌+◌, ◌≤◌, ◌<◌, true, pos, [], ◌∷◌, length, take, reverse, IfOk};
+ghost use Rattle.inp_model.specs.declared.event.TheConstants.{ABS_MAX};
+ghost use Rattle.inp_model.specs.declared.limits.TheConstants.{LOG_MAX, CLIENTS_MAX};
 ghost use Rattle.inp_model.specs.declared.stamped.TheConstants.{MOMENT_MAX};
 ghost use Rattle.inp_model.specs.declared.step.Step.TheVariants.{Inject};
 ghost use Rattle.inp_model.specs.History.{IsHistory};
+ghost use Rattle.inp_model.specs.Description.{is_slot_code};
+ghost use Rattle.inp_model.specs.State.{cell};
+ghost use Rattle.inp_model.specs.Raw.{raw};
+ghost use Rattle.inp_model.specs.Past.{has_mask, mask_words};
 ghost use Rattle.inp_model.specs.Step.{moment_of};
-ghost use Rattle.inp_model.specs.Reply.{HasRoom, IsDeviceStep, written};
+ghost use Rattle.inp_model.specs.Reply.{HasRoom, IsDeviceStep, written, bitmap_of, code_on, axis_answer};
 ghost use Rattle.inp_model.specs.Evdev.{agains_after};
 ghost use Rattle.inp_model.specs.Injection.{AreInTime, entered_count};
+ghost use Rattle.inp_device.specs.Queries.{visible_to, readable_clients, state_of_client, mask_word_of, repeat_after, HasBits};
 ghost use Rattle.inp_feedback.specs.declared.u_entry.UEntry.TheVariants.{Made};
 ghost use Rattle.inp_feedback.specs.UEntry.{steps_in, kept_after_step, kept_after_events};
 ghost use Rattle.inp_feedback.specs.Feedback.{taken_by_feedback, fed, kept_after_feedback};
@@ -15,9 +21,9 @@ ghost use Rattle.inp_feedback.specs.Feedback.{taken_by_feedback, fed, kept_after
 use crate::outputs::{keep, sent_by};
 use circular_buffer::HeapCircularBuffer;
 use inp_caps::Caps;
-use inp_device::Device;
+use inp_device::{ClientState, Device, Repeat};
 use inp_feedback::{FEEDBACK_MAX, Fed, FeedbackCall};
-use inp_model::{Evdev, Event, History, Injected, NoMemory, Reply, Stamped, Step, Taken};
+use inp_model::{AxisInfo, Evdev, Event, History, Injected, NoMemory, Reply, Stamped, Step, Taken};
 use std::alloc::Global;
 use std::marker::Model;
 
@@ -169,6 +175,86 @@ impl Udev {
         let count = self.waiting.read_into(out) as u32;
         self.feedbacks.push(FeedbackCall { at, count }).unwrap();
         Fed::Took { at, count }
+    }
+
+    /// How many events an open client could read now, and None where the client is not open.
+    pub fn visible(&self, client: u32) -> Option<u32>
+        ensures visible { result ≡ visible_to self.now.description (steps_in self.now.kept) client }
+    {
+        self.device.visible(client)
+    }
+
+    /// Writes the numbers of the open clients that could read something now, ascending, to the front of a buffer, as many
+    /// as fit, and says how many there are in all, at most 64. The rest of the buffer stays.
+    pub fn readable(&self, clients: &mut [u32]) -> u32
+        ensures count { result ≡ length (readable_clients self.now.description (steps_in self.now.kept)) }
+        ensures few { result ≤ CLIENTS_MAX }
+        ensures written { let readable = readable_clients self.now.description (steps_in self.now.kept) in
+            clients.new ≡ written (take (length clients.old) readable) clients.old }
+    {
+        self.device.readable(clients)
+    }
+
+    /// The clock of an open client, whether it was revoked, and whether it holds the grab. None where the client is not
+    /// open.
+    pub fn client(&self, client: u32) -> Option<ClientState>
+        ensures client { result ≡ state_of_client (steps_in self.now.kept) client }
+    {
+        self.device.client(client)
+    }
+
+    /// 64 bits of one of an open client's masks, from `64 * word` on, the first as the lowest bit, and None where the
+    /// client is not open. The mask of types goes by `EV_SYN`. A bit that was never set is 1.
+    ///
+    /// The caller must pass a type that has a mask, and a word that the mask has: it has 12 for `EV_KEY`, and else one.
+    pub fn mask(&self, client: u32, kind: u16, word: u16) -> Option<u64>
+        requires kind { has_mask kind ≡ true }
+        requires word { word < mask_words kind }
+        ensures mask { result ≡ mask_word_of (steps_in self.now.kept) client kind word }
+    {
+        self.device.mask(client, kind, word)
+    }
+
+    /// Which keys are down, or which switches, LEDs or sounds are on, by the type: bit i for the code i, 64 a word.
+    ///
+    /// The caller must pass `EV_KEY`, `EV_SW`, `EV_LED` or `EV_SND`. No client's events are removed.
+    pub fn bits(&self, kind: u16) -> [u64; 12]
+        requires kind { HasBits kind }
+        ensures bits { let items = raw self.now.description (steps_in self.now.kept) in
+            result ≡ bitmap_of (code_on self.now.description items kind) }
+    {
+        self.device.bits(kind)
+    }
+
+    /// An axis as it was described last, with its present value. All numbers of an axis that is not supported are 0.
+    ///
+    /// The caller must pass a code of at most `ABS_MAX`.
+    pub fn axis(&self, code: u16) -> AxisInfo
+        requires within { code ≤ ABS_MAX }
+        ensures axis { let items = raw self.now.description (steps_in self.now.kept) in
+            result ≡ axis_answer self.now.description items code }
+    {
+        self.device.axis(code)
+    }
+
+    /// The value of a slot on the multi-touch axis with this code.
+    ///
+    /// The caller must pass a slot that the device has, and a code from `ABS_MT_TOUCH_MAJOR` to `ABS_MT_TOOL_Y`.
+    pub fn slot_value(&self, slot: u32, code: u16) -> i32
+        requires slot { slot < self.now.description.slots }
+        requires code { is_slot_code code ≡ true }
+        ensures value { let items = raw self.now.description (steps_in self.now.kept) in
+            result ≡ cell self.now.description items (pos slot) code }
+    {
+        self.device.slot_value(slot, code)
+    }
+
+    /// The settings of the autorepeat in milliseconds as they are now, and its timer: the moment at which a key repeats
+    /// next, where one is to, and the key.
+    pub fn repeat(&self) -> Repeat
+        ensures repeat { result ≡ repeat_after self.now.description (steps_in self.now.kept) }
+    {
+        self.device.repeat()
     }
 
     /// The history: the accepted steps, oldest first.
