@@ -6,12 +6,15 @@
  * keeps a state and synchronises after a loss, as libevdev does. That each answer is the right one is proved; what C owes in
  * return is not checked, and is this:
  *
- * - A pointer is NULL only where the count beside it is 0. Each other is aligned and points to as much as the count says.
+ * - A pointer is NULL only where the count beside it is 0, or at inputplay_free(). Each other is aligned and points to as much
+ *   as the count says.
  * - Two pointers of one call never overlap.
  * - A handle begins as INPUTPLAY_NOTHING. It is not copied, and only the calls below change it.
- * - A handle is used by one call at a time, and on the thread that made what it keeps.
+ * - A handle is used by one call at a time. It may go from thread to thread, where each call is over before the next one
+ *   begins, as under a lock. Two handles are used on two threads freely.
  * - inputplay_free() gives back what a handle keeps, once for each making. A second free does nothing.
- * - malloc(), realloc() and free() are those of one allocator, and no call comes from a signal handler.
+ * - malloc(), realloc() and free() are those of one allocator, which any thread may call, and no call comes from a signal
+ *   handler.
  *
  * Each call answers one of the statuses that its comment lists, and no other. After another one than INPUTPLAY_OK the handle
  * is as it was, and nothing is written but what the call says of it.
@@ -29,10 +32,13 @@ extern "C" {
 #endif
 
 /** The version of this interface. It rises when a struct, a number or a meaning changes; compare it with inputplay_abi(). */
-#define INPUTPLAY_ABI 1
+#define INPUTPLAY_ABI 2
 
 /** The greatest moment, in microseconds. */
 #define INPUTPLAY_MOMENT_MAX UINT64_C(9000000000000000)
+
+/** The most clients that a device has open at once. */
+#define INPUTPLAY_CLIENTS_MAX 64u
 
 /** The most events that one INPUTPLAY_READ may ask for. */
 #define INPUTPLAY_READ_MAX 4096u
@@ -40,13 +46,19 @@ extern "C" {
 /** The most events that wait for the owner of a device. */
 #define INPUTPLAY_FEEDBACK_MAX 15u
 
+/** The most filters of a device. */
+#define INPUTPLAY_FILTERS_MAX 8u
+
 /** The client of a reader or a joystick client that has opened none. */
 #define INPUTPLAY_NO_CLIENT UINT32_MAX
+
+/** The number in place of a step's, of a line of a record that makes no step or more than one. No step has it. */
+#define INPUTPLAY_NO_STEP UINT32_MAX
 
 /** The statuses of calls. */
 enum {
     INPUTPLAY_OK = 0,           /**< The call was made. */
-    INPUTPLAY_REFUSED = 1,      /**< The text is no record. */
+    INPUTPLAY_REFUSED = 1,      /**< The text is no record, or no device has such a description. */
     INPUTPLAY_BAD_ARGUMENT = 2, /**< A number is none that the call has, or an array is too short. */
     INPUTPLAY_BAD_STREAM = 3,   /**< The bytes are no stream. */
     INPUTPLAY_NO_MEMORY = 5,    /**< Memory ran out. */
@@ -74,6 +86,14 @@ enum {
     INPUTPLAY_BAD_OFFSET = 15,
     INPUTPLAY_BAD_FILTER = 16,
     INPUTPLAY_LINE_BAD_STREAM = 17 /**< It is of a stream, and comes of no text. */
+};
+
+/** The filters of a device, with the fields of inputplay_filter_t that each reads. */
+enum {
+    INPUTPLAY_EAT = 0,      /**< type, code: each event of them is eaten. */
+    INPUTPLAY_NOREPEAT = 1, /**< each autorepeat is eaten. */
+    INPUTPLAY_CHORD = 2,    /**< code, second: the holds of the second key that start while the first one is down are eaten. */
+    INPUTPLAY_BOUNCE = 3    /**< code, micros: the holds of a key that start sooner after a release are eaten. */
 };
 
 /** The steps of a device, with the fields of inputplay_step_t that each reads. */
@@ -159,6 +179,48 @@ enum {
     INPUTPLAY_JOY_MORE = 6       /**< Many calls were made and none gave an answer; the next read goes on. */
 };
 
+/** The roles of actors of a record (docs/FORMATS.md). */
+enum {
+    INPUTPLAY_SOURCE = 0,   /**< It injects events, as a driver does. */
+    INPUTPLAY_CLIENT = 1,   /**< It reads by a reader. */
+    INPUTPLAY_TAP = 2,      /**< It makes a client's calls one by one. */
+    INPUTPLAY_JOYSTICK = 3, /**< It reads by a joystick client. */
+    INPUTPLAY_OWNER = 4     /**< It takes what is sent to a device that was made by requests. */
+};
+
+/** The commands of action lines of a record, and the step of inputplay_line_t that each has (docs/RUNS.md, "Jobs"). */
+enum {
+    INPUTPLAY_DO_EVENT = 0,       /**< INPUTPLAY_INJECT. */
+    INPUTPLAY_DO_TICK = 1,        /**< INPUTPLAY_TICK. */
+    INPUTPLAY_DO_INHIBIT = 2,     /**< INPUTPLAY_INHIBIT. */
+    INPUTPLAY_DO_UNINHIBIT = 3,   /**< INPUTPLAY_UNINHIBIT. */
+    INPUTPLAY_DO_STREAM = 4,      /**< None: the events of inputplay_record_events() are injected. */
+    INPUTPLAY_DO_STREAM16 = 5,    /**< None: likewise. */
+    INPUTPLAY_DO_OPEN = 6,        /**< INPUTPLAY_OPEN; by a client or a joystick its start instead. */
+    INPUTPLAY_DO_CLOSE = 7,       /**< INPUTPLAY_CLOSE. */
+    INPUTPLAY_DO_GRAB = 8,        /**< INPUTPLAY_GRAB. */
+    INPUTPLAY_DO_UNGRAB = 9,      /**< INPUTPLAY_UNGRAB. */
+    INPUTPLAY_DO_REVOKE = 10,     /**< INPUTPLAY_REVOKE. */
+    INPUTPLAY_DO_MASK = 11,       /**< INPUTPLAY_MASK. */
+    INPUTPLAY_DO_CLOCK = 12,      /**< INPUTPLAY_CLOCK. */
+    INPUTPLAY_DO_WRITE = 13,      /**< INPUTPLAY_WRITE. */
+    INPUTPLAY_DO_SET_AXIS = 14,   /**< INPUTPLAY_SET_AXIS. */
+    INPUTPLAY_DO_READ = 15,       /**< INPUTPLAY_READ; by a joystick so many records instead. */
+    INPUTPLAY_DO_DISCARD = 16,    /**< INPUTPLAY_DISCARD. */
+    INPUTPLAY_DO_KEYS = 17,       /**< INPUTPLAY_GET_KEYS. */
+    INPUTPLAY_DO_SWITCHES = 18,   /**< INPUTPLAY_GET_SWITCHES. */
+    INPUTPLAY_DO_LEDS = 19,       /**< INPUTPLAY_GET_LEDS. */
+    INPUTPLAY_DO_SOUNDS = 20,     /**< INPUTPLAY_GET_SOUNDS. */
+    INPUTPLAY_DO_SYNC_SLOTS = 21, /**< INPUTPLAY_SYNC_SLOTS. */
+    INPUTPLAY_DO_AXIS = 22,       /**< INPUTPLAY_GET_AXIS. */
+    INPUTPLAY_DO_SLOTS = 23,      /**< INPUTPLAY_GET_SLOTS. */
+    INPUTPLAY_DO_NEXT = 24,       /**< None: inputplay_reader_next(), until it handed out so many events. */
+    INPUTPLAY_DO_SKIP = 25,       /**< None: likewise, by INPUTPLAY_NORMAL alone. */
+    INPUTPLAY_DO_FOLLOW = 26,     /**< None: inputplay_reader_next(), until nothing is there. */
+    INPUTPLAY_DO_FORCE = 27,      /**< None: inputplay_reader_force_sync(). */
+    INPUTPLAY_DO_FEEDBACK = 28    /**< None: inputplay_feedback() with room for so many events. */
+};
+
 /**
  * What is kept: a device with its reader and joystick client, or a record with its text. It begins as INPUTPLAY_NOTHING.
  */
@@ -189,6 +251,39 @@ typedef struct inputplay_info_t {
     int32_t flat; /**< What a joystick takes for the middle. */
     int32_t resolution; /**< Units a millimetre, or a radian. */
 } inputplay_info_t;
+
+/** A filter: its number, and what it takes. Fields that it does not read may have any value. */
+typedef struct inputplay_filter_t {
+    uint32_t filter; /**< From INPUTPLAY_EAT on. */
+    uint32_t micros; /**< How long after a release, 1 to 1,000,000. */
+    uint16_t type; /**< The type of what is eaten. */
+    uint16_t code; /**< What is eaten, or the first key of a chord, or the key that bounces. */
+    uint16_t second; /**< The second key of a chord. */
+    uint16_t padding; /**< Not read. */
+} inputplay_filter_t;
+
+/**
+ * What a device is, as evdev tells it: the words of bits are those of EVIOCGBIT, and the axes those of EVIOCGABS. Bit k of
+ * word w is the code 64 * w + k. One of zeros is a device with EV_SYN alone.
+ */
+typedef struct inputplay_description_t {
+    uint64_t types; /**< Types beside those of the codes, as EV_REP. EV_SYN is always there. */
+    uint64_t keys[12]; /**< The codes of EV_KEY, from 1 on. */
+    uint64_t relatives; /**< The codes of EV_REL. */
+    uint64_t axes; /**< The codes of EV_ABS. */
+    uint64_t miscs; /**< The codes of EV_MSC. */
+    uint64_t switches; /**< The codes of EV_SW. */
+    uint64_t leds; /**< The codes of EV_LED. */
+    uint64_t sounds; /**< The codes of EV_SND. */
+    inputplay_info_t infos[64]; /**< Each axis by its code. One whose bit is not set is not read. */
+    uint32_t slots; /**< How many slots, 1 to 256; 0 for none. */
+    uint32_t hint; /**< How many events a frame may gather, 2 to 512; 0 for 16. */
+    uint32_t log; /**< How many steps the history may have, 1 to 8,388,608; 0 for 1,048,576. */
+    uint32_t filter_count; /**< How many filters there are, at most INPUTPLAY_FILTERS_MAX. */
+    uint64_t realtime; /**< How far the realtime clock is ahead of the moments. */
+    uint64_t boottime; /**< How far the boottime clock is. */
+    inputplay_filter_t filters[8]; /**< The filters, each of which is given what the one before it left. */
+} inputplay_description_t;
 
 /** A step: its number, and what it takes. Fields that it does not read may have any value, but now. */
 typedef struct inputplay_step_t {
@@ -233,11 +328,52 @@ typedef struct inputplay_stamped_t {
     uint64_t now; /**< The moment. */
 } inputplay_stamped_t;
 
+/** A client of a device, as it stands. */
+typedef struct inputplay_client_t {
+    uint32_t clock; /**< By which its events have their times: 0 realtime, 1 monotonic, 7 boottime. */
+    uint32_t revoked; /**< 1 where it was revoked, else 0. */
+    uint32_t grabs; /**< 1 where it holds the grab, else 0. */
+} inputplay_client_t;
+
+/** The numbers of a device's description. */
+typedef struct inputplay_limits_t {
+    uint32_t slots; /**< How many slots it has. */
+    uint32_t hint; /**< How many events a frame may gather. */
+    uint32_t log; /**< How many steps its history may have. */
+    uint32_t ring; /**< How many places the ring of a client has. */
+    uint64_t realtime; /**< How far the realtime clock is ahead of the moments, in microseconds. */
+    uint64_t boottime; /**< How far the boottime clock is ahead of them. */
+} inputplay_limits_t;
+
+/** The autorepeat of a device: its settings, and its timer. */
+typedef struct inputplay_repeat_t {
+    int32_t delay; /**< Milliseconds from a press to the first repeat (REP_DELAY). */
+    int32_t period; /**< Milliseconds from one repeat to the next (REP_PERIOD). */
+    uint32_t armed; /**< 1 where the timer is armed, else 0. */
+    uint32_t key; /**< The key that it was last armed for; 0 before any. */
+    uint64_t due; /**< The moment from which on an INPUTPLAY_TICK fires it; 0 where it is not armed. */
+} inputplay_repeat_t;
+
 /** How the buttons and axes of a joystick client stand: bit k of the 64 for button k, and the value of each axis. */
 typedef struct inputplay_picture_t {
     uint64_t buttons; /**< Bit k for button k. */
     int16_t axes[64]; /**< The value of each axis. */
 } inputplay_picture_t;
+
+/** How much a record has. */
+typedef struct inputplay_counts_t {
+    uint32_t devices; /**< How many devices. */
+    uint32_t actors; /**< How many actors. */
+    uint32_t lines; /**< How many action lines. */
+} inputplay_counts_t;
+
+/** An action line of a record. */
+typedef struct inputplay_line_t {
+    uint32_t actor; /**< The number of its actor. */
+    uint32_t command; /**< From INPUTPLAY_DO_EVENT on. */
+    uint32_t count; /**< The number behind read, next, skip or feedback; 0 for other commands. */
+    inputplay_step_t step; /**< The step that the command makes, with client 0, or INPUTPLAY_NO_STEP and zeros. */
+} inputplay_line_t;
 
 /* Before 30 November 2026 these structs had no _t. Their older names stand for sources of that time. */
 typedef inputplay_handle_t inputplay_handle; /**< Its older name. */
@@ -256,7 +392,7 @@ typedef inputplay_picture_t inputplay_picture; /**< Its older name. */
  */
 static inline const char *inputplay_status_text(uint32_t status) {
     static const char *const texts[] = {
-        "the call was made", "the text is no record", "bad argument", "the bytes are no stream", "unknown status",
+        "the call was made", "the text or the struct is refused", "bad argument", "the bytes are no stream", "unknown status",
         "out of memory", "unknown status", "the text is too long", "the handle keeps nothing of that kind",
         "the handle is in use",
     };
@@ -316,6 +452,28 @@ uint32_t inputplay_abi(void);
  */
 uint32_t inputplay_device_new(const uint8_t *text, size_t text_len, uint32_t number, inputplay_handle_t *handle,
                               uint32_t *line, uint32_t *cause);
+
+/**
+ * Makes the device that a struct describes. It is that of a text with the same lines, and is refused for the same causes:
+ *
+ * - INPUTPLAY_LINE_BAD_CODE: a bit of a type that no device has, of key 0, or of a code above its type's greatest;
+ * - INPUTPLAY_BAD_AXIS: a fuzz that is not in 0 to 2^30, a value other than 0 of a multi-touch axis, or a fuzz of ABS_MT_SLOT
+ *   or ABS_MT_TRACKING_ID;
+ * - INPUTPLAY_BAD_SLOTS, INPUTPLAY_BAD_HINT, INPUTPLAY_BAD_LOG, INPUTPLAY_BAD_OFFSET: a number out of its range;
+ * - INPUTPLAY_BAD_FILTER: more than INPUTPLAY_FILTERS_MAX filters, a number that is no filter's, or microseconds that are not
+ *   in 1 to 1,000,000; INPUTPLAY_LINE_BAD_CODE: a filter of such a code, or of a chord of one key twice.
+ *
+ * Where there are more than one, it is the first in this order; of filters that are refused the first one counts. Of axes
+ * whose values belong to slots the value that EVIOCGABS answers need not be 0, and is to be cleared. With slots a device has
+ * ABS_MT_SLOT and ABS_MT_TRACKING_ID, too; where their bits are not set they go from 0 to the last slot and to 65,535.
+ *
+ * @param description what the device is
+ * @param[in,out] handle one that keeps nothing
+ * @param[out] cause why there is no such device; 0 where the answer is not INPUTPLAY_REFUSED
+ *
+ * @return INPUTPLAY_OK, INPUTPLAY_REFUSED, INPUTPLAY_IN_USE or INPUTPLAY_NO_MEMORY
+ */
+uint32_t inputplay_device_of(const inputplay_description_t *description, inputplay_handle_t *handle, uint32_t *cause);
 
 /**
  * Makes a step on a device. A step that the device refuses is no status: the answer is INPUTPLAY_OK, and the reply is
@@ -411,6 +569,127 @@ uint32_t inputplay_history(inputplay_handle_t *handle, size_t from, inputplay_st
  */
 uint32_t inputplay_feedback(inputplay_handle_t *handle, inputplay_event_t *events, size_t event_count, uint32_t *at,
                             uint32_t *count, uint32_t *full);
+
+/**
+ * How many events a client could read now: as many as an INPUTPLAY_READ would take that asks for enough. Of a client that was
+ * revoked they are counted too, though its reads are refused. No call from here to inputplay_device_repeat() is a step: each
+ * looks at the device and enters nothing.
+ *
+ * @param[in,out] handle a device's
+ * @param client the client
+ * @param[out] count how many
+ *
+ * @return INPUTPLAY_OK, INPUTPLAY_BAD_HANDLE or INPUTPLAY_BAD_ARGUMENT: the client is not open
+ */
+uint32_t inputplay_visible(inputplay_handle_t *handle, uint32_t client, uint32_t *count);
+
+/**
+ * The open clients that could read something now (poll): those of which inputplay_visible() tells 1 and more.
+ *
+ * @param[in,out] handle a device's
+ * @param[out] clients room for their numbers, which ascend; as many are written as fit
+ * @param client_count for how many there is room; INPUTPLAY_CLIENTS_MAX is enough
+ * @param[out] count how many there are in all
+ *
+ * @return INPUTPLAY_OK or INPUTPLAY_BAD_HANDLE
+ */
+uint32_t inputplay_readable(inputplay_handle_t *handle, uint32_t *clients, size_t client_count, uint32_t *count);
+
+/**
+ * How a client stands: its clock, whether it was revoked, and whether it holds the grab.
+ *
+ * @param[in,out] handle a device's
+ * @param client the client
+ * @param[out] state how it stands
+ *
+ * @return INPUTPLAY_OK, INPUTPLAY_BAD_HANDLE or INPUTPLAY_BAD_ARGUMENT: the client is not open
+ */
+uint32_t inputplay_client(inputplay_handle_t *handle, uint32_t client, inputplay_client_t *state);
+
+/**
+ * A word of one of a client's masks (EVIOCGMASK), as an INPUTPLAY_MASK sets it: bit k is 1 where the client admits the code
+ * 64 times the word and k. The mask of EV_SYN is that of the types.
+ *
+ * @param[in,out] handle a device's
+ * @param client the client
+ * @param type the type: one to EV_SW, EV_LED or EV_SND
+ * @param word which word: from 0 to 11 of EV_KEY, and 0 of all others
+ * @param[out] bits the word
+ *
+ * @return INPUTPLAY_OK, INPUTPLAY_BAD_HANDLE or INPUTPLAY_BAD_ARGUMENT: the client is not open, the type has no mask, or the
+ * mask has no such word
+ */
+uint32_t inputplay_client_mask(inputplay_handle_t *handle, uint32_t client, uint16_t type, uint16_t word, uint64_t *bits);
+
+/**
+ * What the device supports (EVIOCGBIT): the codes of a type, or of EV_SYN its types.
+ *
+ * @param[in,out] handle a device's
+ * @param type the type
+ * @param[out] words bit i of the 768 for code i, or for type i; all 0 of a type that the device does not support
+ *
+ * @return INPUTPLAY_OK or INPUTPLAY_BAD_HANDLE
+ */
+uint32_t inputplay_device_bits(inputplay_handle_t *handle, uint16_t type, uint64_t words[12]);
+
+/**
+ * What is on: keys that are down, or switches, LEDs or sounds. It is what the device has, and not what a client was told. No
+ * queue loses an event by it, as one does by an INPUTPLAY_GET_KEYS.
+ *
+ * @param[in,out] handle a device's
+ * @param type EV_KEY, EV_SW, EV_LED or EV_SND
+ * @param[out] words bit i of the 768 for code i
+ *
+ * @return INPUTPLAY_OK, INPUTPLAY_BAD_HANDLE or INPUTPLAY_BAD_ARGUMENT: another type
+ */
+uint32_t inputplay_device_state(inputplay_handle_t *handle, uint16_t type, uint64_t words[12]);
+
+/**
+ * An axis, as an INPUTPLAY_GET_AXIS tells it (EVIOCGABS): of ABS_MT_SLOT the value is the slot that was announced last, and of
+ * another axis of slots it is 0.
+ *
+ * @param[in,out] handle a device's
+ * @param code the code
+ * @param[out] info the axis; zeros where the device does not have it
+ *
+ * @return INPUTPLAY_OK, INPUTPLAY_BAD_HANDLE or INPUTPLAY_BAD_ARGUMENT: the code is above ABS_MAX
+ */
+uint32_t inputplay_device_axis(inputplay_handle_t *handle, uint16_t code, inputplay_info_t *info);
+
+/**
+ * The value of a slot on an axis, as an INPUTPLAY_GET_SLOTS tells it (EVIOCGMTSLOTS). ABS_MT_TRACKING_ID is -1 where the slot
+ * has no contact. No queue loses an event by it.
+ *
+ * @param[in,out] handle a device's
+ * @param slot the slot, from 0
+ * @param code the code of an axis of slots
+ * @param[out] value its value
+ *
+ * @return INPUTPLAY_OK, INPUTPLAY_BAD_HANDLE or INPUTPLAY_BAD_ARGUMENT: the device has no such slot, or the code is none from
+ * ABS_MT_TOUCH_MAJOR to ABS_MT_TOOL_Y
+ */
+uint32_t inputplay_device_slot(inputplay_handle_t *handle, uint32_t slot, uint16_t code, int32_t *value);
+
+/**
+ * The numbers of the device's description.
+ *
+ * @param[in,out] handle a device's
+ * @param[out] limits the numbers
+ *
+ * @return INPUTPLAY_OK or INPUTPLAY_BAD_HANDLE
+ */
+uint32_t inputplay_device_limits(inputplay_handle_t *handle, inputplay_limits_t *limits);
+
+/**
+ * The autorepeat: the settings as they are now (EVIOCGREP), and when the timer is due. An INPUTPLAY_TICK at that moment or
+ * later fires it, and one before does nothing.
+ *
+ * @param[in,out] handle a device's
+ * @param[out] repeat the settings and the timer
+ *
+ * @return INPUTPLAY_OK or INPUTPLAY_BAD_HANDLE
+ */
+uint32_t inputplay_device_repeat(inputplay_handle_t *handle, inputplay_repeat_t *repeat);
 
 /**
  * Opens a client for the device's reader and asks for its whole state (libevdev_set_fd). An older client of the reader is not
@@ -610,6 +889,78 @@ uint32_t inputplay_record_migrate(inputplay_handle_t *handle, size_t *len);
 uint32_t inputplay_record_text(inputplay_handle_t *handle, size_t from, uint8_t *out, size_t out_len, size_t *left);
 
 /**
+ * How many devices, actors and action lines a record has.
+ *
+ * @param[in,out] handle a record's
+ * @param[out] counts how many
+ *
+ * @return INPUTPLAY_OK or INPUTPLAY_BAD_HANDLE
+ */
+uint32_t inputplay_record_counts(inputplay_handle_t *handle, inputplay_counts_t *counts);
+
+/**
+ * Copies the name of a device of a record, as many bytes as fit, without a NUL behind it. With the record's text and the
+ * number inputplay_device_new() makes this device.
+ *
+ * @param[in,out] handle a record's
+ * @param device which device, from 0
+ * @param[out] out room for the bytes
+ * @param out_len for how many there is room
+ * @param[out] len how many bytes the name has, at most 32
+ *
+ * @return INPUTPLAY_OK, INPUTPLAY_BAD_HANDLE or INPUTPLAY_BAD_ARGUMENT: the record has no such device
+ */
+uint32_t inputplay_record_device(inputplay_handle_t *handle, uint32_t device, uint8_t *out, size_t out_len, size_t *len);
+
+/**
+ * What an actor of a record is, and its name. Actors are counted over the whole record, in the order of their lines.
+ *
+ * @param[in,out] handle a record's
+ * @param actor which actor, from 0
+ * @param[out] role its role, from INPUTPLAY_SOURCE on
+ * @param[out] device the number of its device
+ * @param[out] out as for inputplay_record_device()
+ * @param out_len likewise
+ * @param[out] len likewise
+ *
+ * @return INPUTPLAY_OK, INPUTPLAY_BAD_HANDLE or INPUTPLAY_BAD_ARGUMENT: the record has no such actor
+ */
+uint32_t inputplay_record_actor(inputplay_handle_t *handle, uint32_t actor, uint32_t *role, uint32_t *device, uint8_t *out,
+                                size_t out_len, size_t *len);
+
+/**
+ * What an action line of a record says. Where its step has a number other than INPUTPLAY_NO_STEP, inputplay_step() makes it
+ * with the actor's client: of a tap the one that it opened last, of a client its reader's, of a joystick its joystick
+ * client's, and INPUTPLAY_NO_CLIENT before there is one.
+ *
+ * Two commands do more than their step. A client opens by inputplay_reader_start(), a joystick by inputplay_joy_start(). A
+ * joystick reads by inputplay_joy_read(), until it was handed so many records or an answer ends the line.
+ *
+ * @param[in,out] handle a record's
+ * @param line as for inputplay_record_load()
+ * @param[out] out what it says
+ *
+ * @return INPUTPLAY_OK, INPUTPLAY_BAD_HANDLE or INPUTPLAY_BAD_ARGUMENT: the record has no such line
+ */
+uint32_t inputplay_record_line(inputplay_handle_t *handle, uint32_t line, inputplay_line_t *out);
+
+/**
+ * Copies the events that inputplay_record_load() gave a `stream` or `stream16` line, from a place on, as many as fit. Before
+ * it gave them the line has none.
+ *
+ * @param[in,out] handle a record's
+ * @param line as for inputplay_record_load()
+ * @param from the place of the first one, from 0
+ * @param[out] events room for the events
+ * @param event_count for how many there is room
+ * @param[out] left how many there are from there on
+ *
+ * @return INPUTPLAY_OK, INPUTPLAY_BAD_HANDLE or INPUTPLAY_BAD_ARGUMENT: the line takes no stream, or it has fewer events
+ */
+uint32_t inputplay_record_events(inputplay_handle_t *handle, uint32_t line, size_t from, inputplay_stamped_t *events,
+                                 size_t event_count, size_t *left);
+
+/**
  * The type and the code that have a name, as EV_KEY and 30 for KEY_A. These are the names that a record may have: 272 of
  * those of <linux/input-event-codes.h>, one a code.
  *
@@ -642,11 +993,24 @@ uint32_t inputplay_code_of(const uint8_t *name, size_t name_len, uint16_t *type,
 uint32_t inputplay_name_of(uint16_t type, uint16_t code, uint8_t *out, size_t out_len, size_t *len);
 
 /**
- * Gives back what a handle keeps, and leaves INPUTPLAY_NOTHING.
+ * Gives back what a handle keeps, and leaves INPUTPLAY_NOTHING. In C and C++ it does nothing with NULL; whoever calls the
+ * symbol itself, as another language does, passes a handle.
  *
- * @param[in,out] handle any handle
+ * @param[in,out] handle any handle, or NULL
  */
 void inputplay_free(inputplay_handle_t *handle);
+
+/**
+ * What the name of inputplay_free() stands for in a call.
+ *
+ * @param[in,out] handle any handle, or NULL
+ */
+static inline void inputplay_free_any(inputplay_handle_t *handle) {
+    if (handle)
+        inputplay_free(handle);
+}
+
+#define inputplay_free(handle) inputplay_free_any(handle)
 
 #ifdef __cplusplus
 }

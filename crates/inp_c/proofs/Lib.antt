@@ -6,3 +6,7 @@ mod Along
 mod Timely
 mod Rest
 mod Injected
+mod Digits
+mod Asked
+mod StreamNumbers
+mod Described

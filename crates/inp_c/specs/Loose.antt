@@ -8,7 +8,7 @@ use Rattle.inp_c.specs.declared.kept.Kept.{Kept}
 use Rattle.inp_c.specs.contracts.kept.Kept.{the_row}
 
 -- the heap's handle, of which there is one value
-abbrev the_heap : Global
+abbrev pub the_heap : Global
 the_heap = record { memory = record { seal = tt } }
 
 -- what a box's pointer owns: the box, if there is one

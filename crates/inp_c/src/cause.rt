@@ -25,7 +25,7 @@ pub(crate) fn cause_number(cause: Cause) -> u32
 }
 
 /// The number of a cause that a description gives.
-fn caps_number(why: CapsRefused) -> u32
+pub(crate) fn caps_number(why: CapsRefused) -> u32
     ensures { result ≡ caps_number why }
 {
     match why {

@@ -60,7 +60,7 @@ fn keep_device(alloc: Global, recorded: &Record, number: u32, handle: &mut Handl
 }
 
 /// A device of this description, in a box.
-fn boxed_device(alloc: Global, caps: &Caps) -> Result<Box<Kept>, NoMemory>
+pub(crate) fn boxed_device(alloc: Global, caps: &Caps) -> Result<Box<Kept>, NoMemory>
     ensures { IfOk result (λ kept. IsFreshKept caps.now kept.value) }
 {
     let device = KeptDevice::new(alloc, caps)?;

@@ -31,15 +31,15 @@ impl Handle {
         }
     }
 
-    /// One that keeps this.
+    /// One that keeps this. C may hand it to another thread, since what it keeps may go there.
     pub(crate) fn of(kept: Box<Kept>) -> Handle
         ensures { contents result ≡ Some kept.value }
     {
         let kind = kept_kind(&kept);
-        Handle {
+        of_any_thread(Handle {
             kind,
             inner: Loose::of(Parts::of(kept)),
-        }
+        })
     }
 
     /// Whether it keeps nothing.
@@ -61,6 +61,14 @@ impl Handle {
             .into_parts(alloc)
             .into_box()
     }
+}
+
+/// What may go from thread to thread, as it is.
+#[inline(always)]
+fn of_any_thread<T: Send>(value: T) -> T
+    ensures { result ≡ value }
+{
+    value
 }
 
 /// The number of what is kept.

@@ -1,5 +1,5 @@
 //! The streams of a record, for C.
-ghost use Rattle.std.specs.Prelude.{◌≡◌, ◌≢◌, true, slice_set, Some};
+ghost use Rattle.std.specs.Prelude.{◌≡◌, ◌≢◌, ◌<◌, true, length, slice_set, IfSome, Some};
 ghost use Rattle.inp_record.specs.Stream.{stream_at};
 ghost use Rattle.inp_c.specs.Contents.{contents};
 ghost use Rattle.inp_c.specs.LoadedStreams.{IsLoadStatus, IsToldLoad};
@@ -64,8 +64,9 @@ fn mark(loaded: &mut Vec<bool>, index: usize)
 }
 
 /// The number of the stream that a line takes, if it takes one.
-fn stream_index(recorded: &Record, line: u32) -> Option<u32>
-    ensures { result ≡ stream_at recorded.now line }
+pub(crate) fn stream_index(recorded: &Record, line: u32) -> Option<u32>
+    ensures index { result ≡ stream_at recorded.now line }
+    ensures within { IfSome result (λ index. index < length recorded.now.streams) }
 {
     if line as usize >= recorded.lines().len() {
         return None;

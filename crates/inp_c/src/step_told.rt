@@ -55,7 +55,7 @@ fn call_in(kept: &Kept, index: usize, step: &mut CStep, reply: &mut CReply) -> u
 }
 
 /// The kernel's number of a clock.
-fn clock_number(clock: Clock) -> u32
+pub(crate) fn clock_number(clock: Clock) -> u32
     ensures { result ≡ clock_number clock }
 {
     match clock {
@@ -66,7 +66,7 @@ fn clock_number(clock: Clock) -> u32
 }
 
 /// A step of this number that names a client and no more.
-fn step_by(step: u32, client: u32) -> CStep
+pub(crate) fn step_by(step: u32, client: u32) -> CStep
     ensures { result ≡ step_by step client }
 {
     CStep {

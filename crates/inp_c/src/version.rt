@@ -4,7 +4,7 @@ ghost use Rattle.std.specs.Prelude.{◌≡◌};
 /// The version of this interface.
 #[unsafe(no_mangle)]
 pub extern "C" fn inputplay_abi() -> u32
-    ensures version { result ≡ 1 }
+    ensures version { result ≡ 2 }
 {
-    1
+    2
 }

@@ -1,0 +1,9 @@
+use Rattle.std.proofs.Common.{ap, Some}
+use Rattle.inp_c.proofs.counts.counts_in.Goals as goal
+
+pub returns-clause-told : goal.returns-clause-told
+returns-clause-told c = λ _. record {
+  kept = c.in-Record.record;
+  is = ap Some c.in-Record.is;
+  counts_are = c.c_counts.ensures;
+}
