@@ -63,15 +63,20 @@ def name_of(kind: int, code: int) -> Optional[str]:
     return NAMES.get((fits("type", c_uint16, kind), fits("code", c_uint16, code)))
 
 
+def type_number(kind: Union[int, str]) -> int:
+    """The type that a number or a name is."""
+    if isinstance(kind, str) and kind not in Type.__members__:
+        raise ValueError(f"no type has the name {kind}")
+    return fits("type", c_uint16, Type[kind] if isinstance(kind, str) else kind)
+
+
 def code_pair(kind: Union[int, str], code: Union[int, str, None]) -> Tuple[int, int]:
     """The type and the code that two numbers or names are; a code's name alone tells both."""
     if code is None:
         return code_of(str(kind))
-    if isinstance(kind, str) and kind not in Type.__members__:
-        raise ValueError(f"no type has the name {kind}")
-    number = Type[kind] if isinstance(kind, str) else kind
+    number = type_number(kind)
     if isinstance(code, str):
         found, code = code_of(code)
         if found != number:
             raise ValueError(f"{name_of(found, code)} is a code of {found.name}")
-    return fits("type", c_uint16, number), fits("code", c_uint16, code)
+    return number, fits("code", c_uint16, code)

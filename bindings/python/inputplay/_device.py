@@ -3,15 +3,17 @@
 from ctypes import byref, c_int32, c_size_t, c_uint8, c_uint32, c_uint64
 from enum import IntEnum
 from struct import unpack
-from typing import Any, Iterable, Iterator, List, NamedTuple, Optional, Sequence, Set, Tuple, TypeVar, Union
+from typing import Any, Iterable, Iterator, List, NamedTuple, Optional, Sequence, Set, Tuple, Union
 
 from ._codes import Type, code_pair
-from ._errors import RefusedRecord, Status, StepRefused, Why, check
+from ._description import Description
+from ._errors import RefusedDescription, RefusedRecord, Status, StepRefused, Why, check
 from ._event import Event, event_of
-from ._library import Handle, Info, RawEvent, RawPicture, RawReply, Stamped, Step, bytes_at, library
+from ._kept import Kept
+from ._library import Info, RawEvent, RawPicture, RawReply, Stamped, Step, bytes_at, library
 from ._numbers import fits
+from ._queries import Axis, ClientState, Queries, axis_of, check_asked, numbers_on
 
-K = TypeVar("K", bound="Kept")
 MOMENT_MAX = 9_000_000_000_000_000
 READ_MAX = 4096
 CELLS_MAX = 14 * 256
@@ -59,17 +61,6 @@ class Replies(IntEnum):
     CELLS = 6
     AGAIN = 7
     REFUSED = 8
-
-
-class Axis(NamedTuple):
-    """An axis."""
-
-    value: int = 0
-    minimum: int = 0
-    maximum: int = 0
-    fuzz: int = 0
-    flat: int = 0
-    resolution: int = 0
 
 
 class Reply(NamedTuple):
@@ -129,36 +120,10 @@ class Phase(IntEnum):
     HANDING = 2
 
 
-class Kept:
-    """What the library keeps for a program, freed at the end of a `with` or of its life."""
-
-    def __init__(self) -> None:
-        self._handle = Handle()
-
-    def close(self) -> None:
-        """Gives back what is kept. A second time does nothing."""
-        library.inputplay_free(byref(self._handle))
-
-    @property
-    def closed(self) -> bool:
-        """Whether nothing is kept."""
-        return not self._handle.kind
-
-    def __enter__(self: K) -> K:
-        return self
-
-    def __exit__(self, *_why: object) -> None:
-        self.close()
-
-    def __del__(self) -> None:
-        if getattr(self, "_handle", None) is not None:
-            self.close()
-
-
-class Device(Kept):
+class Device(Queries):
     """The device of a record's text that has this number, from 0.
 
-    It belongs to the thread that made it.
+    It may go from thread to thread, and is used by one call at a time: threads that share one take a lock for each call.
     """
 
     def __init__(self, text: Union[str, bytes], number: int = 0):
@@ -171,6 +136,21 @@ class Device(Kept):
         if status == Status.REFUSED:
             raise RefusedRecord(line.value, cause.value)
         check(status)
+        self._begin()
+
+    @classmethod
+    def of(cls, description: Description) -> "Device":
+        """The device that has this description."""
+        device, cause = cls.__new__(cls), c_uint32()
+        Kept.__init__(device)
+        status = library.inputplay_device_of(byref(description.raw()), byref(device._handle), byref(cause))
+        if status == Status.REFUSED:
+            raise RefusedDescription(cause.value)
+        check(status)
+        device._begin()
+        return device
+
+    def _begin(self) -> None:
         self._events = (RawEvent * READ_MAX)()
         self._cells = (c_int32 * CELLS_MAX)()
         self._now = 0
@@ -199,7 +179,7 @@ class Device(Kept):
             reply.slot,
             reply.why,
             list(reply.words),
-            Axis(*(getattr(reply.info, name) for name in Axis._fields)),
+            axis_of(reply.info),
             [event_of(raw) for raw in self._events[:took]],
             list(self._cells[:given]),
         )
@@ -310,9 +290,22 @@ class Client:
         """At most so many events; none where nothing is there."""
         return self.device.read(self.number, count)
 
+    @property
+    def visible(self) -> int:
+        """How many events it could read now."""
+        return self.device.visible(self.number)
+
+    @property
+    def state(self) -> ClientState:
+        """Its clock, whether it was revoked, and whether it holds the grab."""
+        return self.device.client_state(self.number)
+
+    def mask(self, kind: Union[int, str], word: int = 0) -> int:
+        """A word of its mask of a type, as `Device.mask` has it."""
+        return self.device.mask(self.number, kind, word)
+
     def _codes(self, step: int) -> Set[int]:
-        words = self.device.must(step, client=self.number).words
-        return {64 * i + bit for i, word in enumerate(words) for bit in range(64) if word >> bit & 1}
+        return numbers_on(self.device.must(step, client=self.number).words)
 
     def keys(self) -> Set[int]:
         """The keys that are down (EVIOCGKEY). The queued key events go."""
@@ -406,9 +399,7 @@ class Reader:
         """What the reader knows of a key, a switch, an LED or an axis, as `value("KEY_A")`."""
         number, value = code_pair(kind, code), c_int32()
         status = library.inputplay_reader_value(byref(self.device._handle), *number, byref(value))
-        if status == Status.BAD_ARGUMENT:
-            raise KeyError(kind if code is None else (kind, code))
-        check(status)
+        check_asked(status, *((kind,) if code is None else (kind, code)))
         return value.value
 
     def __getitem__(self, name: Union[int, str]) -> int:
@@ -419,9 +410,7 @@ class Reader:
         _kind, number = code_pair(Type.EV_ABS, code)
         value = c_int32()
         status = library.inputplay_reader_slot_value(byref(self.device._handle), slot, number, byref(value))
-        if status == Status.BAD_ARGUMENT:
-            raise KeyError((slot, code))
-        check(status)
+        check_asked(status, slot, code)
         return value.value
 
     def _state(self) -> Tuple[int, Phase, int]:

@@ -78,6 +78,14 @@ class RefusedRecord(InputplayError):
         super().__init__(f"line {line}: {words_of(self.cause)}")
 
 
+class RefusedDescription(InputplayError):
+    """No device has such a description, and why."""
+
+    def __init__(self, cause: int):
+        self.cause = Cause(cause)
+        super().__init__(words_of(self.cause))
+
+
 class StepRefused(InputplayError):
     """A device refused a step: why, and how long its history is."""
 

@@ -1,6 +1,10 @@
 //! Makes the steps that `checks/conformance` noted, and compares all that comes of each, as `checks/conformance.c` does.
 
-use inputplay::{Axis, Device, Error, Event, JoyRead, Mode, Next, Record, Reply, Step};
+use inputplay::codes::{EV_ABS, EV_KEY, EV_LED, EV_MSC, EV_REL, EV_SND, EV_SW};
+use inputplay::{
+    Axis, Client, Command, Counts, Description, Device, Error, Event, JoyRead, Limits, Mode, Next, Record, Reply, Stamped,
+    Step, CLIENTS_MAX,
+};
 use std::io::{self, BufRead, Read};
 use std::process::exit;
 
@@ -48,11 +52,30 @@ impl Numbers<'_> {
             why: self.next(),
             ..Reply::default()
         };
-        for word in &mut reply.words {
-            *word = self.next();
-        }
+        reply.words = self.words();
         reply.info = self.axis();
         reply
+    }
+
+    /// The next word.
+    fn name(&mut self) -> String {
+        self.0.next().unwrap_or_else(|| exit(3)).into()
+    }
+
+    /// Twelve words of bits.
+    fn words(&mut self) -> [u64; 12] {
+        std::array::from_fn(|_| self.next())
+    }
+
+    /// What a query told, which was noted behind its status: `None` where that is not 0.
+    fn told<T>(&mut self, read: impl FnOnce(&mut Self) -> T) -> Option<T> {
+        let status: u32 = self.next();
+        let told = read(self);
+        (status == 0).then_some(told)
+    }
+
+    fn client(&mut self) -> Client {
+        Client::from(self.next::<u32>())
     }
 
     fn event(&mut self) -> Event {
@@ -74,6 +97,94 @@ fn bytes(input: &mut impl Read, len: usize) -> io::Result<Vec<u8>> {
     Ok(made)
 }
 
+/// The numbers of the next line.
+fn next_numbers<'a>(input: &mut impl BufRead, line: &'a mut String) -> io::Result<Numbers<'a>> {
+    line.clear();
+    input.read_line(line)?;
+    Ok(Numbers(line.split_ascii_whitespace()))
+}
+
+/// What a record says: its devices, actors and lines.
+fn compare_said(input: &mut impl BufRead, record: &mut Record, reports: u64) -> io::Result<()> {
+    let (mut line, mut name) = (String::new(), [0; 32]);
+    let mut numbers = next_numbers(input, &mut line)?;
+    numbers.0.next();
+    let counts = Counts { devices: numbers.next(), actors: numbers.next(), lines: numbers.next() };
+    same(reports, counts, record.counts());
+    for device in 0..counts.devices {
+        let wanted = next_numbers(input, &mut line)?.name();
+        let len = record.device(device, &mut name).unwrap_or_else(|| exit(3));
+        same(reports, wanted.as_bytes(), &name[..len]);
+    }
+    for actor in 0..counts.actors {
+        let mut numbers = next_numbers(input, &mut line)?;
+        let came = record.actor(actor, &mut name).unwrap_or_else(|| exit(3));
+        same(reports, (numbers.next(), numbers.next()), (came.role.number(), came.device));
+        same(reports, numbers.name().as_bytes(), &name[..came.len]);
+    }
+    for number in 0..counts.lines {
+        compare_line(&mut next_numbers(input, &mut line)?, record, number, reports);
+        if record.line(number).is_some_and(|line| matches!(line.command, Command::Stream | Command::Stream16)) {
+            compare_events(&mut next_numbers(input, &mut line)?, record, number, reports);
+        }
+    }
+    Ok(())
+}
+
+fn compare_line(numbers: &mut Numbers, record: &mut Record, number: u32, reports: u64) {
+    let (actor, command, count, step): (u32, u32, u32, Step) =
+        (numbers.next(), numbers.next(), numbers.next(), numbers.step());
+    let step = (step.step != u32::MAX).then_some(step);
+    let came = record.line(number).unwrap_or_else(|| exit(3));
+    same(reports, (actor, command, count, step), (came.actor, came.command.number(), came.count, came.step));
+}
+
+fn compare_events(numbers: &mut Numbers, record: &mut Record, number: u32, reports: u64) {
+    let mut came = vec![Stamped::default(); numbers.next()];
+    same(reports, Some(came.len()), record.events(number, 0, &mut came));
+    for event in came {
+        let wanted =
+            Stamped { kind: numbers.next(), code: numbers.next(), value: numbers.next(), now: numbers.next() };
+        same(reports, wanted, event);
+    }
+}
+
+/// The codes whose bits are set in words.
+fn codes(words: &[u64]) -> impl Iterator<Item = u16> + '_ {
+    (0..64 * words.len() as u16).filter(|code| words[usize::from(code / 64)] >> (code % 64) & 1 == 1)
+}
+
+/// A description, of the words of its bits, its axes, its limits and its filters.
+fn description(numbers: &mut Numbers) -> Description {
+    let types: u64 = numbers.next();
+    let mut made = codes(&[types]).fold(Description::new(), Description::kind);
+    made = codes(&numbers.words()).fold(made, |made, key| made.code(EV_KEY, key));
+    for kind in [EV_REL, EV_ABS, EV_MSC, EV_SW, EV_LED, EV_SND] {
+        let word: u64 = numbers.next();
+        // (axes come with their numbers, behind these)
+        if kind != EV_ABS {
+            made = codes(&[word]).fold(made, |made, code| made.code(kind, code));
+        }
+    }
+    for _ in 0..numbers.next::<usize>() {
+        made = made.axis(numbers.next(), numbers.axis());
+    }
+    made = made.slots(numbers.next()).hint(numbers.next()).log(numbers.next());
+    let filters: usize = numbers.next();
+    made = made.offsets(numbers.next(), numbers.next());
+    for _ in 0..filters {
+        let (filter, micros): (u32, u32) = (numbers.next(), numbers.next());
+        let (kind, code, second) = (numbers.next(), numbers.next(), numbers.next());
+        made = match filter {
+            0 => made.eat(kind, code),
+            1 => made.norepeat(),
+            2 => made.chord(code, second),
+            _ => made.bounce(code, micros),
+        };
+    }
+    made
+}
+
 /// Plays a record whose line had these numbers, with its streams, and compares its report.
 fn compare_report(input: &mut impl BufRead, mut numbers: Numbers, reports: u64) -> io::Result<()> {
     let (len, streams, report_len): (usize, usize, usize) = (numbers.next(), numbers.next(), numbers.next());
@@ -89,6 +200,7 @@ fn compare_report(input: &mut impl BufRead, mut numbers: Numbers, reports: u64) 
         let (line, len) = (numbers.next(), numbers.next());
         record.load(line, &bytes(input, len)?).map_err(io::Error::other)?;
     }
+    compare_said(input, &mut record, reports)?;
     input.read_line(&mut String::new())?;
     let wanted = bytes(input, report_len)?;
     let mut came = vec![0; record.play(false).map_err(io::Error::other)?];
@@ -153,6 +265,95 @@ fn compare_joy_read(device: &mut Device, numbers: &mut Numbers, steps: u64) {
     same(steps, (told, place, record), came);
 }
 
+/// The clients that could read something; there is room for more or fewer of them in turn.
+fn compare_readable(device: &mut Device, numbers: &mut Numbers, queries: u64) {
+    const UNTOUCHED: u32 = 77;
+    let mut clients = [Client::from(UNTOUCHED); CLIENTS_MAX];
+    let room = match queries % 3 {
+        0 => CLIENTS_MAX,
+        few => few as usize,
+    };
+    let count = device.readable(&mut clients[..room]);
+    let wanted = numbers.told(|numbers| {
+        let all: Vec<u32> = (0..numbers.next::<usize>()).map(|_| numbers.next()).collect();
+        all
+    });
+    let wanted = wanted.unwrap_or_else(|| exit(3));
+    same(queries, wanted.len(), count);
+    for (place, client) in clients.into_iter().enumerate() {
+        let number = if place < room { wanted.get(place) } else { None };
+        same(queries, *number.unwrap_or(&UNTOUCHED), u32::from(client));
+    }
+}
+
+/// How a client stands, in numbers.
+fn standing(device: &mut Device, client: Client) -> Option<[u32; 3]> {
+    let state = device.client_state(client)?;
+    Some([u32::from(state.clock), state.revoked.into(), state.grabs.into()])
+}
+
+/// The limits of a device.
+fn limits(numbers: &mut Numbers) -> Limits {
+    Limits {
+        slots: numbers.next(),
+        hint: numbers.next(),
+        log: numbers.next(),
+        ring: numbers.next(),
+        realtime: numbers.next(),
+        boottime: numbers.next(),
+    }
+}
+
+/// The autorepeat: delay, period, whether it is armed, the key and the moment, which is 0 where it is not.
+fn repeat(device: &mut Device) -> (i32, i32, u8, u16, u64) {
+    let repeat = device.repeat();
+    (repeat.delay, repeat.period, repeat.due.is_some().into(), repeat.key, repeat.due.unwrap_or(0))
+}
+
+/// A query, if the line has one, and what comes of it.
+fn is_query(first: &str, device: &mut Device, numbers: &mut Numbers, queries: u64) -> bool {
+    match first {
+        "visible" => {
+            let came = device.visible(numbers.client());
+            same(queries, numbers.told(Numbers::next), came);
+        }
+        "readable" => compare_readable(device, numbers, queries),
+        "client" => {
+            let came = standing(device, numbers.client());
+            same(queries, numbers.told(|numbers| std::array::from_fn(|_| numbers.next())), came);
+        }
+        "mask" => {
+            let came = device.mask(numbers.client(), numbers.next(), numbers.next());
+            same(queries, numbers.told(Numbers::next), came);
+        }
+        "codes" => {
+            let came = device.codes(numbers.next());
+            same(queries, numbers.told(Numbers::words), Some(came));
+        }
+        "state" => {
+            let came = device.state(numbers.next());
+            same(queries, numbers.told(Numbers::words), came);
+        }
+        "axis" => {
+            let came = device.axis(numbers.next());
+            same(queries, numbers.told(Numbers::axis), came);
+        }
+        "slot" => {
+            let came = device.slot(numbers.next(), numbers.next());
+            same(queries, numbers.told(Numbers::next), came);
+        }
+        "limits" => same(queries, numbers.told(limits), Some(device.limits())),
+        "repeat" => {
+            let wanted = numbers.told(|numbers| {
+                (numbers.next(), numbers.next(), numbers.next(), numbers.next(), numbers.next())
+            });
+            same(queries, wanted, Some(repeat(device)));
+        }
+        _ => return false,
+    }
+    true
+}
+
 /// One step, and all that comes of it.
 fn compare_step(
     device: &mut Device,
@@ -185,7 +386,7 @@ fn main() -> io::Result<()> {
     let mut input = io::stdin().lock();
     let mut devices: Vec<Option<Device>> = (0..8).map(|_| None).collect();
     let (mut events, mut cells) = (vec![Event::default(); 4096], vec![0; 14 * 256]);
-    let (mut steps, mut reports, mut line) = (0, 0, String::new());
+    let (mut steps, mut queries, mut reports, mut line) = (0, 0, 0, String::new());
     while input.read_line(&mut line)? > 0 {
         let mut words = line.split_ascii_whitespace();
         let first = words.next().unwrap_or_default();
@@ -197,12 +398,20 @@ fn main() -> io::Result<()> {
             continue;
         }
         let at: usize = numbers.next();
-        if first == "device" {
-            devices[at] = Some(device_of(&mut input, &mut numbers, at)?);
+        if matches!(first, "device" | "described") {
+            devices[at] = Some(match first {
+                "device" => device_of(&mut input, &mut numbers, at)?,
+                _ => Device::of(&description(&mut numbers)).map_err(io::Error::other)?,
+            });
             line.clear();
             continue;
         }
         let device = devices[at].as_mut().unwrap_or_else(|| exit(3));
+        if is_query(first, device, &mut numbers, queries) {
+            queries += 1;
+            line.clear();
+            continue;
+        }
         match first {
             "feedback" => compare_feedback(device, &mut numbers, steps, &mut events),
             "start" => compare_start(device, &mut numbers, steps),
@@ -214,6 +423,6 @@ fn main() -> io::Result<()> {
         steps += 1;
         line.clear();
     }
-    println!("{steps} steps and calls are told the same, and {reports} reports");
+    println!("{steps} steps and calls and {queries} queries are told the same, and {reports} reports");
     Ok(())
 }

@@ -1,7 +1,8 @@
 //! Devices, their clients and their readers.
 
 use crate::codes::EV_SYN;
-use crate::errors::{check, check_made, check_step, Error, NotMade};
+use crate::description::Description;
+use crate::errors::{check, check_made, check_step, Cause, Error, NotMade};
 use crate::step::replies;
 use crate::sys::{self, Event, Handle, Picture, Reply, Stamped, Step};
 
@@ -73,6 +74,7 @@ pub enum Phase {
 /// A client of a device: what a program has that opened its file. It is good for calls on the device that opened it, and its
 /// number stands in steps and replies.
 #[derive(Clone, Copy, Debug, PartialEq, Eq, Hash, PartialOrd, Ord)]
+#[repr(transparent)]
 pub struct Client(u32);
 
 impl From<Client> for u32 {
@@ -87,9 +89,9 @@ impl From<u32> for Client {
     }
 }
 
-/// A device of a record's text, with its reader.
+/// A device of a record's text or of a description, with its reader. It may go to another thread; threads that share one put it behind a lock.
 pub struct Device {
-    handle: Handle,
+    pub(crate) handle: Handle,
 }
 
 impl Device {
@@ -103,6 +105,19 @@ impl Device {
         };
         check_made(status, line, cause)?;
         Ok(device)
+    }
+
+    /// The device that has this description.
+    pub fn of(description: &Description) -> Result<Device, NotMade> {
+        let raw = description.raw().map_err(NotMade::Description)?;
+        let mut device = Device { handle: Handle::NOTHING };
+        let mut cause = 0;
+        // SAFETY: all are places of their own.
+        let status = unsafe { sys::inputplay_device_of(raw, &mut device.handle, &mut cause) };
+        match Cause::of(cause) {
+            Some(cause) => Err(NotMade::Description(cause)),
+            None => check(status).map(|()| device).map_err(NotMade::Call),
+        }
     }
 
     /// Makes a step. What it reads stands at the front of the arrays.

@@ -19,11 +19,13 @@ pub enum Error {
     Other(u32),
 }
 
-/// Why nothing was made of a text.
+/// Why nothing was made of a text or of a description.
 #[derive(Clone, Copy, Debug, PartialEq, Eq)]
 pub enum NotMade {
     /// This line of the text has no meaning, for this cause.
     Line(u32, Cause),
+    /// No device has such a description, for this cause.
+    Description(Cause),
     /// The call was refused.
     Call(Error),
 }
@@ -141,6 +143,7 @@ impl fmt::Display for NotMade {
     fn fmt(&self, f: &mut fmt::Formatter<'_>) -> fmt::Result {
         match self {
             NotMade::Line(line, cause) => write!(f, "line {line}: {cause}"),
+            NotMade::Description(cause) => cause.fmt(f),
             NotMade::Call(error) => error.fmt(f),
         }
     }

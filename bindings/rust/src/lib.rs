@@ -19,23 +19,43 @@
 //! ```
 //!
 //! A [`Device`] answers as evdev does, and its reader as libevdev does. That the library keeps these rules is proved; this
-//! crate is tested, and not proved. What a handle keeps stays on the thread that made it, so no type here is `Send`.
+//! crate is tested, and not proved.
+//!
+//! A [`Device`] and a [`Record`] may go to another thread, and are used by one call at a time:
+//!
+//! ```
+//! fn goes_to_another_thread<T: Send>() {}
+//! goes_to_another_thread::<inputplay::Device>();
+//! goes_to_another_thread::<inputplay::Record>();
+//! ```
+//!
+//! So threads that share one put it behind a lock:
+//!
+//! ```compile_fail,E0277
+//! fn is_shared<T: Sync>() {}
+//! is_shared::<inputplay::Device>();
+//! ```
 #![no_std]
 #![warn(missing_docs)]
 
-pub mod codes;
-mod device;
+#[macro_use]
 mod errors;
+pub mod codes;
+mod description;
+mod device;
+mod queries;
 mod record;
 mod step;
 mod sys;
 
 pub use codes::{EV_ABS, EV_KEY, EV_LED, EV_SW, EV_SYN};
+pub use description::Description;
 pub use device::{Client, Device, Events, JoyRead, Mode, Next, Phase, NO_CLIENT};
 pub use errors::{Cause, Error, NotMade, Refusal};
-pub use record::Record;
+pub use queries::{ClientState, Repeat, CLIENTS_MAX};
+pub use record::{Actor, Command, Line, Record, Role};
 pub use step::{replies, steps, Clock};
-pub use sys::{Event, Info as Axis, Picture, Reply, Stamped, Step};
+pub use sys::{Counts, Event, Info as Axis, Limits, Picture, Reply, Stamped, Step};
 
 /// Whether the library that was linked has the interface that this crate is written for.
 pub fn is_right_version() -> bool {

@@ -15,6 +15,18 @@ pub enum Clock {
     Boottime = 7,
 }
 
+impl Clock {
+    /// The one of this number, as the header has it, if there is one.
+    pub const fn of(number: u32) -> Option<Clock> {
+        match number {
+            0 => Some(Clock::Realtime),
+            1 => Some(Clock::Monotonic),
+            7 => Some(Clock::Boottime),
+            _ => None,
+        }
+    }
+}
+
 impl From<Clock> for u32 {
     fn from(clock: Clock) -> u32 {
         clock as u32

@@ -4,13 +4,18 @@ use core::ffi::c_void;
 use core::ptr;
 
 /// The version of the interface that these declarations are of.
-pub const ABI: u32 = 1;
+pub const ABI: u32 = 2;
 
 #[repr(C)]
 pub struct Handle {
     pub kind: u32,
     pub at: *mut c_void,
 }
+
+// SAFETY: what a handle keeps is reached by it alone, and each call is over before the next one begins, since all take it by
+// `&mut`. The library keeps nothing outside of handles, neither for a thread nor for all of them, and what one thread got of
+// malloc another one may free. Nothing makes it `Sync`: a call that only looks takes what is kept out and puts it back.
+unsafe impl Send for Handle {}
 
 impl Handle {
     pub const NOTHING: Handle = Handle { kind: 0, at: ptr::null_mut() };
@@ -122,16 +127,149 @@ pub struct Picture {
     pub axes: [i16; 64],
 }
 
+#[repr(C)]
+#[derive(Default)]
+pub struct RawClient {
+    pub clock: u32,
+    pub revoked: u32,
+    pub grabs: u32,
+}
+
+/// The numbers of a device's description.
+#[repr(C)]
+#[derive(Clone, Copy, Debug, Default, PartialEq, Eq)]
+pub struct Limits {
+    /// How many slots it has.
+    pub slots: u32,
+    /// How many events a frame may gather.
+    pub hint: u32,
+    /// How many steps its history may have.
+    pub log: u32,
+    /// How many places the ring of a client has.
+    pub ring: u32,
+    /// How far the realtime clock is ahead of the moments, in microseconds.
+    pub realtime: u64,
+    /// How far the boottime clock is ahead of them.
+    pub boottime: u64,
+}
+
+#[repr(C)]
+#[derive(Default)]
+pub struct RawRepeat {
+    pub delay: i32,
+    pub period: i32,
+    pub armed: u32,
+    pub key: u32,
+    pub due: u64,
+}
+
+/// The numbers of filters.
+pub mod filters {
+    pub const EAT: u32 = 0;
+    pub const NOREPEAT: u32 = 1;
+    pub const CHORD: u32 = 2;
+    pub const BOUNCE: u32 = 3;
+}
+
+#[repr(C)]
+#[derive(Clone, Copy, Debug, PartialEq, Eq)]
+pub struct RawFilter {
+    pub filter: u32,
+    pub micros: u32,
+    pub kind: u16,
+    pub code: u16,
+    pub second: u16,
+    pub padding: u16,
+}
+
+impl RawFilter {
+    pub const ZEROS: RawFilter = RawFilter { filter: 0, micros: 0, kind: 0, code: 0, second: 0, padding: 0 };
+}
+
+#[repr(C)]
+#[derive(Clone, Debug, PartialEq, Eq)]
+pub struct RawDescription {
+    pub types: u64,
+    pub keys: [u64; 12],
+    pub relatives: u64,
+    pub axes: u64,
+    pub miscs: u64,
+    pub switches: u64,
+    pub leds: u64,
+    pub sounds: u64,
+    pub infos: [Info; 64],
+    pub slots: u32,
+    pub hint: u32,
+    pub log: u32,
+    pub filter_count: u32,
+    pub realtime: u64,
+    pub boottime: u64,
+    pub filters: [RawFilter; 8],
+}
+
+impl RawDescription {
+    pub const ZEROS: RawDescription = RawDescription {
+        types: 0,
+        keys: [0; 12],
+        relatives: 0,
+        axes: 0,
+        miscs: 0,
+        switches: 0,
+        leds: 0,
+        sounds: 0,
+        infos: [Info { value: 0, minimum: 0, maximum: 0, fuzz: 0, flat: 0, resolution: 0 }; 64],
+        slots: 0,
+        hint: 0,
+        log: 0,
+        filter_count: 0,
+        realtime: 0,
+        boottime: 0,
+        filters: [RawFilter::ZEROS; 8],
+    };
+}
+
+/// How much a record has.
+#[repr(C)]
+#[derive(Clone, Copy, Debug, Default, PartialEq, Eq)]
+pub struct Counts {
+    /// How many devices.
+    pub devices: u32,
+    /// How many actors.
+    pub actors: u32,
+    /// How many action lines.
+    pub lines: u32,
+}
+
+#[repr(C)]
+#[derive(Default)]
+pub struct RawLine {
+    pub actor: u32,
+    pub command: u32,
+    pub count: u32,
+    pub step: Step,
+}
+
 #[rustfmt::skip]
 extern "C" {
     pub fn inputplay_abi() -> u32;
     pub fn inputplay_device_new(text: *const u8, len: usize, number: u32, handle: *mut Handle, line: *mut u32, cause: *mut u32) -> u32;
+    pub fn inputplay_device_of(description: *const RawDescription, handle: *mut Handle, cause: *mut u32) -> u32;
     pub fn inputplay_step(handle: *mut Handle, step: *const Step, reply: *mut Reply, events: *mut Event, event_count: usize, cells: *mut i32, cell_count: usize) -> u32;
     pub fn inputplay_inject(handle: *mut Handle, kind: u16, code: u16, value: i32, now: u64, at: *mut u32, why: *mut u32) -> u32;
     pub fn inputplay_inject_all(handle: *mut Handle, events: *const Stamped, event_count: usize, from: *mut u32, count: *mut u32) -> u32;
     pub fn inputplay_read(handle: *mut Handle, client: u32, events: *mut Event, event_count: usize, at: *mut u32, count: *mut u32, why: *mut u32) -> u32;
     pub fn inputplay_history(handle: *mut Handle, from: usize, steps: *mut Step, step_count: usize, left: *mut usize) -> u32;
     pub fn inputplay_feedback(handle: *mut Handle, events: *mut Event, event_count: usize, at: *mut u32, count: *mut u32, full: *mut u32) -> u32;
+    pub fn inputplay_visible(handle: *mut Handle, client: u32, count: *mut u32) -> u32;
+    pub fn inputplay_readable(handle: *mut Handle, clients: *mut u32, client_count: usize, count: *mut u32) -> u32;
+    pub fn inputplay_client(handle: *mut Handle, client: u32, state: *mut RawClient) -> u32;
+    pub fn inputplay_client_mask(handle: *mut Handle, client: u32, kind: u16, word: u16, bits: *mut u64) -> u32;
+    pub fn inputplay_device_bits(handle: *mut Handle, kind: u16, words: *mut u64) -> u32;
+    pub fn inputplay_device_state(handle: *mut Handle, kind: u16, words: *mut u64) -> u32;
+    pub fn inputplay_device_axis(handle: *mut Handle, code: u16, info: *mut Info) -> u32;
+    pub fn inputplay_device_slot(handle: *mut Handle, slot: u32, code: u16, value: *mut i32) -> u32;
+    pub fn inputplay_device_limits(handle: *mut Handle, limits: *mut Limits) -> u32;
+    pub fn inputplay_device_repeat(handle: *mut Handle, repeat: *mut RawRepeat) -> u32;
     pub fn inputplay_joy_start(handle: *mut Handle, client: *mut u32, why: *mut u32) -> u32;
     pub fn inputplay_joy_read(handle: *mut Handle, record: *mut u8, told: *mut u32, place: *mut u32) -> u32;
     pub fn inputplay_joy_picture(handle: *mut Handle, picture: *mut Picture) -> u32;
@@ -148,5 +286,10 @@ extern "C" {
     pub fn inputplay_record_play(handle: *mut Handle, history: u32, len: *mut usize) -> u32;
     pub fn inputplay_record_migrate(handle: *mut Handle, len: *mut usize) -> u32;
     pub fn inputplay_record_text(handle: *mut Handle, from: usize, out: *mut u8, out_len: usize, left: *mut usize) -> u32;
+    pub fn inputplay_record_counts(handle: *mut Handle, counts: *mut Counts) -> u32;
+    pub fn inputplay_record_device(handle: *mut Handle, device: u32, out: *mut u8, out_len: usize, len: *mut usize) -> u32;
+    pub fn inputplay_record_actor(handle: *mut Handle, actor: u32, role: *mut u32, device: *mut u32, out: *mut u8, out_len: usize, len: *mut usize) -> u32;
+    pub fn inputplay_record_line(handle: *mut Handle, line: u32, out: *mut RawLine) -> u32;
+    pub fn inputplay_record_events(handle: *mut Handle, line: u32, from: usize, events: *mut Stamped, event_count: usize, left: *mut usize) -> u32;
     pub fn inputplay_free(handle: *mut Handle);
 }
