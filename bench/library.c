@@ -2,7 +2,8 @@
  * Calls of the library over and over, for `bench/library` to count instructions by: library WHAT TIMES.
  *
  * WHAT is 0 for nothing but the device, 1 for an injected event, 2 for two of them and a read of both, 3 for two of them and
- * the reader's two events, 4 for a key of the reader's state, and 5 for two of them and a step that reads both.
+ * the reader's two events, 4 for a key of the reader's state, 5 for two of them and a step that reads both, and 6 for how many
+ * events a client could read.
  */
 #include "inputplay.h"
 
@@ -23,11 +24,19 @@ int main(int argc, char **argv) {
     inputplay_step_t open = {.step = INPUTPLAY_OPEN}, read = {.step = INPUTPLAY_READ, .count = 64};
     if (what == 3)
         inputplay_reader_start(&h, &a, &b);
-    if (what == 2 || what == 5)
+    if (what == 2 || what == 5 || what == 6)
         inputplay_step(&h, &open, &reply, events, 0, &value, 0);
+    if (what == 6) {
+        inputplay_inject(&h, 1, 30, 1, 1000, &a, &b);
+        inputplay_inject(&h, 0, 0, 0, 1000, &a, &b);
+    }
     for (int i = 0; i < times; i++) {
         if (what == 4) {
             inputplay_reader_value(&h, 1, 30, &value);
+            continue;
+        }
+        if (what == 6) {
+            inputplay_visible(&h, 0, &a);
             continue;
         }
         if (what >= 1)

@@ -73,6 +73,38 @@ def source_steps(words: List[str], streams: Streams) -> List[Step]:
     return [(command,) + tuple(number(word) for word in words)]
 
 
+def single_step(client: int, words: List[str]) -> Optional[Step]:
+    """The step of a command that taps and clients share, or none."""
+    command, *words = words
+    if command in ("close", "grab", "ungrab", "revoke"):
+        return (command, client)
+    if command == "mask":
+        return ("mask", client, kind_of(words[0]), number(words[1]), number(words[2]))
+    if command == "clock":
+        return ("clock", client, words[0], number(words[1]))
+    if command == "write":
+        return ("write", client, number(words[0]), event_of(words[1:]))
+    if command == "setaxis":
+        return ("setaxis", client, code_of(ABS, words[0]), *map(number, words[1:]))
+    return None
+
+
+def tap_step(client: int, words: List[str]) -> Step:
+    """The step of a tap's command."""
+    command = words[0]
+    if command == "open":
+        return ("open",)
+    if command == "read":
+        return ("read", client, number(words[1]))
+    if command in ("discard", "syncslots"):
+        return (command, client)
+    if command in ("keys", "switches", "leds", "sounds"):
+        return ("get" + command, client)
+    if command in ("axis", "slots"):
+        return ("get" + command, client, code_of(ABS, words[1]))
+    return single_step(client, words) or ()
+
+
 def reader_and_joystick(caps: Caps) -> Tuple[Reader, Joystick]:
     """Those of the rules, or those of libevdev and joydev."""
     return (Reader(caps), Joystick(caps)) if caps.ways == RULES else (Libevdev(caps), JoydevStick(caps))
@@ -132,36 +164,11 @@ class Actor:
             if reply[0] == "refused":
                 return
 
-    def single_step(self, client: int, words: List[str]) -> Optional[Step]:
-        """The step of a command that taps and clients share, or none."""
-        command, *words = words
-        if command in ("close", "grab", "ungrab", "revoke"):
-            return (command, client)
-        if command == "mask":
-            return ("mask", client, kind_of(words[0]), number(words[1]), number(words[2]))
-        if command == "clock":
-            return ("clock", client, words[0], number(words[1]))
-        if command == "write":
-            return ("write", client, number(words[0]), event_of(words[1:]))
-        if command == "setaxis":
-            return ("setaxis", client, code_of(ABS, words[0]), *map(number, words[1:]))
-        return None
+    # (those that do a line otherwise have it too)
+    single_step = staticmethod(single_step)
 
     def do_tap(self, words: List[str], _: Streams) -> None:
-        command = words[0]
-        step: Step
-        if command == "open":
-            step = ("open",)
-        elif command == "read":
-            step = ("read", self.client, number(words[1]))
-        elif command in ("discard", "syncslots"):
-            step = (command, self.client)
-        elif command in ("keys", "switches", "leds", "sounds"):
-            step = ("get" + command, self.client)
-        elif command in ("axis", "slots"):
-            step = ("get" + command, self.client, code_of(ABS, words[1]))
-        else:
-            step = self.single_step(self.client, words) or ()
+        step = tap_step(self.client, words)
         reply, written = self.device.step(step)
         self.see(step, reply)
         if reply[0] == "opened":
@@ -174,7 +181,7 @@ class Actor:
             self.view.answer(step, reply, written)
 
     def do_client(self, words: List[str], _: Streams) -> None:
-        step = self.single_step(self.reader.client, words)
+        step = single_step(self.reader.client, words)
         if step:
             reply, _ = self.device.step(step)
             self.see(step, reply)
