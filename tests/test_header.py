@@ -115,7 +115,7 @@ class Sources(CommandCase):
 
     def test_c_plus_plus(self):
         compiler = needs(self, "g++", "g++")
-        for name in ("calls", "owner", "nothing"):
+        for name in ("calls", "described", "lines", "owner", "nothing"):
             with self.subTest(name):
                 source = self.write(f"{name}.cpp", (LIBRARY / f"{name}.c").read_text())
                 self.compiled(compiler, "c++11", source)
@@ -149,7 +149,8 @@ class Python(CommandCase):
     def test_numbers_and_names(self):
         compiler, fake = needs(self, "gcc", "gcc"), self.folder / "libfake.so"
         names = re.findall(r"^(?:uint32_t|void) (inputplay_\w+)\(", HEADER, re.M)
-        functions = (f"int {name}(void) {{ return {int(name == 'inputplay_abi')}; }}\n" for name in names)
+        abi = re.search(r"^#define INPUTPLAY_ABI (\d+)$", HEADER, re.M)[1]
+        functions = (f"int {name}(void) {{ return {abi if name == 'inputplay_abi' else 0}; }}\n" for name in names)
         self.runs(compiler, "-shared", "-fPIC", "-o", fake, self.write("fake.c", "".join(functions)))
         variables = {**os.environ, "INPUTPLAY_LIBRARY": str(fake), "PYTHONPATH": str(PYTHON)}
         tests = (PYTHON / "tests" / "check_package.py", "Numbers", "Names")

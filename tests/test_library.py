@@ -93,6 +93,17 @@ class Header(Library):
         wanted = re.findall(r"^ +U (\w+)$", run(["nm", "-u", BUILT / "libinputplay.a"]).stdout, re.M)
         self.assertEqual(sorted(re.findall(r"`(\w+)`", said)), sorted(wanted))
 
+    def test_nothing_is_kept_outside_of_handles(self):
+        """The archive has no data that can be written, but for what is read only once it is linked, and for one byte of the
+        toolchain's, whose address stands for no block."""
+        listed = run(["objdump", "-h", BUILT / "libinputplay.a"]).stdout
+        sections = re.findall(r"^ *\d+ (\S+) +([0-9a-f]+) .*\n +(\S.*)$", listed, re.M)
+        self.assertIn(".text", {name for name, _, _ in sections})
+        kept = [(name, int(size, 16)) for name, size, flags in sections
+                if int(size, 16) and "ALLOC" in flags and "READONLY" not in flags and not name.startswith(".data.rel.ro")]
+        self.assertEqual([(".bss", 1)], kept)
+        self.assertEqual(["nothing"], re.findall(r" [bB] (\w+)$", run(["nm", BUILT / "libinputplay.a"]).stdout, re.M))
+
 
 class C(Library):
     tool = "gcc"
@@ -104,8 +115,21 @@ class C(Library):
     def test_a_reader_and_a_joystick_take_nothing_from_the_owner(self):
         self.says("", [self.built(HERE / "owner.c", "gcc", "-std=c99")])
 
+    def test_a_record_line_by_line(self):
+        self.says("", [self.built(HERE / "lines.c", "gcc", "-std=c99")])
+
     def test_null_beside_a_count_of_none_and_the_header_s_own(self):
         self.says("", [self.built(HERE / "nothing.c", "gcc", "-std=c99")])
+
+    def test_a_device_of_a_struct_is_that_of_the_text_that_says_the_same(self):
+        self.says("", [self.built(HERE / "described.c", "gcc", "-std=c99")])
+
+    def test_a_device_takes_little_before_its_first_step(self):
+        done = run([self.built(HERE / "memory.c", "gcc", "-std=c99")])
+        most, addresses = map(int, done.stdout.split())
+        self.assertTrue(0 < most < 1024, most)
+        # (the history has its addresses at once, and its pages as they are written)
+        self.assertGreater(addresses, 1048576 * 40 // 1024)
 
     def test_a_naive_reader_keeps_a_key_down_and_a_right_one_does_not(self):
         self.says(STUCK_KEY, [self.built(EXAMPLES / "c" / "stuck_key.c", "gcc", "-std=c99")])
@@ -123,22 +147,41 @@ class C(Library):
         self.assertEqual(0, done.returncode, done.stdout)
         self.assertRegex(done.stdout, r"^\d+ calls were refused for want of memory\n$")
 
+    def test_threads_share_a_handle_under_a_lock(self):
+        self.says("", [self.built(HERE / "threads.c", "gcc", "-std=c99", "-pthread")])
+
+
 class Valgrind(Library):
     tool = "valgrind"
 
     def test_no_byte_is_lost_or_read_wrongly(self):
         checks = ["valgrind", "-q", "--leak-check=full", "--error-exitcode=9"]
-        for source in (*(HERE / f"{name}.c" for name in ("calls", "owner", "nothing")), EXAMPLES / "c" / "stuck_key.c"):
+        sources = (HERE / f"{name}.c" for name in ("calls", "described", "lines", "owner", "nothing"))
+        for source in (*sources, EXAMPLES / "c" / "stuck_key.c"):
             with self.subTest(source.name):
                 done = run([*checks, self.built(source, "gcc", "-std=c99", "-g")])
                 self.assertEqual((0, ""), (done.returncode, done.stderr))
+
+
+class Helgrind(Library):
+    tool = "helgrind"
+
+    def test_a_handle_goes_from_thread_to_thread(self):
+        """Helgrind finds no race where each call is made under a lock, and one where it is not."""
+        program = self.built(HERE / "threads.c", "gcc", "-std=c99", "-g", "-pthread")
+        checks = ["valgrind", "--tool=helgrind", "-q", "--error-exitcode=9"]
+        done = run([*checks, program])
+        self.assertEqual((0, "", ""), (done.returncode, done.stdout, done.stderr))
+        done = run([*checks, program, "unlocked"])
+        self.assertEqual(9, done.returncode, done.stdout)
+        self.assertIn("Possible data race", done.stderr)
 
 
 class CPlusPlus(Library):
     tool = "g++"
 
     def test_each_call_once(self):
-        for name in ("calls", "nothing"):
+        for name in ("calls", "described", "lines", "nothing"):
             with self.subTest(name):
                 source = self.folder / f"{name}.cpp"
                 shutil.copy(HERE / f"{name}.c", source)
@@ -153,7 +196,7 @@ class Rust(Library):
         variables = {**os.environ, "INPUTPLAY_LIB_DIR": str(BUILT), "CARGO_TARGET_DIR": str(self.folder / "target")}
         done = run(["cargo", "test", "--offline", "-q"], cwd=package, env=variables)
         self.assertEqual(0, done.returncode, done.stdout + done.stderr)
-        self.assertIn("13 passed; 0 failed", done.stdout)
+        self.assertIn("21 passed; 0 failed", done.stdout)
 
 
 class Python(Library):
@@ -200,6 +243,8 @@ def is_there(tool):
     """Whether a tool can be run here."""
     if tool in ("pip", "pytest"):
         return find_spec(tool) is not None
+    if tool == "helgrind":
+        return is_there("valgrind") and run(["valgrind", "--tool=helgrind", "--version"]).returncode == 0
     return tool is None or shutil.which(tool) is not None
 
 
@@ -242,7 +287,7 @@ def load_tests(loader, _tests, _pattern):
     Build.why = make_library("library" in sys.argv[1:])
     if Build.why:
         return loader.loadTestsFromTestCase(Build)
-    cases = (Header, C, Valgrind, CPlusPlus, Rust, Python, Pip, Pytest)
+    cases = (Header, C, Valgrind, Helgrind, CPlusPlus, Rust, Python, Pip, Pytest)
     return unittest.TestSuite(
         loader.loadTestsFromTestCase(case if is_there(case.tool) else without(case)) for case in cases
     )

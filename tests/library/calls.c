@@ -49,6 +49,40 @@ static void no_device(inputplay_handle_t *h) {
     SAME(1, before.at == h->at);
 }
 
+/* The queries of a device refuse such a handle too, and write nothing. */
+static void no_queries(inputplay_handle_t *h) {
+    inputplay_client_t state = {77, 77, 77};
+    inputplay_limits_t limits;
+    inputplay_repeat_t repeat;
+    inputplay_info_t info;
+    uint64_t words[12], bits = 77;
+    uint32_t clients[2] = {77, 77}, count = 77;
+    int32_t value = 77;
+    memset(&limits, 77, sizeof limits);
+    memset(&repeat, 77, sizeof repeat);
+    memset(&info, 77, sizeof info);
+    memset(words, 77, sizeof words);
+    SAME(INPUTPLAY_BAD_HANDLE, inputplay_visible(h, 0, &count));
+    SAME(INPUTPLAY_BAD_HANDLE, inputplay_readable(h, clients, 2, &count));
+    SAME(INPUTPLAY_BAD_HANDLE, inputplay_client(h, 0, &state));
+    SAME(INPUTPLAY_BAD_HANDLE, inputplay_client_mask(h, 0, 1, 0, &bits));
+    SAME(INPUTPLAY_BAD_HANDLE, inputplay_device_bits(h, 1, words));
+    SAME(INPUTPLAY_BAD_HANDLE, inputplay_device_state(h, 1, words));
+    SAME(INPUTPLAY_BAD_HANDLE, inputplay_device_axis(h, 0, &info));
+    SAME(INPUTPLAY_BAD_HANDLE, inputplay_device_slot(h, 0, 0x39, &value));
+    SAME(INPUTPLAY_BAD_HANDLE, inputplay_device_limits(h, &limits));
+    SAME(INPUTPLAY_BAD_HANDLE, inputplay_device_repeat(h, &repeat));
+    SAME(77, count);
+    SAME(77, clients[0]);
+    SAME(77, state.clock);
+    SAME(77, bits);
+    SAME(77 * 0x0101010101010101, words[0]);
+    SAME(77 * 0x1010101, info.value);
+    SAME(77, value);
+    SAME(77 * 0x1010101, limits.slots);
+    SAME(77 * 0x1010101, repeat.delay);
+}
+
 static void making(void) {
     inputplay_handle_t h = INPUTPLAY_NOTHING;
     uint32_t line = 77, cause = 77;
@@ -134,6 +168,213 @@ static void stepping(inputplay_handle_t *h) {
     step = asked(INPUTPLAY_GET_AXIS, 0, 0);
     SAME(INPUTPLAY_OK, inputplay_step(h, &step, &reply, events, 4, cells, 28));
     SAME(255, reply.info.maximum);
+}
+
+static uint32_t step_of(inputplay_handle_t *h, const inputplay_step_t *step) {
+    inputplay_reply_t reply;
+    inputplay_event_t event;
+    int32_t cell;
+    SAME(INPUTPLAY_OK, inputplay_step(h, step, &reply, &event, 1, &cell, 0));
+    return reply.reply;
+}
+
+static void frame(inputplay_handle_t *h, uint16_t type, uint16_t code, int32_t value, uint64_t now) {
+    uint32_t at, why;
+    SAME(INPUTPLAY_OK, inputplay_inject(h, type, code, value, now, &at, &why));
+    SAME(INPUTPLAY_OK, inputplay_inject(h, 0, 0, 0, now, &at, &why));
+    SAME(0, why);
+}
+
+/* What waits for two clients, how they stand, and a word of a mask. */
+static void asking_of_clients(inputplay_handle_t *h) {
+    inputplay_step_t step = asked(INPUTPLAY_OPEN, 0, 0);
+    inputplay_client_t state = {77, 77, 77};
+    uint32_t clients[3] = {77, 77, 77}, count = 77;
+    uint64_t bits = 77;
+    SAME(INPUTPLAY_BAD_ARGUMENT, inputplay_visible(h, 0, &count));
+    SAME(77, count);
+    SAME(INPUTPLAY_OPENED, step_of(h, &step));
+    SAME(INPUTPLAY_OPENED, step_of(h, &step));
+    SAME(INPUTPLAY_OK, inputplay_visible(h, 1, &count));
+    SAME(0, count);
+    SAME(INPUTPLAY_OK, inputplay_readable(h, clients, 3, &count));
+    SAME(0, count);
+    SAME(77, clients[0]);
+    frame(h, 1, 30, 1, 5);
+    SAME(INPUTPLAY_OK, inputplay_visible(h, 1, &count));
+    SAME(2, count);
+    SAME(INPUTPLAY_OK, inputplay_readable(h, clients, 1, &count));
+    SAME(2, count);
+    SAME(0, clients[0]);
+    SAME(77, clients[1]);
+    SAME(INPUTPLAY_OK, inputplay_readable(h, clients, 3, &count));
+    SAME(1, clients[1]);
+    SAME(77, clients[2]);
+    step = asked(INPUTPLAY_READ, 0, 1);
+    SAME(INPUTPLAY_TOOK, step_of(h, &step));
+    SAME(INPUTPLAY_OK, inputplay_visible(h, 0, &count));
+    SAME(1, count);
+    SAME(INPUTPLAY_OK, inputplay_client(h, 0, &state));
+    SAME(0, state.clock);
+    SAME(0, state.revoked);
+    SAME(0, state.grabs);
+    step = asked(INPUTPLAY_CLOCK, 0, 0);
+    step.clock = 7;
+    SAME(INPUTPLAY_DONE, step_of(h, &step));
+    step = asked(INPUTPLAY_GRAB, 0, 0);
+    SAME(INPUTPLAY_DONE, step_of(h, &step));
+    SAME(INPUTPLAY_OK, inputplay_client(h, 0, &state));
+    SAME(7, state.clock);
+    SAME(1, state.grabs);
+    SAME(INPUTPLAY_OK, inputplay_client_mask(h, 0, 1, 11, &bits));
+    SAME(1, bits == UINT64_MAX);
+    step = asked(INPUTPLAY_MASK, 0, 0);
+    step.type = 1;
+    step.code = 11;
+    step.bits = 5;
+    SAME(INPUTPLAY_DONE, step_of(h, &step));
+    SAME(INPUTPLAY_OK, inputplay_client_mask(h, 0, 1, 11, &bits));
+    SAME(5, bits);
+    SAME(INPUTPLAY_BAD_ARGUMENT, inputplay_client_mask(h, 0, 1, 12, &bits));
+    SAME(INPUTPLAY_BAD_ARGUMENT, inputplay_client_mask(h, 0, 0, 1, &bits));
+    SAME(INPUTPLAY_BAD_ARGUMENT, inputplay_client_mask(h, 0, 0x14, 0, &bits));
+    SAME(INPUTPLAY_BAD_ARGUMENT, inputplay_client_mask(h, 2, 1, 0, &bits));
+    SAME(5, bits);
+    step = asked(INPUTPLAY_REVOKE, 0, 0);
+    SAME(INPUTPLAY_DONE, step_of(h, &step));
+    SAME(INPUTPLAY_OK, inputplay_client(h, 0, &state));
+    SAME(1, state.revoked);
+    SAME(0, state.grabs);
+    step = asked(INPUTPLAY_CLOSE, 0, 0);
+    SAME(INPUTPLAY_DONE, step_of(h, &step));
+    SAME(INPUTPLAY_BAD_ARGUMENT, inputplay_client(h, 0, &state));
+    SAME(1, state.revoked);
+    SAME(INPUTPLAY_BAD_ARGUMENT, inputplay_visible(h, 0, &count));
+    SAME(1, count);
+}
+
+/* What the device supports and has: bits, axes, slots. */
+static void asking_of_state(inputplay_handle_t *h) {
+    inputplay_info_t info = {77, 77, 77, 77, 77, 77};
+    uint64_t words[12];
+    int32_t value = 77;
+    memset(words, 77, sizeof words);
+    SAME(INPUTPLAY_OK, inputplay_device_bits(h, 0, words));
+    SAME(1 << 0 | 1 << 1 | 1 << 3 | 1 << 5 | 1 << 0x11, words[0]);
+    for (int i = 1; i < 12; i++)
+        SAME(0, words[i]);
+    SAME(INPUTPLAY_OK, inputplay_device_bits(h, 1, words));
+    SAME(1 << 30, words[0]);
+    SAME(INPUTPLAY_OK, inputplay_device_bits(h, 3, words));
+    SAME(1 | 1LL << 0x2f | 1LL << 0x35 | 1LL << 0x39, words[0]);
+    SAME(INPUTPLAY_OK, inputplay_device_bits(h, 0xffff, words));
+    SAME(0, words[0]);
+    SAME(INPUTPLAY_OK, inputplay_device_state(h, 1, words));
+    SAME(1 << 30, words[0]);
+    SAME(0, words[11]);
+    SAME(INPUTPLAY_OK, inputplay_device_state(h, 5, words));
+    SAME(0, words[0]);
+    frame(h, 0x11, 1, 1, 6);
+    SAME(INPUTPLAY_OK, inputplay_device_state(h, 0x11, words));
+    SAME(2, words[0]);
+    SAME(INPUTPLAY_OK, inputplay_device_state(h, 0x12, words));
+    SAME(0, words[0]);
+    words[0] = 77;
+    SAME(INPUTPLAY_BAD_ARGUMENT, inputplay_device_state(h, 3, words));
+    SAME(77, words[0]);
+    SAME(INPUTPLAY_OK, inputplay_device_axis(h, 0, &info));
+    SAME(7, info.value);
+    SAME(255, info.maximum);
+    SAME(INPUTPLAY_OK, inputplay_device_axis(h, 63, &info));
+    SAME(0, info.maximum);
+    info.value = 77;
+    SAME(INPUTPLAY_BAD_ARGUMENT, inputplay_device_axis(h, 64, &info));
+    SAME(77, info.value);
+    SAME(INPUTPLAY_OK, inputplay_device_slot(h, 1, 0x39, &value));
+    SAME(-1, value);
+    frame(h, 3, 0x35, 8, 7);
+    SAME(INPUTPLAY_OK, inputplay_device_slot(h, 0, 0x35, &value));
+    SAME(8, value);
+    SAME(INPUTPLAY_BAD_ARGUMENT, inputplay_device_slot(h, 2, 0x39, &value));
+    SAME(INPUTPLAY_BAD_ARGUMENT, inputplay_device_slot(h, 0, 0x2f, &value));
+    SAME(INPUTPLAY_BAD_ARGUMENT, inputplay_device_slot(h, 0, 0x3e, &value));
+    SAME(8, value);
+}
+
+/* A query is no step: after all of them the history has the steps alone, and a client reads all that was there. */
+static void asking(void) {
+    inputplay_handle_t h = INPUTPLAY_NOTHING;
+    inputplay_limits_t limits;
+    inputplay_event_t events[16];
+    uint32_t line, cause, at, count, why;
+    size_t left = 77;
+    SAME(INPUTPLAY_OK, inputplay_device_new(bytes_of(PAD), strlen(PAD), 0, &h, &line, &cause));
+    asking_of_clients(&h);
+    asking_of_state(&h);
+    SAME(INPUTPLAY_OK, inputplay_device_limits(&h, &limits));
+    SAME(2, limits.slots);
+    SAME(16, limits.hint);
+    SAME(2000, limits.log);
+    SAME(128, limits.ring);
+    SAME(0, limits.realtime);
+    SAME(0, limits.boottime);
+    SAME(INPUTPLAY_OK, inputplay_history(&h, 0, NULL, 0, &left));
+    SAME(14, left);
+    SAME(INPUTPLAY_OK, inputplay_read(&h, 1, events, 16, &at, &count, &why));
+    SAME(6, count);
+    SAME(30, events[0].code);
+    inputplay_free(&h);
+}
+
+/* When a key repeats: an armed timer, a tick before it is due and one at that moment, and a new setting. */
+static void repeating(void) {
+    static const char *const KEYBOARD = "inputrecord 1\ndevice kbd\ntype EV_REP\ncap EV_KEY KEY_A\nclock realtime 9\n"
+                                        "clock boottime 500\nhint 64\nlog 90\nsource s\n";
+    inputplay_handle_t h = INPUTPLAY_NOTHING;
+    inputplay_step_t step = asked(INPUTPLAY_OPEN, 0, 0);
+    inputplay_repeat_t repeat;
+    inputplay_limits_t limits;
+    uint64_t words[12];
+    uint32_t line, cause, count = 77;
+    memset(&repeat, 77, sizeof repeat);
+    SAME(INPUTPLAY_OK, inputplay_device_new(bytes_of(KEYBOARD), strlen(KEYBOARD), 0, &h, &line, &cause));
+    SAME(INPUTPLAY_OK, inputplay_device_repeat(&h, &repeat));
+    SAME(250, repeat.delay);
+    SAME(33, repeat.period);
+    SAME(0, repeat.armed);
+    SAME(0, repeat.key);
+    SAME(0, repeat.due);
+    SAME(INPUTPLAY_OK, inputplay_device_bits(&h, 0x14, words));
+    SAME(3, words[0]);
+    SAME(INPUTPLAY_OK, inputplay_device_limits(&h, &limits));
+    SAME(512, limits.ring);
+    SAME(9, limits.realtime);
+    SAME(500, limits.boottime);
+    frame(&h, 1, 30, 1, 1000);
+    SAME(INPUTPLAY_OK, inputplay_device_repeat(&h, &repeat));
+    SAME(1, repeat.armed);
+    SAME(30, repeat.key);
+    SAME(251000, repeat.due);
+    SAME(INPUTPLAY_OPENED, step_of(&h, &step));
+    step = asked(INPUTPLAY_TICK, 0, 0);
+    step.now = 250999;
+    SAME(INPUTPLAY_DONE, step_of(&h, &step));
+    SAME(INPUTPLAY_OK, inputplay_visible(&h, 0, &count));
+    SAME(0, count);
+    step.now = 251000;
+    SAME(INPUTPLAY_DONE, step_of(&h, &step));
+    SAME(INPUTPLAY_OK, inputplay_visible(&h, 0, &count));
+    SAME(2, count);
+    SAME(INPUTPLAY_OK, inputplay_device_repeat(&h, &repeat));
+    SAME(284000, repeat.due);
+    frame(&h, 0x14, 1, 10, 251001);
+    frame(&h, 1, 30, 0, 251001);
+    SAME(INPUTPLAY_OK, inputplay_device_repeat(&h, &repeat));
+    SAME(10, repeat.period);
+    SAME(0, repeat.armed);
+    SAME(30, repeat.key);
+    SAME(0, repeat.due);
+    inputplay_free(&h);
 }
 
 /* A read without a reply, and the steps of the history from a place on. */
@@ -294,6 +535,7 @@ static void loading(void) {
     SAME(INPUTPLAY_BAD_STREAM, inputplay_record_load(&h, 0, key, 23));
     SAME(INPUTPLAY_OK, inputplay_record_load(&h, 0, key, 24));
     no_device(&h);
+    no_queries(&h);
     inputplay_free(&h);
 }
 
@@ -349,13 +591,29 @@ static void playing(void) {
 
 /* A handle that keeps no record. */
 static void no_record(inputplay_handle_t *h) {
-    uint8_t out[1];
+    inputplay_counts_t counts = {77, 77, 77};
+    inputplay_stamped_t stamped = {77, 77, 77, 77};
+    inputplay_line_t told;
+    uint8_t out[1] = {77};
+    uint32_t role = 77, device = 77;
     size_t len = 77;
+    memset(&told, 77, sizeof told);
     SAME(INPUTPLAY_BAD_HANDLE, inputplay_record_load(h, 0, bytes_of(""), 0));
     SAME(INPUTPLAY_BAD_HANDLE, inputplay_record_file(h, 0, out, 1, &len));
     SAME(INPUTPLAY_BAD_HANDLE, inputplay_record_play(h, 1, &len));
     SAME(INPUTPLAY_BAD_HANDLE, inputplay_record_migrate(h, &len));
     SAME(INPUTPLAY_BAD_HANDLE, inputplay_record_text(h, 0, out, 1, &len));
+    SAME(INPUTPLAY_BAD_HANDLE, inputplay_record_counts(h, &counts));
+    SAME(INPUTPLAY_BAD_HANDLE, inputplay_record_device(h, 0, out, 1, &len));
+    SAME(INPUTPLAY_BAD_HANDLE, inputplay_record_actor(h, 0, &role, &device, out, 1, &len));
+    SAME(INPUTPLAY_BAD_HANDLE, inputplay_record_line(h, 0, &told));
+    SAME(INPUTPLAY_BAD_HANDLE, inputplay_record_events(h, 0, 0, &stamped, 1, &len));
+    SAME(77, counts.devices);
+    SAME(77, role);
+    SAME(77, device);
+    SAME(77, out[0]);
+    SAME(77 * 0x1010101, told.step.step);
+    SAME(77, stamped.type);
     SAME(77, len);
 }
 
@@ -381,6 +639,7 @@ int main(void) {
     uint32_t line, cause;
     SAME(INPUTPLAY_ABI, inputplay_abi());
     no_device(&h);
+    no_queries(&h);
     making();
     no_record(&h);
     SAME(INPUTPLAY_OK, inputplay_device_new(bytes_of(PAD), strlen(PAD), 0, &h, &line, &cause));
@@ -389,6 +648,8 @@ int main(void) {
     reading(&h);
     joying(&h);
     inputplay_free(&h);
+    asking();
+    repeating();
     taking();
     injecting();
     loading();

@@ -7,17 +7,24 @@ from pathlib import Path
 BINDINGS = Path(__file__).resolve().parents[2] / "bindings"
 TOP_TYPES = {
     "u16": "uint16_t", "u32": "uint32_t", "u64": "uint64_t", "i16": "int16_t", "i32": "int32_t",
-    "AxisInfo": "inputplay_info_t",
+    "AxisInfo": "inputplay_info_t", "CFilter": "inputplay_filter_t", "CStep": "inputplay_step_t",
 }
 
 # The header's struct, and the crate and the file that have it.
 STRUCTS = {
     "inputplay_info_t": "inp_model/src/axis_info.rt",
+    "inputplay_filter_t": "inp_c/src/c_filter.rt",
+    "inputplay_description_t": "inp_c/src/c_description.rt",
     "inputplay_step_t": "inp_c/src/c_step.rt",
     "inputplay_reply_t": "inp_c/src/c_reply.rt",
     "inputplay_event_t": "inp_model/src/taken.rt",
     "inputplay_stamped_t": "inp_model/src/stamped.rt",
+    "inputplay_client_t": "inp_c/src/c_client.rt",
+    "inputplay_limits_t": "inp_c/src/c_limits.rt",
+    "inputplay_repeat_t": "inp_c/src/c_repeat.rt",
     "inputplay_picture_t": "inp_c/src/c_picture.rt",
+    "inputplay_counts_t": "inp_c/src/c_counts.rt",
+    "inputplay_line_t": "inp_c/src/c_line.rt",
 }
 
 # Fields that are spelled otherwise, since `type` is a word of the crate's language, and `now` one of its contracts.
@@ -27,11 +34,14 @@ SPELLED = {"kind": "type", "moment": "now"}
 NUMBERS = [
     ("statuses of calls", "src/status.rt", r"const (\w+): u32 = (\d+);"),
     ("a record is refused", "src/cause.rt", r"(?:Cause|CapsRefused)::(\w+) => (\d+),"),
+    ("filters of a device", "src/c_filter.rt", r"(\d+)(?: if .*)? => Some\(Filter::(\w+)"),
     ("steps of a device", "src/c_step.rt", r"(\d+) => Some\(Step::(\w+)"),
     ("replies to steps", "src/c_reply.rt", r"Reply::(\w+) \{[^}]*\} => CReply \{(?:\s*reply: (\d+),)?"),
     ("a step was refused", "src/c_reply.rt", r"Refusal::(\w+) => (\d+),"),
     ("the reader answers", "src/reader.rt", r"Next::(\w+)(?: \{ \.\. \})? => (\d+),"),
     ("the joystick client answers", "src/joystick.rt", r"JoyRead::(\w+)(?: \{ \.\. \})? => (\d+),"),
+    ("roles of actors", "src/record_names.rt", r"Role::(\w+) => (\d+),"),
+    ("commands of action lines", "src/c_line.rt", r"Command::(\w+)(?: \{ \.\. \})? => (\d+),"),
 ]
 
 # The same of the packages: where in their files the numbers begin, and in which form they are.
@@ -49,12 +59,20 @@ PACKAGED = [
     ("a step was refused", "rust/src/errors.rs", "    Refusal {", ERROR_FORM),
     ("steps of a device", "rust/src/step.rs", "\nsteps! {", r"^    \w+, (\w+) = (\d+) \("),
     ("replies to steps", "rust/src/step.rs", "pub mod replies {", r"pub const (\w+): u32 = (\d+);"),
+    ("roles of actors", "python/inputplay/_record.py", "class Role(", PYTHON_FORM),
+    ("commands of action lines", "python/inputplay/_record.py", "class Command(", PYTHON_FORM),
+    ("filters of a device", "python/inputplay/_description.py", "class Filters(", PYTHON_FORM),
+    ("roles of actors", "rust/src/record.rs", "    Role {", ERROR_FORM),
+    ("commands of action lines", "rust/src/record.rs", "    Command {", ERROR_FORM),
+    ("filters of a device", "rust/src/sys.rs", "pub mod filters {", r"pub const (\w+): u32 = (\d+);"),
 ]
 
 # A limit that the header names, and the file that has it.
 LIMITS = {
+    "FILTERS_MAX": "inp_model/src/limits.rt",
     "READ_MAX": "inp_actors/src/command.rt",
     "FEEDBACK_MAX": "inp_feedback/src/fed.rt",
+    "CLIENTS_MAX": "inp_model/src/limits.rt",
 }
 
 # Names that differ, since C has one name space.
@@ -64,8 +82,8 @@ RENAMED = {
     "LINEBADSTREAM": "BADSTREAM",
     "STEPREFUSED": "REFUSED",
     "STEPNOMEMORY": "NOMEMORY",
-    "NEXTEVENT": "SUCCESS",
     "EVENT": "SUCCESS",
+    "JOY": "JOYSTICK",
 }
 
 
@@ -101,8 +119,8 @@ def plain(name):
 def numbers_of_header(header, about):
     """The numbers of the enum whose comment says what it is about."""
     body = re.search(rf"/\*\*[^*]*{about}[^*]*\*/\nenum \{{(.*?)\n\}};", header, re.S | re.I).group(1)
-    pairs = {plain(name): int(number) for name, number in re.findall(r"INPUTPLAY_(\w+) = (\d+)", body)}
-    return {re.sub("^(NEXT|JOY)", "", name): number for name, number in pairs.items()}
+    pairs = re.findall(r"INPUTPLAY_(?:(?:NEXT|JOY|DO)_)?(\w+) = (\d+)", body)
+    return {plain(name): int(number) for name, number in pairs}
 
 
 def part_of(text, begin):

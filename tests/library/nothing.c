@@ -42,13 +42,23 @@ static void of_a_device(inputplay_handle_t *h) {
     SAME(1, left > 0);
     SAME(INPUTPLAY_OK, inputplay_feedback(h, NULL, 0, &at, &count, &why));
     SAME(0, count);
+    count = 77;
+    SAME(INPUTPLAY_OK, inputplay_readable(h, NULL, 0, &count));
+    SAME(0, count);
 }
 
 static void of_a_record(inputplay_handle_t *h) {
+    uint32_t role = 77, device = 77;
     size_t len = 77, left = 77;
     SAME(INPUTPLAY_OK, inputplay_record_load(h, 0, NULL, 0));
     SAME(INPUTPLAY_OK, inputplay_record_file(h, 0, NULL, 0, &len));
     SAME(4, len);
+    SAME(INPUTPLAY_OK, inputplay_record_device(h, 0, NULL, 0, &len));
+    SAME(3, len);
+    SAME(INPUTPLAY_OK, inputplay_record_actor(h, 0, &role, &device, NULL, 0, &len));
+    SAME(1, len);
+    SAME(INPUTPLAY_OK, inputplay_record_events(h, 0, 0, NULL, 0, &left));
+    SAME(0, left);
     SAME(INPUTPLAY_OK, inputplay_record_migrate(h, &len));
     SAME(INPUTPLAY_OK, inputplay_record_text(h, 0, NULL, 0, &left));
     SAME(len, left);
@@ -88,6 +98,7 @@ int main(void) {
     SAME(INPUTPLAY_OK, inputplay_record_new(text, strlen(PAD), &h, &line, &cause));
     of_a_record(&h);
     inputplay_free(&h);
+    inputplay_free(NULL);
     of_names();
     texts();
     return failures != 0;

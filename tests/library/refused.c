@@ -37,14 +37,17 @@ static const char *const TEXT = "inputrecord 2\ndevice pad\ncap EV_KEY KEY_A\nax
                                 "client c\njoy j\ndo c open\ndo j open\ndo s stream keys\ndo c follow\ndo j read 5\n";
 static const uint8_t KEY[48] = {1, 0, 0, 0, 0, 0, 0, 0, 0, 0, 0, 0, 0, 0, 0, 0, 1, 0, 30, 0, 1, 0, 0, 0, 1};
 
-enum { DEVICE, START, RECORD, LOAD, MIGRATE, PLAY, CALLS };
+enum { DEVICE, DESCRIBED, START, RECORD, LOAD, MIGRATE, PLAY, CALLS };
 
 static uint32_t call(int which, inputplay_handle_t *h) {
     uint32_t a, b, status;
     size_t len;
+    static inputplay_description_t description;
     switch (which) {
     case DEVICE:
         return inputplay_device_new((const uint8_t *)TEXT, strlen(TEXT), 0, h, &a, &b);
+    case DESCRIBED:
+        return inputplay_device_of(&description, h, &a);
     case START:
         status = inputplay_reader_start(h, &a, &b);
         return b == 10 ? INPUTPLAY_NO_MEMORY : status;
