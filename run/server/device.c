@@ -11,8 +11,6 @@
 struct device devices[DEVICES];
 int device_count;
 
-enum { USUAL_DELAY = 250, USUAL_PERIOD = 33 };
-
 struct device *device_new(const char *name) {
     if (device_count == DEVICES)
         return NULL;
@@ -20,8 +18,6 @@ struct device *device_new(const char *name) {
     *device = (struct device){.description = NULL};
     snprintf(device->record_name, sizeof device->record_name, "%s", name);
     snprintf(device->identity.name, sizeof device->identity.name, "%s", name);
-    device->repeat[REP_DELAY] = USUAL_DELAY;
-    device->repeat[REP_PERIOD] = USUAL_PERIOD;
     device_set(device, EV_SYN, EV_SYN);
     return device;
 }
@@ -57,15 +53,19 @@ size_t code_bytes(unsigned type) {
     return type == EV_KEY ? KEY_CNT / 8 : type == EV_FF ? FF_CNT / 8 : 8;
 }
 
-/* What the library does not tell of a device, and its events say: the settings of its autorepeat, when a
- * tick is due, and that something may wait for its owner. */
+inputplay_repeat_t device_repeat(struct device *device) {
+    inputplay_repeat_t repeat = {0};
+    if (inputplay_device_repeat(&device->handle, &repeat) != INPUTPLAY_OK)
+        fail("the library does not tell of the autorepeat of %s", device->record_name);
+    return repeat;
+}
+
+/* What an event says of a device: when a tick may be due by the server's clock, and that something may wait
+ * for its owner. */
 static void note_event(struct device *device, const inputplay_step_t *step) {
     device->may_have_sent |= step->type >= EV_MSC || (step->type == EV_SYN && step->code == SYN_CONFIG);
-    if (step->type == EV_REP && step->code < REP_CNT && step->value >= 0 &&
-        device_has(device, EV_SYN, EV_REP))
-        device->repeat[step->code] = step->value;
     if (step->type == EV_KEY && step->value != 2) {
-        uint64_t delay = 1000 * (uint64_t)device->repeat[REP_DELAY];
+        uint64_t delay = 1000 * (uint64_t)device_repeat(device).delay;
         device->repeats_at_us = step->value && delay ? now_us() + delay : 0;
     }
 }
@@ -100,17 +100,12 @@ int device_read(struct device *device, uint32_t client, inputplay_event *events,
     return why ? error_of(why) : (int)count;
 }
 
-/* The library tells it by a read of no events, which changes nothing. */
 enum sight device_sight(struct device *device, uint32_t client) {
-    inputplay_step_t look = {.step = INPUTPLAY_READ, .client = client};
-    inputplay_reply reply;
-    if (device->is_gone)
+    inputplay_client_t state;
+    uint32_t count;
+    if (device->is_gone || inputplay_client(&device->handle, client, &state) != INPUTPLAY_OK || state.revoked)
         return SEES_NO_DEVICE;
-    device_step(device, &look, &reply);
-    if (reply.reply == INPUTPLAY_STEP_REFUSED)
-        return SEES_NO_DEVICE;
-    bool has_events = reply.reply == INPUTPLAY_TOOK;
-    device->looks += has_events;
+    bool has_events = inputplay_visible(&device->handle, client, &count) == INPUTPLAY_OK && count > 0;
     return has_events ? SEES_EVENTS : SEES_NOTHING;
 }
 

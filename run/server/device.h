@@ -33,10 +33,8 @@ struct device {
     struct input_absinfo lacking[ABS_CNT]; /**< What EVIOCSABS said of axes that the device lacks. */
     uint32_t slots;
     uint64_t ahead[2];       /**< How far its clocks are ahead in the record: realtime, and boottime. */
-    int32_t repeat[REP_CNT]; /**< Delay and period, in milliseconds. */
     uint64_t repeats_at_us;  /**< When a tick may be due, or 0. */
     uint32_t steps;          /**< The length of its history. */
-    uint32_t looks;          /**< How many of them are the server's own reads of nothing. */
     char *description;       /**< The text of which the library made it. */
     inputplay_handle handle;
     bool is_made;       /**< By a program, and not of the record. */
@@ -72,6 +70,9 @@ void device_step_cells(struct device *device, const inputplay_step_t *step, inpu
 
 /** A client reads: how many events came, or a negative errno. */
 int device_read(struct device *device, uint32_t client, inputplay_event *events, size_t room);
+
+/** The settings of its autorepeat as they are now. */
+inputplay_repeat_t device_repeat(struct device *device);
 
 /** Whether a client has visible events. */
 enum sight { SEES_NOTHING, SEES_EVENTS, SEES_NO_DEVICE };

@@ -43,41 +43,35 @@ static void copy_events(void *to, const inputplay_event *events, int count) {
     }
 }
 
-/* What is there: how many events, 0 where there are none, or a negative errno. */
-static int take_events(struct client *client, void *to, size_t room) {
+/* What is there: how many bytes, 0 where there are none, or a negative errno. */
+static int take_events(struct client *client, void *to, size_t length) {
     static inputplay_event events[INPUTPLAY_READ_MAX];
+    size_t room = length / EVENT_BYTES < INPUTPLAY_READ_MAX ? length / EVENT_BYTES : INPUTPLAY_READ_MAX;
+    if (client->device->is_gone)
+        return -ENODEV;
     int count = device_read(client->device, client->number, events, room);
     if (count <= 0) {
         client_show(client, false); /* (a loss in the middle of a frame hides what was visible) */
         return count;
     }
     copy_events(to, events, count);
-    client->found_nothing = false; /* (a read that finds nothing is how some programs wait) */
     client->has_read = true;
-    player_note_active();
+    player_note_read(client);
     bool is_full = (size_t)count == room;
     client_show(client, is_full && device_sight(client->device, client->number) == SEES_EVENTS);
-    return count;
+    return count * (int)EVENT_BYTES;
 }
 
 static int evdev_read(struct client *client, void *to, size_t length) {
-    size_t room = length / EVENT_BYTES < INPUTPLAY_READ_MAX ? length / EVENT_BYTES : INPUTPLAY_READ_MAX;
     if (!client->can_read)
         return -EBADF;
     if (length && length < EVENT_BYTES)
         return -EINVAL;
-    for (;;) {
-        if (client->device->is_gone)
-            return -ENODEV;
-        int count = room ? take_events(client, to, room) : 0;
-        if (count)
-            return count < 0 ? count : count * (int)EVENT_BYTES;
-        if (!room)
-            return client->has_byte || !is_nonblocking(client) ? 0 : -EAGAIN;
-        int error = player_wait_in_read(client);
-        if (error)
-            return error;
-    }
+    if (length)
+        return player_read(client, take_events, to, length);
+    if (client->device->is_gone)
+        return -ENODEV;
+    return client->has_byte || !is_nonblocking(client) ? 0 : -EAGAIN;
 }
 
 static int evdev_write(struct client *client, const void *from, size_t length) {

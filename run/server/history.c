@@ -84,10 +84,6 @@ void history_note_open(const struct device *device, uint32_t client, pid_t proce
     note(device, name, client);
 }
 
-uint32_t history_length(const struct device *device) {
-    return device->steps - device->looks;
-}
-
 static bool is_used(const struct writing *writing, const char *name) {
     for (int i = 0; i < DEVICES; i++)
         if (!strcmp(writing->sources[i], name))
@@ -158,8 +154,7 @@ static void write_actions(struct writing *writing, struct device *device) {
         inputplay_history(&device->handle, from, steps, STEPS_AT_ONCE, &left);
         size_t count = left < STEPS_AT_ONCE ? left : STEPS_AT_ONCE;
         for (size_t i = 0; i < count; i++) {
-            bool is_look = steps[i].step == INPUTPLAY_READ && !steps[i].count;
-            const char *actor = is_look ? NULL : actor_of(writing, device, &steps[i], &opens);
+            const char *actor = actor_of(writing, device, &steps[i], &opens);
             if (actor)
                 write_step(writing->actions, actor, &steps[i]);
         }

@@ -13,9 +13,6 @@ void history_note_open(const struct device *device, uint32_t client, pid_t proce
 /** An actor of the record opened a client: its tap has its name. */
 void history_note_actor(const struct device *device, const char *name, uint32_t client);
 
-/** The length of a device's history as it is written, without the reads by which the server looks. */
-uint32_t history_length(const struct device *device);
-
 /** Writes what happened, where that is wanted. A file that cannot be written ends the server. */
 void history_write(void);
 

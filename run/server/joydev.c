@@ -35,11 +35,13 @@ static void joydev_close(struct client *client) {
 }
 
 /* Takes records as long as there are some and they fit: how many bytes, or a negative errno. */
-static int take_records(struct client *client, uint8_t *to, size_t length) {
+static int take_records(struct client *client, void *to, size_t length) {
     size_t done = 0;
     uint32_t told = INPUTPLAY_JOY_MORE, place;
+    if (client->device->is_gone)
+        return -ENODEV;
     while (done + sizeof(struct js_event) <= length && told != INPUTPLAY_JOY_AGAIN) {
-        if (inputplay_joy_read(&client->device->handle, to + done, &told, &place) != INPUTPLAY_OK)
+        if (inputplay_joy_read(&client->device->handle, (uint8_t *)to + done, &told, &place) != INPUTPLAY_OK)
             return -EIO;
         if (told == INPUTPLAY_JOY_FULL)
             fail("the history of %s is full; no more can be read", client->device->record_name);
@@ -49,23 +51,15 @@ static int take_records(struct client *client, uint8_t *to, size_t length) {
     }
     if (told == INPUTPLAY_JOY_AGAIN)
         client_show(client, false);
+    if (done)
+        player_note_read(client);
     return (int)done;
 }
 
 static int joydev_read(struct client *client, void *to, size_t length) {
     if (length < sizeof(struct js_event))
         return -EINVAL;
-    for (;;) {
-        int done = client->device->is_gone ? -ENODEV : take_records(client, to, length);
-        if (done) {
-            client->found_nothing = false;
-            player_note_active();
-            return done;
-        }
-        int error = player_wait_in_read(client);
-        if (error)
-            return error;
-    }
+    return player_read(client, take_records, to, length);
 }
 
 static int joydev_write(struct client *client, const void *from, size_t length) {

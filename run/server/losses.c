@@ -16,7 +16,7 @@ static inputplay_event events[INPUTPLAY_READ_MAX];
 
 bool is_loss_due(void) {
     for (int i = 0; i < device_count; i++)
-        if (settings.first_loss >= 0 && history_length(&devices[i]) >= (uint32_t)settings.first_loss)
+        if (settings.first_loss >= 0 && devices[i].steps >= (uint32_t)settings.first_loss)
             return true;
     return false;
 }

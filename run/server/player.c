@@ -168,7 +168,8 @@ bool player_wait(pid_t process) {
     return process && ending_ends(process);
 }
 
-int player_wait_in_read(struct client *client) {
+/* A client's read found nothing: 0 where frames came and it is to look again, or a negative errno. */
+static int wait_in_read(struct client *client) {
     bool blocks = !is_nonblocking(client), waits = blocks || client->found_nothing;
     struct process *process = process_of(client->owner);
     client->found_nothing = true; /* (who asks twice in a row waits, as one who blocks) */
@@ -178,6 +179,22 @@ int player_wait_in_read(struct client *client) {
         return -EINTR;
     /* (where nothing came the shim of one who blocks waits for the byte, and asks again) */
     return blocks && client->has_byte ? 0 : -EAGAIN;
+}
+
+void player_note_read(struct client *client) {
+    client->found_nothing = false; /* (a read that finds nothing is how some programs wait) */
+    player_note_active();
+}
+
+int player_read(struct client *client, int (*take)(struct client *, void *, size_t), void *to,
+                size_t length) {
+    for (;;) {
+        int done = take(client, to, length);
+        if (!done)
+            done = wait_in_read(client);
+        if (done)
+            return done;
+    }
 }
 
 /* When the next line is due. One without a moment comes with the line behind it. */

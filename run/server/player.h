@@ -19,8 +19,13 @@ uint64_t player_turn(void);
  * ending_signal(). */
 bool player_wait(pid_t process);
 
-/** A client's read found nothing: 0 where frames came and it is to look again, or a negative errno. */
-int player_wait_in_read(struct client *client);
+/** Takes what a client can read, and waits for it where nothing is there: how many bytes, or a negative
+ * errno. `take` gives 0 where nothing is there. */
+int player_read(struct client *client, int (*take)(struct client *, void *, size_t), void *to,
+                size_t length);
+
+/** A client's read found something. */
+void player_note_read(struct client *client);
 
 /** A file was opened. */
 void player_note_open(void);

@@ -123,8 +123,8 @@ static bool all_known(bool (*is_so)(pid_t)) {
     return true;
 }
 
-/* Whether it is so of who has a client's file. Where the one that asked last has ended another one has it, and
- * it is not known which. */
+/* Whether it is so of who has a client's file. Where the one that asked last has ended another one has it,
+ * and it is not known which. */
 static bool is_of_owner(const struct client *client, bool (*is_so)(pid_t)) {
     return is_so(client->owner) && (all_known(is_so) || !has_ended(client->owner));
 }

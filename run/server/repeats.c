@@ -4,11 +4,11 @@
 #include "moments.h"
 #include "settings.h"
 
-/* A tick, which the device answers by whether a key repeats. The library does not tell when one is due. */
+/* A tick. The moment at which one is due is the record's, where the server goes by its own clock. */
 static void tick(struct device *device, uint64_t now) {
     inputplay_step_t step = {.step = INPUTPLAY_TICK, .now = step_moment()};
     inputplay_reply reply;
-    uint64_t period = 1000 * (uint64_t)device->repeat[REP_PERIOD];
+    uint64_t period = 1000 * (uint64_t)device_repeat(device).period;
     device_step(device, &step, &reply);
     device->repeats_at_us = period ? now + period : 0;
     clients_refresh(device);

@@ -55,7 +55,9 @@ static int get_id(struct client *client, struct ioctl_call *call) {
 static int get_repeat(struct client *client, struct ioctl_call *call) {
     if (!device_has(client->device, EV_SYN, EV_REP))
         return -ENOSYS;
-    answer_bytes(call, client->device->repeat, sizeof client->device->repeat);
+    inputplay_repeat_t repeat = device_repeat(client->device);
+    uint32_t told[REP_CNT] = {[REP_DELAY] = (uint32_t)repeat.delay, [REP_PERIOD] = (uint32_t)repeat.period};
+    answer_bytes(call, told, sizeof told);
     return 0;
 }
 

@@ -30,6 +30,10 @@ struct place {
     int number;                 /**< Of its node. */
 };
 
+struct path {
+    char text[PATH_ROOM];
+};
+
 static const struct {
     const char *name;
     unsigned type;
@@ -47,44 +51,37 @@ static struct place place_of(const struct device *device, const char *root) {
 }
 
 /* The path of a name below the root. */
-static void take_path(const struct place *place, char *path, const char *format, va_list words) {
+__attribute__((format(printf, 2, 3))) static struct path path_of(const struct place *place,
+                                                                 const char *format, ...) {
     char part[PART_ROOM];
-    vsnprintf(part, sizeof part, format, words);
-    snprintf(path, PATH_ROOM, "%s/sys/%s", place->root, part);
-}
-
-__attribute__((format(printf, 2, 3))) static void add_folder(const struct place *place, const char *format,
-                                                             ...) {
-    char path[PATH_ROOM];
+    struct path path;
     va_list words;
     va_start(words, format);
-    take_path(place, path, format, words);
+    vsnprintf(part, sizeof part, format, words);
     va_end(words);
-    if (mkdir(path, 0755) && errno != EEXIST)
-        say("%s: %s", path, strerror(errno));
+    snprintf(path.text, sizeof path.text, "%s/sys/%s", place->root, part);
+    return path;
+}
+
+static void add_folder(struct path path) {
+    if (mkdir(path.text, 0755) && errno != EEXIST)
+        say("%s: %s", path.text, strerror(errno));
 }
 
 /* A link from a name to where it leads. */
-__attribute__((format(printf, 3, 4))) static void add_link(const struct place *place, const char *to,
-                                                           const char *format, ...) {
-    char path[PATH_ROOM];
-    va_list words;
-    va_start(words, format);
-    take_path(place, path, format, words);
-    va_end(words);
-    if (symlink(to, path) && errno != EEXIST)
-        say("%s: %s", path, strerror(errno));
+static void add_link(const char *to, struct path path) {
+    if (symlink(to, path.text) && errno != EEXIST)
+        say("%s: %s", path.text, strerror(errno));
 }
 
 /* A file of the device's folder. */
 __attribute__((format(printf, 3, 4))) static void add_file(const struct place *place, const char *name,
                                                            const char *format, ...) {
-    char path[PATH_ROOM];
+    struct path path = path_of(place, "devices/virtual/input/%s/%s", place->own, name);
     va_list words;
-    snprintf(path, sizeof path, "%s/sys/devices/virtual/input/%s/%s", place->root, place->own, name);
-    FILE *file = fopen(path, "w");
+    FILE *file = fopen(path.text, "w");
     if (!file) {
-        say("%s: %s", path, strerror(errno));
+        say("%s: %s", path.text, strerror(errno));
         return;
     }
     va_start(words, format);
@@ -107,7 +104,7 @@ static void take_bits(const uint8_t *bytes, size_t length, char *text) {
 
 static void add_capabilities(const struct place *place, const struct device *device) {
     char name[PART_ROOM], bits[BITS_ROOM];
-    add_folder(place, "devices/virtual/input/%s/capabilities", place->own);
+    add_folder(path_of(place, "devices/virtual/input/%s/capabilities", place->own));
     for (size_t i = 0; i < sizeof CAPABILITIES / sizeof CAPABILITIES[0]; i++) {
         unsigned type = CAPABILITIES[i].type;
         take_bits(device->bits[type], code_bytes(type), bits);
@@ -120,7 +117,7 @@ static void add_capabilities(const struct place *place, const struct device *dev
 
 static void add_identity(const struct place *place, const struct identity *identity) {
     const struct input_id *id = &identity->id;
-    add_folder(place, "devices/virtual/input/%s/id", place->own);
+    add_folder(path_of(place, "devices/virtual/input/%s/id", place->own));
     add_file(place, "id/bustype", "%04x\n", id->bustype);
     add_file(place, "id/vendor", "%04x\n", id->vendor);
     add_file(place, "id/product", "%04x\n", id->product);
@@ -136,21 +133,21 @@ static void add_identity(const struct place *place, const struct identity *ident
 static void add_node(const struct place *place) {
     char name[PART_ROOM], to[PART_ROOM];
     int number = place->number;
-    add_folder(place, "devices/virtual/input/%s/event%d", place->own, number);
+    add_folder(path_of(place, "devices/virtual/input/%s/event%d", place->own, number));
     snprintf(name, sizeof name, "event%d/dev", number);
     add_file(place, name, "13:%d\n", FIRST_MINOR + number);
     snprintf(name, sizeof name, "event%d/uevent", number);
     add_file(place, name, "MAJOR=13\nMINOR=%d\nDEVNAME=input/event%d\n", FIRST_MINOR + number, number);
     snprintf(to, sizeof to, "../../%s", place->own);
-    add_link(place, to, "devices/virtual/input/%s/event%d/device", place->own, number);
-    add_link(place, "../../../../../class/input", "devices/virtual/input/%s/event%d/subsystem", place->own,
-             number);
-    add_link(place, "../../../../class/input", "devices/virtual/input/%s/subsystem", place->own);
+    add_link(to, path_of(place, "devices/virtual/input/%s/event%d/device", place->own, number));
+    add_link("../../../../../class/input",
+             path_of(place, "devices/virtual/input/%s/event%d/subsystem", place->own, number));
+    add_link("../../../../class/input", path_of(place, "devices/virtual/input/%s/subsystem", place->own));
     snprintf(to, sizeof to, "../../devices/virtual/input/%s/event%d", place->own, number);
-    add_link(place, to, "class/input/event%d", number);
-    add_link(place, to, "dev/char/13:%d", FIRST_MINOR + number);
+    add_link(to, path_of(place, "class/input/event%d", number));
+    add_link(to, path_of(place, "dev/char/13:%d", FIRST_MINOR + number));
     snprintf(to, sizeof to, "../../devices/virtual/input/%s", place->own);
-    add_link(place, to, "class/input/%s", place->own);
+    add_link(to, path_of(place, "class/input/%s", place->own));
 }
 
 void system_files_make(const struct device *device, const char *root) {
@@ -158,8 +155,8 @@ void system_files_make(const struct device *device, const char *root) {
         "", "devices", "devices/virtual", "devices/virtual/input", "class", "class/input", "dev", "dev/char"};
     struct place place = place_of(device, root);
     for (size_t i = 0; i < sizeof folders / sizeof folders[0]; i++)
-        add_folder(&place, "%s", folders[i]);
-    add_folder(&place, "devices/virtual/input/%s", place.own);
+        add_folder(path_of(&place, "%s", folders[i]));
+    add_folder(path_of(&place, "devices/virtual/input/%s", place.own));
     add_capabilities(&place, device);
     add_identity(&place, &device->identity);
     add_node(&place);
@@ -172,20 +169,14 @@ static int remove_found(const char *path, const struct stat *status, int kind, s
     return remove(path);
 }
 
-__attribute__((format(printf, 2, 3))) static void remove_all(const struct place *place, const char *format,
-                                                             ...) {
-    char path[PATH_ROOM];
-    va_list words;
-    va_start(words, format);
-    take_path(place, path, format, words);
-    va_end(words);
-    nftw(path, remove_found, OPEN_MOST, FTW_DEPTH | FTW_PHYS);
+static void remove_all(struct path path) {
+    nftw(path.text, remove_found, OPEN_MOST, FTW_DEPTH | FTW_PHYS);
 }
 
 void system_files_remove(const struct device *device, const char *root) {
     struct place place = place_of(device, root);
-    remove_all(&place, "class/input/event%d", place.number);
-    remove_all(&place, "class/input/%s", place.own);
-    remove_all(&place, "dev/char/13:%d", FIRST_MINOR + place.number);
-    remove_all(&place, "devices/virtual/input/%s", place.own);
+    remove_all(path_of(&place, "class/input/event%d", place.number));
+    remove_all(path_of(&place, "class/input/%s", place.own));
+    remove_all(path_of(&place, "dev/char/13:%d", FIRST_MINOR + place.number));
+    remove_all(path_of(&place, "devices/virtual/input/%s", place.own));
 }

@@ -56,19 +56,20 @@ void timers_fire(uint64_t now) {
             fire(&clients[i], now);
 }
 
-static int timer_read(struct client *client, void *to, size_t length) {
+/* How often it was over, where it was: how many bytes. */
+static int take_times(struct client *client, void *to, size_t length) {
     struct timer *timer = timer_of(client);
-    if (length < sizeof timer->times)
-        return -EINVAL;
-    while (!timer->times) {
-        int error = player_wait_in_read(client);
-        if (error)
-            return error;
-    }
+    (void)length;
+    if (!timer->times)
+        return 0;
     memcpy(to, &timer->times, sizeof timer->times);
     timer->times = 0;
     client_show(client, false);
     return (int)sizeof timer->times;
+}
+
+static int timer_read(struct client *client, void *to, size_t length) {
+    return length < sizeof(uint64_t) ? -EINVAL : player_read(client, take_times, to, length);
 }
 
 static int timer_write(struct client *client, const void *from, size_t length) {

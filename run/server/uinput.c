@@ -96,14 +96,18 @@ void owner_refresh(struct client *client) {
     client_show(client, owner->count > 0);
 }
 
-/* Takes what waits, as much as fits: how many bytes. */
+/* Takes what waits, as much as fits: how many bytes, or a negative errno. */
 static int take_waiting(struct client *client, void *to, size_t length) {
     struct owner *owner = owner_of(client);
     size_t room = length / EVENT_BYTES, count = owner->count < room ? owner->count : room;
+    if (!client->device)
+        return -ENODEV;
     memcpy(to, owner->waiting, count * EVENT_BYTES);
     owner->count -= count;
     memmove(owner->waiting, owner->waiting + count, owner->count * EVENT_BYTES);
     client_show(client, owner->count > 0);
+    if (count)
+        player_note_read(client);
     return (int)(count * EVENT_BYTES);
 }
 
@@ -112,19 +116,7 @@ static int uinput_read(struct client *client, void *to, size_t length) {
         return -EBADF;
     if (length && length < EVENT_BYTES)
         return -EINVAL;
-    for (;;) {
-        if (!client->device)
-            return -ENODEV;
-        int done = take_waiting(client, to, length);
-        if (done || !length) {
-            client->found_nothing = false;
-            player_note_active();
-            return done;
-        }
-        int error = player_wait_in_read(client);
-        if (error)
-            return error;
-    }
+    return length ? player_read(client, take_waiting, to, length) : take_waiting(client, to, length);
 }
 
 static int inject(struct client *client, const void *from, size_t length) {

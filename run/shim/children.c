@@ -25,27 +25,20 @@ EXPORT pid_t vfork(void) {
     return is_virtual() ? fork() : real();
 }
 
-EXPORT int posix_spawn(pid_t *restrict child, const char *restrict path,
-                       const posix_spawn_file_actions_t *actions, const posix_spawnattr_t *restrict how,
-                       char *const *restrict words, char *const *restrict variables) {
-    REAL(posix_spawn);
-    pid_t process = 0;
-    int error = real(&process, path, actions, how, words, variables);
-    if (child)
-        *child = process;
-    return error ? error : (told(process), 0);
-}
+#define SPAWNS(name) \
+    EXPORT int name(pid_t *restrict child, const char *restrict program, \
+                    const posix_spawn_file_actions_t *actions, const posix_spawnattr_t *restrict how, \
+                    char *const *restrict words, char *const *restrict variables) { \
+        REAL(name); \
+        pid_t process = 0; \
+        int error = real(&process, program, actions, how, words, variables); \
+        if (child) \
+            *child = process; \
+        return error ? error : (told(process), 0); \
+    }
 
-EXPORT int posix_spawnp(pid_t *restrict child, const char *restrict name,
-                        const posix_spawn_file_actions_t *actions, const posix_spawnattr_t *restrict how,
-                        char *const *restrict words, char *const *restrict variables) {
-    REAL(posix_spawnp);
-    pid_t process = 0;
-    int error = real(&process, name, actions, how, words, variables);
-    if (child)
-        *child = process;
-    return error ? error : (told(process), 0);
-}
+SPAWNS(posix_spawn)
+SPAWNS(posix_spawnp)
 
 /* How a wait for children is begun and ended, around a call that waits. */
 #define WAITS(call, type, is_waiting) \
