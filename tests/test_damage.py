@@ -9,10 +9,13 @@ import sys
 
 from second.outcome import outcome
 from tests.playing import EXAMPLES, RECORDS, TOP, FolderCase, assert_run, loaded, run, said
-from tests.test_lines import DEVICE_1, OWNED, SOURCE, VERSION_1, VERSION_2
-from tests.test_statuses import ONE_KEY, ONE_KEY_REPORT, REFUSED
+from tests.test_statuses import ONE_KEY, ONE_KEY_REPORT
 
 SCRIPT = TOP / "checks" / "damage"
+
+VERSION_1, VERSION_2 = "inputrecord 1\n", "inputrecord 2\n"
+DEVICE_1, OWNED = VERSION_1 + "device d\n", VERSION_2 + "udevice u\nowner o\n"
+SOURCE = DEVICE_1 + "source s\n"
 
 # Texts that are records, and their reports.
 PLAYED = [
@@ -59,13 +62,6 @@ class Texts(FolderCase):
         for text, report in PLAYED:
             with self.subTest(text=text[:60]):
                 self.ends(text, 0, report.encode())
-
-    def test_the_second_program_refuses_as_the_first_one(self):
-        for cause, text, line in REFUSED:
-            with self.subTest(cause=cause, text=text[:60]):
-                (self.folder / "f").write_bytes(text.encode("latin1"))
-                self.assertEqual((1, b"inputplay: line %d: %s\n" % (line, cause.encode())),
-                                 outcome(self.folder / "f"))
 
     def test_the_second_program_plays_the_stored_records(self):
         for record in sorted([*EXAMPLES.glob("*.rec"), *RECORDS.glob("*.rec")]):

@@ -1,12 +1,10 @@
 """tools/draw: what its page and its picture have, that they stand alone, and that they stay small."""
 
-import os
 import re
-import subprocess
 import xml.etree.ElementTree as ElementTree
 from html.parser import HTMLParser
 
-from tests.desk_cases import PROGRAM, TOP, DeskCase, needs_program
+from tests.desk_cases import TOP, DeskCase
 from tests.drawn_records import KEYS, MORE_KEYS, typed
 
 from inputtools.colours import COLOURS, RULES
@@ -17,7 +15,6 @@ EXAMPLES = TOP / "examples"
 RECORDS = TOP / "tests" / "records"
 SVG = "{http://www.w3.org/2000/svg}"
 VOID = ("meta", "input")
-ENV = {**os.environ, "INPUTPLAY": PROGRAM}
 
 # What a rule draws with, and what it is drawn upon. (Bars of `open` and `contact` have marks upon them.)
 UPON = {
@@ -654,36 +651,3 @@ def luminance(colour):
 def contrast(one, other):
     lower, higher = sorted((luminance(one), luminance(other)))
     return (higher + 0.05) / (lower + 0.05)
-
-
-class Input(DrawCase):
-    def test_standard_input(self):
-        needs_program(self)
-        command = [TOP / "tools" / "draw", "-"]
-        with open(EXAMPLES / "stuck_key.rec") as file:
-            done = subprocess.run(command, stdin=file, capture_output=True, text=True, env=ENV)
-        self.assertEqual((0, ""), (done.returncode, done.stderr))
-        self.assertIn("<h1>standard input</h1>", done.stdout)
-        wanted = self.page(EXAMPLES / "stuck_key.rec")
-        self.assertEqual(wanted.split("</h1>")[1], done.stdout.split("</h1>")[1])
-
-
-class Refusals(DrawCase):
-    def test_wrong_input(self):
-        self.refused("draw", self.folder / "missing.rec", because="No such file")
-        self.refused("draw", self.folder, because="Is a directory")
-        self.refused("draw", self.file("text.rec", "a letter\n"), because="line 1: bad-header")
-        self.refused("draw", self.file("raw.rec", bytes(range(256))), because="line 1: not-text")
-        self.refused("draw", self.file("none.rec", "inputrecord 1\n"), because="no device to draw")
-
-    def test_wrong_words(self):
-        record = EXAMPLES / "one_key.rec"
-        self.refused("draw", because="required: FILE")
-        self.refused("draw", "--png", record, because="unrecognized arguments: --png")
-        self.refused("draw", "--from", "-1", record, because="-1 is no place")
-        self.refused("draw", "--from", "x", record, because="x is no place")
-        self.refused("draw", "--from", "5", "--to", "4", record, because="--to 4 is before --from 5")
-        self.refused("draw", "--from", "99999999", record, because="99999999 is not in 0 to 8388608")
-        past = "--from 13: the history of device kbd ends with place 12, which is before place 13"
-        for words in ((), ("--svg",)):
-            self.refused("draw", *words, "--from", "13", EXAMPLES / "stuck_key.rec", because=past)

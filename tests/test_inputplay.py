@@ -288,7 +288,7 @@ class Library(TreeCase):
         told = [f"tools/build: {done} of 3 crates are built, TIME: {name}" for done, name in crates]
         lines = [re.sub(r"\d+:\d\d|\d+ s$", "TIME", line) for line in lines]
         self.assertEqual([self.BEGUN, *told, "tools/build: that took TIME"], lines)
-        made = [f"{self.tree}/out/library/{name}" for name in ("libinputplay.a", "libinputplay.so.1.0.0")]
+        made = [f"{self.tree}/out/library/{name}" for name in ("libinputplay.a", "libinputplay.so.2.0.0")]
         self.assertEqual(made, [line.partition(": ")[0] for line in written.splitlines()])
         # what changed then, and what stands on it; the toolchain looks at the last one each time
         for crates in (["inp_c"], ["middle", "inp_c"]):

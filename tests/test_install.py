@@ -174,7 +174,9 @@ class Parts(FolderCase):
         top, stage = self.folder / "top", self.folder / "stage"
         for name in ("tools", "include"):
             shutil.copytree(TOP / name, top / name, ignore=shutil.ignore_patterns("__pycache__"))
-        for name in ("libinputplay.a", "libinputplay.so", "libinputplay.so.1", "libinputplay.so.1.0.0"):
+        made = ("libinputplay.a", "libinputplay.so", "libinputplay.so.2", "libinputplay.so.2.0.0")
+        older = ("libinputplay.so.1", "libinputplay.so.1.0.0")
+        for name in made + older:
             self.write(f"top/out/library/{name}", "")
         self.write("top/out/library/inputplay.pc", "prefix=/nowhere\nlibdir=${prefix}/lib\n")
         words = ["--library", "--destdir", stage, "/opt/it"]
@@ -182,7 +184,8 @@ class Parts(FolderCase):
         self.assertEqual((0, []), (status, lines))
         self.assertEqual(set(files_of(stage, stage)), set(listed.splitlines()))
         lib = stage / "opt" / "it" / "lib"
-        self.assertEqual("libinputplay.so.1.0.0", os.readlink(lib / "libinputplay.so.1"))
+        self.assertEqual(sorted([*made, "pkgconfig"]), sorted(os.listdir(lib)))
+        self.assertEqual("libinputplay.so.2.0.0", os.readlink(lib / "libinputplay.so.2"))
         page = (lib / "pkgconfig" / "inputplay.pc").read_text()
         self.assertEqual("prefix=/opt/it\nlibdir=${prefix}/lib\n", page)
 

@@ -62,7 +62,7 @@ class Page(PlayCase):
                    RECORDS / "slot_255.rec"]
         texts = [self.written("stuck", "--json", record) for record in records]
         texts.append(self.written("stuck", "--json", "--end", records[0]))
-        texts.append(self.tool("stuck", "--json", self.file("cut.rec", test_stuck.Cut.record))[1])
+        texts.append(self.tool("stuck", "--json", self.file("cut.rec", test_stuck.CUT))[1])
         self.assertEqual(set(), self.check("stuck", texts))
         partings = [each for text in texts for each in map(json.loads, text.splitlines())
                     if each["kind"] == "parting"]
@@ -76,6 +76,18 @@ class Page(PlayCase):
         steps = ("open close read grab ungrab revoke mask clock write discard setaxis "
                  "tick inhibit uninhibit").split()
         self.assertEqual(told, {row["what"] for row in rows} - {*steps})
+
+    def test_check_and_compare(self):
+        """Each field of their objects is told."""
+        needs_program(self)
+        check = ["check", "--json", self.file("case.rec", "#= status 0\ninputrecord 1\n"), "none.rec"]
+        report = (EXAMPLES / "stuck_key.report").read_text()
+        compare = ["compare", "--json", self.file("a.report", report),
+                   self.file("b.report", report.replace("again 7\n", "again 7\nagain 7\n"))]
+        for words in (check, compare):
+            for line in self.tool(*words)[1].splitlines():
+                for name in json.loads(line):
+                    self.assertIn(f"| `{name}` |", section(words[0]))
 
     def test_causes(self):
         """Each cause that is made anywhere is told, in the page and in the summary."""

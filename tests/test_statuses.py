@@ -34,82 +34,6 @@ FULL_OWNER = b"inputrecord 2\nudevice u\nlog 1\nowner o\ndo o feedback 1\ndo o f
 STREAM = b"inputrecord 1\ndevice d\ncap EV_KEY KEY_A\nsource s\ndo s stream keys\n"
 STREAM16 = STREAM.replace(b"inputrecord 1", b"inputrecord 2").replace(b"stream", b"stream16")
 
-DEVICE = "inputrecord 1\ndevice d\n"
-LATER_DEVICE = "inputrecord 2\ndevice d\n"
-SOURCE = DEVICE + "source s\n"
-REQUESTED = "inputrecord 2\nudevice u\n"
-OWNER = REQUESTED + "owner o\n"
-
-# The cause, a text, and the line that has the cause. The first line that has one is told, by its first cause.
-REFUSED = [
-    ("not-text", "inputrecord 1\ndevice d\x01\n", 2),
-    ("bad-header", "", 1),
-    ("bad-header", "device d\n", 1),
-    ("bad-header", "# no line means anything\n\n", 3),
-    ("bad-header", "inputrecord 3\n", 1),
-    ("bad-line", DEVICE + "devise e\n", 3),
-    ("bad-line", DEVICE + "hint 8 8\n", 3),
-    ("bad-line", SOURCE + "do s\n", 4),
-    ("out-of-place", DEVICE + "inputrecord 1\n", 3),
-    ("out-of-place", "inputrecord 1\nhint 8\n", 2),
-    ("out-of-place", SOURCE + "hint 8\n", 4),
-    ("out-of-place", SOURCE + "do s uninhibit\ndevice e\n", 5),
-    ("no-actor", SOURCE + "do x open\n", 4),
-    ("bad-command", SOURCE + "do s open\n", 4),
-    ("bad-command", SOURCE + "do s tick 1 2\n", 4),
-    ("bad-word", SOURCE + "do s tick 9000000000000001\n", 4),
-    ("bad-word", SOURCE + "do s tick 0X1\n", 4),
-    ("bad-word", DEVICE + "clock monotonic 1\n", 3),
-    ("bad-word", "inputrecord 1\ndevice D\n", 2),
-    ("twice", DEVICE + "hint 8\nhint 8\n", 4),
-    ("twice", DEVICE + "device d\n", 3),
-    ("twice", SOURCE + "device e\ntap s\n", 5),
-    ("too-many", "inputrecord 1\n" + "".join(f"device d{i}\n" for i in range(9)), 10),
-    ("too-many", DEVICE + "".join(f"source s{i}\n" for i in range(9)), 11),
-    ("too-many", DEVICE + "".join(f"tap t{i}\n" for i in range(129)), 131),
-    ("too-many", SOURCE + "do s stream keys\n" * 17, 20),
-    ("too-many", LATER_DEVICE + "source s\n" + "do s stream keys\n" * 8 + "do s stream16 keys\n" * 9, 20),
-    ("bad-command", SOURCE + "do s stream16 keys\n", 4),
-    ("bad-code", DEVICE + "cap EV_KEY 0\n", 3),
-    ("bad-axis", DEVICE + "axis ABS_X 0 0 9 -1 0 0\n", 3),
-    ("bad-slots", DEVICE + "slots 65\n", 3),
-    ("bad-slots", LATER_DEVICE + "slots 257\n", 3),
-    ("bad-hint", DEVICE + "hint 1\n", 3),
-    ("bad-log", DEVICE + "log 8388609\n", 3),
-    ("bad-offset", DEVICE + "clock boottime 9000000000000001\n", 3),
-    ("bad-line", DEVICE + "filter norepeat\n", 3),
-    ("bad-line", LATER_DEVICE + "filter chord KEY_A\n", 3),
-    ("bad-word", LATER_DEVICE + "filter other\n", 3),
-    ("bad-code", LATER_DEVICE + "filter chord KEY_A KEY_A\n", 3),
-    ("bad-filter", LATER_DEVICE + "filter norepeat\n" * 9, 11),
-    ("bad-line", DEVICE + "joy j\n", 3),
-    ("bad-command", LATER_DEVICE + "joy j\ndo j grab\n", 4),
-    ("bad-word", LATER_DEVICE + "joy j\ndo j read 4294967296\n", 4),
-    ("too-many", LATER_DEVICE + "tap t\n" + "".join(f"joy j{i}\n" for i in range(128)), 131),
-    ("bad-line", "inputrecord 1\nudevice u\n", 2),
-    ("bad-line", DEVICE + "owner o\n", 3),
-    ("out-of-place", LATER_DEVICE + "owner o\n", 3),
-    ("out-of-place", OWNER + "do o feedback 1\nudevice v\n", 5),
-    ("bad-command", OWNER + "do o read 1\n", 4),
-    ("bad-command", REQUESTED + "joy j\ndo j feedback 1\n", 4),
-    ("bad-word", OWNER + "do o feedback 0\n", 4),
-    ("bad-word", OWNER + "do o feedback 4097\n", 4),
-    ("twice", REQUESTED + "device u\n", 3),
-    ("twice", OWNER + "device d\ntap o\n", 5),
-    ("too-many", OWNER + "owner p\n", 4),
-    ("too-many", REQUESTED + "".join(f"device d{i}\n" for i in range(4)) + "".join(f"udevice v{i}\n" for i in range(4)), 10),
-]
-
-# As many of each as there may be. The file `keys` is empty.
-MOST = [
-    ("devices", "inputrecord 1\n" + "".join(f"device d{i}\n" for i in range(8))),
-    ("sources", DEVICE + "".join(f"source s{i}\n" for i in range(8))),
-    ("clients and taps", DEVICE + "".join(f"client c{i}\ntap t{i}\n" for i in range(64))),
-    ("readers beside an owner", OWNER + "".join(f"joy j{i}\ntap t{i}\n" for i in range(64))),
-    ("owners", "inputrecord 2\n" + "".join(f"udevice u{i}\nowner o{i}\n" for i in range(8))),
-    ("streams", LATER_DEVICE + "source s\n" + "do s stream keys\ndo s stream16 keys\n" * 8),
-]
-
 # What is wrong with words that are not accepted, and the words. The file `f` is a record.
 WRONG_WORDS = [
     ("there are none", []),
@@ -200,20 +124,6 @@ class Statuses(FolderCase):
         ]:
             with self.subTest(words=words):
                 self.ends(words, 0, text)
-
-    def test_0_as_many_as_there_may_be(self):
-        self.file("keys", b"")
-        for what, text in MOST:
-            with self.subTest(of=what):
-                self.file("f", text.encode())
-                ran = run(["f"], self.folder)
-                self.assertEqual((0, b""), (ran.status, ran.errors))
-
-    def test_1_a_line_is_refused(self):
-        for cause, text, line in REFUSED:
-            with self.subTest(cause=cause, text=text[:60]):
-                self.file("f", text.encode("latin1"))
-                self.ends(["f"], 1, b"inputplay: line %d: %s\n" % (line, cause.encode()))
 
     def test_1_a_stream_is_refused(self):
         self.file("f", STREAM)

@@ -7,7 +7,7 @@ one. Each line is an entry with its number, from 1, and its text, so that it can
 import re
 from dataclasses import dataclass
 from functools import lru_cache
-from typing import Callable, Dict, List, NamedTuple, Optional, Sequence, Tuple, Type, TypeVar, Union
+from typing import Callable, Dict, List, NamedTuple, Optional, Tuple, Type, TypeVar, Union
 
 from inputtools.command import Wrong, at_line
 from inputtools.progress import progress
@@ -464,7 +464,3 @@ def is_report(text: str) -> bool:
 def without_history(text: str) -> str:
     """A report without the steps of the histories."""
     return "".join(line for line in text.splitlines(keepends=True) if not line.startswith("step "))
-
-
-def parts_of_role(parts: Sequence[Part], role: str) -> List[Part]:
-    return [part for part in parts if part.role == role]
