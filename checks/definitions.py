@@ -120,6 +120,13 @@ class Repository:
                 return item.key
         return None
 
+    def home(self, crate: str, module: str) -> str:
+        """The crate that has a module of definitions: this one, or the one whose module it passes on."""
+        names = self.top / "crates" / crate / "specs" / "Lib.antt"
+        passed_on = rf"^pub use Rattle\.(\w+)\.specs\.{re.escape(module)}$"
+        found = re.search(passed_on, names.read_text(), re.MULTILINE) if names.is_file() else None
+        return found[1] if found else crate
+
     def module(self, path: str) -> Optional[Given]:
         """What a module of definitions gives for a name, as a function; None for one of the toolchain."""
         parts = path.split(".")
@@ -127,7 +134,7 @@ class Repository:
             return None
         crate, rest = parts[1], parts[3:]
         if rest[0] not in ("declared", "contracts"):
-            file = self.file(crate, "specs/" + "/".join(rest) + ".antt")
+            file = self.file(self.home(crate, ".".join(rest)), "specs/" + "/".join(rest) + ".antt")
             return lambda name: file.given(name)
         kind = rest[-1] if rest[-1].startswith("The") else None
         rest = rest[1:-1] if kind else rest[1:]
@@ -217,7 +224,7 @@ class Definitions(SourceFile):
         # the rows of the modules that a line stands in; what is in one is indented by two more
         modules: List[str] = []
         for number, row in enumerate(self.rows):
-            if not row.strip() or self.imports(row) or row.startswith("pub mod "):
+            if not row.strip() or self.imports(row) or row.startswith(("pub mod ", "pub use ")):
                 above = []
                 continue
             if COMMENT.match(row):

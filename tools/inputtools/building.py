@@ -26,6 +26,8 @@ CRATES = os.path.join(REPOSITORY, "crates")
 ARCHIVE = os.path.join(CRATES, LIBRARY, "out", f"lib{LIBRARY}.a")
 GATE_COST = os.path.join(REPOSITORY, "bench", "gate_cost")
 COST_PAGE = os.path.join(REPOSITORY, "bench", "COST.md")
+HEADER = os.path.join(REPOSITORY, "include", "inputplay.h")
+ABI = re.compile(r"^#define INPUTPLAY_ABI (\d+)$", re.MULTILINE)
 LAST_LINES = 20
 EVERY = 0.1
 
@@ -62,6 +64,14 @@ def in_order(crates: Dict[str, List[str]]) -> List[str]:
     while len(order) < len(crates):
         order.append(next(name for name, below in crates.items() if name not in order and set(below) <= set(order)))
     return order
+
+
+def soname() -> str:
+    """The name of the library's shared object, by the version of the interface that the header has."""
+    found = ABI.search(read(HEADER))
+    if found is None:
+        raise Wrong(f"{HEADER} has no INPUTPLAY_ABI")
+    return f"libinputplay.so.{found[1]}"
 
 
 # How long it takes

@@ -14,7 +14,7 @@ from second.device import DROPPED, Caps, Client, Device, Filter, Outputs, is_out
 from second.joystick import Joystick
 from second.model import Actor
 from second.names import LED, REP, SND, SYN
-from second.reader import NO_CLIENT, Reader, View
+from second.reader import Reader, View
 
 Event = Tuple[int, int, int]
 Step = Tuple[Any, ...]

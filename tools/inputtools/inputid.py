@@ -6,7 +6,7 @@ properties, and at the bus.
 
 from typing import Dict, Iterable, List
 
-from inputtools.names import ABS, CODES, KEY, REL, SLOT, SW
+from inputtools.names import KEY, REL, SLOT, SW
 from inputtools.recording import Axis, Device
 
 BUS_I2C = 0x18

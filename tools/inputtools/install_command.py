@@ -6,7 +6,7 @@ import py_compile
 import sys
 from typing import List, Sequence
 
-from inputtools.building import build, is_built
+from inputtools.building import build, is_built, soname
 from inputtools.command import PREFIX, VERSION, Result, Words, Wrong, put
 from inputtools.manual import LACKING, has_help2man, manual_pages
 from inputtools.program import BUILT, REPOSITORY
@@ -147,7 +147,9 @@ def install_library(installer: Installer) -> None:
     if not os.path.isfile(os.path.join(LIBRARY, "libinputplay.a")):
         raise Wrong("the library is not built; tools/build --library makes it")
     installer.copy(os.path.join(REPOSITORY, "include", "inputplay.h"), "include", "inputplay.h")
-    names = sorted(name for name in os.listdir(LIBRARY) if name.startswith("libinputplay."))
+    # (what an earlier build made may have the name of an older interface)
+    others = ("libinputplay.a", "libinputplay.so")
+    names = sorted(name for name in os.listdir(LIBRARY) if name in others or name.startswith(soname()))
     # The shared object has its whole version in its longest name; the shorter ones are links to it.
     whole = max(names, key=len)
     for name in names:
