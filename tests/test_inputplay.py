@@ -10,7 +10,8 @@ import signal
 import subprocess
 import unittest.mock
 
-from tests.desk_cases import PROGRAM, TOOLS, TOP, DeskCase, heed_stops, needs_program
+from tests.desk_cases import PROGRAM, TOP, DeskCase, heed_stops, needs_program
+from tests.playing import said
 from inputtools.building import RECKONED, in_order, needed_crates, time_text
 from inputtools.command import counted
 from inputtools.program import SecondProgram
@@ -47,39 +48,57 @@ class TreeCase(DeskCase):
 
     def setUp(self):
         super().setUp()
-        self.tree = self.folder / "tree"
-        for name in ("tools", "bin"):
-            shutil.copytree(TOP / name, self.tree / name, ignore=shutil.ignore_patterns("__pycache__"))
-        (self.tree / "docs").mkdir()
-        shutil.copy(TOP / "docs" / "inputplay.1", self.tree / "docs")
-        (self.tree / "crates.txt").write_text(CRATES)
+        self.tree, self.asked = self.folder / "tree", self.folder / "asked"
+        self.add("tools", "bin")
+        self.write("tree/docs/inputplay.1", (TOP / "docs" / "inputplay.1").read_bytes())
+        self.write("tree/crates.txt", CRATES)
         for name in needed_crates(CRATES):
             (self.tree / "crates" / name).mkdir(parents=True)
-        self.asked = self.folder / "asked"
-        commands = self.folder / "commands"
-        commands.mkdir()
-        (commands / "rt").write_text(TOOLCHAIN)
-        (commands / "rt").chmod(0o755)
-        self.path = f"{commands}:{os.environ['PATH']}"
+        toolchain = self.write("commands/rt", TOOLCHAIN, 0o755)
+        self.path = f"{toolchain.parent}:{os.environ['PATH']}"
 
-    def run_tree(self, *words, path=None, **more):
-        """Runs a command of the tree: its status, its output, and the lines that it says."""
-        env = {**os.environ, "PATH": path or self.path, "ASKED": str(self.asked), "FAILS": "",
+    def environment(self, **more):
+        """What a command of the tree has: the toolchain, and no variable that names a program."""
+        env = {**os.environ, "PATH": self.path, "ASKED": str(self.asked), "FAILS": "",
                "PYTHONDONTWRITEBYTECODE": "1", **more}
         env.pop("INPUTPLAY", None)
-        done = subprocess.run([self.tree / words[0], *words[1:]], env=env, cwd=self.folder,
-                              capture_output=True, text=True)
-        return done.returncode, done.stdout, done.stderr.splitlines()
+        return env
+
+    def run_tree(self, *words, **more):
+        """Runs a command of the tree: its status, its output, and the lines that it says."""
+        env = self.environment(**more)
+        status, text, errors = said(self.tree / words[0], *words[1:], env=env, cwd=self.folder)
+        return status, text, errors.splitlines()
+
+    def begin_on_a_terminal(self, *words, given="", **more):
+        """A command of the tree whose lines are said on a terminal, and our side of that; it may be given some."""
+        terminal, other = pty.openpty()
+        self.addCleanup(os.close, terminal)
+        os.write(terminal, given.encode())
+        begun = subprocess.Popen([self.tree / words[0], *words[1:]], env=self.environment(**more),
+                                 stdin=other if given else subprocess.DEVNULL, stdout=subprocess.PIPE,
+                                 stderr=other, cwd=self.folder, preexec_fn=heed_stops)
+        os.close(other)
+        return begun, terminal
+
+    def few(self):
+        """A path with Python alone."""
+        commands = self.folder / "few"
+        commands.mkdir()
+        for name in ("python3", "env"):
+            (commands / name).symlink_to(shutil.which(name))
+        return str(commands)
+
+    def add(self, *names):
+        """Has folders of the repository in the tree."""
+        for name in names:
+            shutil.copytree(TOP / name, self.tree / name, ignore=shutil.ignore_patterns("__pycache__"))
 
     def asked_for(self):
         return self.asked.read_text().splitlines() if self.asked.exists() else []
 
     def built(self, script="#!/bin/sh\necho \"played: $*\"\nexit 3\n"):
-        program = self.tree / "crates" / "inp_main" / "out" / "inp_main"
-        program.parent.mkdir()
-        program.write_text(script)
-        program.chmod(0o755)
-        return program
+        return self.write("tree/crates/inp_main/out/inp_main", script, 0o755)
 
 
 class Inputplay(TreeCase):
@@ -90,8 +109,7 @@ class Inputplay(TreeCase):
         self.assertEqual([], self.asked_for())
         # by a link, and from anywhere
         (self.folder / "link").symlink_to(self.tree / "bin" / "inputplay")
-        done = subprocess.run([self.folder / "link", "x"], cwd="/", capture_output=True, text=True)
-        self.assertEqual((3, "played: x\n", ""), (done.returncode, done.stdout, done.stderr))
+        self.assertEqual((3, "played: x\n", ""), said(self.folder / "link", "x", cwd="/"))
 
     def test_it_is_built_first(self):
         status, written, lines = self.run_tree("bin/inputplay", "x.rec")
@@ -107,39 +125,25 @@ class Inputplay(TreeCase):
         self.assertEqual(4, len(self.asked_for()))
 
     def test_how_far_a_build_is_stands_on_a_terminal(self):
-        terminal, other = pty.openpty()
-        self.addCleanup(os.close, terminal)
-        env = {**os.environ, "PATH": self.path, "ASKED": str(self.asked), "FAILS": ""}
-        words = [self.tree / "bin" / "inputplay", "x.rec"]
-        done = subprocess.run(words, env=env, cwd=self.folder, stdin=subprocess.DEVNULL,
-                              stdout=subprocess.PIPE, stderr=other,
-                              check=False)
-        os.close(other)
-        said = all_of(terminal).replace("\x1b[K", "")
-        self.assertEqual((6, b"played: x.rec\n"), (done.returncode, done.stdout), said)
-        self.assertIn("\rinputplay: 0 of 4 crates are built, 0:0", said)
-        self.assertIn(": low\r", said)
-        self.assertTrue(said.endswith("\r"), said)
+        begun, terminal = self.begin_on_a_terminal("bin/inputplay", "x.rec")
+        written, told = begun.communicate()[0], all_of(terminal).replace("\x1b[K", "")
+        self.assertEqual((6, b"played: x.rec\n"), (begun.returncode, written), told)
+        self.assertIn("\rinputplay: 0 of 4 crates are built, 0:0", told)
+        self.assertIn(": low\r", told)
+        self.assertTrue(told.endswith("\r"), told)
 
     def test_a_terminal_is_asked(self):
         """What it is about to do is one line, with how long it takes and what plays at once. No other answer
         builds."""
         for answer, status in (("n\n", 2), ("\n", 6)):
             with self.subTest(answer):
-                terminal, other = pty.openpty()
-                os.write(terminal, answer.encode())
-                env = {**os.environ, "PATH": self.path, "ASKED": str(self.asked), "FAILS": ""}
-                words = [self.tree / "bin" / "inputplay", "x.rec"]
-                done = subprocess.run(words, env=env, cwd=self.folder, stdin=other, stdout=subprocess.PIPE,
-                                      stderr=other,
-                                      check=False)
-                said = os.read(terminal, 65536).decode()
-                os.close(terminal)
-                os.close(other)
-                self.assertEqual(status, done.returncode, said)
+                begun, terminal = self.begin_on_a_terminal("bin/inputplay", "x.rec", given=answer)
+                begun.communicate()
+                told = all_of(terminal)
+                self.assertEqual(status, begun.returncode, told)
                 at_once = "bin/inputplay --unproved FILE plays at once"
-                self.assertIn(f"without tests, in {RECKONED}; {at_once}\r\n", said)
-                self.assertIn("inputplay: build it now? [Y/n] ", said)
+                self.assertIn(f"without tests, in {RECKONED}; {at_once}\r\n", told)
+                self.assertIn("inputplay: build it now? [Y/n] ", told)
                 self.assertEqual(4 if status == 6 else 0, len(self.asked_for()))
 
     def test_how_long_it_takes(self):
@@ -157,62 +161,56 @@ class Inputplay(TreeCase):
     def test_a_build_that_fails(self):
         status, written, lines = self.run_tree("bin/inputplay", "x.rec", FAILS="middle")
         self.assertEqual((2, ""), (status, written), lines)
-        said = "inputplay: middle was not built (rt ended with 1): error: it is not proved; all that was "
-        self.assertIn(f"{said}said is in ", lines[1])
+        told = "inputplay: middle was not built (rt ended with 1): error: it is not proved; all that was "
+        self.assertIn(f"{told}said is in ", lines[1])
         log = lines[1].rsplit(" in ", 1)[1]
         self.addCleanup(shutil.rmtree, os.path.dirname(log))
         self.assertEqual("error: it is not proved\n", open(log, encoding="ascii").read())
         self.assertNotIn("inp_main: run -- --make 1 --count 1", self.asked_for())
 
     def test_no_toolchain(self):
-        commands = self.folder / "few"
-        commands.mkdir()
-        (commands / "python3").symlink_to(shutil.which("python3"))
-        (commands / "env").symlink_to(shutil.which("env"))
+        few = self.few()
+        self.file("x.rec", "")
         for words in (["x.rec"], ["--unproved", "x.rec"]):
-            (self.folder / "x.rec").write_text("")
-            status, written, lines = self.run_tree("bin/inputplay", *words, path=str(commands))
+            status, written, lines = self.run_tree("bin/inputplay", *words, PATH=few)
             self.assertEqual((2, "", 1), (status, written, len(lines)), lines)
             self.assertIn("there is no toolchain (rt)", lines[0])
         self.assertIn("; bin/inputplay --unproved FILE plays without it",
-                      self.run_tree("bin/inputplay", "x", path=str(commands))[2][0])
+                      self.run_tree("bin/inputplay", "x", PATH=few)[2][0])
 
     def test_closed_streams(self):
         """As the other tools: a closed output is said, and a closed standard error is nothing."""
-        program = self.built()
-        (self.folder / "x.rec").write_text("inputrecord 1\ndevice d\n")
-        shutil.copytree(TOP / "second", self.tree / "second", ignore=shutil.ignore_patterns("__pycache__"))
-        said = "inputplay: standard output is closed\n"
-        program.write_text("#!/bin/sh\necho device d steps 0\n")
+        self.built("#!/bin/sh\necho device d steps 0\n")
+        self.file("x.rec", "inputrecord 1\ndevice d\n")
+        self.add("second")
+        told = "inputplay: standard output is closed\n"
         for words, closed, wanted in (
-            ("bin/inputplay x.rec", ">&-", (4, "", said)),
-            ("bin/inputplay --unproved x.rec", ">&-", (4, "", said)),
+            ("bin/inputplay x.rec", ">&-", (4, "", told)),
+            ("bin/inputplay --unproved x.rec", ">&-", (4, "", told)),
             ("bin/inputplay x.rec", "2>&-", (0, "device d steps 0\n", "")),
             ("bin/inputplay --unproved x.rec", "2>&-", (0, "device d steps 0\n", "")),
             ("tools/play x.rec", "2>&-", (0, "device d steps 0\n", "")),
             ("tools/play x.rec", "<&- >&- 2>&-", (4, "", "")),
         ):
             with self.subTest(words, closed=closed):
-                env = {key: value for key, value in os.environ.items() if key != "INPUTPLAY"}
-                done = subprocess.run(["sh", "-c", f"{self.tree}/{words} {closed}"], cwd=self.folder, env=env,
-                                      capture_output=True, text=True, check=False)
-                self.assertEqual(wanted, (done.returncode, done.stdout, done.stderr))
+                command = f"{self.tree}/{words} {closed}"
+                self.assertEqual(wanted, said("sh", "-c", command, cwd=self.folder, env=self.environment()))
 
     def test_unproved(self):
-        (self.folder / "x.rec").write_text("inputrecord 1\n")
-        status, written, lines = self.run_tree("bin/inputplay", "--unproved", "--history", "x.rec")
-        self.assertEqual((0, "device d steps 0\n", []), (status, written, lines))
+        self.file("x.rec", "inputrecord 1\n")
+        self.assertEqual((0, "device d steps 0\n", []),
+                         self.run_tree("bin/inputplay", "--unproved", "--history", "x.rec"))
         self.assertEqual([f"inp_main: try --data x.rec={self.folder}/x.rec -- --history ./x.rec"],
                          self.asked_for())
         self.run_tree("bin/inputplay", "--unproved", "--make", "7")
         self.assertEqual("inp_main: try -- --make 7", self.asked_for()[-1])
-        status, _, lines = self.run_tree("bin/inputplay", "--unproved", "missing.rec")
-        self.assertEqual((2, ["inputplay: missing.rec: no such file"]), (status, lines))
+        self.assertEqual((2, "", ["inputplay: missing.rec: no such file"]),
+                         self.run_tree("bin/inputplay", "--unproved", "missing.rec"))
 
     def test_unproved_by_the_second_program(self):
         """Where it is there it plays a record, also beside a built program and with no toolchain on the
         path."""
-        shutil.copytree(TOP / "second", self.tree / "second", ignore=shutil.ignore_patterns("__pycache__"))
+        self.add("second")
         self.built()
         example = TOP / "examples" / "stuck_key.rec"
         report = example.with_suffix(".report").read_text()
@@ -223,7 +221,7 @@ class Inputplay(TreeCase):
         status, written, _ = self.run_tree("bin/inputplay", "--unproved", "--history", str(example))
         self.assertEqual((0, True), (status, written != report
                                      and set(report.splitlines()) <= set(written.splitlines())))
-        (self.folder / "x.rec").write_text("inputrecord 1\nrubbish\n")
+        self.file("x.rec", "inputrecord 1\nrubbish\n")
         refused = (1, "inputplay: line 2: bad-line\n", [])
         self.assertEqual(refused, self.run_tree("bin/inputplay", "--unproved", "x.rec"))
         self.assertEqual([], self.asked_for())
@@ -234,10 +232,8 @@ class Inputplay(TreeCase):
 
     def test_broken_second_program(self):
         """It is told by its own name, whatever INPUTPLAY names."""
-        model = self.tree / "second"
-        model.mkdir(parents=True)
-        (model / "__main__.py").write_text("import sys\nsys.exit(1)\n")
-        (self.folder / "x.rec").write_text("inputrecord 1\ndevice d\nend\n")
+        self.write("tree/second/__main__.py", "import sys\nsys.exit(1)\n")
+        self.file("x.rec", "inputrecord 1\ndevice d\nend\n")
         told = "inputplay: the second program (second) is not inputplay, or is broken: it wrote nothing"
         self.assertEqual((2, "", [told]), self.run_tree("bin/inputplay", "--unproved", "x.rec"))
         with unittest.mock.patch.dict(os.environ, {"INPUTPLAY": "another"}):
@@ -277,7 +273,7 @@ class Library(TreeCase):
         for tool in ("cc", "ld", "objcopy", "ar"):
             if shutil.which(tool) is None:
                 self.skipTest(f"{tool} is not there")
-        shutil.copytree(TOP / "include", self.tree / "include")
+        self.add("include")
         (self.tree / "crates" / "inp_c").mkdir()
 
     def test_each_crate_is_told(self):
@@ -296,10 +292,7 @@ class Library(TreeCase):
             begun = f"tools/build: {counted(len(crates), 'crate')} to be proved and built, one after the other: "
             self.assertEqual(f"{begun}what changed since the last build", lines[0])
             self.assertEqual([f"{name}: lib" for name in crates], self.asked_for()[-1 - len(crates):-1])
-            (self.tree / "crates" / "middle" / "src").mkdir(exist_ok=True)
-            source = self.tree / "crates" / "middle" / "src" / "lib.rt"
-            source.write_text("")
-            os.utime(source, (2**32, 2**32))
+            os.utime(self.write("tree/crates/middle/src/lib.rt", ""), (2**32, 2**32))
         # what is made already is linked, and nothing is proved
         status, _, lines = self.run_tree("tools/build", "--library", "--made")
         self.assertEqual((0, [], 6), (status, lines, sum(line.endswith(": lib") for line in self.asked_for())))
@@ -307,60 +300,36 @@ class Library(TreeCase):
     def test_a_crate_that_fails(self):
         status, written, lines = self.run_tree("tools/build", "--library", FAILS="middle")
         self.assertEqual((1, "", 4), (status, written, len(lines)), lines)
-        said, log = lines[3].rsplit(" in ", 1)
+        told, log = lines[3].rsplit(" in ", 1)
         self.addCleanup(shutil.rmtree, os.path.dirname(log))
         why = "error: it is not proved; all that was said is"
-        self.assertEqual(f"tools/build: middle was not built (rt ended with 1): {why}", said)
+        self.assertEqual(f"tools/build: middle was not built (rt ended with 1): {why}", told)
 
     def test_a_terminal_and_a_stop(self):
-        terminal, other = pty.openpty()
-        self.addCleanup(os.close, terminal)
-        env = {**os.environ, "PATH": self.path, "ASKED": str(self.asked), "FAILS": "", "SLEEPS": "1"}
-        words = [self.tree / "tools" / "build", "--library"]
-        build = subprocess.Popen(words, env=env, cwd=self.folder, stdin=subprocess.DEVNULL, stdout=subprocess.PIPE,
-                                 stderr=other, preexec_fn=heed_stops)
-        os.close(other)
-        said = ""
-        while "crates are built" not in said:
-            said += os.read(terminal, 65536).decode()
+        build, terminal = self.begin_on_a_terminal("tools/build", "--library", SLEEPS="1")
+        told = ""
+        while "crates are built" not in told:
+            told += os.read(terminal, 65536).decode()
         build.send_signal(signal.SIGINT)
         ended = build.wait(10), build.communicate()[0]
-        said = (said + all_of(terminal)).replace("\x1b[K", "")
-        self.assertEqual((130, b""), ended, said)
-        told = r"\r\n\rtools/build: 0 of 3 crates are built, 0:\d\d: low\r(?:\r.*: low\r)*tools/build: stopped\r\n"
-        self.assertRegex(said, f"^{re.escape(self.BEGUN)}{told}$")
+        told = (told + all_of(terminal)).replace("\x1b[K", "")
+        self.assertEqual((130, b""), ended, told)
+        wanted = r"\r\n\rtools/build: 0 of 3 crates are built, 0:\d\d: low\r(?:\r.*: low\r)*"
+        wanted += r"tools/build: stopped\r\n"
+        self.assertRegex(told, f"^{re.escape(self.BEGUN)}{wanted}$")
 
 
 class Install(TreeCase):
     def setUp(self):
         super().setUp()
-        shutil.copytree(TOP / "second", self.tree / "second", ignore=shutil.ignore_patterns("__pycache__"))
+        self.add("second")
 
     def run_installed(self, program, *words):
         """Runs what is installed, from elsewhere: its status, and what it writes and says."""
-        env = {key: value for key, value in os.environ.items() if key != "INPUTPLAY"}
-        done = subprocess.run([program, *words], env=env, cwd="/", capture_output=True, text=True)
-        return done.returncode, done.stdout, done.stderr
+        return said(program, *words, env=self.environment(), cwd="/")
 
     def install(self, *words, **more):
         return self.run_tree("tools/install", *words, **more)
-
-    def test_what_is_installed(self):
-        self.built()
-        prefix = self.folder / "prefix"
-        status, written, lines = self.install(prefix)
-        self.assertEqual((0, []), (status, lines))
-        listed = set(written.splitlines())
-        own = {str(prefix / "lib" / "inputplay"), str(prefix / "share" / "doc" / "inputplay")}
-        self.assertEqual({str(path) for path in prefix.rglob("*") if path.is_file()} | own, listed)
-        tools = {path.name for path in TOOLS.iterdir() if path.is_file()} - {"build", "install"}
-        programs = {path.name for path in (prefix / "bin").iterdir()}
-        self.assertEqual({"inputplay"} | {f"inputplay-{tool}" for tool in tools}, programs)
-        self.assertEqual((TOP / "docs" / "inputplay.1").read_bytes(),
-                         (prefix / "share" / "man" / "man1" / "inputplay.1").read_bytes())
-        self.assertFalse([path for path in prefix.rglob("*") if path.name.endswith(".new")])
-        # again, over it
-        self.assertEqual((0, written, []), self.install(prefix))
 
     def test_what_is_installed_runs(self):
         needs_program(self)
@@ -375,15 +344,6 @@ class Install(TreeCase):
             with self.subTest(words[0]):
                 self.assertEqual((0, wanted), self.run_installed(moved / "bin" / words[0], *words[1:])[:2])
 
-    def test_what_is_installed_plays_without_the_program(self):
-        self.built()
-        self.install("here")
-        (self.folder / "here" / "lib" / "inputplay" / "inputplay").unlink()
-        record = TOP / "examples" / "stuck_key.rec"
-        status, written, said = self.run_installed(self.folder / "here" / "bin" / "inputplay-play", record)
-        self.assertEqual((0, record.with_suffix(".report").read_text()), (status, written), said)
-        self.assertIn("played by the second program (second), in Python, without proof", said)
-
     def test_installed_tools_speak_of_the_installed_program(self):
         self.built()
         self.install("here")
@@ -391,14 +351,14 @@ class Install(TreeCase):
         record = self.file("x.rec", "inputrecord 1\ndevice d\n")
         play = self.folder / "here" / "bin" / "inputplay-play"
         program.write_text("#!/bin/sh\necho rubbish\n")
-        said = f"inputplay-play: {program} is not inputplay, or is broken: what it wrote is no report"
-        self.assertIn(said, self.run_installed(play, record)[2])
+        told = f"inputplay-play: {program} is not inputplay, or is broken: what it wrote is no report"
+        self.assertIn(told, self.run_installed(play, record)[2])
         program.unlink()
         shutil.rmtree(self.folder / "here" / "lib" / "inputplay" / "second")
-        status, _, said = self.run_installed(play, record)
+        status, _, told = self.run_installed(play, record)
         self.assertEqual(2, status)
-        self.assertIn(f"there is no installed program ({program}) and no second one (", said)
-        self.assertNotIn("inp_main", said)
+        self.assertIn(f"there is no installed program ({program}) and no second one (", told)
+        self.assertNotIn("inp_main", told)
 
     def test_it_is_built_first(self):
         status, written, lines = self.install("prefix")
@@ -413,16 +373,12 @@ class Install(TreeCase):
                 status, written, lines = self.install(*words)
                 self.assertEqual((2, "", 1), (status, written, len(lines)), lines)
                 self.assertIn(because, lines[0])
-        commands = self.folder / "few"
-        commands.mkdir()
-        for name in ("python3", "env"):
-            (commands / name).symlink_to(shutil.which(name))
-        status, written, lines = self.install("p", path=str(commands))
+        status, written, lines = self.install("p", PATH=self.few())
         self.assertEqual((2, "", 1), (status, written, len(lines)), lines)
         self.assertIn("no toolchain (rt) to build it; bin/inputplay --unproved FILE plays without it; "
                       "--only tools installs the tools", lines[0])
         self.built()
-        (self.folder / "file").write_text("")
+        self.file("file", "")
         status, written, lines = self.install("file")
         self.assertEqual((2, "", 1), (status, written, len(lines)), lines)
         self.assertIn("Not a directory", lines[0])

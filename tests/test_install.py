@@ -196,6 +196,11 @@ class Parts(FolderCase):
         status, listed, lines = run(INSTALL, *words, umask=0o077)
         self.assertEqual((0, []), (status, lines))
         self.assertEqual(set(files_of(prefix)), set(listed.splitlines()))
+        # again, over it
+        self.assertEqual((0, listed, []), run(INSTALL, *words))
+        self.assertEqual(set(files_of(prefix)), set(listed.splitlines()))
+        page = prefix / "share" / "man" / "man1" / "inputplay.1"
+        self.assertEqual((TOP / "docs" / "inputplay.1").read_bytes(), page.read_bytes())
         link.symlink_to(prefix / "bin" / "inputplay")
         for installed in (prefix / "bin" / "inputplay", link):
             with self.subTest(installed.name):

@@ -2,10 +2,10 @@
 
 import os
 import shutil
-import subprocess
 from unittest import mock
 
 from tests.desk_cases import DATA, PROGRAM, TOOLS, TOP, DeskCase, needs_program
+from tests.playing import said
 from inputtools.refusal_hints import REFUSAL_HINTS
 
 EXAMPLES = TOP / "examples"
@@ -16,9 +16,17 @@ class PlayCase(DeskCase):
         """Runs the tool: its status, its output, and its lines on standard error."""
         needs_program(self)
         env = {**os.environ, "INPUTPLAY": PROGRAM, **environment}
-        words = [TOOLS / "play", *words]
-        done = subprocess.run(words, env=env, capture_output=True, text=True, cwd=self.folder, stdin=stdin)
-        return done.returncode, done.stdout, done.stderr.splitlines()
+        status, text, errors = said(TOOLS / "play", *words, env=env, cwd=self.folder, stdin=stdin)
+        return status, text, errors.splitlines()
+
+    def copy(self, *parts):
+        """A copy of parts of this repository, and what its commands have: Python, and no toolchain on the path."""
+        for part in parts:
+            shutil.copytree(TOP / part, self.folder / part, ignore=shutil.ignore_patterns("__pycache__"))
+        commands = self.folder / "commands"
+        commands.mkdir()
+        (commands / "python3").symlink_to(shutil.which("python3"))
+        return {"PATH": str(commands), "PYTHONDONTWRITEBYTECODE": "1"}
 
 
 class Played(PlayCase):
@@ -54,40 +62,23 @@ class Refused(PlayCase):
 class Words(PlayCase):
     def test_the_second_program(self):
         """In a copy of the tools with the second program beside them, with no toolchain on the path."""
-        for part in ("tools", "second"):
-            shutil.copytree(TOP / part, self.folder / part, ignore=shutil.ignore_patterns("__pycache__"))
-        commands = self.folder / "commands"
-        commands.mkdir()
-        (commands / "python3").symlink_to(shutil.which("python3"))
-        env = {"PATH": str(commands), "PYTHONDONTWRITEBYTECODE": "1"}
+        env = self.copy("tools", "second")
         records = {EXAMPLES / "views.rec": 0, TOP / "tests" / "records" / "owner_alone_is_full.rec": 6}
         for record, status in records.items():
             with self.subTest(record.name):
-                done = subprocess.run([self.folder / "tools" / "play", record], env=env, capture_output=True,
-                                      text=True)
-                said = ["play: played by the second program (second), in Python, without proof"]
-                self.assertEqual((status, said), (done.returncode, done.stderr.splitlines()))
-                self.assertEqual(record.with_suffix(".report").read_text(), done.stdout)
-        done = subprocess.run([self.folder / "tools" / "stuck", EXAMPLES / "stuck_key.rec"], env=env,
-                              capture_output=True, text=True)
-        self.assertEqual((0, ""), (done.returncode, done.stderr))
-        self.assertIn("KEY_LEFTCTRL: down for it, up on the device", done.stdout)
+                told = "play: played by the second program (second), in Python, without proof\n"
+                self.assertEqual((status, record.with_suffix(".report").read_text(), told),
+                                 said(self.folder / "tools" / "play", record, env=env))
+        status, text, errors = said(self.folder / "tools" / "stuck", EXAMPLES / "stuck_key.rec", env=env)
+        self.assertEqual((0, ""), (status, errors))
+        self.assertIn("KEY_LEFTCTRL: down for it, up on the device", text)
 
     def test_neither_program_nor_toolchain(self):
         """In a copy of the tools alone, with no toolchain on the path."""
-        shutil.copytree(TOOLS, self.folder / "tools", ignore=shutil.ignore_patterns("__pycache__"))
-        commands = self.folder / "commands"
-        commands.mkdir()
-        (commands / "python3").symlink_to(shutil.which("python3"))
-        done = subprocess.run(
-            [self.folder / "tools" / "play", EXAMPLES / "one_key.rec"],
-            env={"PATH": str(commands), "PYTHONDONTWRITEBYTECODE": "1"},
-            capture_output=True,
-            text=True,
-        )
-        self.assertEqual((2, ""), (done.returncode, done.stdout), done.stderr)
-        self.assertEqual(1, len(done.stderr.splitlines()), done.stderr)
-        self.assertIn("no built program (crates/inp_main/out/inp_main) and no toolchain (rt)", done.stderr)
+        env = self.copy("tools")
+        status, text, errors = said(self.folder / "tools" / "play", EXAMPLES / "one_key.rec", env=env)
+        self.assertEqual((2, "", 1), (status, text, len(errors.splitlines())), errors)
+        self.assertIn("no built program (crates/inp_main/out/inp_main) and no toolchain (rt)", errors)
 
 
 class Toolchain(PlayCase):
@@ -97,25 +88,21 @@ class Toolchain(PlayCase):
 
     def setUp(self):
         super().setUp()
-        shutil.copytree(TOOLS, self.folder / "tools", ignore=shutil.ignore_patterns("__pycache__"))
+        self.env = {**self.copy("tools"), "PATH": f"{self.folder}:{os.environ['PATH']}"}
         (self.folder / "crates" / "inp_main").mkdir(parents=True)
 
     def by_toolchain(self, tool, status, *lines, write='echo "$@"'):
         """Runs a tool by a toolchain that writes these lines at its end."""
-        said = "".join(f"echo '{line}' >&2\n" for line in lines)
-        toolchain = self.file("rt", f"#!/bin/sh\n{write}\n{said}exit {status}\n")
-        toolchain.chmod(0o755)
-        env = {"PATH": f"{self.folder}:{os.environ['PATH']}", "PYTHONDONTWRITEBYTECODE": "1"}
-        words = [self.folder / "tools" / tool, EXAMPLES / "views.rec"]
-        return subprocess.run(words, env=env, capture_output=True, text=True)
+        told = "".join(f"echo '{line}' >&2\n" for line in lines)
+        self.file("rt", f"#!/bin/sh\n{write}\n{told}exit {status}\n", 0o755)
+        return said(self.folder / "tools" / tool, EXAMPLES / "views.rec", env=self.env)
 
     def test_the_record_and_its_streams_are_handed_on(self):
-        done = self.by_toolchain("play", 6, "checked: ended status=6", self.last, write='pwd; echo "$@"')
+        came = self.by_toolchain("play", 6, "checked: ended status=6", self.last, write='pwd; echo "$@"')
         data = f"--data views.rec={EXAMPLES}/views.rec --data views_flood.bin={EXAMPLES}/views_flood.bin"
-        self.assertEqual(6, done.returncode, done.stderr)
-        self.assertEqual(f"{self.folder.resolve()}/crates/inp_main\ntry {data} -- ./views.rec\n", done.stdout)
-        said = ["play: played by the toolchain without proof (rt try); this takes one to three minutes"]
-        self.assertEqual(said, done.stderr.splitlines())
+        text = f"{self.folder.resolve()}/crates/inp_main\ntry {data} -- ./views.rec\n"
+        told = "play: played by the toolchain without proof (rt try); this takes one to three minutes\n"
+        self.assertEqual((6, text, told), came)
 
     def test_each_end_that_is_not_the_programs(self):
         """Whatever status the toolchain has: its last line tells that the program did not end."""
@@ -136,9 +123,8 @@ class Toolchain(PlayCase):
         for case, (status, lines, wanted) in ends.items():
             for tool in ("play", "stuck", "draw"):
                 with self.subTest(case, tool=tool):
-                    done = self.by_toolchain(tool, status, *lines, write="true")
-                    said = [line for line in done.stderr.splitlines()
-                            if "played by the toolchain" not in line]
-                    self.assertEqual((2, "", 1), (done.returncode, done.stdout, len(said)), said)
-                    self.assertTrue(said[0].startswith(f"{tool}: "), said)
-                    self.assertIn(wanted, said[0])
+                    came, text, errors = self.by_toolchain(tool, status, *lines, write="true")
+                    told = [line for line in errors.splitlines() if "played by the toolchain" not in line]
+                    self.assertEqual((2, "", 1), (came, text, len(told)), told)
+                    self.assertTrue(told[0].startswith(f"{tool}: "), told)
+                    self.assertIn(wanted, told[0])
