@@ -19,7 +19,7 @@ import time
 from typing import Dict, List, Optional, TextIO
 
 from inputtools.command import Wrong, counted, say
-from inputtools.program import BUILT, REPOSITORY
+from inputtools.program import BUILT, REPOSITORY, is_program
 
 PROGRAM, LIBRARY = "inp_main", "inp_c"
 CRATES = os.path.join(REPOSITORY, "crates")
@@ -35,10 +35,6 @@ EVERY = 0.1
 PROOFS = re.compile(r"^\| (\w+) \| (\d+) \| \d+ \| \d+ \| \d+ \|$", re.MULTILINE)
 MEASURE = re.compile(r"^The toolchain's first library took ([\d.]+) seconds in the same run\.$", re.MULTILINE)
 RECKONED = "some ten minutes on four processors, as is reckoned"
-
-
-def is_built() -> bool:
-    return os.access(BUILT, os.X_OK) and os.path.isfile(BUILT)
 
 
 def needed_crates(text: str, program: str = PROGRAM) -> Dict[str, List[str]]:
@@ -111,7 +107,8 @@ def time_text(page: str, crates: List[str], here: Optional[float]) -> str:
 
 
 class Build:
-    """A build: how many crates are done, and the one that is built, each with its log."""
+    """A build of crates, each behind those below it: how many are done, and the one that is built, each with its
+    log."""
 
     def __init__(self, crates: List[str], teller: "Teller") -> None:
         self.crates, self.teller = crates, teller
@@ -119,11 +116,14 @@ class Build:
 
     def run(self) -> None:
         """Builds all, or is refused with the end of the log of the first crate that fails."""
-        for number, name in enumerate(self.crates):
-            status = self.build(name, number)
-            if status:
-                raise Wrong(f"{name} was not built (rt ended with {status}): {self.last_line(name)}; "
-                            f"all that was said is in {self.log(name)}")
+        try:
+            for number, name in enumerate(self.crates):
+                status = self.build(name, number)
+                if status:
+                    raise Wrong(f"{name} was not built (rt ended with {status}): {self.last_line(name)}; "
+                                f"all that was said is in {self.log(name)}")
+        finally:
+            self.teller.end()
         shutil.rmtree(self.folder, ignore_errors=True)
 
     def build(self, name: str, number: int) -> int:
@@ -199,14 +199,6 @@ def is_wanted(program: str, stream: Optional[TextIO]) -> bool:
     return sys.stdin.readline().strip().lower() in ("", "y", "yes")
 
 
-def build_crates(crates: List[str], teller: Teller) -> None:
-    """Proves and builds crates, each behind those below it."""
-    try:
-        Build(crates, teller).run()
-    finally:
-        teller.end()
-
-
 def changed_at(name: str) -> float:
     """When a file of a crate changed last."""
     files = [os.path.join(folder, file) for part in ("src", "specs", "proofs")
@@ -234,7 +226,7 @@ def build_library(program: str, stream: TextIO) -> None:
         crates = in_order(needed)
         told = f"from nothing in {time_text(read(COST_PAGE), crates, measured())}; what is kept is taken"
     say(program, f"{counted(len(crates), 'crate')} to be proved and built, one after the other: {told}")
-    build_crates(crates, Teller(program, stream, has_lines=True))
+    Build(crates, Teller(program, stream, has_lines=True)).run()
 
 
 def build(program: str, stream: Optional[TextIO]) -> None:
@@ -250,6 +242,6 @@ def build(program: str, stream: Optional[TextIO]) -> None:
                  f"{time_text(read(COST_PAGE), crates, measured())}; bin/inputplay --unproved FILE plays at once")
     if not is_wanted(program, stream):
         raise Wrong("the program is not built; bin/inputplay --unproved FILE plays without it")
-    build_crates(crates, Teller(program, stream))
-    if not is_built():
+    Build(crates, Teller(program, stream)).run()
+    if not is_program(BUILT):
         raise Wrong("the toolchain said that it built the program, and crates/inp_main/out/inp_main is not there")

@@ -1,13 +1,11 @@
 """A capture made ready for a record: its frames, timed from the first event on, and what to say of it."""
 
-
 from typing import List, Optional
 
 from inputtools.command import Wrong, counted
 from inputtools.description import GREATEST_HINT, GREATEST_SLOTS, estimate, hint_of
 from inputtools.names import ABS, KEY, MSC, REP, SLOT, SYN, code_text, is_in_a_record, kernel_kind_text
-from inputtools.recording import Device, Recording
-from inputtools.recording import SYN_REPORT, Event, frames_of
+from inputtools.recording import SYN_REPORT, Device, Event, Recording, frames_of
 
 MSC_SCAN, REPEAT = 4, 2
 LATEST = 9000000000000000

@@ -1,6 +1,5 @@
 """Writes the lines of a record that describe a device, from what a usual tool tells of it."""
 
-
 from typing import List
 
 from inputtools import files, jsonlines

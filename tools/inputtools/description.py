@@ -9,8 +9,7 @@ from inputtools.names import (
     ABS, GREATEST, KEY, LED, NOT_IN_A_RECORD, REL, REP, SLOT, SW, TRACKING_ID, code_text, is_in_a_record,
     is_slot_value, kernel_kind_text, kind_text,
 )
-from inputtools.recording import Axis
-from inputtools.recording import Device
+from inputtools.recording import Axis, Device
 
 LEAST_HINT, GREATEST_HINT, GREATEST_SLOTS, GREATEST_FUZZ = 2, 512, 256, 1 << 30
 # How many slots a record of version 1 may have.

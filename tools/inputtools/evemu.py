@@ -6,18 +6,19 @@ same and means nothing. Values of axes stand in comments alone.
 """
 
 import re
-from typing import Dict, List, Union
+from typing import Dict, List
 
 from inputtools.command import Wrong, at_line, number
 from inputtools.identity import ids_of
 from inputtools.listing import Listing, complete
 from inputtools.names import LED, SW
+from inputtools.procfs import bits_of
 from inputtools.recording import GREATEST, LEAST, Axis, Device, Event, Recording
 
 HEAD = re.compile(r"# EVEMU \d")
 # The first version has no such line.
-HEADLESS = re.compile(
-    r"^(I: [0-9a-fA-F]{4} [0-9a-fA-F]{4}|B: [0-9a-fA-F]{2} [0-9a-fA-F]{2}"
+KNOWN_BY = re.compile(
+    r"# EVEMU \d|^(I: [0-9a-fA-F]{4} [0-9a-fA-F]{4}|B: [0-9a-fA-F]{2} [0-9a-fA-F]{2}"
     r"|E: ?\d+\.\d+ [0-9a-fA-F]{4} [0-9a-fA-F]{4} )", re.MULTILINE
 )
 VERSION = re.compile(r"# EVEMU (\d+)\.(\d+)")
@@ -26,16 +27,13 @@ AXIS = re.compile(r"([0-9a-fA-F]{1,2})((?:\s+-?\d+){4,5})\s*$")
 STATE = re.compile(r"([0-9a-fA-F]{1,2})\s+(\d+)\s*$")
 
 
-def is_evemu(text: str) -> bool:
-    return HEAD.search(text) is not None or HEADLESS.search(text) is not None
-
-
 class Parser:
     """One device and its events."""
 
     def __init__(self) -> None:
         self.device, self.listing = Device("evemu"), Listing("evemu")
-        self.bits: Dict[Union[int, str], bytearray] = {}
+        self.bits: Dict[int, bytearray] = {}
+        self.properties = bytearray()
         self.recording, self.is_described = Recording(), False
 
     def take(self, line: str, index: int, is_last: bool) -> None:
@@ -45,13 +43,11 @@ class Parser:
             return
         letter, _, rest = line.partition(":")
         rest = rest if letter == "N" else rest.partition("#")[0]
-        takes = {"N": self.take_name, "P": self.take_properties, "B": self.take_bits, "A": self.take_axis,
-                 "L": self.take_state, "S": self.take_state, "I": self.take_ids}.get(letter)
         try:
             if letter == "E":
                 self.take_event(line)
-            elif takes:
-                takes(rest.strip(), letter)
+            elif letter in ("N", "P", "B", "A", "L", "S", "I"):
+                self.describe(letter, rest.strip())
                 self.is_described = True
             elif line.strip():
                 raise Wrong("no line of an evemu file")
@@ -60,40 +56,38 @@ class Parser:
                 raise at_line(index, f"{wrong}: {line.strip()[:60]}") from None
             self.recording.ends_in_a_line = True
 
-    def take_ids(self, rest: str, _letter: str) -> None:
-        self.device.identity.ids = ids_of(rest)
+    def describe(self, letter: str, rest: str) -> None:
+        if letter == "N":
+            self.device.name = rest
+        elif letter == "I":
+            self.device.identity.ids = ids_of(rest)
+        elif letter == "P":
+            self.properties += bytes_of(rest.split())
+        elif letter == "B":
+            self.take_bits(rest.split())
+        elif letter == "A":
+            self.take_axis(rest)
+        else:
+            self.take_state(rest, LED if letter == "L" else SW)
 
-    def take_name(self, rest: str, _letter: str) -> None:
-        self.device.name = rest
-
-    def take_properties(self, rest: str, _letter: str) -> None:
-        self.bits.setdefault("properties", bytearray()).extend(self.bytes_of(rest))
-
-    def take_bits(self, rest: str, _letter: str) -> None:
-        kind = rest.split()[0] if rest else ""
-        if not re.fullmatch("[0-9a-fA-F]{1,2}", kind):
+    def take_bits(self, words: List[str]) -> None:
+        if not words or not re.fullmatch("[0-9a-fA-F]{1,2}", words[0]):
             raise Wrong("bits without a type")
-        self.bits.setdefault(int(kind, 16), bytearray()).extend(self.bytes_of(rest.partition(kind)[2]))
+        self.bits.setdefault(int(words[0], 16), bytearray()).extend(bytes_of(words[1:]))
 
-    def bytes_of(self, text: str) -> List[int]:
-        words = text.split()
-        if not all(re.fullmatch("[0-9a-fA-F]{2}", word) for word in words):
-            raise Wrong("bits that are no bytes")
-        return [int(word, 16) for word in words]
-
-    def take_axis(self, rest: str, _letter: str) -> None:
+    def take_axis(self, rest: str) -> None:
         found = AXIS.match(rest)
         if not found:
             raise Wrong("an axis wants four or five numbers behind its code")
         numbers = [number(word, LEAST, GREATEST, "the number") for word in found[2].split()]
         self.device.axes[int(found[1], 16)] = Axis(None, *numbers)
 
-    def take_state(self, rest: str, letter: str) -> None:
+    def take_state(self, rest: str, kind: int) -> None:
         found = STATE.match(rest)
         if not found:
             raise Wrong("a state wants a code and a number")
         if int(found[2]):
-            self.device.on[LED if letter == "L" else SW].add(int(found[1], 16))
+            self.device.on[kind].add(int(found[1], 16))
 
     def take_event(self, line: str) -> None:
         found = EVENT.match(line)
@@ -104,17 +98,20 @@ class Parser:
         self.recording.events.append(Event(time, int(found[3], 16), int(found[4], 16), value))
 
     def finished(self) -> Recording:
-        device = self.device
+        self.device.properties = bits_of(self.properties)
         for kind, octets in self.bits.items():
-            codes = [8 * i + bit for i, octet in enumerate(octets) for bit in range(8) if octet >> bit & 1]
-            if kind == "properties":
-                device.properties = codes
-            elif isinstance(kind, int) and kind and codes:
-                device.add(kind, codes)
-        complete(device, self.listing.device)
+            if kind and any(octets):
+                self.device.add(kind, bits_of(octets))
+        complete(self.device, self.listing.device)
         if self.is_described:
-            self.recording.device = device
+            self.recording.device = self.device
         return self.recording
+
+
+def bytes_of(words: List[str]) -> bytes:
+    if not all(re.fullmatch("[0-9a-fA-F]{2}", word) for word in words):
+        raise Wrong("bits that are no bytes")
+    return bytes.fromhex("".join(words))
 
 
 def parse(text: str) -> List[Recording]:

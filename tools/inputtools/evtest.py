@@ -15,7 +15,6 @@ from inputtools.names import MSC, SYN
 from inputtools.recording import (
     GREATEST, LEAST, SYN_CONFIG, SYN_DROPPED, SYN_MT_REPORT, SYN_REPORT, UNTOLD, Event, Recording,
 )
-from inputtools.recording import Device
 
 START = "Input driver version is"
 NAME = re.compile(r'Input device name: "(.*)"')
@@ -23,17 +22,13 @@ IDS = re.compile(r"Input device ID: bus 0x(\w+) vendor 0x(\w+) product 0x(\w+) v
 EVENT = re.compile(r"Event: time (\d+)\.(\d{6}), (.*)")
 PLAIN = re.compile(r"type (\d+) .*code (\d+) .*value (-?[0-9a-fA-F]+)\s*$")
 HEXADECIMAL = {(MSC, 3), (MSC, 4)}
-RECOGNISED = re.compile(
+KNOWN_BY = re.compile(
     r"^(.*Input driver version is|Input device name: |Supported events:|.*Event: time \d)", re.MULTILINE
 )
 GRABBED = "This device is grabbed by another process"
 WHY_GRABBED = ("evtest says that another process has grabbed the device, and it is shown no events meanwhile: "
                "stop that process, and capture again")
 END_OF_LISTING = re.compile(r"\s*(Testing|Properties:)")
-
-
-def is_evtest(text: str) -> bool:
-    return RECOGNISED.search(text) is not None
 
 
 def parse(text: str) -> List[Recording]:
@@ -44,18 +39,11 @@ def parse(text: str) -> List[Recording]:
         if START in line or not recordings:
             recordings.append((Listing("evtest"), Recording()))
         take_line(*recordings[-1], line, index, is_last=index == len(lines) - 1)
-    return [finished(listing.device, found) for listing, found in recordings if is_told(listing, found)]
-
-
-def is_told(listing: Listing, recording: Recording) -> bool:
-    return bool(listing.device.codes or listing.device.name or recording.events)
-
-
-def finished(device: Device, recording: Recording) -> Recording:
-    if device.codes or device.name:
-        forget_values_of_slots(device)
-        recording.device = device
-    return recording
+    for listing, recording in recordings:
+        if listing.device.codes or listing.device.name:
+            forget_values_of_slots(listing.device)
+            recording.device = listing.device
+    return [recording for _, recording in recordings if recording.device or recording.events]
 
 
 def take_line(listing: Listing, recording: Recording, line: str, index: int, is_last: bool) -> None:

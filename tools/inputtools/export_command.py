@@ -3,7 +3,7 @@
 import argparse
 import os
 import sys
-from typing import List, NamedTuple, Optional, Union
+from typing import List, Optional, Tuple, Union
 
 from inputtools.command import Result, Words, Wrong
 from inputtools.exporting import Source, evemu_text, raw_bytes
@@ -47,15 +47,8 @@ def written(path: Optional[str], data: Union[str, bytes], notes: List[str]) -> R
     return Result(data, notes)
 
 
-class ReadBy(NamedTuple):
+def read_by(given: Given, name: str, size: int) -> Tuple[bytes, Optional[Part]]:
     """What a client of a record read, as bytes, and who stopped since a history was full, if anybody did."""
-
-    data: bytes
-    cut: Optional[Part]
-
-
-def read_by(given: Given, name: str, size: int) -> ReadBy:
-    """What a client of a record read."""
     text = read_text(given.path)
     status, written = find_player().play(given.path, given.folder)
     if status not in PLAYED:
@@ -66,7 +59,7 @@ def read_by(given: Given, name: str, size: int) -> ReadBy:
     if name not in readers:
         listed = f"there are {', '.join(readers)}" if readers else "it has none"
         raise Wrong(f"{given.name}: no client or tap is named {name}; {listed}")
-    return ReadBy(raw_bytes(parts[name], size), report.cut)
+    return raw_bytes(parts[name], size), report.cut
 
 
 def refuse_own_file(path: str, output: Optional[str]) -> None:
@@ -113,7 +106,7 @@ def command(arguments: List[str]) -> Result:
         return written(asked.output, evemu_text(source), source.notes)
     if asked.device is not None:
         raise Wrong("--device goes with --evemu: the client tells the device")
-    read = read_by(given, asked.raw, 16 if asked.is_16 else 24)
-    notes = [f"the play was cut: {cut_text(read.cut)}; {CUT_HELP}"] if read.cut else []
-    result = written(asked.output, read.data, notes + ([] if read.data else [f"{asked.raw} read no event"]))
-    return result._replace(status=CUT if read.cut else 0)
+    data, cut = read_by(given, asked.raw, 16 if asked.is_16 else 24)
+    notes = [f"the play was cut: {cut_text(cut)}; {CUT_HELP}"] if cut else []
+    result = written(asked.output, data, notes + ([] if data else [f"{asked.raw} read no event"]))
+    return result._replace(status=CUT if cut else 0)

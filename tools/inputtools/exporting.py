@@ -5,14 +5,14 @@ The record need not be one that the program takes: what is wrong in the lines th
 """
 
 import struct
-from typing import Dict, List, Optional, Set
+from typing import Dict, Iterable, List, Optional, Set
 
 from inputtools import raw
 from inputtools.command import Wrong, at_line
 from inputtools.identity import Ids
 from inputtools.names import ABS, KEY, LED, SW, SYN, TYPES, code_text, kind_text, number_of_code, number_of_kind
 from inputtools.record import DEVICE_WORDS, Line, descriptions_of, lines_of
-from inputtools.recording import Axis, Device, Event
+from inputtools.recording import Axis, Device, Event, index_of
 from inputtools.report import Part, Took
 from inputtools.source import Given
 
@@ -30,9 +30,11 @@ class Source:
         self.path, self.folder = given.name, given.folder
         try:
             devices = descriptions_of(text)
+            if not devices:
+                raise Wrong("it has no device")
+            self.number = index_of([device.name for device in devices], chosen)
         except Wrong as wrong:
             raise Wrong(f"{self.path}: {wrong}") from None
-        self.number = index_of(self.path, [device.name for device in devices], chosen)
         self.device = devices[self.number]
         self.notes: List[str] = []
         self.events: List[Event] = []
@@ -75,22 +77,6 @@ class Source:
             self.notes.append(f"the events are those before the device's filters ({filters[0]} ..)")
 
 
-def index_of(path: str, names: List[str], chosen: Optional[str]) -> int:
-    """The index of the one device, or of that whose number, from 1, or whose name is chosen."""
-    listed = ", ".join(f"{index + 1} {name}" for index, name in enumerate(names))
-    if not names:
-        raise Wrong(f"{path}: it has no device")
-    if chosen is None and len(names) > 1:
-        raise Wrong(f"{path}: {len(names)} devices: {listed}; choose one with --device")
-    if chosen is None:
-        return 0
-    if names.count(chosen) == 1:
-        return names.index(chosen)
-    if chosen.isascii() and chosen.isdigit() and 1 <= int(chosen[:6]) <= len(names):
-        return int(chosen[:6]) - 1
-    raise Wrong(f"{path}: no one device {chosen}; there are {listed}")
-
-
 # evemu
 
 
@@ -116,12 +102,16 @@ def identity_lines(device: Device) -> List[str]:
     """The name, the ids and the properties, those of a virtual device where the record does not tell them."""
     identity = device.identity
     ids = identity.ids or Ids(BUS_VIRTUAL, 0, 0, 0)
-    octets = [sum(1 << bit for bit in range(8) if 8 * index + bit in identity.properties) for index in range(8)]
     return [
         f"N: {identity.name or device.name}",
         f"I: {' '.join(f'{number:04x}' for number in ids)}",
-        f"P: {' '.join(f'{octet:02x}' for octet in octets)}",
+        f"P: {bytes_of(identity.properties, 8).hex(' ')}",
     ]
+
+
+def bytes_of(codes: Iterable[int], count: int) -> bytes:
+    """The bits of codes as so many bytes, the lowest one first."""
+    return sum(1 << code for code in set(codes) if code < 8 * count).to_bytes(count, "little")
 
 
 def codes_of(device: Device, kind: int) -> Set[int]:
@@ -133,9 +123,8 @@ def codes_of(device: Device, kind: int) -> Set[int]:
 
 def bit_lines(kind: int, codes: Set[int]) -> List[str]:
     count = (COUNTS[kind] + 63) // 64 * 8
-    octets = [sum(1 << bit for bit in range(8) if 8 * index + bit in codes) for index in range(count)]
-    rows = [octets[index : index + 8] for index in range(0, count, 8)]
-    return [f"B: {kind:02x} " + " ".join(f"{octet:02x}" for octet in row) for row in rows]
+    octets = bytes_of(codes, count)
+    return [f"B: {kind:02x} {octets[index : index + 8].hex(' ')}" for index in range(0, count, 8)]
 
 
 def axis_line(code: int, axis: Axis) -> str:

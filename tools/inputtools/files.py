@@ -1,21 +1,21 @@
 """Reads a description or a capture, in whichever of the known forms it is, and chooses one of its devices."""
 
 import re
-from typing import Callable, List, Optional, TypeVar
+from typing import Callable, List, Optional, Tuple, TypeVar
 
 from inputtools import evemu, evtest, kinds, libinput, procfs, raw, record, source, udevadm
 from inputtools.command import Wrong
 from inputtools.progress import progress
-from inputtools.recording import Recording
+from inputtools.recording import Recording, index_of
 
 # The first that recognises a text reads it.
-FORMS = [
-    (evemu.is_evemu, evemu.parse),
-    (libinput.is_libinput, libinput.parse),
-    (procfs.is_procfs, procfs.parse),
-    (udevadm.is_udevadm, udevadm.parse),
+FORMS: List[Tuple[Callable[[str], object], Callable[[str], List[Recording]]]] = [
+    (evemu.KNOWN_BY.search, evemu.parse),
+    (libinput.KNOWN_BY.search, libinput.parse),
+    (procfs.KNOWN_BY.search, procfs.parse),
+    (udevadm.KNOWN_BY.search, udevadm.parse),
     (record.is_record, record.parse),
-    (evtest.is_evtest, evtest.parse),
+    (evtest.KNOWN_BY.search, evtest.parse),
 ]
 KNOWN = ("evtest's output, an evemu file, a recording of libinput, /proc/bus/input/devices, udevadm info, "
          "a record's lines")
@@ -87,11 +87,4 @@ def choose(recordings: List[Recording], chosen: Optional[str]) -> Recording:
     if len(recordings) == 1:
         return recordings[0]
     names = [recording.device.name if recording.device else "" for recording in recordings]
-    listed = ", ".join(f'{i + 1} "{name}"' for i, name in enumerate(names))
-    if chosen is None:
-        raise Wrong(f"{len(recordings)} devices: {listed}; choose one with --device")
-    if chosen in names and names.count(chosen) == 1:
-        return recordings[names.index(chosen)]
-    if re.fullmatch("[0-9]{1,4}", chosen) and 1 <= int(chosen) <= len(recordings):
-        return recordings[int(chosen) - 1]
-    raise Wrong(f'no one device "{chosen}"; there are {listed}')
+    return recordings[index_of(names, chosen, '"')]

@@ -4,9 +4,9 @@ import os
 import sys
 from typing import List
 
-from inputtools.building import build, is_built
+from inputtools.building import build
 from inputtools.command import CUT_OFF, VERSION, Result, say
-from inputtools.program import BUILT
+from inputtools.program import BUILT, is_program
 from inputtools.unproved import play
 
 HELP = """usage: bin/inputplay [--unproved] WORDS ..
@@ -47,7 +47,7 @@ def command(words: List[str]) -> Result:
     if sys.stdout is None:
         say("inputplay", "standard output is closed")
         return Result(status=CUT_OFF)
-    if not is_built():
+    if not is_program(BUILT):
         build("inputplay", sys.stderr)
     sys.stdout.flush()
     os.execv(BUILT, ["inputplay", *words])

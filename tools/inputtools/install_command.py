@@ -6,10 +6,10 @@ import py_compile
 import sys
 from typing import List, Sequence
 
-from inputtools.building import build, is_built, soname
+from inputtools.building import build, soname
 from inputtools.command import PREFIX, VERSION, Result, Words, Wrong, put
 from inputtools.manual import LACKING, has_help2man, manual_pages
-from inputtools.program import BUILT, REPOSITORY
+from inputtools.program import BUILT, REPOSITORY, is_program
 from inputtools.runbuild import SERVER, SHIM
 
 HELP = """Installs inputplay below PREFIX, /usr/local for example:
@@ -165,7 +165,7 @@ def install_library(installer: Installer) -> None:
 
 def install_program(installer: Installer, program: str) -> None:
     """Installs what was compiled, and the program's page."""
-    if not (os.path.isfile(program) and os.access(program, os.X_OK)):
+    if not is_program(program):
         raise Wrong(f"{program} is no program")
     installer.copy(program, *LIB, "inputplay", is_program=True)
     installer.put(LAUNCHER.encode(), "bin", "inputplay", is_program=True)
@@ -217,7 +217,7 @@ def command(arguments: List[str]) -> Result:
     asked = words.parse_args(arguments)
     if not asked.prefix:
         raise Wrong("PREFIX is empty")
-    if asked.program is None and not asked.library and asked.only != "tools" and not is_built():
+    if asked.program is None and not asked.library and asked.only != "tools" and not is_program(BUILT):
         try:
             build("install", sys.stderr)
         except Wrong as wrong:

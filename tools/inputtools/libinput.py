@@ -14,16 +14,13 @@ from inputtools.listing import Listing, complete
 from inputtools.names import KEY, MSC
 from inputtools.recording import GREATEST, LEAST, Axis, Device, Event, Recording
 
+KNOWN_BY = re.compile(r"^(# libinput record|ndevices:|devices:\s*$|\s*- node: /dev/input)", re.MULTILINE)
 MSC_SCAN, HIDDEN = 4, 30
 DEVICE = re.compile(r"\s*- node:")
 SECTION = re.compile(r"\s*(codes|absinfo|properties|udev|quirks|events|hid|name|id|evdev):\s*(.*)$")
 LIST = re.compile(r"\s*(\d+):\s*\[(.*?)\]\s*(?:#.*)?$")
 KIND_OF_EVENT = re.compile(r"\s*- (\w+):\s*$")
 EVENT = re.compile(r"\s*- \[(.*)\]\s*(#.*)?$")
-
-
-def is_libinput(text: str) -> bool:
-    return re.search(r"^(# libinput record|ndevices:|devices:\s*$|\s*- node: /dev/input)", text, re.M) is not None
 
 
 class Parser:
@@ -106,10 +103,9 @@ class Parser:
         return True
 
     def finished(self) -> Recording:
-        device = self.device
-        complete(device, self.listing.device)
+        complete(self.device, self.listing.device)
         self.find_hidden()
-        self.recording.device = device
+        self.recording.device = self.device
         return self.recording
 
     def find_hidden(self) -> None:

@@ -7,6 +7,7 @@ import shutil
 import subprocess
 import tempfile
 from concurrent.futures import ThreadPoolExecutor
+from pathlib import Path
 from typing import List, Sequence
 
 from inputtools.command import VERSION, Wrong
@@ -35,8 +36,8 @@ def output_of(words: Sequence[str]) -> str:
 
 def summary(path: str) -> str:
     """What a tool does, as the head of a page has it."""
-    with open(path, encoding="utf-8") as file:
-        told = (ast.get_docstring(ast.parse(file.read())) or "").split("\n")[0].rstrip(".")
+    page = ast.parse(Path(path).read_text(encoding="utf-8"))
+    told = (ast.get_docstring(page) or "").split("\n")[0].rstrip(".")
     return told[:1].lower() + told[1:]
 
 
@@ -53,13 +54,10 @@ def manual_page(program: str, stage: str) -> bytes:
     # (the last paragraph of each help has its statuses)
     head, _, statuses = help_text.rstrip().rpartition("\n\n")
     with tempfile.TemporaryDirectory() as folder:
-        told, more = os.path.join(folder, "help"), os.path.join(folder, "more")
-        for path, text in (
-            (told, head + "\n"),
-            (more, f"[EXIT STATUS]\n{section(statuses)}\n\n[SEE ALSO]\n.BR inputplay (1)\n"),
-        ):
-            with open(path, "w", encoding="utf-8") as file:
-                file.write(text)
+        told, more = Path(folder, "help"), Path(folder, "more")
+        also = "[SEE ALSO]\n.BR inputplay (1)\n"
+        told.write_text(head + "\n", encoding="utf-8")
+        more.write_text(f"[EXIT STATUS]\n{section(statuses)}\n\n{also}", encoding="utf-8")
         words = [HELP2MAN, "--no-info", f"--include={more}", f"--help-option={told}", "--locale=C.UTF-8"]
         version = f"{os.path.basename(program)} (inputplay) {VERSION}"
         words += [f"--version-string={version}", f"--name={summary(program)}", "cat"]

@@ -5,7 +5,7 @@ Ranges and values of axes and the number of slots are not told.
 """
 
 import re
-from typing import List, Sequence
+from typing import Iterable, List, Sequence
 
 from inputtools.command import Wrong, at_line
 from inputtools.identity import Identity, ids_of
@@ -13,23 +13,15 @@ from inputtools.names import ABS, KEY, LED, MSC, REL, REP, SND, SW
 from inputtools.recording import Axis, Device, Recording
 
 KINDS = {"KEY": KEY, "REL": REL, "ABS": ABS, "MSC": MSC, "LED": LED, "SND": SND, "SW": SW, "FF": 0x15}
+KNOWN_BY = re.compile(r"^I: Bus=[0-9a-fA-F]{4} ", re.MULTILINE)
 IDS = re.compile(r"I: Bus=(\w+) Vendor=(\w+) Product=(\w+) Version=(\w+)")
 PLACE = re.compile(r"(P: Phys|U: Uniq)=(.*)$")
 BITS = re.compile(r"B: (\w+)=\s*([0-9a-fA-F ]*)$")
 MOST_KEYS = 0x300
 
 
-def is_procfs(text: str) -> bool:
-    return re.search(r"^I: Bus=[0-9a-fA-F]{4} ", text, re.M) is not None
-
-
-def word_bits(text: str) -> int:
-    """The size of a word: 64 where one has more than 8 digits, 32 where keys take more words than with 64."""
-    return word_size([found[2].split() for found in map(BITS.match, text.split("\n")) if found])
-
-
 def word_size(words: List[List[str]]) -> int:
-    """The size of the words of which these are."""
+    """The size of a word: 64 where one has more than 8 digits, 32 where keys take more words than with 64."""
     if any(len(word) > 8 for line in words for word in line):
         return 64
     return 32 if any(len(line) > MOST_KEYS // 64 for line in words) else 64
@@ -39,13 +31,19 @@ def codes_of(words: Sequence[str], size: int) -> List[int]:
     value = 0
     for word in words:
         value = value << size | int(word, 16)
-    return [code for code in range(value.bit_length()) if value >> code & 1]
+    return bits_of(value.to_bytes(value.bit_length() // 8 + 1, "little"))
+
+
+def bits_of(octets: Iterable[int]) -> List[int]:
+    """The numbers of the bits that are set, those of the first octet being 0 to 7."""
+    return [8 * index + bit for index, octet in enumerate(octets) for bit in range(8) if octet >> bit & 1]
 
 
 def parse(text: str) -> List[Recording]:
     """The devices of a file, without events."""
-    size, lines = word_bits(text), text.split("\n")
     devices: List[Device] = []
+    lines = text.split("\n")
+    size = word_size([found[2].split() for found in map(BITS.match, lines) if found])
     for index, line in enumerate(lines):
         if line.startswith("I: Bus="):
             devices.append(Device("/proc/bus/input/devices", has_ranges=False))

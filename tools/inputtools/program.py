@@ -242,11 +242,15 @@ def find_player() -> Player:
     """What plays: the built or installed program, else the second one, else the toolchain."""
     named = os.environ.get("INPUTPLAY")
     program = os.path.abspath(named) if named else BUILT
-    if os.access(program, os.X_OK) and os.path.isfile(program):
+    if is_program(program):
         return BuiltProgram(program, named or os.path.relpath(BUILT, REPOSITORY), bool(named))
     if named:
         raise Wrong(f"INPUTPLAY names {named}, which is no program")
     return SecondProgram() if has_second() else Toolchain()
+
+
+def is_program(path: str) -> bool:
+    return os.access(path, os.X_OK) and os.path.isfile(path)
 
 
 def has_second() -> bool:

@@ -7,8 +7,7 @@ import struct
 from typing import List, Optional, Tuple
 
 from inputtools.command import Wrong, counted
-from inputtools.names import GREATEST as GREATEST_CODES
-from inputtools.names import NOT_IN_A_RECORD, SYN, kind_text
+from inputtools.names import GREATEST as GREATEST_CODES, NOT_IN_A_RECORD, SYN, kind_text
 from inputtools.recording import Event, Recording
 
 FORMS = {24: struct.Struct("<QQHHi"), 16: struct.Struct("<IIHHi")}

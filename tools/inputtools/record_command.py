@@ -9,15 +9,12 @@ from inputtools.command import Result, Words, Wrong
 from inputtools.description import name_of
 from inputtools.evtest import WHY_GRABBED
 from inputtools.identifying import identify
-from inputtools.merge_devices import MergedRecord
-from inputtools.readers import FORM, micros_of, readers_of
-from inputtools.readers import Reader
+from inputtools.merge_devices import MergedRecord, merge_devices, recordings_of
+from inputtools.readers import FORM, Reader, micros_of, readers_of
 from inputtools.recording import Recording
 from inputtools.source import shown, write_bytes
-from inputtools.merge_devices import recordings_of, merge_devices
 from inputtools.verifying import verify
-from inputtools.writing import Options, Record
-from inputtools.writing import Window, record_of
+from inputtools.writing import Options, Record, Window, record_of
 
 HELP = f"""Writes a whole record of a device and of a capture of its events, to be played.
 

@@ -1,8 +1,10 @@
 """What a file tells: a device and the events that it sent. They are cut into frames here."""
 
+import re
 from dataclasses import dataclass, field
 from typing import Dict, Iterable, List, NamedTuple, Optional, Set, Tuple
 
+from inputtools.command import Wrong
 from inputtools.identity import Identity
 from inputtools.names import KEY, LED, REP, SLOT, SW, SYN, event_text
 
@@ -82,6 +84,20 @@ class Recording:
     hides_scan_codes: bool = False
     ends_in_a_line: bool = False
     was_grabbed: bool = False
+
+
+def index_of(names: List[str], chosen: Optional[str], quote: str = "") -> int:
+    """The index of the one device, or of that whose number, from 1, or whose name is chosen."""
+    listed = ", ".join(f"{number} {quote}{name}{quote}" for number, name in enumerate(names, 1))
+    if chosen is None and len(names) > 1:
+        raise Wrong(f"{len(names)} devices: {listed}; choose one with --device")
+    if chosen is None:
+        return 0
+    if names.count(chosen) == 1:
+        return names.index(chosen)
+    if re.fullmatch("[0-9]{1,6}", chosen) and 1 <= int(chosen) <= len(names):
+        return int(chosen) - 1
+    raise Wrong(f"no one device {quote}{chosen}{quote}; there are {listed}")
 
 
 @dataclass

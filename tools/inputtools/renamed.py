@@ -9,8 +9,7 @@ from typing import Dict
 from inputtools.capture import Capture
 from inputtools.command import Wrong, counted
 from inputtools.names import KEY, MSC
-from inputtools.recording import Device, Event
-from inputtools.recording import Frame
+from inputtools.recording import Device, Event, Frame
 
 # MSC_RAW and MSC_SCAN, each of which tells a scan code.
 SCAN_CODES = (3, 4)

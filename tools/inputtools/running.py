@@ -13,7 +13,7 @@ import tempfile
 import time
 from dataclasses import asdict, dataclass
 from types import FrameType
-from typing import Dict, List, Optional, Tuple
+from typing import Dict, List, NamedTuple, Optional, Tuple
 
 from inputtools.command import Wrong
 from inputtools.runbuild import SERVER, SHIM, TOP
@@ -166,11 +166,11 @@ def stop(folder: str) -> None:
         time.sleep(0.02)
 
 
-class Ended:
+class Ended(NamedTuple):
     """How a program ended: its status as a shell tells it, and whether its time was out."""
 
-    def __init__(self, status: int, is_late: bool = False):
-        self.status, self.is_late = status, is_late
+    status: int
+    is_late: bool = False
 
 
 class Program:

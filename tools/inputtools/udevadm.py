@@ -16,13 +16,9 @@ from inputtools.recording import Device, Recording
 START = re.compile(r"P: /|  looking at (?:parent )?device '")
 ATTRIBUTE = re.compile(r'    ATTRS?\{([^}]*)\}=="(.*)"\s*$')
 VALUE = re.compile(r"E: (\w+)=(.*?)\s*$")
-IS_UDEVADM = re.compile(r"^(    ATTRS?\{capabilities/ev\}==|E: EV=[0-9a-f])", re.MULTILINE)
+KNOWN_BY = re.compile(r"^(    ATTRS?\{capabilities/ev\}==|E: EV=[0-9a-f])", re.MULTILINE)
 MOST_WORDS = 64
 IDS = ("id/bustype", "id/vendor", "id/product", "id/version")
-
-
-def is_udevadm(text: str) -> bool:
-    return bool(IS_UDEVADM.search(text))
 
 
 def blocks_of(text: str) -> List[Dict[str, str]]:

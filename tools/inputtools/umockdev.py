@@ -4,7 +4,6 @@ Programs that look for devices by udev find them so: libinput, SDL and composito
 `tools/run` serves the nodes, and starts a program under umockdev-run for the rest.
 """
 
-
 from typing import Dict, Iterable, List, Set
 
 from inputtools.identity import Identity, Ids
@@ -26,14 +25,9 @@ WORD = 64
 
 def words_of(codes: Iterable[int]) -> str:
     """Bits as /sys writes them: words of hexadecimal digits, the highest one first."""
-    bits = 0
-    for code in codes:
-        bits |= 1 << code
-    words: List[str] = []
-    while bits or not words:
-        words.insert(0, f"{bits % (1 << WORD):x}")
-        bits >>= WORD
-    return " ".join(words)
+    bits = sum(1 << code for code in set(codes))
+    shifts = reversed(range(0, max(bits.bit_length(), 1), WORD))
+    return " ".join(f"{(bits >> shift) % (1 << WORD):x}" for shift in shifts)
 
 
 def codes_of(device: Device) -> Dict[int, Set[int]]:

@@ -16,8 +16,7 @@ from inputtools.readers import Reader
 from inputtools.recording import Event
 from inputtools.report import Report, Took
 from inputtools.refusal_hints import refusal_text
-from inputtools.writing import Record
-from inputtools.writing import text_of
+from inputtools.writing import Record, text_of
 
 NAME = "verify"
 

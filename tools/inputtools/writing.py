@@ -14,10 +14,8 @@ from inputtools.identity import REALTIME, moment_of
 from inputtools.likely_slot import Guess, guess_of
 from inputtools.names import ABS, SYN, TRACKING_ID
 from inputtools.progress import progress
-from inputtools.readers import DRIVER, Acts
-from inputtools.readers import Reader
-from inputtools.recording import Device, Frame, Recording
-from inputtools.recording import Event
+from inputtools.readers import DRIVER, Acts, Reader
+from inputtools.recording import Device, Event, Frame, Recording
 from inputtools.renamed import hide_keys
 from inputtools.initial_state import State, events_between, state_before, state_described
 
