@@ -2,11 +2,12 @@
 
 from typing import List
 
-from inputtools import files, jsonlines
+from inputtools import files
 from inputtools.command import Result, Words, Wrong
 from inputtools.description import comments, description_lines, name_of, state_lines
 from inputtools.evtest import WHY_GRABBED
 from inputtools.identity import moment_of
+from inputtools.jsonlines import description_line
 from inputtools.source import shown
 
 HELP = """Writes the lines of a record that describe a device: device, hint, slots, type, cap and axis.
@@ -44,6 +45,6 @@ def command(arguments: List[str]) -> Result:
     lines = comments(device, asked.raw) + description_lines(device, name_of(device, asked.name), asked.raw)
     lines += state_lines(device)
     if asked.json:
-        lines = jsonlines.description_lines(lines)
+        lines = list(map(description_line, lines))
     text = "".join(line.encode("ascii", "backslashreplace").decode() + "\n" for line in lines)
     return Result(text, [WHY_GRABBED] if recording.was_grabbed else [])

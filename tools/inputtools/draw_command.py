@@ -4,13 +4,13 @@ import os
 from typing import List, Optional
 
 from inputtools.command import Result, Words, Wrong, number
+from inputtools.endings import cuts_of
 from inputtools.export_command import refuse_own_file
 from inputtools.page import page, svg, why_nothing
 from inputtools.played import play
 from inputtools.program import CUT, find_player
 from inputtools.source import Given, write_bytes
 from inputtools.wall import add_wall, wall
-from inputtools.endings import cuts_of
 
 HELP = """Writes a page that shows a played record, to be looked at in a browser. On top one sentence says
 who ends apart from the device, in what, since when and why, or what is held on the device, and leads there.
@@ -65,5 +65,6 @@ def command(arguments: List[str]) -> Result:
     text = svg(devices[0], first, last) if asked.svg else page(name, devices, first, last)
     if asked.output is not None:
         write_bytes(asked.output, text.encode("ascii"))
+        text = ""
     cuts = cuts_of(drawn)
-    return Result("" if asked.output is not None else text, cuts, CUT if cuts else 0)
+    return Result(text, cuts, CUT if cuts else 0)

@@ -10,7 +10,7 @@ from inputtools.owners import Owner
 from inputtools.played import PlayedDevice, Reader, cut_of
 from inputtools.report import cut_text
 from inputtools.still_down import still_down_of
-from inputtools.stuck_text import name_of, since_text
+from inputtools.stuck_text import name_of
 
 # The causes that last, by a client's own doing.
 LASTING = ("mask", "revoked", "closed", "never-opened")
@@ -104,7 +104,7 @@ def endings_of_reader(device: PlayedDevice, reader: Reader, most: Optional[int])
         names, first = sorted(name_of(reader, each.thing) for each in group), first_of(group)
         values = {f", {each.believed_text} for it, {each.present_text} on the device" for each in group}
         told = values.pop() if len(values) == 1 and first.thing.kind != "EV_ABS" else ""
-        kind, since = first.cause.kind, since_text(first.since, device.state.at)
+        kind, since = first.cause.kind, device.state.at.since(first.since)
         row = f"{reader.name}, {kind if kind in lasting else name_of(reader, first.thing)}"
         text = f"{who} ends apart in {names_text(names, most)} {since}{told}: {cause}"
         yield Ending(rank_of(group), device, first.since or 0, row, text)
@@ -132,7 +132,7 @@ def passing_of(device: PlayedDevice, reader: Reader) -> Iterator[Ending]:
     at, who = device.state.at, f"{reader.role} {reader.name}"
     for one in reader.divergences:
         if one.met_by is not None and one.cause.kind not in LASTING:
-            name, since = name_of(reader, one.thing), since_text(one.since, at)
+            name, since = name_of(reader, one.thing), at.since(one.since)
             until = "" if one.met_at is None else f" until {at.text(one.met_at)}"
             text = f"{who} was apart in {name} {since}{until}: {one.cause.text}"
             yield Ending(PASSED, device, one.since or 0, f"{reader.name}, {name}", text)

@@ -4,8 +4,7 @@ The device's own state is played without its filters, so its frames have all eve
 filters are given these frames here, but for those that ended while a client held the grab.
 """
 
-from abc import ABC, abstractmethod
-from typing import Callable, Dict, List, Optional, Sequence, Tuple
+from typing import Callable, Dict, List, Optional, Sequence, Tuple, Union
 
 from inputtools.names import code_text, kind_text, number_of_code, number_of_kind
 from inputtools.report import Event
@@ -22,31 +21,21 @@ def event_words(kind_word: str, code_word: str) -> Tuple[str, str]:
 class Hold:
     """The holds of one key: a hold is eaten or left whole, as is decided at its press."""
 
-    def __init__(self) -> None:
-        self.is_eaten: Optional[bool] = None
+    is_eaten = False
 
-    def eats(self, value: int, decide: Callable[[], bool]) -> bool:
-        """Takes an event of the key. `decide` says at a press whether the hold is eaten."""
+    def eats(self, value: int, is_to_be: bool) -> bool:
+        """Takes an event of the key. `is_to_be` says of a press whether its hold is eaten."""
         if value == REPEAT:
-            return bool(self.is_eaten)
-        if value:
-            self.is_eaten = decide()
             return self.is_eaten
-        is_eaten, self.is_eaten = bool(self.is_eaten), None
+        is_eaten = is_to_be if value else self.is_eaten
+        self.is_eaten = bool(value) and is_eaten
         return is_eaten
 
 
-class Filter(ABC):
-    """A filter, and its text."""
-
-    text: str
-
-    @abstractmethod
-    def eats(self, event: Event, now: int) -> bool:
-        """Takes an event at a moment; is it eaten?"""
+# Each filter has a text, and takes an event at a moment by `eats`, which says whether it is eaten.
 
 
-class Eat(Filter):
+class Eat:
     def __init__(self, kind: str, code: str) -> None:
         self.kind, self.code = event_words(kind, code)
         self.text = f"eat {self.code}"
@@ -55,14 +44,14 @@ class Eat(Filter):
         return (event.kind, event.code) == (self.kind, self.code)
 
 
-class NoRepeat(Filter):
+class NoRepeat:
     text = "norepeat"
 
     def eats(self, event: Event, now: int) -> bool:
         return event.kind == "EV_KEY" and event.value == REPEAT
 
 
-class Chord(Filter):
+class Chord:
     def __init__(self, first: str, second: str) -> None:
         (_, self.first), (_, self.second) = event_words("EV_KEY", first), event_words("EV_KEY", second)
         self.text = f"chord {self.first} {self.second}"
@@ -73,10 +62,10 @@ class Chord(Filter):
             return False
         if event.code == self.first and event.value != REPEAT:
             self.is_first_down = bool(event.value)
-        return event.code == self.second and self.hold.eats(event.value, lambda: self.is_first_down)
+        return event.code == self.second and self.hold.eats(event.value, self.is_first_down)
 
 
-class Bounce(Filter):
+class Bounce:
     def __init__(self, key: str, micros: str) -> None:
         _, self.key = event_words("EV_KEY", key)
         self.micros = int(micros, 16 if micros.startswith("0x") else 10)
@@ -84,18 +73,17 @@ class Bounce(Filter):
         self.hold = Hold()
         self.released: Optional[int] = None
 
-    def is_soon(self, now: int) -> bool:
-        return self.released is not None and self.released <= now < self.released + self.micros
-
     def eats(self, event: Event, now: int) -> bool:
         if (event.kind, event.code) != ("EV_KEY", self.key):
             return False
-        is_eaten = self.hold.eats(event.value, lambda: self.is_soon(now))
+        is_soon = self.released is not None and self.released <= now < self.released + self.micros
+        is_eaten = self.hold.eats(event.value, is_soon)
         if event.value == 0 and not is_eaten:
             self.released = now
         return is_eaten
 
 
+Filter = Union[Eat, NoRepeat, Chord, Bounce]
 FORMS: Dict[str, Callable[..., Filter]] = {"eat": Eat, "norepeat": NoRepeat, "chord": Chord, "bounce": Bounce}
 
 

@@ -2,7 +2,7 @@
 objects."""
 
 import json
-from typing import Any, Dict, Iterable, List, Optional, Sequence
+from typing import Any, Dict, List, Optional, Sequence
 
 from inputtools.belief import Thing
 from inputtools.devicestate import Sent
@@ -13,8 +13,7 @@ from inputtools.places import Places
 from inputtools.played import PlayedDevice, Reader, cut_of
 from inputtools.report import (
     BEHIND, ActorLine, Again, Call, DeviceLine, Entry, Event, Fed, Feedback, JoyRecord, Made, SourceLine,
-    StepLine, Stop,
-    Took, ViewLine, cut_text, entry_of,
+    StepLine, Stop, Took, ViewLine, cut_text, entry_of,
 )
 from inputtools.still_down import still_down_of
 
@@ -161,9 +160,8 @@ def stuck_lines(devices: Sequence[PlayedDevice]) -> List[str]:
                 lines += [divergence_line(device, reader, divergence) for divergence in reader.divergences]
                 lines.append(end_line(device, reader))
         for held in still_down_of(device.state):
-            since = moment_fields(device.state.at, held.since)
-            lines.append(line_of("held", device=device.name, **thing_fields(held.thing), value=held.value,
-                                 since=since))
+            more = {"value": held.value, "since": moment_fields(device.state.at, held.since)}
+            lines.append(line_of("held", device=device.name, **thing_fields(held.thing), **more))
         lines += [line_of("state", device=device.name, **fields_of(line)) for line in device.state.view]
     return lines
 
@@ -171,24 +169,20 @@ def stuck_lines(devices: Sequence[PlayedDevice]) -> List[str]:
 # Descriptions
 
 
-def description_lines(lines: Iterable[str]) -> List[str]:
-    """The objects of a description's lines, comments among them."""
-    return [description_line(line) for line in lines]
+# The fields of a line by its first word. Those of all other lines are `words`.
+FIELDS = {
+    "cap": "type code", "type": "type", "device": "device", "hint": "count", "slots": "count", "log": "count",
+    "axis": "code value minimum maximum fuzz flat resolution",
+}
+NAMES = ("type", "code", "device")
 
 
 def description_line(line: str) -> str:
+    """The object of a description's line, which may be a comment."""
     if line.startswith("#"):
         return line_of("comment", text=line[1:].strip())
     first, *words = line.split()
-    if first == "cap":
-        return line_of("cap", type=words[0], code=words[1])
-    if first == "type":
-        return line_of("type", type=words[0])
-    if first == "axis":
-        names = ("value", "minimum", "maximum", "fuzz", "flat", "resolution")
-        return line_of("axis", code=words[0], **dict(zip(names, map(int, words[1:]))))
-    if first == "device":
-        return line_of("device", device=words[0])
-    if first in ("hint", "slots", "log"):
-        return line_of(first, count=int(words[0]))
-    return line_of(first, words=words)
+    if first not in FIELDS:
+        return line_of(first, words=words)
+    fields = zip(FIELDS[first].split(), words)
+    return line_of(first, **{name: word if name in NAMES else int(word) for name, word in fields})

@@ -3,7 +3,7 @@ their times beside them in each text.
 """
 
 from functools import partial
-from typing import Callable, Dict, List, NamedTuple, Optional, Sequence, Tuple
+from typing import Dict, List, NamedTuple, Optional, Sequence, Tuple
 
 from inputtools.belief import BIT_KINDS, CURRENT, TRACKING_ID, Thing
 from inputtools.command import counted
@@ -11,7 +11,6 @@ from inputtools.devicestate import Changes, Frame
 from inputtools.divergences import Divergence
 from inputtools.endings import apart_of, first_of, kind_of, lasting_of, names_text
 from inputtools.joysticks import STARTUP, JoyWalk
-from inputtools.moments import Moments
 from inputtools.owners import Owner
 from inputtools.played import Client, PlayedDevice, Reader
 from inputtools.report import Again, Call, JoyRecord, Took
@@ -23,7 +22,8 @@ from inputtools.summary import CAUSES
 # What stands before a joystick's records in a text, and how long that is at most, about.
 HANDED, LONGEST = ": it was handed ", 240
 
-TextOf = Callable[[int], Optional[str]]
+# What is said of a call by which a reader asks for all that the device has.
+ASKS = {"open": "opened", "discard": "discarded, to ask anew"}
 
 
 class Rank(NamedTuple):
@@ -34,13 +34,11 @@ class Rank(NamedTuple):
     since: int
 
 
-def on_text(thing: Thing) -> TextOf:
-    """Says of a value of a key, switch or LED what is shown of it, or None where it is off."""
-    return lambda value: f"{thing.code} {thing.value_text(value)}" if value else None
-
-
-def contact_text(value: int) -> Optional[str]:
-    return f"contact {value}" if value >= 0 else None
+def shown_text(thing: Thing, value: int) -> Optional[str]:
+    """What is shown of a key, a switch, an LED or a slot with a value, or None where it is off."""
+    if thing.slot is not None:
+        return f"contact {value}" if value >= 0 else None
+    return f"{thing.code} {thing.value_text(value)}" if value else None
 
 
 def is_held_down(thing: Thing) -> bool:
@@ -57,21 +55,15 @@ class Lanes:
     """The rows of one played device."""
 
     def __init__(self, played: PlayedDevice) -> None:
-        self.played, self.state = played, played.state
-        self.moments = Moments(played.report.history)
+        self.played, self.state, self.at = played, played.state, played.state.at
         self.end, self.walked = len(played.report.history), played.clients + played.joysticks
 
-    def at(self, place: int) -> str:
-        return self.state.at.text(place)
+    def told(self, before: str, place: int, behind: str) -> str:
+        return f"{before}{self.at.text(place)}{behind}"
 
-    def told(self, before: str, place: int, behind: str = "") -> str:
-        return f"{before}{self.at(place)}{behind}"
-
-    def span_text(self, begin: Optional[int], end: Optional[int]) -> str:
-        """From which place to which. None is the start, or no end."""
-        if begin is not None:
-            return self.state.at.span(begin, end)
-        return "from the start " + ("on" if end is None else f"to {self.at(end)}")
+    def mark(self, place: int, kind: str, before: str = "", behind: str = "", back: float = 0) -> Mark:
+        """A mark that tells its place, with texts before and behind that, and stands so far before it."""
+        return Mark(max(place - back, 0), kind, partial(self.told, before, place, behind))
 
     def sections(self) -> List[Section]:
         """The headings and their rows: the sources, the device, each client, joystick and owner. Where
@@ -79,7 +71,11 @@ class Lanes:
         grave, rest = self.thing_rows()
         readers = []
         for reader in self.played.readers():
-            rows = self.owner_rows(reader) if isinstance(reader, Owner) else self.client_rows(reader)
+            if isinstance(reader, Owner):
+                rows = self.owner_rows(reader)
+            else:
+                row = Row(reader.name, "client", self.call_marks(reader), self.handle_bars(reader))
+                rows = [row, *self.lasting_rows(reader)]
             readers.append(Section(f"{reader.role} {reader.name}", rows))
         is_calm = not grave and all(row.kind != "parted" for _, rows in readers for row in rows)
         device, first = f"device {self.played.name}", self.frame_rows() + (rest if is_calm else grave)
@@ -100,7 +96,7 @@ class Lanes:
 
     def step_text(self, place: int) -> str:
         # (the moment of a step stands beside its place already)
-        return f"{self.at(place)}: {' '.join(self.played.report.history[place].without_moment())}"
+        return f"{self.at.text(place)}: {' '.join(self.played.report.history[place].without_moment())}"
 
     # The device
 
@@ -142,7 +138,7 @@ class Lanes:
     def frame_text(self, frame: Frame) -> str:
         events = ", ".join(event.text() for event in frame.events[:6])
         more = f" and {len(frame.events) - 6} more" if len(frame.events) > 6 else ""
-        return f"frame of {self.at(frame.place)}: {events}{more}"
+        return f"frame of {self.at.text(frame.place)}: {events}{more}"
 
     def filter_row(self) -> Row:
         filters, marks = self.state.description.filters, []
@@ -150,26 +146,24 @@ class Lanes:
             for event, by in zip(frame.events, frame.eaten):
                 if by is not None:
                     text = f": {event.text()} is eaten by filter {by} ({filters[by - 1].text})"
-                    marks.append(Mark(frame.place, "eaten", partial(self.told, "", frame.place, text)))
+                    marks.append(self.mark(frame.place, "eaten", behind=text))
         return Row("eaten by filters", marks=marks)
 
     def span_bar(self, begin: Optional[int], end: Optional[int], kind: str, text: str) -> Bar:
         """A bar from a place, or the start, to a place, or the end."""
         last = self.end if end is None else end
-        return Bar(begin or 0, last, kind, f"{text} {self.span_text(begin, end)}")
+        return Bar(begin or 0, last, kind, f"{text} {self.at.span(begin, end)}")
 
-    def span_bars(self, thing: Thing, changes: Changes, kind: str, text_of: TextOf) -> List[Bar]:
-        """Bars for the spans of places in which a thing is on. `text_of` gives None for an off value. What
-        was on from the start has no first place, and what is on at the end no last one."""
-        bars: List[Bar] = []
-        since: Optional[int] = None
-        shown: Optional[str] = None
-        for frame, value in zip(changes.frames, changes.values):
-            place, text = self.state.place_of(frame), text_of(value)
-            bars += [] if shown is None else [self.span_bar(since, place, kind, shown)]
-            since, shown = place, text
-        last = [] if shown is None else [self.span_bar(since, None, kind, shown)]
-        return bars + [bar._replace(is_held=is_held_down(thing)) for bar in last]
+    def span_bars(self, thing: Thing, changes: Changes, kind: str) -> List[Bar]:
+        """Bars for the spans of places in which a thing is on. What was on from the start has no first place,
+        and what is on at the end no last one."""
+        places = [self.state.place_of(frame) for frame in changes.frames]
+        texts = [shown_text(thing, value) for value in changes.values]
+        spans = zip(places, [*places[1:], None], texts)
+        bars = [self.span_bar(begin, end, kind, text) for begin, end, text in spans if text is not None]
+        if texts[-1] is not None:
+            bars[-1] = bars[-1]._replace(is_held=is_held_down(thing))
+        return bars
 
     def points_of(self, changes: Changes) -> "Ordered[Value]":
         places = (self.state.place_of(frame) or 0 for frame in changes.frames)
@@ -180,11 +174,11 @@ class Lanes:
         they were as lines."""
         changes = self.state.changes.get(thing) or Changes(thing.first_value)
         if thing.kind in BIT_KINDS:
-            return Row(thing.code, bars=self.span_bars(thing, changes, "on", on_text(thing)), below=below)
+            return Row(thing.code, bars=self.span_bars(thing, changes, "on"), below=below)
         if thing.slot is None:
             stretch = Stretch(0, self.end, self.points_of(changes))
             return Row(thing.text(), "line", lines=[Line(thing.code, "first", [stretch])], below=below)
-        bars = self.span_bars(thing, changes, "contact", contact_text)
+        bars = self.span_bars(thing, changes, "contact")
         lines = self.contact_lines(thing.slot, bars)
         return Row(f"slot {thing.slot}", "line", bars=bars, lines=lines, below=below)
 
@@ -210,36 +204,30 @@ class Lanes:
         for entry in client.part.sight:
             if isinstance(entry, Took):
                 if entry.event.is_loss:
-                    tell = partial(self.told, "loss at ", entry.place, ": SYN_DROPPED")
-                    marks.append(Mark(entry.place, "loss", tell))
+                    marks.append(self.mark(entry.place, "loss", "loss at ", ": SYN_DROPPED"))
             elif isinstance(entry, Again):
-                tell = partial(self.told, "nothing left to read at ", entry.place)
-                marks.append(Mark(max(entry.place - 0.5, 0), "again", tell))
+                marks.append(self.mark(entry.place, "again", "nothing left to read at ", back=0.5))
             elif isinstance(entry, Call) and not entry.reply.is_refused:
-                said, place = call_mark(client.role, entry), entry.reply.place
-                if said:
-                    marks.append(Mark(place, said.kind, partial(self.told, "", place, f": {said.text}")))
+                kind, text = call_mark(client.role, entry)
+                marks += [self.mark(entry.reply.place, kind, behind=f": {text}")] if text else []
             elif isinstance(entry, JoyRecord) and marks and isinstance(client.walk, JoyWalk):
-                text = with_record(marks[-1].text, client.walk, entry)
-                marks[-1] = marks[-1]._replace(tell=partial(str, text))
+                handed = with_record(marks[-1].text, client.walk, entry)
+                marks[-1] = marks[-1]._replace(tell=partial(str, handed))
         return marks
 
     def handle_bars(self, client: Client) -> List[Bar]:
         """Bars for the spans in which a client is open, revoked, masked or holds the grab."""
         handles = self.played.handles
-        bars: List[Bar] = []
+        spans: List[Tuple[int, Optional[int], str, str]] = []
         for opened, number in client.walk.clients:
-            closed = handles.closes.get(number)
-            revoked = handles.revokes.get(number)
-            bars.append(self.span_bar(opened, closed if revoked is None else revoked, "open", "open"))
-            if revoked is not None:
-                bars.append(self.span_bar(revoked, closed, "revoked", "revoked"))
-            for mask in handles.spans_of_masks(number):
-                bars.append(self.span_bar(mask.begin, mask.end, "mask", f"mask of {mask.kind}"))
-            for grab in handles.grabs:
-                if grab.client == number:
-                    bars.append(self.span_bar(grab.begin, grab.end, "grab", f"grab of {client.name}"))
-        return bars
+            closed, revoked = handles.closes.get(number), handles.revokes.get(number)
+            spans.append((opened, closed if revoked is None else revoked, "open", "open"))
+            spans += [(revoked, closed, "revoked", "revoked")] if revoked is not None else []
+            spans += [(mask.begin, mask.end, "mask", f"mask of {mask.kind}")
+                      for mask in handles.spans_of_masks(number)]
+            spans += [(grab.begin, grab.end, "grab", f"grab of {client.name}")
+                      for grab in handles.grabs if grab.client == number]
+        return [self.span_bar(*span) for span in spans]
 
     def divergence_rows(self, reader: Reader, before: str = "") -> Dict[Thing, Row]:
         """For each thing in which a reader's belief was not the device's state a row, but for those that are
@@ -257,9 +245,8 @@ class Lanes:
         return rows
 
     def divergence_bar(self, divergence: Divergence, name: str) -> Bar:
-        since = 0 if divergence.since is None else divergence.since
-        met = self.end if divergence.met_at is None else divergence.met_at
-        span, kind = self.span_text(divergence.since, divergence.met_at), kind_of(divergence)
+        since, met = divergence.since or 0, self.end if divergence.met_at is None else divergence.met_at
+        span, kind = self.at.span(divergence.since, divergence.met_at), kind_of(divergence)
         values = f"{divergence.believed_text} for it, {divergence.present_text} on the device"
         text = f"{name} differs {span}: {values}: {divergence.cause.text}"
         is_held = divergence.met_by is None and kind == "stuck" and is_held_down(divergence.thing)
@@ -286,31 +273,20 @@ class Lanes:
         marks = []
         for place, events in owner.calls:
             told = ", ".join(each.event.text() for each in events)
-            text = f"asked at {self.at(place)}: " + (f"told {told}" if events else "nothing was there")
-            marks.append(Mark(max(place - 0.5, 0), "read" if events else "again", partial(str, text)))
+            kind, text = ("read", f": told {told}") if events else ("again", ": nothing was there")
+            marks.append(self.mark(place, kind, "asked at ", text, back=0.5))
         sent = Row("sent to the device", marks=self.sent_marks(owner), told=f"sent to {self.played.name}")
         return [Row(owner.name, "client", marks), sent, *self.divergence_rows(owner).values()]
 
     def sent_marks(self, owner: Owner) -> List[Mark]:
         """The events that were sent, each with what became of it."""
-        became: Dict[int, Tuple[str, str]] = {}
-        for place, events in owner.calls:
-            became.update({sent.place: ("event", f"told at {self.at(place)}") for sent in events})
+        became = {sent.place: ("event", f"told at {self.at.text(place)}")
+                  for place, events in owner.calls for sent in events}
         lost = "lost, since it was not asked for in time"
         became.update({sent.place: ("loss", lost) for sent in owner.lost})
         became.update({sent.place: ("timer", "not asked for until the end") for sent in owner.waiting})
-        marks = []
-        for sent in self.state.sent:
-            kind, word = became[sent.place]
-            tell = partial(self.told, "", sent.place, f": {sent.event.text()}: {word}")
-            marks.append(Mark(sent.place, kind, tell))
-        return marks
-
-    # All clients
-
-    def client_rows(self, client: Client) -> List[Row]:
-        row = Row(client.name, "client", self.call_marks(client), self.handle_bars(client))
-        return [row] + self.lasting_rows(client)
+        told = [(sent.place, sent.event.text(), *became[sent.place]) for sent in self.state.sent]
+        return [self.mark(place, kind, behind=f": {text}: {word}") for place, text, kind, word in told]
 
 
 def order_of(thing: Thing) -> Tuple[bool, Tuple[bool, bool, int, str, str]]:
@@ -324,22 +300,12 @@ def during(points: "Ordered[Value]", begin: int, end: int) -> "Ordered[Value]":
     return Ordered(before + points.between(begin + 1, end))
 
 
-class Said(NamedTuple):
-    """The kind of a call's mark, and what it says."""
-
-    kind: str
-    text: str
-
-
-def call_mark(role: str, call: Call) -> Optional[Said]:
-    """The mark of a call, or None for one without."""
+def call_mark(role: str, call: Call) -> Tuple[str, str]:
+    """The kind of a call's mark, and what it says: nothing where the call has none."""
     if call.reply.name == "took":
-        return Said("read", "read 1 event" if call.reply.number == 1 else f"read {call.reply.number} events")
-    if call.step.name == "open":
-        return Said("ask", "opened")
-    if call.step.name == "discard":
-        return Said("ask", "discarded, to ask anew")
-    return Said("ask", call.step.text()) if call.step.is_question and role == "tap" else None
+        return "read", f"read {counted(call.reply.number, 'event')}"
+    is_told = call.step.is_question and role == "tap"
+    return "ask", ASKS.get(call.step.name, call.step.text() if is_told else "")
 
 
 def with_record(text: str, walk: JoyWalk, record: JoyRecord) -> str:
@@ -347,12 +313,5 @@ def with_record(text: str, walk: JoyWalk, record: JoyRecord) -> str:
     word = "startup " if record.kind >= STARTUP else ""
     behind = ", " if HANDED in text else HANDED
     if len(text) >= LONGEST:
-        return cut(text)
+        return text if text.endswith("..") else f"{text}, .."
     return f"{text}{behind}{word}{walk.thing_of(record).code} {record.value}"
-
-
-def cut(text: str) -> str:
-    return text if text.endswith("..") else f"{text}, .."
-
-
-# All

@@ -19,10 +19,7 @@ TYPE = re.compile(r"\s*(Event|Repeat) type (\d+)")
 CODE = re.compile(r"\s*(Event|Repeat) code (\d+)(?:.*\sstate (\d+))?")
 FIELD = re.compile(r"\s*(Value|Min|Max|Fuzz|Flat|Resolution|State)\s+(-?\d+)\s*$")
 PROPERTY = re.compile(r"\s*Property\s+(?:type\s+)?(\d+)")
-NAMES = {
-    "Value": "value", "Min": "minimum", "Max": "maximum",
-    "Fuzz": "fuzz", "Flat": "flat", "Resolution": "resolution",
-}
+LONGER = {"Min": "minimum", "Max": "maximum"}
 
 
 class Listing:
@@ -34,14 +31,15 @@ class Listing:
         self.code: Optional[int] = None
 
     def take(self, line: str) -> None:
-        for pattern, takes in ((FIELD, self.take_field), (CODE, self.take_code), (TYPE, self.take_type)):
+        for pattern, takes in ((FIELD, self.take_field), (CODE, self.take_code), (TYPE, self.take_type),
+                               (PROPERTY, self.take_property)):
             found = pattern.match(line)
             if found:
                 takes(found)
                 return
-        found = PROPERTY.match(line)
-        if found:
-            self.device.properties.append(number(found[1], 0, 1023, "the property"))
+
+    def take_property(self, found: Match[str]) -> None:
+        self.device.properties.append(number(found[1], 0, 1023, "the property"))
 
     def take_type(self, found: Match[str]) -> None:
         self.kind, self.code = number(found[2], 0, 65535, "the type"), None
@@ -67,28 +65,24 @@ class Listing:
         if found[1] == "State":
             self.take_state(found[2])
         elif self.kind == ABS:
-            setattr(self.device.axes[self.code], NAMES[found[1]], number(found[2], LEAST, GREATEST, found[1]))
+            name = LONGER.get(found[1], found[1].lower())
+            setattr(self.device.axes[self.code], name, number(found[2], LEAST, GREATEST, found[1]))
         elif self.kind == REP and found[1] == "Value":
             self.device.repeat[self.code] = number(found[2], LEAST, GREATEST, "Value")
 
 
-def take_values(device: Device, listing: Device) -> None:
-    """Takes over what a listing beside a description tells besides: values of axes, and what is on."""
-    for code, axis in listing.axes.items():
-        if code in device.axes:
-            device.axes[code].value = axis.value
-    for kind, codes in listing.on.items():
-        device.on[kind] |= codes
-    device.repeat.update(listing.repeat)
-
-
 def complete(device: Device, listing: Device) -> None:
-    """Has each axis of a description, also one without ranges, and takes over what the listing tells."""
+    """Has each axis of a description, also one without ranges, and takes over what a listing beside it tells
+    besides: values of axes, and what is on."""
     for code in device.codes.get(ABS, ()):
         device.axes.setdefault(code, Axis())
     if device.axes:
         device.add(ABS, device.axes)
-    take_values(device, listing)
+    for code in listing.axes.keys() & device.axes.keys():
+        device.axes[code].value = listing.axes[code].value
+    for kind, codes in listing.on.items():
+        device.on[kind] |= codes
+    device.repeat.update(listing.repeat)
     forget_values_of_slots(device)
 
 

@@ -12,7 +12,7 @@ from inputtools.picture import AXIS, Legend, no_picture, panes, picture
 from inputtools.played import PlayedDevice
 from inputtools.progress import progress
 from inputtools.rows import MOST_ROWS, Row, Section, parted_at, sections_between
-from inputtools.scale import WIDTH, Scale
+from inputtools.scale import WIDTH, Moments, Scale
 from inputtools.shapes import mark_shape
 from inputtools.stuck_text import device_lines
 from inputtools.endings import NAMED, Ending, cuts_of, endings_of, passed_of
@@ -21,27 +21,25 @@ from inputtools.wall import wall
 
 Range = Tuple[int, int]
 
-MARKS = (
-    ("event", "event"), ("report", "report"), ("timer", "tick or inhibition"),
-    ("frame", "frame"), ("read", "read"),
-    ("again", "nothing left to read"), ("ask", "opened, or asked anew"), ("eaten", "eaten by a filter"),
-    ("loss", "loss (SYN_DROPPED)"),
-)
-BAR, THIN = 'y="4" height="8"', 'y="6" height="4"'
-BARS = (
-    ("on", BAR, "down, or on"), ("contact", BAR, "contact"), ("open", BAR, "open"), ("grab", BAR, "grab"),
-    ("mask", BAR, "mask"), ("revoked", BAR, "revoked"), ("stuck", BAR, "down for it, up on the device"),
-    ("missed", BAR, "up for it, down on the device"),
-    ("parted", THIN, "another value for it than on the device"),
-    ("pick parts", BAR, "a range in which a belief and the device part or meet"),
-    ("pick held", BAR, "one from which on something is held to the end"),
-    ("pick loses", BAR, "one with a loss, or a revocation"), ("pick grabs", BAR, "one with a grab"),
-)
-PATHS = (
-    ("first", "M1 12H6V5H15", "axis, or X"), ("second", "M1 12H6V5H15", "Y"),
-    ("held", "M4 2l9 6l-9 6z", "held at the end"),
-    ("dense on", "M2 4V12M5 4V12M8 4V12M11 4V12M14 4V12", "many, closer than can be drawn"),
-)
+# What marks, bars and lines stand for, by their kinds.
+MARKS = {
+    "event": "event", "report": "report", "timer": "tick or inhibition", "frame": "frame", "read": "read",
+    "again": "nothing left to read", "ask": "opened, or asked anew", "eaten": "eaten by a filter",
+    "loss": "loss (SYN_DROPPED)",
+}
+BARS = {
+    "on": "down, or on", "contact": "contact", "open": "open", "grab": "grab", "mask": "mask",
+    "revoked": "revoked", "stuck": "down for it, up on the device", "missed": "up for it, down on the device",
+    "parted": "another value for it than on the device",
+    "pick parts": "a range in which a belief and the device part or meet",
+    "pick held": "one from which on something is held to the end",
+    "pick loses": "one with a loss, or a revocation", "pick grabs": "one with a grab",
+}
+LINES = {
+    "first": ("M1 12H6V5H15", "axis, or X"), "second": ("M1 12H6V5H15", "Y"),
+    "held": ("M4 2l9 6l-9 6z", "held at the end"),
+    "dense on": ("M2 4V12M5 4V12M8 4V12M11 4V12M14 4V12", "many, closer than can be drawn"),
+}
 
 HOW = """What a mark or bar stands for is shown where the pointer rests on it, where it is touched, and by the
 arrow keys in a picture."""
@@ -59,9 +57,11 @@ def plain(name: str) -> str:
 def legend_parts(shown: str) -> List[Tuple[str, str]]:
     """What the marks, bars and lines stand for that are shown: of each a shape without its end, 16 by 16, and
     its text."""
-    parts = [(kind, mark_shape(kind, 8, 1, 14), text) for kind, text in MARKS]
-    parts += [(kind, f'<rect class="{kind}" x="1" {box} width="14"', text) for kind, box, text in BARS]
-    parts += [(kind, f'<path class="{kind}" d="{path}"', text) for kind, path, text in PATHS]
+    parts = [(kind, mark_shape(kind, 8, 1, 14), text) for kind, text in MARKS.items()]
+    for kind, text in BARS.items():
+        box = 'y="6" height="4"' if kind == "parted" else 'y="4" height="8"'
+        parts.append((kind, f'<rect class="{kind}" x="1" {box} width="14"', text))
+    parts += [(kind, f'<path class="{kind}" d="{path}"', text) for kind, (path, text) in LINES.items()]
     return [(shape, text) for kind, shape, text in parts
             if any(f'class="{before}{kind}"' in shown for before in ("", "dense "))]
 
@@ -76,12 +76,12 @@ class DevicePart:
     """The part of a device between two places."""
 
     def __init__(self, played: PlayedDevice, number: int, first: Optional[int], last: Optional[int]) -> None:
-        self.played, self.ident, self.first = played, f"d{number}", first
-        self.lanes, self.found = Lanes(played), timeline(played)
-        self.sections, self.moments = self.lanes.sections(), self.lanes.moments
+        self.played, self.ident, self.found = played, f"d{number}", timeline(played)
+        self.sections, self.moments = Lanes(played).sections(), Moments(played.report.history)
         self.at, self.steps = played.state.at, len(played.report.history)
         self.begin, self.end = first or 0, min(self.steps if last is None else last + 1, self.steps)
         self.ranges = ranges_of(self.found, self.begin, self.end)
+        self.why_nothing = why_nothing(played, first)
 
     def said(self, begin: int, end: int) -> Tuple[str, str]:
         """The title and the description of a picture."""
@@ -92,18 +92,23 @@ class DevicePart:
         cuts = "".join(f"{line}. " for line in cuts_of([self.played]))
         return title, f"{cuts}Lanes for {', '.join(names) or 'the device'}. {happens}."
 
+    def shown_rows(self, begin: int, end: int) -> Tuple[List[Section], List[Section], str]:
+        """The rows of a picture that has room for them, the rest, and how many these are."""
+        shown, rest = parted_at(sections_between(self.sections, begin, end), MOST_ROWS)
+        return shown, rest, f"and {counted(sum(len(rows) for _, rows in rest), 'row')} more"
+
     def both_ways(self, begin: int, end: int, ranges: Sequence[Range] = ()) -> str:
         """A picture over places and one over moments; the page shows one of them. Rows beyond the first ones
         are behind a button."""
         said = self.said(begin, end)
         progress.tell(f"{said[0]} is drawn")
-        shown, rest = parted_at(sections_between(self.sections, begin, end), MOST_ROWS)
+        shown, rest, more = self.shown_rows(begin, end)
         parts = []
         for kind, is_over_time in (("place", False), ("time", True)):
             scale, ident = Scale(begin, end, self.moments, is_over_time), f"{self.ident}-{begin}-{end}-{kind}"
             charts = panes(shown, scale, said, ident, self.picks(ranges, scale))
             if rest:
-                button = f'<summary class="button">{more_rows(rest)}</summary>'
+                button = f'<summary class="button">{more}</summary>'
                 charts += f'\n<details>{button}{panes(rest, scale, said, f"{ident}-rest")}</details>'
             parts.append(f'<div class="{kind}">{charts}</div>')
         return "\n".join(parts)
@@ -150,26 +155,17 @@ class DevicePart:
     @cached_property
     def whole(self) -> str:
         """The picture of all places that are drawn, or nothing where there are none."""
-        why = why_nothing(self.played, self.first)
-        return "" if why else self.both_ways(self.begin, self.end, self.ranges)
+        return "" if self.why_nothing else self.both_ways(self.begin, self.end, self.ranges)
 
     def text(self, legend: str) -> str:
-        head = f'<section id="{self.ident}"><h2>device {escape(self.played.name)}: '
-        head += counted(self.steps, "step")
-        why = why_nothing(self.played, self.first)
-        if why:
-            return f"{head}</h2><p>{escape(why)}</p></section>"
-        parts = [f"{head}, {self.moments.range_text(self.begin, self.end)}</h2>", self.whole]
-        parts += [legend, *self.ranges_part()]
-        said = escape("\n".join(device_lines(self.played)))
-        return "\n".join(parts) + (
-            f'<details open id="{self.ident}-told"><summary>where beliefs and device part</summary>'
-            f"<pre>{said}</pre></details></section>"
-        )
-
-
-def more_rows(rest: Sequence[Section]) -> str:
-    return f"and {counted(sum(len(rows) for _, rows in rest), 'row')} more"
+        name, steps = escape(self.played.name), counted(self.steps, "step")
+        head = f'<section id="{self.ident}"><h2>device {name}: {steps}'
+        if self.why_nothing:
+            return f"{head}</h2><p>{escape(self.why_nothing)}</p></section>"
+        parts = [f"{head}, {self.moments.range_text(self.begin, self.end)}</h2>", self.whole, legend]
+        told = escape("\n".join(device_lines(self.played)))
+        summary = f'<details open id="{self.ident}-told"><summary>where beliefs and device part</summary>'
+        return "\n".join([*parts, *self.ranges_part()]) + f"{summary}<pre>{told}</pre></details></section>"
 
 
 def why_nothing(played: PlayedDevice, first: Optional[int]) -> Optional[str]:
@@ -240,7 +236,7 @@ def svg(played: PlayedDevice, first: Optional[int] = None, last: Optional[int] =
         return no_picture(why_nothing(played, first) or "")
     part = DevicePart(played, 0, first, last)
     scale = Scale(part.begin, part.end, part.moments)
-    shown, rest = parted_at(sections_between(part.sections, part.begin, part.end), MOST_ROWS)
+    shown, rest, more = part.shown_rows(part.begin, part.end)
     if rest:
-        shown[-1].rows.append(Row(more_rows(rest), "note"))
+        shown[-1].rows.append(Row(more, "note"))
     return picture(shown, scale, part.said(part.begin, part.end), svg_legend) + "\n"

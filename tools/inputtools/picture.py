@@ -28,12 +28,12 @@ HEIGHTS = {"row": 16, "client": 24, "line": 38, "parted": 16, "note": 14}
 LONGEST_LABEL, LONGEST_OF_A_LINE = 25, 17
 
 
-class Sheet:
-    """The shapes of a picture: those of the labels, and those of the plot."""
+class Sheet(NamedTuple):
+    """A picture: its height, and the shapes of the labels and of the plot."""
 
-    def __init__(self) -> None:
-        self.labels: List[str] = []
-        self.plot: List[str] = []
+    height: int
+    labels: List[str]
+    plot: List[str]
 
 
 def label(row: Row, y: int, height: int) -> str:
@@ -46,19 +46,20 @@ def label(row: Row, y: int, height: int) -> str:
     return f'<text {place} class="{kind}">{escape(shown)}</text>'
 
 
-def add_axis(sheet: Sheet, scale: Scale, height: int) -> None:
+def add_axis(sheet: Sheet, scale: Scale) -> None:
     for text, y in zip(scale.names(), (16, 31)):
         sheet.labels.append(f'<text x="10" y="{y}" class="faint">{escape(text)}</text>')
     for tick in scale.ticks():
-        line = f'x1="{tick.x:.1f}" y1="36" x2="{tick.x:.1f}" y2="{height - FOOT}"'
+        line = f'x1="{tick.x:.1f}" y1="36" x2="{tick.x:.1f}" y2="{sheet.height - FOOT}"'
         sheet.plot.append(f'<line class="grid" {line}/>')
         for text, y in ((tick.text, 16), (tick.below, 31)):
             place = f'x="{tick.x:.1f}" y="{y}" text-anchor="{tick.anchor}"'
-            sheet.plot += [f'<text {place} class="faint">{text}</text>'] if text else []
+            if text:
+                sheet.plot.append(f'<text {place} class="faint">{text}</text>')
 
 
-def add_section(sheet: Sheet, heading: str, rows: Sequence[Row], scale: Scale, y: int) -> None:
-    """The shapes of a section that begins at y."""
+def add_section(sheet: Sheet, heading: str, rows: Sequence[Row], scale: Scale, y: int) -> int:
+    """Adds the shapes of a section that begins at y. Where it ends."""
     sheet.labels.append(f'<line class="rule" x1="8" y1="{y + 2}" x2="{EDGE}" y2="{y + 2}"/>')
     sheet.plot.append(f'<line class="rule" x1="{EDGE}" y1="{y + 2}" x2="{WIDTH - 4}" y2="{y + 2}"/>')
     sheet.labels.append(f'<text x="10" y="{y + 16}" class="heading">{escape(heading)}</text>')
@@ -72,27 +73,24 @@ def add_section(sheet: Sheet, heading: str, rows: Sequence[Row], scale: Scale, y
         if shapes:
             sheet.plot.append(f'<g data-row="{escape(row.told)}">' + "\n".join(shapes) + "</g>")
         y += height
-
-
-def height_of(sections: Sequence[Section]) -> int:
-    """How high the picture of sections is."""
-    return AXIS + FOOT + sum(HEADING + sum(HEIGHTS[row.kind] for row in rows) for _, rows in sections)
+    return y
 
 
 def drawn(sections: Sequence[Section], scale: Scale) -> Sheet:
-    """The shapes of sections, each a heading and its rows."""
-    sheet, y = Sheet(), AXIS
-    add_axis(sheet, scale, height_of(sections))
+    """The picture of sections, each a heading and its rows."""
+    rooms = (HEADING + sum(HEIGHTS[row.kind] for row in rows) for _, rows in sections)
+    sheet, y = Sheet(AXIS + FOOT + sum(rooms), [], []), AXIS
+    add_axis(sheet, scale)
     for heading, rows in sections:
-        add_section(sheet, heading, rows, scale, y)
-        y += HEADING + sum(HEIGHTS[row.kind] for row in rows)
+        y = add_section(sheet, heading, rows, scale, y)
     return sheet
 
 
-def svg_element(left: int, width: int, height: int, said: Optional[Said], ident: str) -> str:
-    """The begin of an SVG. `said` is its title and its description, or None where another one tells it."""
+def svg_element(left: int, width: int, height: int, said: Optional[Said], ident: str, rules: str = "") -> str:
+    """The begin of an SVG. `said` is its title and its description, or None where another one tells it, and
+    `rules` its own style."""
     size = f'viewBox="{left} 0 {width} {height}" width="{width}" height="{height}"'
-    paper = f'<rect class="paper" x="{left}" width="{width}" height="{height}"/>'
+    paper = f'{rules}<rect class="paper" x="{left}" width="{width}" height="{height}"/>'
     head = f'<svg xmlns="http://www.w3.org/2000/svg" {size}'
     if said is None:
         return f'{head} class="labels" aria-hidden="true">{paper}'
@@ -105,29 +103,29 @@ def picture(sections: Sequence[Section], scale: Scale, said: Said,
             legend_of: Callable[[str, int], Legend]) -> str:
     """One SVG of sections, with its own style and below them a legend, which is made of what is shown and for
     where it begins."""
-    sheet, height = drawn(sections, scale), height_of(sections)
+    sheet = drawn(sections, scale)
     shown = "\n".join(sheet.labels + sheet.plot)
-    legend = legend_of(shown, height)
-    head = svg_element(0, WIDTH, height + legend.height, said, "picture")
-    return "\n".join([with_style(head), shown, legend.shapes + "</svg>"])
+    legend = legend_of(shown, sheet.height)
+    return "\n".join([alone(sheet.height + legend.height, said), shown, legend.shapes + "</svg>"])
 
 
-def with_style(head: str) -> str:
-    return head.replace("<rect", f"<style>{style()}</style><rect", 1)
+def alone(height: int, said: Said) -> str:
+    """The begin of an SVG that stands alone, with its own style."""
+    return svg_element(0, WIDTH, height, said, "picture", f"<style>{style()}</style>")
 
 
 def panes(sections: Sequence[Section], scale: Scale, said: Said, ident: str, picks: str = "") -> str:
     """Two SVGs of sections beside one another, the labels and the plot, in a box that the arrow keys reach.
     On paper it is no higher than its page."""
-    sheet, height = drawn(sections, scale), height_of(sections)
-    labels = [svg_element(0, EDGE, height, None, ident), *sheet.labels, "</svg>"]
-    plot = [svg_element(EDGE, WIDTH - EDGE, height, said, ident), *sheet.plot, picks + "</svg>"]
+    sheet = drawn(sections, scale)
+    labels = [svg_element(0, EDGE, sheet.height, None, ident), *sheet.labels, "</svg>"]
+    plot = [svg_element(EDGE, WIDTH - EDGE, sheet.height, said, ident), *sheet.plot, picks + "</svg>"]
     label = f"{escape(said[0])}: the arrow keys go from mark to mark"
-    box = f'tabindex="0" role="group" aria-label="{label}" style="--ratio: {WIDTH / height:.3f}"'
+    box = f'tabindex="0" role="group" aria-label="{label}" style="--ratio: {WIDTH / sheet.height:.3f}"'
     return "\n".join([f'<div class="chart" {box}>', *labels, *plot]) + "</div>"
 
 
 def no_picture(text: str) -> str:
     """An SVG that says why there is nothing to draw."""
-    head = svg_element(0, WIDTH, 60, (text, "There is nothing to draw."), "picture")
-    return f'{with_style(head)}\n<text x="10" y="34">{escape(text)}</text></svg>\n'
+    head = alone(60, (text, "There is nothing to draw."))
+    return f'{head}\n<text x="10" y="34">{escape(text)}</text></svg>\n'

@@ -44,8 +44,13 @@ class Places:
     def text(self, place: int) -> str:
         return f"place {self.bare(place)}"
 
-    def span(self, begin: int, end: Optional[int]) -> str:
-        """From one place to another, or on where it did not end."""
+    def since(self, place: Optional[int]) -> str:
+        return "from the start" if place is None else f"since {self.text(place)}"
+
+    def span(self, begin: Optional[int], end: Optional[int]) -> str:
+        """From one place, or the start, to another one, or on where it did not end."""
+        if begin is None:
+            return "from the start " + ("on" if end is None else f"to {self.text(end)}")
         return f"from {self.text(begin)} " + ("on" if end is None else f"to {self.bare(end)}")
 
     def several(self, one: str, more: str, places: Sequence[int]) -> str:

@@ -1,13 +1,14 @@
-"""Where a place of a history stands on the paper, and the ticks of the axis.
+"""When the steps of a history were made, where its places stand on the paper, and the ticks of the axis.
 
 Each tick has two texts: over the places a place and the time there, over time a moment and the place there.
 """
 
 import bisect
+from itertools import accumulate
 from typing import Iterator, List, Sequence, Tuple
 
-from inputtools.moments import Moments
-from inputtools.places import seconds_text
+from inputtools.places import seconds_text, time_text
+from inputtools.report import Step
 from inputtools.rows import Mark
 from inputtools.wall import wall
 
@@ -25,16 +26,33 @@ def round_steps() -> Iterator[int]:
     return (digit * int(10**zeros) for zeros in range(17) for digit in (1, 2, 5))
 
 
+class Moments:
+    """A moment for each place of a history: the greatest that a step had until then. Where no step has one,
+    texts tell the places alone."""
+
+    def __init__(self, history: Sequence[Step]) -> None:
+        told = [step.moment for step in history]
+        first = next((moment for moment in told if moment is not None), None)
+        self.are_told = first is not None
+        self.all = list(accumulate(((first or 0) if moment is None else moment for moment in told), max))
+
+    def range_text(self, begin: int, end: int) -> str:
+        """The places from `begin` up to, and without, `end`."""
+        places = f"places {begin} to {end - 1}" if end - begin > 1 else f"place {begin}"
+        if not self.are_told:
+            return places
+        first, last = time_text(self.all[begin]), time_text(self.all[end - 1])
+        return f"{places} ({first})" if first == last else f"{places} ({first} to {last})"
+
+
 class Tick:
     """A tick: where it stands, its texts, and to which side of it they stand so that none is cut off."""
 
     def __init__(self, x: float, text: str, below: str) -> None:
         self.x, self.text, self.below = x, text, below
-        half = self.width() / 2
+        self.width = LETTER * max(len(text), len(below))
+        half = self.width / 2
         self.anchor = "start" if x - half < EDGE else "end" if x + half > WIDTH - 2 else "middle"
-
-    def width(self) -> float:
-        return LETTER * max(len(self.text), len(self.below))
 
 
 class Scale:
@@ -84,8 +102,7 @@ class Scale:
 
     def rounded(self, moment: int) -> int:
         """A moment to a thousandth of the scale's length, or finer."""
-        digits = int(10 ** max(len(str(self.length)) - 4, 0))
-        return moment - moment % digits if digits > 1 else moment
+        return moment - moment % int(10 ** max(len(str(self.length)) - 4, 0))
 
     def ticks(self) -> List[Tick]:
         """Ticks at round places or moments: as many as have room for their texts."""
@@ -95,24 +112,19 @@ class Scale:
             room = PLOT * step / span
             if room < 3 * LETTER:
                 continue
-            ticks = made(step)
+            ticks = list(made(step))
             # (a text that begins or ends at its tick reaches half its width nearer to the next one)
-            if all(1.5 * tick.width() + APART <= room for tick in ticks) or len(ticks) <= 1:
+            if all(1.5 * tick.width + APART <= room for tick in ticks) or len(ticks) <= 1:
                 return ticks
         return []
 
-    def place_ticks(self, step: int) -> List[Tick]:
-        first = -(-self.begin // step) * step
-        return [self.place_tick(place) for place in range(first, self.end, step)]
+    def place_ticks(self, step: int) -> Iterator[Tick]:
+        for place in range(-(-self.begin // step) * step, self.end, step):
+            time = self.time(self.rounded(self.moments.all[place])) if self.moments.are_told else ""
+            yield Tick(self.x(place), str(place), time)
 
-    def place_tick(self, place: int) -> Tick:
-        time = self.time(self.rounded(self.moments.all[place])) if self.moments.are_told else ""
-        return Tick(self.x(place), str(place), time)
-
-    def moment_ticks(self, step: int) -> List[Tick]:
+    def moment_ticks(self, step: int) -> Iterator[Tick]:
         first = self.round_from + -(-(self.first - self.round_from) // step) * step
-        return [self.moment_tick(moment) for moment in range(first, self.last + 1, step)]
-
-    def moment_tick(self, moment: int) -> Tick:
-        place = bisect.bisect_left(self.moments.all, moment, self.begin, self.end)
-        return Tick(self.x_of_moment(moment), self.time(moment), str(min(place, self.end - 1)))
+        for moment in range(first, self.last + 1, step):
+            place = bisect.bisect_left(self.moments.all, moment, self.begin, self.end)
+            yield Tick(self.x_of_moment(moment), self.time(moment), str(min(place, self.end - 1)))

@@ -18,6 +18,12 @@ Points = List[Tuple[float, Union[Mark, Bar]]]
 MARK_KINDS = ("event", "timer", "report", "frame", "again", "read", "ask", "eaten", "loss")
 DENSE = 250
 
+# Marks that are no upright lines: where the path of each begins, from its middle, and how it goes on.
+PATHS = {
+    "loss": (4, 4, "l8 8m0 -8l-8 8"), "eaten": (4, 4, "l4 7l4 -7"),
+    "ask": (0, 6, "l5 6l-5 6l-5 -6z"), "read": (0, 5, "l5 9h-10z"),
+}
+
 # How wide a strip of dense marks is that has a text, and how many of its marks the text tells.
 STRIP, TOLD = 8, 3
 
@@ -26,6 +32,9 @@ STRIP, TOLD = 8, 3
 # held ends.
 BAR_KINDS = ("open", "revoked", "mask", "grab", "on", "contact", "parted", "stuck", "missed")
 NARROW, HATCH, HELD = 2, 3, 9
+
+# Where the numbers of lines stand, and by which end and kind of text.
+LEFT, RIGHT = (GUTTER - 10, "end", "number"), (GUTTER + PLOT + 5, "start", "second")
 
 # How far from a row's top a bar begins, and how much lower than the row it is.
 BAR_HEIGHTS = {"open": (2, 5), "contact": (2, 5), "mask": (2, 5), "revoked": (2, 5), "grab": (2, 19),
@@ -41,14 +50,9 @@ def titled(shape: str, text: str) -> str:
 def mark_shape(kind: str, x: float, y: float, height: float) -> str:
     """The shape of a mark in a row of this height at y."""
     middle = y + height / 2
-    if kind == "loss":
-        return f'<path class="loss" d="M{x - 4:.1f} {middle - 4:.1f}l8 8m0 -8l-8 8"'
-    if kind == "eaten":
-        return f'<path class="eaten" d="M{x - 4:.1f} {middle - 4:.1f}l4 7l4 -7"'
-    if kind == "ask":
-        return f'<path class="ask" d="M{x:.1f} {middle - 6:.1f}l5 6l-5 6l-5 -6z"'
-    if kind == "read":
-        return f'<path class="read" d="M{x:.1f} {middle - 5:.1f}l5 9h-10z"'
+    if kind in PATHS:
+        left, above, path = PATHS[kind]
+        return f'<path class="{kind}" d="M{x - left:.1f} {middle - above:.1f}{path}"'
     if kind == "again":
         return f'<circle class="again" cx="{x:.1f}" cy="{middle:.1f}" r="3.5"'
     top = {"event": 0.35, "timer": 0.2}.get(kind, 0.1) * height
@@ -60,13 +64,11 @@ def marks(row: Row, scale: Scale, y: int, height: int) -> List[str]:
     kinds: Dict[str, Dict[int, Points]] = {kind: {} for kind in MARK_KINDS}
     for mark, x in scale.on_paper(row.marks.between(scale.begin, scale.end)):
         kinds[mark.kind].setdefault(round(x), []).append((x, mark))
-    dense = {kind: points for kind, points in kinds.items() if len(points) > DENSE}
+    dense = {kind: kinds.pop(kind) for kind in MARK_KINDS if len(kinds[kind]) > DENSE}
     shapes = [dense_marks(kind, sorted(points), y, height) for kind, points in dense.items()]
     shapes += strips([point for points in dense.values() for point in points.items()], y, height)
-    for kind in MARK_KINDS:
-        for found in kinds[kind].values() if kind not in dense else ():
-            shapes.append(titled(mark_shape(kind, found[0][0], y, height), several_text(found, 1)))
-    return shapes
+    return shapes + [titled(mark_shape(kind, found[0][0], y, height), several_text(found, 1))
+                     for kind, points in kinds.items() for found in points.values()]
 
 
 def several_text(found: Points, told: int) -> str:
@@ -89,11 +91,9 @@ def strips(points: Iterable[Tuple[int, Points]], y: int, height: int) -> List[st
     found: Dict[int, Points] = {}
     for x, there in points:
         found.setdefault(min(x - GUTTER, PLOT - 1) // STRIP, []).extend(there)
-    shapes = []
-    for number, there in sorted(found.items()):
-        box = f'x="{GUTTER + number * STRIP}" y="{y}" width="{STRIP}" height="{height}"'
-        shapes.append(titled(f'<rect class="hit" {box}', several_text(there, TOLD)))
-    return shapes
+    box = f'y="{y}" width="{STRIP}" height="{height}"'
+    return [titled(f'<rect class="hit" x="{GUTTER + number * STRIP}" {box}', several_text(there, TOLD))
+            for number, there in sorted(found.items())]
 
 
 class Stroke:
@@ -130,13 +130,6 @@ def strokes(found: Iterable[Bar], scale: Scale) -> List[Stroke]:
     return shown
 
 
-def held_mark(stroke: Stroke, y: int, height: int) -> str:
-    """The mark in which the bar of what is held ends."""
-    x, middle = stroke.right, y + height / 2
-    shape = f'<path class="held" d="M{x - HELD:.1f} {middle - 6:.1f}l{HELD} 6l-{HELD} 6z"'
-    return titled(shape, f"held at the end: {stroke.bar.text}")
-
-
 def bar_shapes(stroke: Stroke, scale: Scale, y: int, height: int) -> List[str]:
     """The shapes of a stroke: those of many bars, or its one bar and maybe the mark in which that ends."""
     bar, (top, less) = stroke.bar, BAR_HEIGHTS.get(stroke.bar.kind, (5, 10))
@@ -148,7 +141,10 @@ def bar_shapes(stroke: Stroke, scale: Scale, y: int, height: int) -> List[str]:
     right = stroke.right - HELD if is_held and bar.kind != "contact" else stroke.right
     box = f'y="{y + top}" width="{max(right - stroke.left, 2):.1f}" height="{height - less}"'
     shapes = [titled(f'<rect class="{bar.kind}" x="{stroke.left:.1f}" {box}', bar.text)]
-    return shapes + ([held_mark(stroke, y, height)] if is_held else [])
+    if is_held:
+        path = f"M{stroke.right - HELD:.1f} {y + height / 2 - 6:.1f}l{HELD} 6l-{HELD} 6z"
+        shapes.append(titled(f'<path class="held" d="{path}"', f"held at the end: {bar.text}"))
+    return shapes
 
 
 def bars(row: Row, scale: Scale, y: int, height: int) -> List[str]:
@@ -169,11 +165,9 @@ def columns(stretch: Stretch, scale: Scale) -> List[Tuple[int, int]]:
     found: Dict[int, List[int]] = {}
     for x, value in [(start, point.value) for point in points.before(scale.begin)] + inside:
         found.setdefault(round(x), []).append(value)
-    kept: List[Tuple[int, int]] = []
-    for at, values in found.items():
-        several = [values[0], min(values), max(values), values[-1]] if len(values) > 1 else values
-        kept += [(at, value) for value in several]
-    return kept
+    several = ((at, [values[0], min(values), max(values), values[-1]] if len(values) > 1 else values)
+               for at, values in found.items())
+    return [(at, value) for at, values in several for value in values]
 
 
 def stepped(points: List[Tuple[int, int]], end: float) -> str:
@@ -208,8 +202,7 @@ def numbers(row: Row, y: int, height: int) -> List[Tuple[bool, str]]:
     shapes = []
     for line in row.lines:
         is_first = line.kind == "first"
-        x, anchor = (GUTTER - 10, "end") if is_first else (GUTTER + PLOT + 5, "start")
-        kind = "number" if is_first else "second"
+        x, anchor, kind = LEFT if is_first else RIGHT
         for value, lower in ((line.greatest, 9), (line.least, height - 2)):
             place = f'x="{x}" y="{y + lower}" text-anchor="{anchor}"'
             shapes.append((is_first, f'<text {place} class="{kind}">{value}</text>'))

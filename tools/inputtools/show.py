@@ -81,10 +81,8 @@ def kind_of(entry: Entry) -> Tuple[str, int]:
         refused = entry.reply.is_refused
         name = "asks" if entry.step.is_question and not refused else entry.step.name
         return name, -1 if name in ("asks", "read") and not refused else entry.number
-    if isinstance(entry, Took):
-        return "took", entry.place
-    if isinstance(entry, Again):
-        return "again", entry.place
+    if isinstance(entry, (Took, Again)):
+        return "took" if isinstance(entry, Took) else "again", entry.place
     return {Made: "made", JoyRecord: "js", Feedback: "feedback"}.get(type(entry), "fed"), -1
 
 
@@ -111,13 +109,12 @@ def text_of(what: str, entries: Sequence[Entry], events: Sequence[Event]) -> str
         return f"{frame_text(events)} (of {first.place})"
     if events:
         return f"{'is told' if what == 'fed' else 'makes'} {frame_text(events)}"
-    if what == "asks":
-        return f"asks for {counted(len(entries), 'answer')}"
-    if what == "again":
-        return "nothing to read"
+    if what in ("asks", "again"):
+        return f"asks for {counted(len(entries), 'answer')}" if what == "asks" else "nothing to read"
+    if isinstance(first, Call) and first.reply.is_refused:
+        return f"{step_text(first.step)} is refused"
     if isinstance(first, Call):
-        return (f"{step_text(first.step)} is refused" if first.reply.is_refused
-                else "" if what == "read" else step_text(first.step))
+        return "" if what == "read" else step_text(first.step)
     records = [entry for entry in entries if isinstance(entry, JoyRecord)]
     return ", ".join(f"{'axis' if each.kind & 2 else 'button'} {each.index}: {each.value}"
                      f"{' at first' if each.kind & 128 else ''}" for each in records)
@@ -164,7 +161,7 @@ class Table:
         self.digits = 6 if any(moment % 1000 for moment in told) else 3
         self.wide = max(len(self.seconds(max(told, default=0))), len("seconds"))
         # (times may go back)
-        self.gap = max(len(self.seconds(max((abs(gap) for gap in gaps), default=0))), len("gap")) + 1
+        self.gap = max(len(self.seconds(max(map(abs, gaps), default=0))), len("gap")) + 1
         widest = max((len(sides(row)[0]) for row in rows), default=0)
         self.left = max(min(widest, max(width // 2 - 20, LEAST_SIDE)), len("sources"))
         self.right = max(width - self.left - self.wide - self.gap - 15, LEAST_SIDE)
@@ -214,9 +211,8 @@ def sides(row: Row) -> Tuple[str, str]:
 def device_lines(device: PlayedDevice, width: int) -> List[str]:
     table = Table(device, rows_of(device), width)
     ends = [f"at the end: {reader.name}: {end_text(reader)}" for reader in device.readers()]
-    parts = [*device.report.parts, *device.report.joysticks, *device.report.owners]
-    stopped = [part for part in parts if part.end.reason != FINISHED]
-    ends += [f"at the end: {part.name}: stopped {part.end.reason}" for part in stopped]
+    ends += [f"at the end: {part.name}: stopped {part.end.reason}" for part in device.report.all_parts()
+             if part.end.reason != FINISHED]
     return [f"device {device.name} steps {device.report.steps}", *table.lines(), *ends]
 
 

@@ -16,10 +16,9 @@ class StillDown(NamedTuple):
 
     def text(self, at: Places) -> str:
         """The line on it. `at` tells places."""
-        since = "from the start" if self.since is None else f"since {at.text(self.since)}"
-        if self.thing.kind == "EV_KEY":
-            return f"{self.thing.text()}: down on the device itself {since}: no release followed"
-        return f"slot {self.thing.slot}: touched on the device itself {since}: no release followed"
+        is_key = self.thing.kind == "EV_KEY"
+        held = f"{self.thing.text()}: down" if is_key else f"slot {self.thing.slot}: touched"
+        return f"{held} on the device itself {at.since(self.since)}: no release followed"
 
 
 def is_down(thing: Thing, value: int) -> bool:

@@ -1,7 +1,7 @@
 """The lines that tell where clients' beliefs and their device part: what `tools/stuck` prints."""
 
 from itertools import groupby
-from typing import List, Optional, Sequence, Tuple
+from typing import List, Sequence, Tuple
 
 from inputtools.belief import Thing
 from inputtools.command import counted
@@ -15,9 +15,8 @@ from inputtools.still_down import still_down_of
 
 MOST_SHOWN = 4
 
-
-def since_text(place: Optional[int], at: Places) -> str:
-    return "from the start" if place is None else f"since {at.text(place)}"
+# How a belief comes to be the device's state again, where the device does not come back to it.
+MET = {"asked": "it asked at", "event": "it took the event of"}
 
 
 def points_text(points: Sequence[Point], at: Places) -> str:
@@ -34,18 +33,12 @@ def points_text(points: Sequence[Point], at: Places) -> str:
 
 def met_text(divergences: Sequence[Divergence], at: Places) -> str:
     """How belief and device met again."""
-    how = divergences[0].met_by
     places = sorted({divergence.met_at for divergence in divergences if divergence.met_at is not None})
     if not places:
         return "the device came back to it"
-    where = at.text(places[0])
-    if len(places) > 1:
-        where = f"places {at.bare(places[0])} to {at.bare(places[-1])}"
-    if how == "asked":
-        return f"it asked at {where}"
-    if how == "event":
-        return f"it took the event of {where}"
-    return f"the device came back to it at {where}"
+    ends = f"places {at.bare(places[0])} to {at.bare(places[-1])}"
+    where = ends if len(places) > 1 else at.text(places[0])
+    return f"{MET.get(str(divergences[0].met_by), 'the device came back to it at')} {where}"
 
 
 def group_of(divergence: Divergence) -> Tuple[int, int, str, List[int], str]:
@@ -69,10 +62,10 @@ def divergence_lines(reader: Reader, divergences: Sequence[Divergence], at: Plac
     """The lines on things that parted together."""
     first = divergences[0]
     lines = []
-    for divergence in divergences:
-        name = name_of(reader, divergence.thing)
-        lines.append(f"  {name}: {divergence.believed_text} for it, {divergence.present_text} on the device")
-    lines.append(f"    {since_text(first.since, at)}: {first.cause.text}")
+    for each in divergences:
+        values = f"{each.believed_text} for it, {each.present_text} on the device"
+        lines.append(f"  {name_of(reader, each.thing)}: {values}")
+    lines.append(f"    {at.since(first.since)}: {first.cause.text}")
     lines.append(f"    seen at: {points_text(first.points, at)}")
     return lines + ([f"    until {met_text(divergences, at)}"] if first.met_by else [])
 
@@ -118,9 +111,7 @@ def client_lines(client: Client, at: Places) -> List[str]:
 def sent_text(sent: Sequence[Sent], at: Places) -> str:
     """Events that were sent, each with the place of its step: the first three and the last of many."""
     shown = [f"{each.event.code} {each.event.value} of {at.text(each.place)}" for each in sent]
-    if len(shown) > MOST_SHOWN:
-        shown = shown[:3] + [f".. {shown[-1]}"]
-    return ", ".join(shown)
+    return ", ".join(shown if len(shown) <= MOST_SHOWN else [*shown[:3], f".. {shown[-1]}"])
 
 
 def owner_lines(owner: Owner, at: Places) -> List[str]:
@@ -129,26 +120,19 @@ def owner_lines(owner: Owner, at: Places) -> List[str]:
     calls = counted(len(owner.calls), "call")
     lines = [f"owner {owner.name}", f"  it was told {counted(len(told), 'event')} by {calls}"]
     lines[-1] += f": {sent_text(told, at)}" if told else ""
-    if owner.lost:
-        lost = counted(len(owner.lost), "event")
-        lines.append(f"  lost, since 15 wait at most: {lost}: {sent_text(owner.lost, at)}")
-    if owner.waiting:
-        waiting = counted(len(owner.waiting), "event")
-        lines.append(f"  not taken at the end: {waiting}: {sent_text(owner.waiting, at)}")
+    left = ((owner.lost, "lost, since 15 wait at most"), (owner.waiting, "not taken at the end"))
+    for sent, became in left:
+        lines += [f"  {became}: {counted(len(sent), 'event')}: {sent_text(sent, at)}"] if sent else []
     return lines + all_divergence_lines(owner, at) + [f"  at the end: {end_text(owner)}"]
 
 
 # Devices
 
 
-def reader_lines(reader: Reader, at: Places) -> List[str]:
-    return owner_lines(reader, at) if isinstance(reader, Owner) else client_lines(reader, at)
-
-
 def device_lines(device: PlayedDevice) -> List[str]:
     at = device.state.at
     lines = [f"device {device.name} steps {device.report.steps}"]
     for reader in device.readers():
-        lines += reader_lines(reader, at)
+        lines += owner_lines(reader, at) if isinstance(reader, Owner) else client_lines(reader, at)
     lines += ["the device at the end"] + ["  " + line.text for line in device.state.view]
     return lines + [f"  {held.text(at)}" for held in still_down_of(device.state)]

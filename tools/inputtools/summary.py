@@ -2,8 +2,7 @@
 apart from its device, in what, since when and why."""
 
 from collections import Counter
-from typing import Counter as Counts
-from typing import List, Sequence, Tuple
+from typing import Iterable, List, Sequence, Tuple
 
 from inputtools.command import counted
 from inputtools.endings import endings_of, readers_of
@@ -40,13 +39,9 @@ def ends_apart(devices: Sequence[PlayedDevice]) -> List[Reader]:
     return [reader for reader in readers_of(devices) if reader.at_end]
 
 
-def things_text(counts: Counts[str]) -> str:
-    return ", ".join(f"{name} {count}" for name, count in ordered(counts))
-
-
-def ordered(counts: Counts[str]) -> List[Tuple[str, int]]:
-    """What was counted, the most first."""
-    return sorted(counts.items(), key=lambda each: (-each[1], each[0]))
+def most_first(names: Iterable[str]) -> List[Tuple[str, int]]:
+    """How often each name comes, the most frequent first."""
+    return Counter(sorted(names)).most_common()
 
 
 def summary_lines(devices: Sequence[PlayedDevice]) -> List[str]:
@@ -55,8 +50,8 @@ def summary_lines(devices: Sequence[PlayedDevice]) -> List[str]:
     divergences = [divergence for reader in readers for divergence in reader.divergences]
     apart = f"{len(ends_apart(devices))} of {counted(len(readers), 'reader')}"
     lines = [f"summary: {apart} apart from the device at the end"]
-    causes = Counter(divergence.cause.kind for divergence in divergences)
-    for kind, count in ordered(causes):
-        things = Counter(divergence.thing.text() for divergence in divergences if divergence.cause.kind == kind)
-        lines.append(f"  {CAUSES[kind]}: {counted(count, 'parting')}: {things_text(things)}")
+    for kind, count in most_first(each.cause.kind for each in divergences):
+        things = most_first(each.thing.text() for each in divergences if each.cause.kind == kind)
+        told = ", ".join(f"{name} {often}" for name, often in things)
+        lines.append(f"  {CAUSES[kind]}: {counted(count, 'parting')}: {told}")
     return lines + [f"  {ending.text}" for ending in endings_of(devices)]

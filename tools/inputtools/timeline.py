@@ -42,24 +42,16 @@ class Entry(NamedTuple):
 def entries_of_client(played: PlayedDevice, client: Client) -> List[Entry]:
     # (a joystick synchronises anew where it lost events)
     lost = client.walk.synchronised if isinstance(client.walk, JoyWalk) else client.walk.losses
-    found = [Entry(place, "loses", client.name) for place in lost]
-    for _, number in client.walk.clients:
-        if number in played.handles.revokes:
-            found.append(Entry(played.handles.revokes[number], "revoked", client.name))
-        for grab in played.handles.grabs:
-            if grab.client == number:
-                found.append(Entry(grab.begin, "grabs", client.name))
-                found += [Entry(grab.end, "ungrabs", client.name)] if grab.end is not None else []
-    return found
+    who, numbers, handles = client.name, {each.number for each in client.walk.clients}, played.handles
+    grabs = [grab for grab in handles.grabs if grab.client in numbers]
+    found = [Entry(place, "loses", who) for place in lost]
+    found += [Entry(place, "revoked", who) for number, place in handles.revokes.items() if number in numbers]
+    found += [Entry(grab.begin, "grabs", who) for grab in grabs]
+    return found + [Entry(grab.end, "ungrabs", who) for grab in grabs if grab.end is not None]
 
 
-def entries_of_reader(played: PlayedDevice, reader: Reader) -> List[Entry]:
-    """Where a client, a joystick or an owner parts from the device, and all else that happens to it."""
-    if isinstance(reader, Owner):
-        found = [Entry(sent.place, "loses", reader.name) for sent in reader.lost]
-    else:
-        found = entries_of_client(played, reader)
-    return found + partings_of(reader)
+def entries_of_owner(owner: Owner) -> List[Entry]:
+    return [Entry(sent.place, "loses", owner.name) for sent in owner.lost]
 
 
 def partings_of(reader: Reader) -> List[Entry]:
@@ -79,9 +71,11 @@ def partings_of(reader: Reader) -> List[Entry]:
 def timeline(played: PlayedDevice) -> List[Entry]:
     """All that happens on a device, by place. (What is told of the history's end is of its last place.)"""
     last = max(len(played.report.history) - 1, 0)
-    found = [one for reader in played.readers() for one in entries_of_reader(played, reader)]
-    for held in still_down_of(played.state):
-        found.append(Entry(held.since or 0, "held", played.name, held.thing.text()))
+    held = still_down_of(played.state)
+    found = [Entry(each.since or 0, "held", played.name, each.thing.text()) for each in held]
+    for reader in played.readers():
+        found += partings_of(reader)
+        found += entries_of_owner(reader) if isinstance(reader, Owner) else entries_of_client(played, reader)
     return sorted(one._replace(place=min(one.place, last)) for one in found)
 
 
@@ -102,13 +96,13 @@ def ranges_of(found: Sequence[Entry], begin: int, end: int) -> List[Tuple[int, i
     return [(first, min(first + length, end)) for first in firsts]
 
 
-def gravest(found: Sequence[Entry]) -> str:
-    """The kind that a range is marked with."""
-    return min((one.kind for one in found), key=list(KINDS).index)
-
-
 def order(one: Entry) -> Tuple[int, str]:
     return list(KINDS).index(one.kind), one.who
+
+
+def gravest(found: Sequence[Entry]) -> str:
+    """The kind that a range is marked with."""
+    return min(found, key=order).kind
 
 
 def lines_of(found: Sequence[Entry], at: Places) -> List[str]:
