@@ -165,12 +165,12 @@ class Pages(DrawCase):
         hits = re.findall(r'<rect class="hit" x="(\d+)" [^>]*width="(\d+)"[^>]*><title>([^<]*)</title>', row)
         self.assertEqual(list(range(176, 1176, 8)), [int(left) for left, *_ in hits])
         self.assertEqual({"8"}, {width for _, width, _ in hits})
-        first = "place 2 (0.0 s): inject EV_REL REL_X 1; place 3 (0.0 s): inject EV_SYN SYN_REPORT 0; "
+        first = "place 1 (0.0 s): inject EV_REL REL_X 1; place 2 (0.0 s): inject EV_SYN SYN_REPORT 0; "
         self.assertTrue(hits[0][2].startswith(first), hits[0][2])
         self.assertRegex(hits[-1][2], r"inject .* \(and \d+ more here\)$")
 
     def test_no_more_than_forty_ranges(self):
-        """Where something happens all the time the ranges are as long as they must be, and have all places."""
+        """Where something happens all the time the ranges are as long as is needed, and have all places."""
         found = [Entry(place, "grabs", "c") for place in range(0, 100_000, 50)]
         begins = [*range(0, 100_000, 2600)]
         self.assertEqual([*zip(begins, [*begins[1:], 100_000])], ranges_of(found, 0, 100_000))

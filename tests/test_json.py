@@ -5,7 +5,7 @@ import json
 import re
 
 from tests import test_stuck
-from tests.desk_cases import DATA, TOP, DeskCase, needs_program
+from tests.desk_cases import DATA, TOP, needs_program
 from tests.test_play import PlayCase
 
 EXAMPLES, RECORDS = TOP / "examples", TOP / "tests" / "records"
@@ -97,10 +97,6 @@ class Page(PlayCase):
         summary = (TOP / "tools" / "inputtools" / "summary.py").read_text()
         self.assertEqual(made, causes())
         self.assertEqual(made, set(re.findall(r'^    "([a-z-]+)": ', summary, re.MULTILINE)))
-
-
-class Described(DeskCase):
-    check = Page.check
 
     def test_describe(self):
         lines = ["inputrecord 2", "device d", "log 9", "type EV_REP", "clock realtime 5", "filter norepeat",

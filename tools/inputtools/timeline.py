@@ -50,10 +50,6 @@ def entries_of_client(played: PlayedDevice, client: Client) -> List[Entry]:
     return found + [Entry(grab.end, "ungrabs", who) for grab in grabs if grab.end is not None]
 
 
-def entries_of_owner(owner: Owner) -> List[Entry]:
-    return [Entry(sent.place, "loses", owner.name) for sent in owner.lost]
-
-
 def partings_of(reader: Reader) -> List[Entry]:
     """Where a reader parts from its device and meets it again. What lasts is told where it begins."""
     found = []
@@ -75,7 +71,10 @@ def timeline(played: PlayedDevice) -> List[Entry]:
     found = [Entry(each.since or 0, "held", played.name, each.thing.text()) for each in held]
     for reader in played.readers():
         found += partings_of(reader)
-        found += entries_of_owner(reader) if isinstance(reader, Owner) else entries_of_client(played, reader)
+        if isinstance(reader, Owner):
+            found += [Entry(sent.place, "loses", reader.name) for sent in reader.lost]
+        else:
+            found += entries_of_client(played, reader)
     return sorted(one._replace(place=min(one.place, last)) for one in found)
 
 
