@@ -11,7 +11,7 @@ from inputtools.belief import Origin, Thing
 from inputtools.devicestate import DESCRIPTION, DeviceState
 from inputtools.divergences import Cause, Point, Walk, Why
 from inputtools.record import ROLES
-from inputtools.report import Call, Device, Step, cut_text
+from inputtools.report import Call, Device, cut_text
 
 
 class Causes:
@@ -62,23 +62,17 @@ class Causes:
         if origin is not None and origin.place > ended:
             ended = origin.place
         behind = (place for place in self.state.places if place > ended)
-        place = next((place for place in behind if self.sets(self.state.history[place], thing)), None)
-        return Why(place, Cause("open-frame", "its frame has not ended: no report followed"))
-
-    def sets(self, step: Step, thing: Thing) -> bool:
-        """Does a step inject or write an event for this thing?"""
-        return step.words[-3:-1] == thing.event
+        setting = (place for place in behind if self.state.history[place].words[-3:-1] == thing.event)
+        return Why(next(setting, None), Cause("open-frame", "its frame has not ended: no report followed"))
 
     def last_description(self, thing: Thing, end: int) -> Optional[int]:
         """The place before `end` at which the axis was described anew last, or None."""
         if thing.code not in self.state.described:
             return None
-        places = [place for place in self.state.places if place < end]
-        described = (place for place in reversed(places) if self.describes(self.state.history[place], thing))
+        steps = ((place, self.state.history[place]) for place in reversed(self.state.places) if place < end)
+        described = (place for place, step in steps if step.name == DESCRIPTION
+                     and thing == Thing("EV_ABS", step.code))
         return next(described, None)
-
-    def describes(self, step: Step, thing: Thing) -> bool:
-        return step.name == DESCRIPTION and thing == Thing("EV_ABS", step.code)
 
     def of_description(self, place: int) -> Cause:
         client = self.state.history[place].client
@@ -119,7 +113,7 @@ class Causes:
         before = [client.number for client in walk.clients if client.opened < place]
         if not before:
             return self.of_no_client(walk)
-        kept = self.of_offer(before[-1], place) or self.of_filter(thing, frame)
+        kept = self.of_offer(before[-1], place) or self.of_filter(self.state.eater_of(thing, frame))
         kept = kept or self.of_mask(before[-1], place, thing)
         return kept or self.of_queue(walk, before[-1], place, point)
 
@@ -142,9 +136,8 @@ class Causes:
         holder = self.openers.get(grab.client, str(grab.client))
         return Cause("grab", f"grab of {holder} {self.at.span(grab.begin, grab.end)}")
 
-    def of_filter(self, thing: Thing, frame: int) -> Optional[Cause]:
-        """Which filter ate the event, or None."""
-        number = self.state.eater_of(thing, frame)
+    def of_filter(self, number: Optional[int]) -> Optional[Cause]:
+        """The filter of a number, which ate the event, or None."""
         if number is None:
             return None
         text = self.state.description.filters[number - 1].text
@@ -159,8 +152,8 @@ class Causes:
         """What became of an event that the client was offered."""
         gone = [(lost, self.of_loss(client, lost)) for lost in walk.losses if lost >= place]
         gone += [(discard, self.of_discard(discard)) for discard in walk.discards if discard > place]
-        changed = self.handles.clock_change_behind(client, place)
-        gone += [] if changed is None else [(changed, self.of_loss(client, changed))]
+        changes = self.handles.clock_changes[client]
+        gone += [(changed, self.of_loss(client, changed)) for changed in changes if changed > place]
         gone += [(new.opened, self.of_new_client(new.opened)) for new in walk.clients if new.opened > place]
         if gone:
             return min(gone, key=lambda each: each[0])[1]
@@ -173,7 +166,7 @@ class Causes:
         """A loss at a place, or at one that is not told."""
         if place is None:
             return Cause("loss", f"loss (its ring was full){more}")
-        why = "it changed its clock" if self.handles.is_clock_change(client, place) else "its ring was full"
+        why = "it changed its clock" if place in self.handles.clock_changes[client] else "its ring was full"
         return Cause("loss", f"loss at {self.at.text(place)} (SYN_DROPPED: {why}){more}")
 
     def of_discard(self, place: int) -> Cause:

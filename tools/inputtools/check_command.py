@@ -8,7 +8,7 @@ import os
 import signal
 import time
 from multiprocessing.connection import Connection, wait
-from typing import Iterator, List, NamedTuple, Optional
+from typing import Iterator, List, NamedTuple, Optional, Tuple
 
 from inputtools.checking import outcomes_of
 from inputtools.command import (
@@ -68,11 +68,8 @@ class Task(NamedTuple):
     runs: Optional[int]
 
 
-class Done(NamedTuple):
-    """The number of a record, and what came of it."""
-
-    number: int
-    checked: Checked
+# The number of a record, and what came of it.
+Done = Tuple[int, Checked]
 
 
 def check(task: Task) -> Done:
@@ -83,7 +80,7 @@ def check(task: Task) -> Done:
     except Wrong as refusal:
         outcomes, wrong = [], str(refusal)
         wrong = wrong[len(shown(path)) + 2 :] if wrong.startswith(f"{shown(path)}: ") else wrong
-    return Done(task.number, Checked(shown(path), outcomes, wrong, time.monotonic() - begun))
+    return task.number, Checked(shown(path), outcomes, wrong, time.monotonic() - begun)
 
 
 def serve(theirs: Connection, connection: Connection) -> None:
@@ -161,7 +158,7 @@ class Checking:
         is_stopped, before = False, signal.signal(signal.SIGTERM, signal.default_int_handler)
         try:
             for done in all_done(self.tasks, jobs):
-                self.take(done)
+                self.take(*done)
         except KeyboardInterrupt:
             is_stopped = True
         signal.signal(signal.SIGTERM, before)
@@ -172,13 +169,13 @@ class Checking:
             say("check", f"stopped{checked if self.done else ''}")
         return STOPPED if is_stopped else self.status()
 
-    def take(self, done: Done) -> None:
+    def take(self, number: int, checked: Checked) -> None:
         """Takes over what came of a record, and writes it."""
-        self.records[done.number] = done.checked
-        self.done.append(done.checked)
-        if done.checked.wrong is not None:
-            say("check", f"{done.checked.path}: {done.checked.wrong}")
-        self.put(self.form.of(done.checked))
+        self.records[number] = checked
+        self.done.append(checked)
+        if checked.wrong is not None:
+            say("check", f"{checked.path}: {checked.wrong}")
+        self.put(self.form.of(checked))
         progress.tell(f"{len(self.done)} of {counted(len(self.tasks), 'record')} checked")
 
     def put(self, text: str) -> None:

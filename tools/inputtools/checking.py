@@ -1,6 +1,8 @@
 """Checks what a record expects of its play: each expectation, and what came."""
 
 import os
+from functools import cached_property
+from itertools import zip_longest
 from typing import Dict, List, NamedTuple, Optional, Sequence
 
 from inputtools.command import Wrong, counted
@@ -8,17 +10,14 @@ from inputtools.expectations import (
     AT_END, FLAG_KINDS, Expectation, ends_well, expectations_of, why_not_seen, why_not_sent,
 )
 from inputtools.places import Places, time_text
-from inputtools.played import PlayedDevice, Reader
-from inputtools.played import played as devices_of
+from inputtools.played import Reader, played as devices_of
 from inputtools.program import PLAYED, Player
 from inputtools.progress import progress
-from inputtools.record import Device as RecordDevice
-from inputtools.record import Record
+from inputtools.record import Device as RecordDevice, Record
 from inputtools.refusal_hints import refusal_text
 from inputtools.report import (
     ActorLine, Again, Call, Device, DeviceLine, Entry, Fed, Feedback, Made, Part, Report, SourceLine, Took,
-    cut_text,
-    entry_of, without_history,
+    cut_text, entry_of, without_history,
 )
 from inputtools.source import Given, read_text, write_bytes
 from inputtools.wall import wall
@@ -56,13 +55,16 @@ class Expecting:
         self.given, self.player = Given(path), player
         self.name, self.folder, self.text = self.given.name, self.given.folder, read_text(self.given.path)
         self.expectations = expectations_of(self.text)
-        self.records: List[Record] = []
         wall.begin(self.name, self.text)
 
+    @cached_property
+    def record(self) -> Record:
+        """The record, where it was played."""
+        return Record(self.text)
+
     def device_of(self, actor: str) -> RecordDevice:
-        """The device of an actor, of a record that was played."""
-        self.records = self.records or [Record(self.text)]
-        return self.records[0].devices[self.records[0].actors[actor].device]
+        """The device of an actor."""
+        return self.record.devices[self.record.actors[actor].device]
 
 
 class Played:
@@ -77,7 +79,6 @@ class Played:
             self.report = Report(self.written)
             for device in self.report.devices:
                 self.places[device.name] = Places(device.history)
-        self.devices: Optional[List[PlayedDevice]] = None
 
     def refusal(self) -> str:
         """Why it was not played."""
@@ -91,8 +92,7 @@ class Played:
     def at(self, part: Part, place: Optional[int]) -> Where:
         """A place of the actor's device, with its time."""
         device = self.device_of(part)
-        return Where(place,
-                     None if device is None or place is None else self.places[device.name].moment(place))
+        return Where(place, self.places[device.name].moment(place) if device and place is not None else None)
 
     def place_text(self, part: Part, place: int) -> str:
         """A place with its time."""
@@ -104,13 +104,12 @@ class Played:
         device = self.device_of(part)
         return Where() if device is None else self.at(part, device.steps)
 
-    def client(self, name: str) -> Reader:
-        """A client, as it was compared with its device."""
-        if self.devices is None:
-            of = self.of
-            is_threaded = self.flags == THREADED
-            self.devices = devices_of(of.name, of.text, of.folder, of.player, self.written, is_threaded)
-        return next(each for device in self.devices for each in device.readers() if each.name == name)
+    @cached_property
+    def clients(self) -> Dict[str, Reader]:
+        """The clients, as they were compared with their devices."""
+        of, is_threaded = self.of, self.flags == THREADED
+        devices = devices_of(of.name, of.text, of.folder, of.player, self.written, is_threaded)
+        return {each.name: each for device in devices for each in device.readers()}
 
 
 def outcomes_of(path: str, player: Player, runs: Optional[int] = None) -> List[Outcome]:
@@ -187,13 +186,12 @@ def check_meaning(played: Played, expectation: Expectation, part: Part) -> None:
     kind, is_whole = expectation.kind, played.report is not None and played.report.cut is None
     is_opened = part.role == "owner" or any(call.reply.name == "opened" for call in part.all_of(Call))
     if not is_opened and (is_whole or kind in OF_A_VIEW):
-        raise wrong_expectation(played, expectation, f"{expectation.actor} never opened the device")
-    if kind in ("never", "drops") and is_whole and not any(map(is_reading, part.sight)):
-        raise wrong_expectation(played, expectation,
-                                f"{expectation.actor} never reads, so each play meets it")
-    device = played.of.device_of(expectation.name)
-    why_not = why_not_sent if kind in ("never", "takes") else why_not_seen
-    why = why_not(device, expectation)
+        why: Optional[str] = f"{expectation.actor} never opened the device"
+    elif kind in ("never", "drops") and is_whole and not any(map(is_reading, part.sight)):
+        why = f"{expectation.actor} never reads, so each play meets it"
+    else:
+        why_not = why_not_sent if kind in ("never", "takes") else why_not_seen
+        why = why_not(played.of.device_of(expectation.name), expectation)
     if why:
         raise wrong_expectation(played, expectation, why)
 
@@ -236,11 +234,8 @@ def of_report(played: Played, expectation: Expectation) -> Outcome:
 
 def first_difference(wanted: str, came: str) -> Optional[int]:
     """The index of the first line in which two texts differ, or None."""
-    if wanted == came:
-        return None
-    ours, theirs = wanted.split("\n"), came.split("\n")
-    pairs = enumerate(zip(ours, theirs))
-    return next((index for index, (one, other) in pairs if one != other), min(len(ours), len(theirs)))
+    pairs = enumerate(zip_longest(wanted.split("\n"), came.split("\n")))
+    return next((index for index, (one, other) in pairs if one != other), None)
 
 
 def place_in_report(played: Played, rows: List[str], number: int) -> Where:
@@ -262,8 +257,8 @@ def of_view(played: Played, expectation: Expectation, part: Part) -> Outcome:
     line = next((line for line in part.view if list(line.words[:size]) == expectation.line), None)
     if line is None:
         what = " ".join(expectation.line)
-        raise wrong_expectation(played, expectation,
-                                f"its view has no line {what}, since the device has no such thing")
+        why = f"its view has no line {what}, since the device has no such thing"
+        raise wrong_expectation(played, expectation, why)
     words, wanted = list(line.words[size:]), expectation.wanted
     if is_line_held(expectation, words):
         return Outcome(expectation)
@@ -304,8 +299,8 @@ def is_such(expectation: Expectation, entry: Entry) -> bool:
 
 def place_of_entry(part: Part, entry: Entry) -> Optional[int]:
     """The place that an entry of a sight tells, or that of the last one before it that tells one."""
-    before = part.sight[: part.sight.index(entry) + 1]
-    return next((each.place_told() for each in reversed(before) if each.place_told() is not None), None)
+    before = reversed(part.sight[: part.sight.index(entry) + 1])
+    return next((place for place in (each.place_told() for each in before) if place is not None), None)
 
 
 def of_never(played: Played, expectation: Expectation, part: Part) -> Outcome:
@@ -334,7 +329,7 @@ def of_drops(played: Played, expectation: Expectation, part: Part) -> Outcome:
 
 
 def of_agreement(played: Played, expectation: Expectation, part: Part) -> Outcome:
-    client = played.client(expectation.name)
+    client = played.clients[expectation.name]
     if not client.at_end:
         return Outcome(expectation)
     first = client.at_end[0]

@@ -53,8 +53,8 @@ class Compared:
         if not self.text:
             raise Wrong(f"{self.name}: the file is empty")
 
-    def play(self, player: Callable[[], Player]) -> None:
-        status, written = player().play(self.given.path, self.given.folder)
+    def play(self, player: Player) -> None:
+        status, written = player.play(self.given.path, self.given.folder)
         if status not in PLAYED:
             raise Wrong(f"{self.name}: {refusal_text(self.text, written, status, self.given.folder)}")
         self.name, self.text = f"the report of {self.name}", written
@@ -69,16 +69,11 @@ class Compared:
 
 def reports_of(paths: Sequence[str]) -> List[Compared]:
     """The two reports. The program is looked for where a record is to be played."""
-    players: List[Player] = []
-
-    def player() -> Player:
-        if not players:
-            players.append(find_player())
-        return players[0]
-
     compared = [Compared(path) for path in paths]
+    player: Optional[Player] = None
     for each in compared:
         if not is_report(each.text):
+            player = player or find_player()
             each.play(player)
     return compared
 

@@ -359,13 +359,12 @@ def compare_device(one: Device, other: Device, parts: List[Parts], ignores_times
     found = compare_actors(parts, ignores_times)
     if found:
         return found
+    place = min(one.steps, other.steps)
     if one.line.text != other.line.text:
-        place = min(one.steps, other.steps)
         found.append(Difference("another count", one.name, None, None, place, one.line, other.line))
     for part in parts:
         ours, theirs = (item.line for item in part.same[0])
         if isinstance(ours, SourceLine) and ours.text != theirs.text:
-            place = min(one.steps, other.steps)
             found.append(Difference("another count", one.name, part.name, 1, place, ours, theirs))
     if not found and one.history and other.history:
         found = compare_histories(one, other)

@@ -8,6 +8,7 @@ guessed from what the capture has. """
 from dataclasses import dataclass
 from typing import Iterator, List, Optional, Sequence, Tuple
 
+from inputtools.belief import Thing
 from inputtools.causes import Causes
 from inputtools.command import Wrong
 from inputtools.comparing import Difference, Item, Parts, in_order
@@ -15,8 +16,7 @@ from inputtools.devicestate import Frame
 from inputtools.names import code_text, kind_text
 from inputtools.played import play
 from inputtools.program import Player
-from inputtools.recording import UNTOLD
-from inputtools.recording import Event as RawEvent
+from inputtools.recording import UNTOLD, Event as RawEvent
 from inputtools.report import Entry, Event, Line, Part, Stop, Took
 from inputtools.source import Given
 
@@ -96,8 +96,8 @@ class Reading:
 
     def place_of(self, each: Difference) -> Optional[int]:
         """The place of a difference: of an event that the client was not given, that of its frame."""
-        is_missing = each.first is None and isinstance(each.second, Captured)
-        frame = self.frame_of(each.second) if is_missing and isinstance(each.second, Captured) else None
+        theirs = each.second
+        frame = self.frame_of(theirs) if each.first is None and isinstance(theirs, Captured) else None
         return frame.place if frame else each.place
 
     def cause_of(self, each: Difference) -> str:
@@ -118,18 +118,13 @@ class Reading:
 
     def kept_from_client(self, frame: Frame, event: Event) -> Optional[str]:
         """What kept an event of a frame from the client, or None."""
-        state, place = self.device.state, frame.place
-        causes = Causes(state, self.device.report, lambda name: [])
-        eater = frame.eaten[frame.events.index(event)]
-        if eater is not None:
-            return f"eaten by filter {eater} ({state.description.filters[eater - 1].text})"
+        causes, place = Causes(self.device.state, self.device.report, lambda name: []), frame.place
+        eaten = causes.of_filter(frame.eaten[frame.events.index(event)])
         clients = [client.number for client in self.walk.clients if client.opened < place]
-        if not clients:
-            return causes.of_no_client(self.walk).text
+        if eaten or not clients:
+            return (eaten or causes.of_no_client(self.walk)).text
         kept = causes.of_offer(clients[-1], place)
-        mask = state.handles.mask_at(clients[-1], place, event.kind, event.code)
-        if mask and not kept:
-            return f"its mask of {mask.kind} {causes.at.span(mask.begin, mask.end)}"
+        kept = kept or causes.of_mask(clients[-1], place, Thing(event.kind, event.code))
         lost = [loss for loss in self.walk.losses if loss >= place]
         return kept.text if kept else causes.of_loss(clients[-1], lost[0]).text if lost else None
 

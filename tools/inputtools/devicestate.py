@@ -20,7 +20,6 @@ history, one for one.
 """
 
 import bisect
-import itertools
 import os
 import tempfile
 from functools import lru_cache
@@ -212,8 +211,8 @@ def is_sent(step: Step) -> bool:
 
 def sending_places(state: DeviceState) -> List[int]:
     """The places of the steps after which the owner asks, where there is one."""
-    return [place for place in state.places if state.description.is_requested
-            and is_sent(state.history[place])]
+    places = state.places if state.description.is_requested else []
+    return [place for place in places if is_sent(state.history[place])]
 
 
 def device_lines(number: int, state: DeviceState) -> List[str]:
@@ -268,10 +267,9 @@ def second_record(states: List[DeviceState]) -> str:
     """The text of the second record."""
     # (version 2 has all that version 1 has, and more slots)
     lines = ["inputrecord 2"]
-    for number, state in enumerate(states):
-        lines += device_lines(number, state)
-    for number, state in enumerate(states):
-        lines += action_lines(number, state)
+    for lines_of in (device_lines, action_lines):
+        for number, state in enumerate(states):
+            lines += lines_of(number, state)
     text = "\n".join(lines) + "\n"
     if len(text) > TEXT_LIMIT:
         raise too_long(sum(len(state.places) for state in states), len(text))
@@ -282,8 +280,7 @@ def second_record(states: List[DeviceState]) -> str:
 
 
 class SourcePlaces:
-    """Of the second history's places those that are the source's, each with its place in the first
-    history."""
+    """The source's places of the second history, each with its place in the first history."""
 
     def __init__(self, device: ReportedDevice, state: DeviceState) -> None:
         taken = {call.reply.place for part in device.readers() for call in part.all_of(Call)
@@ -302,9 +299,9 @@ def start_values(part: Part) -> Dict[Thing, int]:
     """The state at the start, as the answers to a client's first queries tell it."""
     belief = Belief(0)
     starts = ("open", "getaxis", "syncslots", *QUERIED_KIND)
-    for call in itertools.takewhile(lambda entry: isinstance(entry, Call) and entry.step.name in starts,
-                                    part.sight):
-        assert isinstance(call, Call)
+    for call in part.sight:
+        if not isinstance(call, Call) or call.step.name not in starts:
+            break
         if call.reply.name == "bits":
             belief.answer_bits(QUERIED_KIND[call.step.name], call.reply.rest, None)
         elif call.reply.name == "axis":
@@ -360,8 +357,7 @@ def read_described(state: DeviceState, part: Part, places: SourcePlaces) -> None
         if call.step.name == "getaxis":
             told[places.last_before(call.reply.place), Thing("EV_ABS", call.step.code)] = call.reply.number
     for thing in {thing for _, thing in told}:
-        start = state.changes[thing].values[0] if thing in state.changes else thing.first_value
-        state.changes[thing] = changes = Changes(start)
+        state.changes[thing] = changes = Changes(state.value(thing, -1))
         for number, frame in enumerate(state.frames):
             if changes.values[-1] != told[frame.place, thing]:
                 changes.add(number, told[frame.place, thing])

@@ -15,7 +15,7 @@ from inputtools.belief import (
 from inputtools.command import Wrong
 from inputtools.devicestate import DeviceState
 from inputtools.progress import progress
-from inputtools.report import Again, Call, Event, JoyRecord, Part, Took
+from inputtools.report import Again, Call, Event, Part, Took
 
 # How many entries of a sight are gone through between two words of how far it is.
 TOLD_EVERY = 4096
@@ -114,7 +114,7 @@ class Walk:
         self.answers: Optional[List[Tuple[Origin, Call]]] = None
         self.missing = 0
         self.sees: Dict[Type[Any], Callable[[int, Any], None]] = {
-            Took: self.see_took, Again: self.see_again, Call: self.see_call, JoyRecord: self.see_record,
+            Took: self.see_took, Again: self.see_again, Call: self.see_call,
         }
 
     def run(self) -> List[Divergence]:
@@ -134,8 +134,7 @@ class Walk:
         """The belief that was computed must be the one that the report has at the end."""
         thing = first_difference(self.belief, view_of_lines(self.part.view), self.state.description)
         if thing:
-            what = f"the belief in {thing.code} is not as the report has it at the end"
-            raise Wrong(f"{self.part.name}: {what}")
+            raise Wrong(f"{self.part.name}: the belief in {thing.code} is not as the report has it at the end")
 
     # Comparing
 
@@ -169,12 +168,14 @@ class Walk:
         self.touched.clear()
 
     def compare(self, kind: str, place: int, entry: int, frame: int) -> None:
-        """Begins, goes on with and ends divergences at a point."""
+        """Compares with the state at a frame's end."""
         self.move_to(frame)
-        if not self.differing and not self.open:
-            return
-        point = Point(kind, place, entry, frame)
-        differing = {thing for thing in self.differing if not self.is_told_behind(thing, point)}
+        if self.differing or self.open:
+            point = Point(kind, place, entry, frame)
+            self.enter({thing for thing in self.differing if not self.is_told_behind(thing, point)}, point)
+
+    def enter(self, differing: Set[Thing], point: Point) -> None:
+        """Begins, goes on with and ends divergences at a point."""
         for thing in in_order(set(self.open) - differing):
             self.meet(thing)
         for thing in in_order(differing):
@@ -193,7 +194,8 @@ class Walk:
         """A divergence begins, since the frame that made the device's value another one, or since the belief
         changed."""
         since, cause = self.cause_of(self, thing, point)
-        believed, present = self.belief.value(thing), self.state.value(thing, point.frame)
+        is_end, believed = point.kind == "end", self.belief.value(thing)
+        present = self.state.end_value(thing) if is_end else self.state.value(thing, point.frame)
         divergence = Divergence(thing, believed, present, since, cause)
         self.open[thing] = divergence
         self.divergences.append(divergence)
@@ -214,13 +216,7 @@ class Walk:
         point = Point("end", None, number, len(self.state.frames) - 1)
         self.move_to(point.frame)
         differing = self.differing_at_end()
-        for thing in in_order(set(self.open) - differing):
-            self.meet(thing)
-        for thing in in_order(differing):
-            if thing not in self.open:
-                self.part_at(thing, point)
-                self.open[thing].present = self.state.end_value(thing)
-            self.open[thing].points.append(point)
+        self.enter(differing, point)
         return [self.open[thing] for thing in in_order(differing)]
 
     def differing_at_end(self) -> Set[Thing]:
@@ -232,9 +228,6 @@ class Walk:
         return self.seen(thing, self.state.end_value(thing))
 
     # What the client saw
-
-    def see_record(self, number: int, entry: JoyRecord) -> None:
-        """A joystick's record, which no client is handed."""
 
     def see_took(self, number: int, entry: Took) -> None:
         _, _, place, _, event = entry

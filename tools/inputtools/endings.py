@@ -140,9 +140,8 @@ def passing_of(device: PlayedDevice, reader: Reader) -> Iterator[Ending]:
 
 def passed_of(devices: Sequence[PlayedDevice]) -> List[Ending]:
     """In what a reader was apart last, before the end."""
-    found = []
-    for device in devices:
-        found += [one for reader in readers_of([device]) for one in passing_of(device, reader)]
+    readers = ((device, reader) for device in devices for reader in readers_of([device]))
+    found = [one for device, reader in readers for one in passing_of(device, reader)]
     return [max(found, key=lambda ending: ending.since)] if found else []
 
 

@@ -2,7 +2,8 @@
 clocks."""
 
 import bisect
-from typing import Dict, List, NamedTuple, Optional, Tuple
+from collections import defaultdict
+from typing import DefaultDict, Dict, List, NamedTuple, Optional, Tuple
 
 from inputtools.names import TYPES, number_of_code
 from inputtools.report import Step
@@ -36,13 +37,6 @@ class MaskSpan(NamedTuple):
     end: Optional[int] = None
 
 
-class Clock(NamedTuple):
-    """The place from which on a client has a clock."""
-
-    place: int
-    name: str
-
-
 class Handles:
     """The clients of a device, by their numbers."""
 
@@ -51,8 +45,9 @@ class Handles:
         self.revokes: Dict[int, int] = {}
         self.grabs: List[Grab] = []
         self.grab_begins: List[int] = []
-        self.masks: Dict[int, List[Mask]] = {}
-        self.clocks: Dict[int, List[Clock]] = {}
+        self.masks: DefaultDict[int, List[Mask]] = defaultdict(list)
+        self.clocks: Dict[int, str] = {}
+        self.clock_changes: DefaultDict[int, List[int]] = defaultdict(list)
         for place, step in enumerate(history):
             if step.name in STEPS:
                 self.add(place, step)
@@ -64,20 +59,17 @@ class Handles:
             self.grab_begins.append(place)
         elif step.name == "mask":
             word, bits = step.rest.split(" ")[2:]
-            self.masks.setdefault(client, []).append(Mask(place, step.code, int(word), int(bits, 16)))
+            self.masks[client].append(Mask(place, step.code, int(word), int(bits, 16)))
         elif step.name == "clock":
-            self.add_clock(place, client, step.code)
+            # (a client starts on the realtime clock)
+            if self.clocks.get(client, "realtime") != step.code:
+                self.clocks[client] = step.code
+                self.clock_changes[client].append(place)
         else:
             ends: Dict[int, int] = {"close": self.closes, "revoke": self.revokes}.get(step.name, {})
             ends.setdefault(client, place)
             if self.grabs and self.grabs[-1].client == client and self.grabs[-1].end is None:
                 self.grabs[-1] = self.grabs[-1]._replace(end=place)
-
-    def add_clock(self, place: int, client: int, clock: str) -> None:
-        """Keeps the changes to another clock. A client starts on the realtime clock."""
-        changes = self.clocks.setdefault(client, [Clock(-1, "realtime")])
-        if changes[-1].name != clock:
-            changes.append(Clock(place, clock))
 
     def grab_at(self, place: int) -> Optional[Grab]:
         """The grab that was held when the step at a place was made, or None. One holds at a time."""
@@ -92,9 +84,9 @@ class Handles:
 
     def mask_at(self, client: int, place: int, kind: str, code: str) -> Optional[MaskSpan]:
         """The client's mask that leaves an event out at a place, or None."""
-        number, own = TYPES[kind], self.masks.get(client, [])
+        number = TYPES[kind]
         for mask, bit in (("EV_SYN", number), (kind, number_of_code(number, code) or 0)):
-            steps = [step for step in own if (step.kind, step.word) == (mask, bit // 64)]
+            steps = [step for step in self.masks[client] if (step.kind, step.word) == (mask, bit // 64)]
             for span in masked_spans(steps, 1 << bit % 64):
                 if span.begin < place and (span.end is None or place < span.end):
                     return span
@@ -102,20 +94,10 @@ class Handles:
 
     def spans_of_masks(self, client: int) -> List[MaskSpan]:
         """The client's masks that leave anything out."""
-        words: Dict[Tuple[str, int], List[Mask]] = {}
-        for mask in self.masks.get(client, []):
-            words.setdefault((mask.kind, mask.word), []).append(mask)
+        words: DefaultDict[Tuple[str, int], List[Mask]] = defaultdict(list)
+        for mask in self.masks[client]:
+            words[mask.kind, mask.word].append(mask)
         return [span for steps in words.values() for span in masked_spans(steps, ALL_BITS)]
-
-    def is_clock_change(self, client: int, place: int) -> bool:
-        return place in self.clock_changes(client)
-
-    def clock_change_behind(self, client: int, place: int) -> Optional[int]:
-        """The place of the client's first change of clock after a place, or None."""
-        return next((changed for changed in self.clock_changes(client) if changed > place), None)
-
-    def clock_changes(self, client: int) -> List[int]:
-        return [changed.place for changed in self.clocks.get(client, [])[1:]]
 
 
 def masked_spans(steps: List[Mask], bits: int) -> List[MaskSpan]:

@@ -11,8 +11,7 @@ from typing import Dict, Iterable, Iterator, List, NamedTuple, Optional, Set, Tu
 
 from inputtools.description import REPEAT_AT_FIRST
 from inputtools.names import ABS, KEY, LED, MSC, REL, REP, SLOT, SND, SW, SYN, TRACKING_ID, is_slot_value
-from inputtools.recording import Axis, Device, Event, Frame
-from inputtools.recording import GREATEST
+from inputtools.recording import GREATEST, Axis, Device, Event, Frame
 
 FLAGS = (KEY, LED, SW)
 
@@ -192,11 +191,10 @@ def state_before(known: State, frames: List[Frame], ids: Iterable[int]) -> State
 
 def events_between(old: State, new: State) -> List[RawEvent]:
     """The raw events, (type, code, value), that lead from one state to another."""
-    events: List[RawEvent] = []
-    for kind in FLAGS:
-        events += [(kind, code, int(code in new.on[kind])) for code in sorted(old.on[kind] ^ new.on[kind])]
-    settings = sorted(new.repeat.items())
-    events += [(REP, code, value) for code, value in settings if value != old.repeat.get(code)]
+    events = [(kind, code, int(code in new.on[kind])) for kind in FLAGS
+              for code in sorted(old.on[kind] ^ new.on[kind])]
+    events += [(REP, code, value) for code, value in sorted(new.repeat.items())
+               if value != old.repeat.get(code)]
     events += [(ABS, code, value) for code, value in sorted(new.values.items())
                if value is not None and value != old.values.get(code)]
     return events + (slot_events(old, new) if new.slots else [])

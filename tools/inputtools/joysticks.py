@@ -46,6 +46,7 @@ class JoyWalk(Walk):
         self.synchronised: List[int] = []
         self.cursor, self.answered = 0, -1
         super().__init__(part, state, cause_of)
+        self.sees[JoyRecord] = self.see_record
 
     def seen(self, thing: Thing, value: int) -> int:
         return max(-GREATEST, min(GREATEST, value)) if thing.kind == "EV_ABS" else value

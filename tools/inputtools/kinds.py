@@ -57,13 +57,11 @@ def said_of(data: bytes) -> Optional[str]:
     if data.startswith(b"\xef\xbb\xbf"):
         return "it begins with a byte order mark, as some editors write it: save it as UTF-8 without one"
     start = data[:512].lstrip(b"\xef\xbb\xbf \t\r\n")
-    for magic, said in MAGICS:
-        if start[: len(magic)].lower() == magic.lower():
-            return said
     text = data[:65536].decode("latin-1")
-    for pattern, said in TEXTS:
-        if re.search(pattern, text, re.MULTILINE):
-            return said
+    known = [said for magic, said in MAGICS if start.lower().startswith(magic.lower())]
+    known += [said for pattern, said in TEXTS if re.search(pattern, text, re.MULTILINE)]
+    if known:
+        return known[0]
     if raw.is_raw(data) and any(raw.is_plausible(data, size) for size in raw.FORMS):
         return f"this is a raw capture of a device's events: {MAKE}, or name it in a `stream` line"
     return None

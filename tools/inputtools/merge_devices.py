@@ -6,11 +6,9 @@ from typing import Iterator, List, Optional, Tuple
 from inputtools import files
 from inputtools.command import Wrong
 from inputtools.description import name_of
-from inputtools.readers import DRIVER, Acts, readers_of
-from inputtools.readers import Reader
+from inputtools.readers import DRIVER, Acts, Reader, readers_of
 from inputtools.recording import Recording
-from inputtools.writing import Options, Record, Written
-from inputtools.writing import record_of, text_of
+from inputtools.writing import Options, Record, Written, record_of, text_of
 
 MOST_DEVICES = 8
 

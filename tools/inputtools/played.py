@@ -4,6 +4,7 @@ each client believed of it, and where both differ. `tools/stuck` prints this, an
 import itertools
 import os
 import tempfile
+from functools import cached_property
 from typing import Dict, List, NamedTuple, Optional, Sequence, Union
 
 from inputtools import devicestate
@@ -31,32 +32,28 @@ class Unread:
 
     def __init__(self, text: str, record: Record, folder: str, player: Player, report: Report) -> None:
         self.text, self.record, self.folder, self.player, self.report = text, record, folder, player, report
-        self.parts: Optional[Dict[str, List[Entry]]] = None
 
     def losses(self, name: str) -> List[Optional[int]]:
         """The places of the losses that an actor would read of at the end; None for one whose place is not
         told, as to a joystick, which then synchronises."""
-        if self.parts is None:
-            self.parts = self.play()
         behind = self.parts.get(name, [])
         if self.report.parts[name].role == "joy":
             return [None for entry in behind if isinstance(entry, Call) and entry.step.name == "discard"]
         return [entry.place for entry in behind if isinstance(entry, Took) and entry.event.is_loss]
 
-    def play(self) -> Dict[str, List[Entry]]:
+    @cached_property
+    def parts(self) -> Dict[str, List[Entry]]:
         """What each actor that reads would see at the end, behind what it saw."""
+        readers = [actor for actor in self.record.actors.values() if actor.role in READS]
         lines = ["", "# All that is queued is read."]
-        for actor in self.record.actors.values():
-            if actor.role in READS:
-                lines.append(f"do {actor.name} {READS[actor.role]}")
+        lines += [f"do {actor.name} {READS[actor.role]}" for actor in readers]
         with tempfile.TemporaryDirectory() as folder:
             path = os.path.join(folder, "unread.rec")
             with open(path, "w", encoding="latin-1", newline="") as file:
                 file.write(self.text + "\n".join(lines) + "\n")
             status, written = self.player.play(path, self.folder, what="what waits unread is asked for")
         rows = written.split("\n") if status in PLAYED else []
-        readers = (part for part in self.report.parts.values() if part.role in READS)
-        heads = {f"{part.role} {part.name}": part for part in readers}
+        heads = {f"{actor.role} {actor.name}": self.report.parts[actor.name] for actor in readers}
         parts = ((heads[row], at) for at, row in enumerate(rows, 1) if row in heads)
         return {part.name: entries_behind(part, rows, at) for part, at in parts}
 
@@ -123,10 +120,7 @@ def add_parts_behind(report: Report, record: Record) -> None:
     """Puts the parts of joysticks and owners to their devices."""
     for part in report.parts.values():
         device = report.devices[record.actors[part.name].device]
-        if part.role == "joy":
-            device.joysticks.append(part)
-        elif part.role == "owner":
-            device.owners.append(part)
+        {"joy": device.joysticks, "owner": device.owners}.get(part.role, []).append(part)
 
 
 def check_streams(name: str, text: str, folder: str) -> None:

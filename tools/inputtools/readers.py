@@ -21,11 +21,16 @@ Wants = Dict[int, Optional[Set[int]]]
 
 
 class Act(NamedTuple):
-    """What a reader does at a time, or at the start (None), in which order of one moment, and by which commands."""
+    """What a reader does at a time, or at the start (None), and by which commands."""
 
     time: Optional[int]
-    rank: int
     words: List[str]
+    reader: "Reader"
+
+    @property
+    def order(self) -> Tuple[int, int]:
+        """By its time, and in the order of one moment."""
+        return self.time or 0, RANKS.index(self.words[0])
 
 
 class Reader:
@@ -90,7 +95,7 @@ class Reader:
         return "joy" if self.is_joy else "client"
 
     def acts(self) -> List[Act]:
-        """What the reader does at times, or at the start (None): (time, rank, words), in order."""
+        """What the reader does at times, or at the start, in order."""
         mask = mask_words(self.wants) if self.wants is not None else []
         found: List[Tuple[Optional[int], List[str]]] = [(self.opens, ["open"] + mask)]
         if self.grab:
@@ -98,7 +103,7 @@ class Reader:
             found += [(self.opens if begin is None else begin, ["grab"])]
             found += [(end, ["ungrab"])] if end is not None else []
         found += [(self.revoked, ["revoke"])] if self.revoked is not None else []
-        return [Act(time, RANKS.index(words[0]), words) for time, words in found]
+        return [Act(time, words, self) for time, words in found]
 
     def does_at_times(self) -> bool:
         """Does it do anything later than at the start?"""
@@ -124,42 +129,28 @@ class Reader:
         return [f"do {self.name} {f'read {GREATEST_READ}' if self.is_joy else 'follow'}"]
 
 
-class Due(NamedTuple):
-    """What a reader does, and the reader."""
-
-    act: Act
-    reader: Reader
-
-
 class Acts:
     """What readers do at times, in order: each is done before the first frame of its time or later."""
 
     def __init__(self, readers: Iterable[Reader]) -> None:
-        dues = [Due(act, reader) for reader in readers for act in reader.acts()]
+        acts = [act for reader in readers for act in reader.acts()]
         # (what is done at the start stands in the order of the readers)
-        self.at_start = [due for due in dues if due.act.time is None]
-        self.later = sorted((due for due in dues if due.act.time is not None), key=in_time)
-
-    def begin(self) -> None:
-        """No reader has done anything yet."""
-        for due in self.at_start + self.later:
-            due.reader.unread, due.reader.is_open = 0, False
+        self.at_start = [act for act in acts if act.time is None]
+        self.later = sorted((act for act in acts if act.time is not None), key=lambda act: act.order)
 
     def opening_lines(self) -> List[str]:
-        self.begin()
-        return [line for due in self.at_start for line in due.reader.lines_of(due.act.words)]
+        """(no reader has done anything yet)"""
+        for act in self.at_start + self.later:
+            act.reader.unread, act.reader.is_open = 0, False
+        return [line for act in self.at_start for line in act.reader.lines_of(act.words)]
 
     def lines_before(self, time: Optional[int] = None) -> List[str]:
         """The lines of what is due at a time, or of all that is left."""
         lines: List[str] = []
-        while self.later and (time is None or in_time(self.later[0])[0] <= time):
-            due = self.later.pop(0)
-            lines += due.reader.lines_of(due.act.words)
+        while self.later and (time is None or (self.later[0].time or 0) <= time):
+            act = self.later.pop(0)
+            lines += act.reader.lines_of(act.words)
         return lines
-
-
-def in_time(due: Due) -> Tuple[int, int]:
-    return due.act.time or 0, due.act.rank
 
 
 def micros_of(text: str) -> int:

@@ -21,8 +21,7 @@ from inputtools.names import (
     ABS, KEY, LED, REP, SLOT, SW, TRACKING_ID, TYPES, code_text, is_in_a_record,
     is_slot_value, number_of_code, number_of_kind,
 )
-from inputtools.recording import GREATEST, LEAST, Axis, Event, Recording
-from inputtools.recording import Device as Description
+from inputtools.recording import GREATEST, LEAST, Axis, Device as Description, Event, Recording
 from inputtools.source import read_bytes, read_text
 
 DEVICE_WORDS = ("device", "udevice")

@@ -19,6 +19,7 @@ FIRST_LINE = re.compile(r"device \S+ steps \d+$")
 VIEW_WORDS = ("keys", "switches", "leds", "buttons", "axes", "current", "slot")
 # The actors whose parts stand after all devices.
 BEHIND = ("joy", "owner")
+PARTS = ("client", "tap", *BEHIND)
 
 # Where the moment stands in the words of a step.
 MOMENT_AT = {"inject": 1, "tick": 1, "inhibit": 1, "write": 2, "clock": 3}
@@ -317,11 +318,9 @@ FORMS: Dict[str, Callable[[int, str, str], Entry]] = {
     "feedback": lambda number, text, rest: Feedback(number, text, *map(int, rest.split(" "))),
     "fed": lambda number, text, rest: Fed(number, text, event_of(rest)),
     "stop": lambda number, text, rest: Stop(number, text, rest),
+    **dict.fromkeys(PARTS, lambda number, text, rest: ActorLine(number, text, *text.split(" "))),
+    **dict.fromkeys(VIEW_WORDS, lambda number, text, rest: ViewLine(number, text, tuple(text.split(" ")))),
 }
-for _role in ("client", "tap", *BEHIND):
-    FORMS[_role] = lambda number, text, rest: ActorLine(number, text, *text.split(" "))
-for _word in VIEW_WORDS:
-    FORMS[_word] = lambda number, text, rest: ViewLine(number, text, tuple(text.split(" ")))
 
 
 def entry_of(number: int, text: str) -> Entry:

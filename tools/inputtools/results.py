@@ -1,7 +1,7 @@
 """Writes what was checked: as lines for people, as TAP, as JUnit's XML, and as JSON, one object a line."""
 
 import json
-from typing import List, Optional, Sequence
+from typing import List, NamedTuple, Optional, Sequence
 from xml.etree.ElementTree import Element, SubElement, tostring
 
 from inputtools.checking import Outcome
@@ -9,12 +9,14 @@ from inputtools.command import counted, plain
 from inputtools.source import write_bytes
 
 
-class Checked:
+class Checked(NamedTuple):
     """A record that was checked: the outcomes of its expectations, or why it could not be checked, and how
     many seconds that took."""
 
-    def __init__(self, path: str, outcomes: List[Outcome], wrong: Optional[str], seconds: float) -> None:
-        self.path, self.outcomes, self.wrong, self.seconds = path, outcomes, wrong, seconds
+    path: str
+    outcomes: List[Outcome]
+    wrong: Optional[str]
+    seconds: float
 
     def failed(self) -> List[Outcome]:
         return [outcome for outcome in self.outcomes if not outcome.is_held]
@@ -26,15 +28,10 @@ def name_of(checked: Checked, outcome: Outcome) -> str:
     return f"{checked.path}{line}: {outcome.text}"
 
 
-def where_text(outcome: Outcome) -> str:
-    """The place and the time at which it failed."""
-    if outcome.place is None:
-        return ""
-    return f"at place {outcome.place}{outcome.when}: "
-
-
 def failure_text(outcome: Outcome) -> str:
-    return where_text(outcome) + (outcome.came or "")
+    """The place and the time at which it failed, and what came."""
+    where = "" if outcome.place is None else f"at place {outcome.place}{outcome.when}: "
+    return where + (outcome.came or "")
 
 
 class Form:
@@ -80,13 +77,17 @@ class Tap(Form):
     def of(self, checked: Checked) -> str:
         texts = [] if checked.wrong is None else [self.test(checked.path, checked.wrong)]
         for outcome in checked.outcomes:
-            texts.append(self.test(name_of(checked, outcome),
-                                   None if outcome.is_held else failure_text(outcome)))
+            why = None if outcome.is_held else failure_text(outcome)
+            texts.append(self.test(name_of(checked, outcome), why))
         return "".join(line + "\n" for line in texts)
 
     def test(self, name: str, why: Optional[str]) -> str:
         self.count += 1
-        return f"{'ok' if why is None else 'not ok'} {self.count} - {escape_tap(name)}{diagnostic(why)}"
+        # (a `#` begins a directive in TAP)
+        text = f"{self.count} - " + one_line(name).replace("\\", "\\\\").replace("#", "\\#")
+        if why is None:
+            return f"ok {text}"
+        return f"not ok {text}\n  ---\n  message: {json.dumps(one_line(why))}\n  ..."
 
     def end(self, records: Sequence[Checked], is_stopped: bool) -> str:
         return "Bail out! stopped\n" if is_stopped else f"1..{self.count}\n"
@@ -111,15 +112,6 @@ class Json(Form):
 
 def one_line(text: str) -> str:
     return plain(" ".join(text.split()))
-
-
-def escape_tap(text: str) -> str:
-    """(a `#` begins a directive in TAP)"""
-    return one_line(text).replace("\\", "\\\\").replace("#", "\\#")
-
-
-def diagnostic(why: Optional[str]) -> str:
-    return "" if why is None else f"\n  ---\n  message: {json.dumps(one_line(why))}\n  ..."
 
 
 def junit(records: Sequence[Checked]) -> bytes:
