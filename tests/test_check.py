@@ -54,7 +54,6 @@ class CheckCase(DeskCase):
         return self.file(name, "\n".join([first, *(f"#= {each}" for each in expectations), rest]))
 
 
-
 class Many(CheckCase):
     """Folders, several records at a time, parts of them, and what is written where a check is stopped."""
 
@@ -102,8 +101,7 @@ class Many(CheckCase):
         script = script.replace("inputplay-check", str(TOOLS / "check"))
         env = {**os.environ, "HOME": str(self.folder), "INPUTPLAY": PROGRAM}
         done = subprocess.run(["bash", "-c", script], cwd=self.folder, env=env, capture_output=True,
-                              text=True,
-                              check=False)
+                              text=True, check=False)
         self.assertEqual(2, done.returncode, done.stderr)
         self.assertEqual(3, done.stdout.count("inputs/"), done.stdout)
         suites = [suite.attrib["name"] for number in range(1, 5)
@@ -190,9 +188,7 @@ class Files(CheckCase):
 
 
 class Threads(CheckCase):
-    """An expectation has to hold in each run on threads, and a run that fails can be played again."""
-
-    def test_the_second_program_has_no_threads(self):
+    def test_the_second_program_has_none(self):
         with mock.patch.dict(os.environ), mock.patch.object(program_module, "BUILT", "/no/program"):
             os.environ.pop("INPUTPLAY", None)
             self.refused("check", "--threads", self.record(STICKS, "status 0"),

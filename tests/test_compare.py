@@ -1,9 +1,8 @@
-"""tools/compare: records, captures, and random lists. Reports are in tests/transcripts/compare.txt."""
+"""tools/compare: records, and random lists. Reports and captures are in tests/transcripts/compare*.txt."""
 
-import json
 import random
 
-from tests.desk_cases import DATA, TOP, DeskCase, needs_program, raw_capture, raw_events
+from tests.desk_cases import DATA, DeskCase, needs_program
 from inputtools.comparing import longest_ascending, pairs_of
 
 
@@ -20,74 +19,6 @@ class Records(DeskCase):
         self.assertEqual((1, 1), (status, len(rows)), rows)
         self.assertRegex(rows[0], r"^reader, entry \d+, place \d+: only in the second: nothing before the ")
         self.assertRegex(rows[0], rf" \| the report of {paths[1]}:\d+: took \d+ \d+ EV_REL REL_Y ")
-
-
-class Captures(DeskCase):
-    """What a client of a record reads, and what a program read."""
-    def setUp(self):
-        super().setUp()
-        needs_program(self)
-        readers = "reader desk g:grab=2-4 leds:mask=EV_LED late:open=5 gone:revoke=1 slow:slow".split()
-        words = [word for reader in readers for word in ("--reader", reader)]
-        self.text = self.written("record", DATA / "keyboard.evtest", *words)
-        self.record = self.file("kbd.rec", self.text)
-        self.events = raw_events((DATA / "keyboard.bin").read_bytes())
-
-    def told(self, record, client, events, *words):
-        """The status, and the lines of a comparison."""
-        capture = self.file("c.bin", raw_capture(events))
-        status, written, notes = self.tool("compare", f"{record}:{client}", capture, *words)
-        return status, written.splitlines() + notes
-
-    def test_the_capture_of_the_record(self):
-        for form in ("evtest", "bin", "evemu", "libinput.yml"):
-            with self.subTest(form):
-                note = f"428 events of {DATA / 'keyboard'}.{form} as g reads them"
-                self.written("compare", f"{self.record}:g", DATA / f"keyboard.{form}", notes=[note])
-
-    def test_causes(self):
-        all_of, lost, kbd = self.events, [(0, 0, 3, 0), (0, 0, 0, 0)], self.record
-        later = [(time + 5000 * (time > 3000000), *event) for time, *event in all_of]
-        eaten = self.text.replace("inputrecord 1", "inputrecord 2")
-        eaten = self.file("eaten.rec", eaten.replace("type EV_REP", "type EV_REP\nfilter eat EV_KEY KEY_H"))
-        unscanned = [event for event in all_of if event[1] != 4]
-        for record, client, events, what, likely in (
-            (kbd, "desk", all_of, "only in the second: nothing before the report of", "grab of g from place"),
-            (kbd, "leds", all_of, "", "its mask of types from place"),
-            (kbd, "late", all_of, "", "it opened the device later, at place"),
-            (kbd, "gone", all_of, "", "it was revoked at place"),
-            (kbd, "slow", all_of, "", "loss at place"),
-            (eaten, "g", all_of, "", "eaten by filter 1 (eat KEY_H)"),
-            (kbd, "g", all_of[:200], "| nothing before the end", "the capture ends there"),
-            (kbd, "g", all_of[200:], "| nothing before", "the capture begins there"),
-            (kbd, "g", unscanned, "MSC_SCAN", "the program reads no MSC_SCAN at all"),
-            (kbd, "g", all_of[:40] + lost + all_of[60:], "", "the program's ring was full there: it"),
-            (kbd, "g", all_of[:40] + all_of[60:], "only in the first", "another program had grabbed the"),
-            (kbd, "g", [(*all_of[0][:3], 7), *all_of[1:]], "MSC_SCAN 7", "the values differ: another run"),
-            (kbd, "g", all_of[:5] + [(9, 1, 98, 1)] + all_of[5:], "KEY_KPSLASH 1", "the record's device does"),
-            (kbd, "g", later, "another time by +5000", "the clocks went apart"),
-        ):
-            with self.subTest(likely):
-                status, (first, second, *_) = self.told(record, client, events)
-                self.assertEqual((1, f"  likely: {likely}"), (status, second[: 10 + len(likely)]), first)
-                self.assertRegex(first, rf"^{client}, entry \d+, place \d+: ")
-                self.assertIn(what, first)
-        self.assertEqual(0, self.told(kbd, "g", later, "--ignore", "times")[0])
-
-    def test_as_json(self):
-        _, (line, *_) = self.told(self.record, "desk", self.events, "--json")
-        told = json.loads(line)
-        self.assertEqual(("desk", None, {"line": 93, "text": "took EV_MSC MSC_SCAN 458765"}),
-                         (told["actor"], told["first"], told["second"]))
-        self.assertIn("grab of g", told["cause"])
-        self.assertIn("| `cause` |", (TOP / "docs" / "JSON.md").read_text())
-
-    def test_wrong_words(self):
-        capture = DATA / "keyboard.bin"
-        self.refused("compare", f"{self.record}:usb", capture, because="no client or tap is named usb; there are")
-        self.refused("compare", f"{self.record}:g", DATA / "keyboard.udevadm", because="it has no events")
-        self.refused("compare", f"{self.folder / 'none'}:g", capture, because="none: No such file")
-        self.refused("compare", self.record, capture, "--16", because="--device and --16 are of a capture")
 
 
 class Pairs(DeskCase):

@@ -31,7 +31,12 @@ device pad
 hint 8
 slots 2
 axis ABS_MT_POSITION_X 0 0 100 0 0 0
+axis ABS_MT_POSITION_Y 0 0 100 0 0 0
 source s
+client c
+do c open
+do s stream long.bin
+do c follow
 """
 
 
@@ -41,14 +46,9 @@ def frame(moment, *events):
     return "\n".join(lines) + "\n"
 
 
-def press(key):
-    return f"EV_KEY {key} 1"
-
-
-APART = KEYBOARD + "client c\ntap g\ndo c open\ndo g open\ndo g grab\n" + frame(1, press("KEY_A"))
-APART += "do g read 9\ndo c follow\n"
+# A play that is cut, of which tests/test_json.py asks.
 CUT = KEYBOARD.replace("hint 8\n", "hint 8\nlog 4\n") + "client c\ndo c open\n"
-CUT += frame(1, press("KEY_A")) + "do c follow\n"
+CUT += frame(1, "EV_KEY KEY_A 1") + "do c follow\n"
 
 
 class Records(DeskCase):
@@ -117,10 +117,7 @@ class Long(DeskCase):
         data = raw_capture((number // 3 * 7000, kind, code, number % 50 + value if kind else 0)
                            for number, (kind, code, value) in enumerate(events))
         self.file("long.bin", data)
-        text = TOUCHPAD + "axis ABS_MT_POSITION_Y 0 0 100 0 0 0\n"
-        text = text.replace("source s\n", "") + "source s\nclient c\ndo c open\n"
-        text += "do s stream long.bin\ndo c follow\n"
-        return self.file("long.rec", text)
+        return self.file("long.rec", TOUCHPAD)
 
     def test_400_000_events(self):
         needs_program(self)
@@ -142,34 +139,12 @@ class Long(DeskCase):
 
 
 class Json(DeskCase):
-    def test_json(self):
-        text = self.written("stuck", "--json", self.file("apart.rec", APART))
-        objects = [json.loads(line) for line in text.splitlines()]
-        kinds = ["device", "reader", "parting", "end", "reader", "end", "held", "state"]
-        self.assertEqual(kinds, [each["kind"] for each in objects])
-        parting = objects[2]
-        told = {"device": "kbd", "role": "client", "name": "c", "thing": "KEY_A", "type": "EV_KEY",
-                "code": "KEY_A"}
-        told.update(believed=0, present=1, since={"place": 5, "time": 1}, cause="grab", met=None)
-        self.assertEqual(told, {name: parting[name] for name in told})
-        self.assertEqual([{"at": "nothing-left", "place": 7, "time": 1}, {"at": "end"}], parting["seen"])
-        self.assertEqual({"place": 5, "time": 1}, objects[6]["since"])
-
     def test_json_of_each_kind_of_reader(self):
         for record in (EXAMPLES / "joystick.rec", EXAMPLES / "feedback.rec", RECORDS / "slot_255.rec"):
             with self.subTest(record.name):
                 objects = [json.loads(line) for line in self.written("stuck", "--json", record).splitlines()]
                 readers = [each for each in objects if each["kind"] == "reader"]
                 self.assertEqual(len(readers), sum(each["kind"] == "end" for each in objects))
-
-    def test_a_play_that_was_cut(self):
-        needs_program(self)
-        status, text, _ = self.tool("stuck", "--json", self.file("cut.rec", CUT))
-        self.assertEqual(6, status)
-        first, *others = map(json.loads, text.splitlines())
-        who = "c stopped, since the history was full at place 4"
-        self.assertEqual({"kind": "cut", "role": "client", "name": "c", "place": 4, "text": who}, first)
-        self.assertEqual(["cut"], [each["cause"] for each in others if each["kind"] == "parting"])
 
 
 class Waiting(DeskCase):
