@@ -1,9 +1,5 @@
 """A device and its clients, by the rules of docs/RULES.md. An event is a tuple (type, code, value)."""
 
-
-
-
-
 from typing import Any, Callable, Dict, List, Optional, Sequence, Set, Tuple
 
 from second.names import ABS, KEY, LED, MSC, REL, REP, SND, SW, SYN
@@ -15,6 +11,8 @@ REPORT, CONFIG, DROPPED = 0, 1, 3
 # The most events that wait for a device's owner.
 MOST_WAITING = 15
 FUZZ_MAX = 2**30
+# What each query of bits asks for.
+BITS = {"getkeys": KEY, "getswitches": SW, "getleds": LED, "getsounds": SND}
 MASK_WORDS = {SYN: 1, KEY: 12, REL: 1, ABS: 1, MSC: 1, SW: 1, LED: 1, SND: 1}
 
 
@@ -109,14 +107,10 @@ class Filter:
         newest = len(self.given) - 1
         return newest if value not in (0, 2) else self.press_before(key, newest)
 
-    def is_down_before(self, key: int, end: int) -> bool:
-        """Whether the last event on a key before this place, but for autorepeats, is there and is no release."""
-        return self.press_before(key, end) is not None
-
     def eats(self, event: Event, now: int) -> bool:
         """Takes an event, and answers whether it is eaten."""
         self.given.append((event, now, False))
-        is_eaten = FORMS[self.form](self, event, *self.words)
+        is_eaten: bool = getattr(self, f"eats_by_{self.form}")(event, *self.words)
         self.given[-1] = (event, now, is_eaten)
         return is_eaten
 
@@ -130,7 +124,7 @@ class Filter:
         if event[:2] != (KEY, second):
             return False
         press = self.press_of_newest()
-        return press is not None and self.is_down_before(first, press)
+        return press is not None and self.press_before(first, press) is not None
 
     def eats_by_bounce(self, event: Event, key: int, micros: int) -> bool:
         if event[:2] != (KEY, key):
@@ -143,12 +137,6 @@ class Filter:
             if value == 0 and not is_eaten:
                 return moment <= self.given[press][1] < moment + micros
         return False
-
-
-FORMS: Dict[str, Callable[..., bool]] = {
-    "eat": Filter.eats_by_eat, "norepeat": Filter.eats_by_norepeat, "chord": Filter.eats_by_chord,
-    "bounce": Filter.eats_by_bounce,
-}
 
 
 class Client:
@@ -390,17 +378,13 @@ class Device:
             return ("refused", place, why), None
         self.history.append(step)
         op, *words = step
-        # (a device of another kind may open its clients otherwise)
-        if op == "open":
-            return self.do_open(op, words, place)
-        way = self.table.get(op)
-        return way(self, op, words, place) if way else self.do_plain(op, words, place)
+        way: Callable[..., Answer] = getattr(self, f"do_{op}", self.do_plain)
+        return way(op, words, place)
 
     def do_plain(self, op: str, words: Words, place: int) -> Answer:
-        if op == "inject" and not self.inhibited:
-            self.raw(words[1], words[0], place)
-        elif op == "write" and not self.inhibited:
-            self.raw(words[2], words[1], place)
+        if op in ("inject", "write") and not self.inhibited:
+            *_, now, event = words
+            self.raw(event, now, place)
         elif op == "tick":
             self.tick(words[0], place)
         elif op == "inhibit":
@@ -434,21 +418,12 @@ class Device:
         client = self.clients[words[0]]
         return ("discarded", place, len(client.take(client.visible()))), None
 
-    def bits(self, kind: int, words: Words, place: int) -> Answer:
+    def bits(self, op: str, words: Words, place: int) -> Answer:
+        kind = BITS[op]
         self.clients[words[0]].flush(lambda event: event[0] == kind)
         return ("bits", place, kind, sorted(self.on[kind])), None
 
-    def do_getkeys(self, _: str, words: Words, place: int) -> Answer:
-        return self.bits(KEY, words, place)
-
-    def do_getswitches(self, _: str, words: Words, place: int) -> Answer:
-        return self.bits(SW, words, place)
-
-    def do_getleds(self, _: str, words: Words, place: int) -> Answer:
-        return self.bits(LED, words, place)
-
-    def do_getsounds(self, _: str, words: Words, place: int) -> Answer:
-        return self.bits(SND, words, place)
+    do_getkeys = do_getswitches = do_getleds = do_getsounds = bits
 
     def do_getaxis(self, _: str, words: Words, place: int) -> Answer:
         code = words[1]
@@ -488,10 +463,3 @@ class Device:
             if client.queue:
                 client.queue = [((SYN, DROPPED, 0), now + self.caps.offsets[clock], place)]
         return ("done", place), None
-
-    # What a step does that has more to reply than that it is done.
-    table: Dict[str, Callable[..., Answer]] = {
-        "read": do_read, "discard": do_discard, "getkeys": do_getkeys, "getswitches": do_getswitches,
-        "getleds": do_getleds, "getsounds": do_getsounds, "getaxis": do_getaxis, "setaxis": do_setaxis,
-        "getslots": do_getslots, "syncslots": do_syncslots, "mask": do_mask, "clock": do_clock,
-    }

@@ -4,14 +4,14 @@ from dataclasses import dataclass, field
 from typing import Any, List, Optional, Tuple
 
 from second.device import Caps, Device, SLOT
-from second.joystick import AXIS, BUTTON, MOST_BUTTONS, STARTUP, Joystick, Read, axes_of, buttons_of, cut
+from second.joystick import AXIS, BUTTON, MOST_BUTTONS, NUMBERS, STARTUP, Joystick, Read, axes_of, buttons_of, cut
 from second.kernel import KernelDevice, in_32_bits
 from second.names import ABS, KEY, MSC, REL, SYN
 from second.reader import NO_CLIENT
 from second.values import Event, JoyRecord, Reply, Step
 
-# Places of a ring, and how many numbers a byte has.
-PLACES, NUMBERS = 64, 256
+# Places of a ring.
+PLACES = 64
 # What a device must have one of to be a joystick, and the keys that it must not have.
 WANTED_AXES, WANTED_KEYS, UNWANTED_KEYS = {0, 2, 8, 6}, {0x120, 0x130, 0x2C0}, {0x14A, 0x140}
 MOUSE_KEYS = {0x110, 0x111, 0x112}
@@ -177,19 +177,8 @@ class JoydevStick(Joystick):
         self.calls = [(("read", NO_CLIENT, 1), reply)]
         return "end"
 
-    def begin_startup(self) -> None:
-        super().begin_startup()
-        scaled = [self.node.axis(index, self.reader.view.axes[code]) for index, code in enumerate(self.axes)]
-        self.startup[len(self.buttons):] = [(0, value, AXIS + STARTUP, i) for i, value in enumerate(scaled)]
+    def button_value(self, value: int) -> int:
+        return self.node.button(value)
 
-    def tell(self, event: Event, time: int) -> Read:
-        kind, code, value = event
-        milliseconds = time // 1000 % 2**32
-        if kind == KEY and code in self.buttons and value != 2:
-            number = self.buttons.index(code) % NUMBERS
-            return self.hand_out((milliseconds, self.node.button(value), BUTTON, number))
-        if kind != ABS or code not in self.axes:
-            return None
-        index = self.axes.index(code)
-        told = self.node.axis(index, value)
-        return None if told == self.values[index] else self.hand_out((milliseconds, told, AXIS, index))
+    def axis_value(self, index: int, value: int) -> int:
+        return self.node.axis(index, value)

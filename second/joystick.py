@@ -3,7 +3,6 @@
 A record that it hands out is a tuple (time in milliseconds, value, type, number).
 """
 
-
 from typing import Any, List, Tuple, Union
 
 from second.device import Caps, DROPPED, LAST, REPORT, SLOT
@@ -13,9 +12,9 @@ from second.values import Event, HandedOut, JoyRecord, Reply, Step
 
 BUTTON, AXIS, STARTUP = 1, 2, 0x80
 FIRST_OF_ALL, FIRST_OF_JOYSTICKS = 0x100, 0x120
-MOST_BUTTONS = 64
+# How many buttons a client has, and how many numbers the byte of a record.
+MOST_BUTTONS, NUMBERS = 64, 256
 LONG = 64
-
 
 # What a read comes to: a record, or a word.
 Read = Union[JoyRecord, str, None]
@@ -50,7 +49,8 @@ class Joystick:
     def begin_startup(self) -> None:
         view = self.reader.view
         buttons = [(0, int(code in view.on[KEY]), BUTTON + STARTUP, i) for i, code in enumerate(self.buttons)]
-        self.startup = buttons + [(0, cut(view.axes[code]), AXIS + STARTUP, i) for i, code in enumerate(self.axes)]
+        axes = [self.axis_value(i, view.axes[code]) for i, code in enumerate(self.axes)]
+        self.startup = buttons + [(0, value, AXIS + STARTUP, i) for i, value in enumerate(axes)]
         self.clear()
 
     def start(self, device: Any) -> None:
@@ -100,15 +100,24 @@ class Joystick:
         self.begin_startup()
         return None
 
+    def button_value(self, value: int) -> int:
+        return int(value != 0)
+
+    def axis_value(self, _index: int, value: int) -> int:
+        return cut(value)
+
     def tell(self, event: Event, time: int) -> Read:
         """The record of an event, if it gives one."""
         kind, code, value = event
         milliseconds = time // 1000 % 2**32
         if kind == KEY and code in self.buttons and value != 2:
-            return self.hand_out((milliseconds, int(value != 0), BUTTON, self.buttons.index(code)))
-        if kind == ABS and code in self.axes and cut(value) != self.values[self.axes.index(code)]:
-            return self.hand_out((milliseconds, cut(value), AXIS, self.axes.index(code)))
-        return None
+            number = self.buttons.index(code) % NUMBERS
+            return self.hand_out((milliseconds, self.button_value(value), BUTTON, number))
+        if kind != ABS or code not in self.axes:
+            return None
+        index = self.axes.index(code)
+        told = self.axis_value(index, value)
+        return None if told == self.values[index] else self.hand_out((milliseconds, told, AXIS, index))
 
     def hand_out(self, record: JoyRecord) -> JoyRecord:
         _, value, kind, number = record

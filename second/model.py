@@ -6,7 +6,7 @@ the record for one that has a meaning, and plays on one thread.
 
 import os
 import struct
-from typing import Any, Callable, Dict, List, NamedTuple, Optional, Sequence, Tuple
+from typing import Any, List, NamedTuple, Optional, Sequence, Tuple
 
 from second.device import Caps, Device, FIRST, LAST, SLOT
 from second.joydev import JoydevDevice, JoydevStick
@@ -151,11 +151,7 @@ class Actor:
 
     def do(self, words: List[str], streams: Streams) -> None:
         if self.stop == "finished":
-            ways: Dict[str, Callable[[List[str], Streams], None]] = {
-                "source": self.do_source, "tap": self.do_tap, "client": self.do_client, "joy": self.do_joy,
-                "owner": self.do_owner,
-            }
-            ways[self.role](words, streams)
+            getattr(self, f"do_{self.role}")(words, streams)
 
     def do_source(self, words: List[str], streams: Streams) -> None:
         for step in source_steps(words, streams):
@@ -244,11 +240,8 @@ class Actor:
     def part(self) -> List[str]:
         if self.role == "source":
             return [f"source {self.name} calls {self.accepted} stop {self.stop}"]
-        end = {"joy": self.picture_lines, "owner": self.no_lines}.get(self.role, self.view_lines)()
+        end = {"joy": self.picture_lines, "owner": list}.get(self.role, self.view_lines)()
         return [f"{self.role} {self.name}"] + self.sight + end + [f"stop {self.stop}"]
-
-    def no_lines(self) -> List[str]:
-        return []
 
     def picture_lines(self) -> List[str]:
         down = [str(number) for number, value in enumerate(self.joystick.down) if value]

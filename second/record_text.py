@@ -127,23 +127,12 @@ def values_of(forms: str, words: Sequence[str]) -> List[Any]:
 AXIS = "CODE SIGNED SIGNED SIGNED SIGNED SIGNED SIGNED"
 
 # The words behind the first one of each line, but of `do`, which has the forms of its command.
-DESCRIPTION = {
-    "hint": "U32",
-    "log": "U32",
-    "clock": "AHEAD U64",
-    "slots": "U32",
-    "type": "TYPE",
-    "cap": "TYPE CODE",
-    "axis": AXIS,
-}
+DESCRIPTION = {**dict.fromkeys(("hint", "log", "slots"), "U32"), "clock": "AHEAD U64", "type": "TYPE",
+               "cap": "TYPE CODE", "axis": AXIS}
 
 # The words behind `filter`, by the first of them.
-FILTERS: Dict[str, str] = {
-    "eat": "FILTER TYPE CODE",
-    "norepeat": "FILTER",
-    "chord": "FILTER KEY KEY",
-    "bounce": "FILTER KEY MICROS",
-}
+FILTERS = {"eat": "FILTER TYPE CODE", "norepeat": "FILTER", "chord": "FILTER KEY KEY",
+           "bounce": "FILTER KEY MICROS"}
 MOST_FILTERS = 8
 
 DEVICES = {"device": "NAME", "udevice": "NAME"}
@@ -153,29 +142,15 @@ LINES = {"inputrecord": "FILE", **DEVICES, **DESCRIPTION, **ACTORS}
 # The first words of lines that version 1 does not have.
 LATER = ("filter", "joy", "udevice", "owner")
 
-READERS = {
-    **dict.fromkeys(("open", "close", "grab", "ungrab", "revoke"), ""),
-    "mask": "TYPE U16 U64",
-    "clock": "CLOCK MOMENT",
-    "write": "MOMENT TYPE CODE SIGNED",
-    "setaxis": AXIS,
-}
+EVENT = "MOMENT TYPE CODE SIGNED"
+READERS = {**dict.fromkeys(("open", "close", "grab", "ungrab", "revoke"), ""), "mask": "TYPE U16 U64",
+           "clock": "CLOCK MOMENT", "write": EVENT, "setaxis": AXIS}
 COMMANDS = {
-    "source": {
-        "event": "MOMENT TYPE CODE SIGNED",
-        "tick": "MOMENT",
-        "inhibit": "MOMENT",
-        "uninhibit": "",
-        **dict.fromkeys(RECORD_SIZES, "FILE"),
-    },
+    "source": {"event": EVENT, "tick": "MOMENT", "inhibit": "MOMENT", "uninhibit": "",
+               **dict.fromkeys(RECORD_SIZES, "FILE")},
     "client": {**READERS, "next": "U32", "skip": "U32", "follow": "", "force": ""},
-    "tap": {
-        **READERS,
-        **dict.fromkeys(("discard", "keys", "switches", "leds", "sounds", "syncslots"), ""),
-        "read": "COUNT",
-        "axis": "CODE",
-        "slots": "CODE",
-    },
+    "tap": {**READERS, **dict.fromkeys(("discard", "keys", "switches", "leds", "sounds", "syncslots"), ""),
+            "read": "COUNT", "axis": "CODE", "slots": "CODE"},
     "joy": {"open": "", "close": "", "read": "U32"},
     "owner": {"feedback": "ROOM"},
 }
@@ -199,7 +174,6 @@ def is_line(version: str, first: str, rest: List[str]) -> bool:
 
 # The calls that describe a device
 
-
 # The greatest number of slots that each version of a text has.
 MOST_SLOTS = {"1": 64, "2": 256}
 
@@ -218,12 +192,10 @@ def cause_of_filter(count: int, form: str, *values: Any) -> Optional[str]:
 
 def cause_of_call(version: str, first: str, values: List[Any]) -> Optional[str]:
     """Why the call for a line of a description is refused, or None."""
-    if first == "hint":
-        return None if 2 <= values[0] <= 512 else "bad-hint"
-    if first == "log":
-        return None if 1 <= values[0] <= 8388608 else "bad-log"
-    if first == "slots":
-        return None if 1 <= values[0] <= MOST_SLOTS[version] else "bad-slots"
+    bounds = {"hint": (2, 512), "log": (1, 8388608), "slots": (1, MOST_SLOTS[version])}
+    if first in bounds:
+        least, most = bounds[first]
+        return None if least <= values[0] <= most else f"bad-{first}"
     if first == "clock":
         return None if values[1] <= MOMENT_MAX else "bad-offset"
     if first == "type":

@@ -15,20 +15,8 @@ import sys
 from typing import Any, Dict, List, Optional, Set, Tuple
 
 from second.device import Caps, Device, Outputs, is_report
-from second.model import (
-    LATER_ROLES,
-    Actor,
-    Record,
-    code_of,
-    event_of,
-    kind_of,
-    number,
-    read_record,
-    report,
-    source_steps,
-    step_text,
-    streams_of,
-)
+from second.model import (LATER_ROLES, Actor, Record, code_of, event_of, number, read_record, report,
+                          single_step, source_steps, step_text, streams_of)
 from second.names import ABS
 from second.values import Answer, Event, Fed, Step, Streams
 
@@ -49,13 +37,8 @@ def step_of(text: str) -> Step:
         return (op, *map(number, words[:-3]), event_of(words[-3:]))
     if op in ("getaxis", "getslots"):
         return (op, number(words[0]), code_of(ABS, words[1]))
-    if op == "setaxis":
-        return (op, number(words[0]), code_of(ABS, words[1]), *map(number, words[2:]))
-    if op == "mask":
-        return (op, number(words[0]), kind_of(words[1]), number(words[2]), number(words[3]))
-    if op == "clock":
-        return (op, number(words[0]), words[1], number(words[2]))
-    return (op, *map(number, words))
+    step = single_step(number(words[0]), [op, *words[1:]]) if words else None
+    return step or (op, *map(number, words))
 
 
 class Client:
