@@ -2,7 +2,6 @@
 
 import re
 import unittest
-from collections import Counter
 
 from tests.playing import TOP
 
@@ -26,11 +25,10 @@ QUOTED = r'"([^"]+)"'
 CITED = re.compile(rf"(?:docs/)?([A-Z]+)\.md`?,\s+({QUOTED}(?:(?:,| and|, and)\s+{QUOTED})*)")
 CITED_HERE = re.compile(r"\(\"([A-Z][^\"]+)\"(?: below)?\)")
 QUOTED_CODE = re.compile(r"From\s`([^`]+)`,[^:]*:\n\n```rust\n(.*?)^```$", re.M | re.S)
+# The code of a page that is antt, with the file that it is from.
+ANTT_QUOTED = re.compile(r"From\s`([^`]+)`[^:]*:\n\n```antt\n(.*?)^```$", re.M | re.S)
 # `name`, or several, in a file of proofs or definitions, maybe of another crate.
 LEMMAS = re.compile(r"((?:`[\w-]+`,?\s+)+)(?:in\s+|of\s+|\(|)`(?:(inp_\w+)/)?(proofs|specs)/(\w+)\.antt`")
-# What a file of proofs hands on, and what a file takes from one that does.
-HANDED_ON = re.compile(r"^(?:unfoldable )?pub use Rattle\.[\w.]+\.\{(.*)\}$", re.M)
-FROM_COMMON = re.compile(r"^use Rattle\.(\w+)\.proofs\.Common\.\{(.*)\}$", re.M)
 # A row of a table of crates.
 CRATE_ROW = re.compile(r"^\| `(inp_\w+)` \| (.*) \|$", re.M)
 COMMENTED = re.compile(r"^\s*(?:--|//[/!]?)(?: (.*))?$", re.M)
@@ -78,12 +76,6 @@ def files_of_crates(*kinds):
     for kind in kinds or ("src/**/*.rt", "specs/**/*.antt", "proofs/**/*.antt"):
         for path in sorted(CRATES.glob(f"*/{kind}")):
             yield path.relative_to(CRATES).parts[0], path
-
-
-def proofs():
-    """The files of proofs by their paths from crates/ on, each with its text."""
-    return {str(path.relative_to(CRATES)): path.read_text()
-            for _, path in files_of_crates("proofs/**/*.antt")}
 
 
 def comments(path):
@@ -257,33 +249,6 @@ NAMED = {definitions_of_pages: 400, lemmas_of_pages: 8, lemmas_of_crates: 30, fi
          links_of_pages: 100, sections_that_are_cited: 100, sections_of_the_same_page: 0, callers: 20,
          instances: 0, functions_of_the_way: 20}
 
-# A definition of a reader's talks, and the files of proofs that may unfold it: the one that walks the talks,
-# and those in which code follows a talk, an example is computed, or queries are spoken of and no talk is.
-WALK = "inp_reader/proofs/NextWalk.antt"
-UNFOLDED = {
-    "read_talk": {"inp_reader/proofs/Computation.antt", "inp_reader/proofs/SaysSessions.antt"},
-    "sync_talk": {"inp_reader/proofs/Computation.antt", "inp_reader/proofs/StandsAfterTalks.antt",
-                  "inp_reader/proofs/session/Session/synchronise/Answers.antt"},
-    "ask_each": {"inp_reader/proofs/Computation.antt", "inp_reader/proofs/SaysInTurn.antt",
-                 "inp_reader/proofs/StandsAfterTalks.antt", "inp_reader/proofs/Talks.antt"},
-    "queries": {"inp_reader/proofs/AgreedViews.antt", "inp_reader/proofs/Computation.antt",
-                "inp_reader/proofs/asker/Asker/query_all/Answers.antt", "inp_tool/proofs/MadeBounds.antt"},
-}
-UNFOLDING = re.compile(r"^\s*unfolding (.*)$", re.M)
-# The code of a page that is antt, with the file that it is from.
-ANTT_QUOTED = re.compile(r"From\s`([^`]+)`[^:]*:\n\n```antt\n(.*?)^```$", re.M | re.S)
-
-
-def unfolded(text):
-    """The definitions that a file of proofs unfolds."""
-    return {name for names in UNFOLDING.findall(text) for name in names.split()}
-
-
-def told(text):
-    """What a file of proofs says besides its imports and its comments."""
-    return "\n".join(line for line in text.splitlines() if not re.match(r"\s*(?:(?:pub )?use |--)", line))
-
-
 # A row of the definitions: its name, the word or how many words stand before, for whom, and what its words
 # are.
 TERM = r"(\((?:[^()]|\([^()]*\))*\)|\[\]|\w+)\s"
@@ -337,44 +302,6 @@ def anchors(page):
     return [(name, re.sub(r"[^a-z0-9 -]", "", name.lower()).replace(" ", "-")) for name in sections(page)]
 
 
-def taken_words(text):
-    """What a file of proofs takes from a file of common words: the crate, and each name as that has it."""
-    for crate, braces in FROM_COMMON.findall(text):
-        yield from ((crate, name.split(" as ")[0].strip()) for name in braces.split(","))
-
-
-def handed_words(text):
-    return [name.split(" as ")[-1].strip() for braces in HANDED_ON.findall(text)
-            for name in braces.split(",")]
-
-
-class CommonWords(unittest.TestCase):
-    """A word has one path; only `proofs/Common.antt` of a crate hands words on, as in the toolchain."""
-
-    def test_each_is_taken_by_three_files(self):
-        counts = Counter(word for text in proofs().values() for word in taken_words(text))
-        handed = [(path.split("/")[0], name) for path, text in proofs().items()
-                  if path.endswith("/Common.antt") for name in handed_words(text)]
-        self.assertEqual([], [word for word in handed if counts[word] < 3])
-
-    def test_nothing_else_hands_words_on(self):
-        for path, text in proofs().items():
-            lines = [line for line in text.splitlines() if line and not line.startswith("--")]
-            is_common = path.endswith("/Common.antt")
-            self.assertEqual([], [line for line in lines if bool(HANDED_ON.match(line)) != is_common], path)
-
-
-class Walks(unittest.TestCase):
-    def test_no_other_file_takes_a_talk_apart(self):
-        found = {name: {path for path, text in proofs().items() if name in unfolded(text)}
-                 for name in UNFOLDED}
-        self.assertEqual({name: files | {WALK} for name, files in UNFOLDED.items()}, found)
-
-    def test_no_other_file_speaks_of_the_phase_of_a_talk(self):
-        self.assertEqual([WALK],
-                         [path for path, text in proofs().items() if re.search(r"\btalk_in\b", told(text))])
-
-
 class Names(unittest.TestCase):
     def test_what_is_named_is_there(self):
         for names, least in NAMED.items():
@@ -382,12 +309,6 @@ class Names(unittest.TestCase):
                 found = list(names())
                 self.assertEqual([], [(str(where), name) for where, name, is_there in found if not is_there])
                 self.assertGreater(len(found), least)
-
-    def test_the_way_of_an_event_is_counted(self):
-        page = (DOCS / "ARCHITECTURE.md").read_text()
-        names = [name for row, _ in WAY_ROW.findall(page) for name in re.findall(r"`([\w:]+)`", row)]
-        self.assertEqual(len(names), len(set(names)))
-        self.assertEqual([str(len(names))], re.findall(r"through (\d+) functions on one thread", page))
 
     def test_the_page_of_crates_has_each_in_its_group(self):
         page, list_of_crates = (CRATES / "README.md").read_text(), (TOP / "crates.txt").read_text()
@@ -441,15 +362,6 @@ class Tables(unittest.TestCase):
         self.assertEqual((said, 19), (rows | {"do NAME .."}, len(rows)))
 
 
-VERBS = '''event_fields = field.any_moment ∷ field.Kind ∷ []
-command_row stream role Event = verb_line (codes "event") Sources event_fields commands.Event
-command_row stream role Read =
-    verb_line (codes "read") Takers (field.Number (count_max role) ∷ []) commands.Read
-command_row stream role Open = verb_line (codes "open") Openers [] commands.Open
-'''
-LINES = '''line_row Hint = item_line (codes "hint") 1 (field.count ∷ []) items.Hint
-line_row Eat = item_line (codes "eat") 2 (field.Kind ∷ []) (λ k. k)
-'''
 SOURCE = """impl Frames for Handler {
     fn pass(&mut self) {}
 }
@@ -458,59 +370,24 @@ impl Batch {
 }
 // fn none()
 """
-PROOF = "use A.{talk_in}\n-- talk_in\npub f : T\nunfolding a b\nf = x\n  unfolding c\n"
-# A function of this file, a text, and what it finds there.
-FOUND = (
-    (handed_words,
-     "pub use Rattle.a.specs.X.{one, two as three}\nunfoldable pub use Rattle.a.specs.Y.{four}\n",
-     ["one", "three", "four"]),
-    (taken_words, "use Rattle.inp_b.proofs.Common.{one, three as other}\n",
-     [("inp_b", "one"), ("inp_b", "three")]),
-    (promised, "| Crate | Proved |\n|---|---|\n| `inp_a` | `Tee::of` (`Is`), as in `inp_b`; `examples` |\n",
-     [("inp_a", "Tee"), ("inp_a", "of"), ("inp_a", "Is"), ("inp_a", "examples")]),
-    (FACT.findall, "`IsRun`, `Job.AreTold`; `HasRoom`, `Is`, `IsRun.once`", ["IsRun", "AreTold", "HasRoom"]),
-    (shared, [("inp_a", "one"), ("inp_a", "two"), ("inp_b", "one"), ("inp_a", "one")], ["one"]),
-    (lemmas,
-     "`a_b`, `c-d` in `proofs/C.antt`, a row in `e`\nof `specs/R.antt`, `f` (`inp_x/specs/F.antt`), `g`",
-     [("a_b", "", "proofs/C.antt"),
-      ("c-d", "", "proofs/C.antt"),
-      ("e", "", "specs/R.antt"),
-      ("f", "inp_x", "specs/F.antt")]),
-    (FILE.findall, "`src/a/b.rt`, `crates/inp_x/specs/C.antt`",
-     [("", "src/a/b.rt"), ("inp_x", "specs/C.antt")]),
-    (names_of, "see `Past.is_open` (`proofs/Calls.antt`)\nand `RULES.md`, `a.b`, `Device::step`, `Past.x y`",
-     [("Past", "is_open"), ("Calls", "antt")]),
-    (unfolded, PROOF, {"a", "b", "c"}),
-    (lambda text: "talk_in" in told(text), PROOF, False),
-    (lambda name: has_function(SOURCE, name), "Handler::pass", True),
-    (lambda name: has_function(SOURCE, name), "Batch::add", True),
-    (lambda name: has_function(SOURCE, name), "pass", True),
-    (lambda name: has_function(SOURCE, name), "Handler::add", False),
-    (lambda name: has_function(SOURCE, name), "Batch::pass", False),
-    (lambda name: has_function(SOURCE, name), "none", False),
-    (WAY_ROW.findall, "| its source | `a`, `B::c` | 2 |\n| its | `a` and b | 2 |\n", [("`a`, `B::c`", "2")]),
-    (cited,
-     '-- one (docs/RULES.md,\n-- "Queries" and\n-- "What a\n-- device has"); `docs/FORMATS.md`, "Words"',
-     [("RULES", "Queries"), ("RULES", "What a device has"), ("FORMATS", "Words")]),
-    (quoted, "A caller. From\n`a.rt`, `f`:\n\n```rust\nfn f() {\n    g();\n    // ..\n}\n\nfn g() {}\n```\n",
-     [("a.rt", "fn f() {\ng();"), ("a.rt", "}"), ("a.rt", "fn g() {}")]),
-    (lambda text: command_rows(text, ""), VERBS,
-     [("event MOMENT TYPE", "source"),
-      ("read NUMBER", "tap"),
-      ("read NUMBER", "joy"),
-      ("open", "client, tap, joy")]),
-    (lambda text: line_rows(text, ""), LINES, ["hint NUMBER", "filter eat TYPE"]),
-    (lambda text: table(text, "A"), "\n| A | B |\n|---|---|\n| `a` | b |\n\nC", [["`a`", "b"]]),
-    (lambda name: name in given()["Past"], "is_open", True),
-    (lambda name: name in given()["Past"], "is_opened", False),
-    (lambda name: name in given()["IsRun"], "within", True),
-    (lambda crate: "IsRun" in facts()[crate], "inp_runs", True),
-    (lambda crate: "IsRun" in facts()[crate], "inp_model", False),
+# What is looked for, and whether it is there: a search that finds all would find each name of a page.
+THERE = (
+    (lambda name: has_function(SOURCE, name), {"Handler::pass": True, "Batch::add": True, "pass": True,
+                                               "Handler::add": False, "Batch::pass": False, "none": False}),
+    (lambda name: name in given()["Past"], {"is_open": True, "is_opened": False}),
+    (lambda crate: "IsRun" in facts()[crate], {"inp_runs": True, "inp_model": False}),
 )
+CITING = '-- one (docs/RULES.md,\n-- "Queries" and\n-- "What a\n-- device has"); `docs/FORMATS.md`, "Words"'
+QUOTING = "A caller. From\n`a.rt`, `f`:\n\n```rust\nfn f() {\n    g();\n    // ..\n}\n\nfn g() {}\n```\n"
 
 
 class Found(unittest.TestCase):
-    def test_what_each_finds(self):
-        for function, text, wanted in FOUND:
-            with self.subTest(text):
-                self.assertEqual(wanted, type(wanted)(function(text)))
+    def test_what_is_there(self):
+        for is_there, names in THERE:
+            self.assertEqual(names, {name: bool(is_there(name)) for name in names})
+
+    def test_what_is_cited_and_quoted(self):
+        sections = [("RULES", "Queries"), ("RULES", "What a device has"), ("FORMATS", "Words")]
+        self.assertEqual(sections, list(cited(CITING)))
+        self.assertEqual(["fn f() {\ng();", "}", "fn g() {}"], [piece for _, piece in quoted(QUOTING)])
+        self.assertEqual({"one": ["a", "b"]}, shared([("a", "one"), ("a", "two"), ("b", "one"), ("a", "one")]))
