@@ -12,6 +12,8 @@ from tests.playing import EXAMPLES, RECORDS, TOP, FolderCase, assert_run, loaded
 from tests.test_statuses import ONE_KEY, ONE_KEY_REPORT
 
 SCRIPT = TOP / "checks" / "damage"
+# (on a machine that does much else the programs, which are in Python, take long)
+SECONDS = 900
 
 VERSION_1, VERSION_2 = "inputrecord 1\n", "inputrecord 2\n"
 DEVICE_1, OWNED = VERSION_1 + "device d\n", VERSION_2 + "udevice u\nowner o\n"
@@ -33,6 +35,7 @@ PLAYED = [
     (OWNED, "device u steps 0\nowner o\nstop finished\n"),
 ]
 
+RECORD = EXAMPLES / "one_key.rec"
 # Programs: the second one, and some that are not as it is.
 RIGHT = f"""#!{sys.executable}
 import os, sys
@@ -72,10 +75,10 @@ class Texts(FolderCase):
 
 
 class Damage(FolderCase):
-    def damage(self, program, *words):
+    def damage(self, program, *words, seconds=60):
         script = self.write("program", program, 0o755)
-        env = {**os.environ, "TMPDIR": str(self.folder)}
-        return said(SCRIPT, "--program", script, "--jobs", "1", *words, env=env)
+        env, more = {**os.environ, "TMPDIR": str(self.folder)}, ["--jobs", "1", "--seconds", seconds]
+        return said(SCRIPT, "--program", script, *more, *words, env=env, timeout=SECONDS)
 
     def test_the_damage_that_is_done(self):
         forms = dict(loaded(SCRIPT).damaged(b"a#"))
@@ -99,14 +102,18 @@ class Damage(FolderCase):
             self.assertEqual(text, forms[what])
 
     def test_what_it_says(self):
-        record = EXAMPLES / "one_key.rec"
-        status, text, errors = self.damage(RIGHT, "--every", "600", record)
+        status, text, errors = self.damage(RIGHT, "--every", "600", RECORD)
         self.assertEqual((0, ""), (status, errors))
         self.assertTrue(text.endswith("damaged records of 1, none that differs\n"), text)
         for name, (before, after, told) in WRONG.items():
             with self.subTest(name):
-                status, text, errors = self.damage(RIGHT.replace(before, after), "--every", "900", record)
+                status, text, errors = self.damage(RIGHT.replace(before, after), "--every", "900", RECORD)
                 self.assertEqual(1, status)
                 self.assertIn(told, errors)
                 self.assertIn(" that differ\n", text)
 
+    def test_a_run_that_takes_longer_than_it_may(self):
+        busy = "import time\nwhile time.process_time() < 1.2: pass\nstatus, text ="
+        done = self.damage(RIGHT.replace("status, text =", busy), "--every", "9000", RECORD, seconds=1)
+        self.assertEqual(1, done.status)
+        self.assertRegex(done.errors, r"the first 0 bytes: it took \d+\.\d seconds")
