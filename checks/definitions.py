@@ -12,7 +12,7 @@ the body.
 
 import re
 from collections import namedtuple
-from functools import cached_property, lru_cache, partial
+from functools import cached_property, lru_cache
 from pathlib import Path
 from typing import Callable, Dict, Iterable, List, Optional, Set, Tuple, TypeVar
 
@@ -46,20 +46,19 @@ Node = TypeVar("Node")
 
 
 class Item:
-    def __init__(self, key: Key, kind: str) -> None:
-        self.key, self.kind = key, kind
+    def __init__(self, file: "SourceFile", key: Key, kind: str) -> None:
+        self.file, self.key, self.kind = file, key, kind
         # the numbers of its lines, and of the comments in it and right above it
         self.lines: List[int] = []
         self.comments: List[int] = []
         # its constructors or variants, and its fields or ghost members
         self.variants: List[str] = []
         self.fields: List[str] = []
-        # what gives the keys of the items that it uses
-        self.find_uses: Callable[[], Set[Key]] = set
 
     @cached_property
     def uses(self) -> Set[Key]:
-        return self.find_uses()
+        """The keys of the items that it uses."""
+        return self.file.uses_of(self)
 
 
 def dependencies(top: Path) -> Dict[str, List[str]]:
@@ -175,7 +174,7 @@ class SourceFile:
         self.modules: Dict[str, Optional[Given]] = {}
 
     def add(self, kind: str, name: str) -> Item:
-        item = Item(Key(self.crate, self.path, name), kind)
+        item = Item(self, Key(self.crate, self.path, name), kind)
         self.items[name] = item
         return item
 
@@ -209,6 +208,9 @@ class SourceFile:
             return [self.given(first)]
         return [self.names.get(first)]
 
+    def uses_of(self, item: Item) -> Set[Key]:
+        raise NotImplementedError
+
     def keys(self, item: Item, words: Iterable[str]) -> Set[Key]:
         """What an item uses by these names."""
         keys = {key for word in words for key in self.meanings(word)}
@@ -220,7 +222,8 @@ class Definitions(SourceFile):
         super().__init__(repository, crate, path)
         item: Optional[Item] = None
         above: List[int] = []
-        bodies: Dict[str, List[str]] = {}
+        # the rows of each item, and of the modules that it stands in
+        self.bodies: Dict[str, List[str]] = {}
         # the rows of the modules that a line stands in; what is in one is indented by two more
         modules: List[str] = []
         for number, row in enumerate(self.rows):
@@ -240,25 +243,23 @@ class Definitions(SourceFile):
             head = SPEC_HEAD.match(flat) if flat.startswith(("abbrev ", "unfoldable ", "pub ")) else None
             if head:
                 item = self.add(head[1] or "definition", head[2])
-                bodies[item.key.name] = list(modules)
+                self.bodies[item.key.name] = list(modules)
             if item is None:
                 raise ValueError(f"{crate}/{path}:{number + 1}: a line of no definition")
             item.lines.append(number)
             item.comments += above
             above = []
-            bodies[item.key.name].append(flat)
+            self.bodies[item.key.name].append(flat)
             member = re.match(rf"^  (?:pub )?({WORD}) :", flat)
             if member and item.kind in ("record", "data") and not head:
                 (item.fields if item.kind == "record" else item.variants).append(member[1])
                 if item.kind == "data":
                     self.owners[member[1]] = item.key.name
-        for name, rows in bodies.items():
-            self.items[name].find_uses = partial(self.uses_of, self.items[name], rows)
 
-    def uses_of(self, item: Item, rows: List[str]) -> Set[Key]:
+    def uses_of(self, item: Item) -> Set[Key]:
         """The items whose names stand in the lines of one, but for what is read of something after a dot."""
-        words = {dotted for row in rows for dotted in DOTTED.findall(SILENT.sub("", row))}
-        return self.keys(item, words)
+        rows = self.bodies[item.key.name]
+        return self.keys(item, {dotted for row in rows for dotted in DOTTED.findall(SILENT.sub("", row))})
 
 
 class Code(SourceFile):
@@ -271,7 +272,7 @@ class Code(SourceFile):
         self.crate_uses("\n".join(self.rows))
         item: Optional[Item] = None
         above: List[int] = []
-        models: Dict[str, List[str]] = {}
+        self.models: Dict[str, List[str]] = {}
         model: Optional[List[str]] = None
         for number, row in enumerate(self.rows):
             if SPEC_USE.match(row):
@@ -295,7 +296,7 @@ class Code(SourceFile):
                 # a method is found by its name alone, the first of its name in the file
                 item, model = self.add("fn", method[1]), None
             elif model_head:
-                item, model = None, models.setdefault(model_head[1], [])
+                item, model = None, self.models.setdefault(model_head[1], [])
             elif not row.startswith((" ", "}", "{", ")")):
                 item = model = None
             if model is not None:
@@ -309,12 +310,9 @@ class Code(SourceFile):
                 self.member(item, row)
             above = []
         # what stands inside a model's type is another item, for definitions that look there
-        for name, rows in models.items():
-            if name in self.items:
-                seen, inside = self.items[name], self.add("struct", name + "(inside)")
-                inside.lines, inside.comments, inside.fields = seen.lines, seen.comments, seen.fields
-        for name, found in self.items.items():
-            found.find_uses = partial(self.uses_of, found, models.get(name))
+        for name in [name for name in self.models if name in self.items]:
+            seen, inside = self.items[name], self.add("struct", name + "(inside)")
+            inside.lines, inside.comments, inside.fields = seen.lines, seen.comments, seen.fields
 
     def member(self, item: Item, row: str) -> None:
         form = MEMBERS.get(item.kind)
@@ -350,10 +348,10 @@ class Code(SourceFile):
             found.append(self.given(first))
         return found
 
-    def uses_of(self, item: Item, model: Optional[List[str]]) -> Set[Key]:
+    def uses_of(self, item: Item) -> Set[Key]:
         """The items whose names stand in a declaration, or in the clauses of a contract."""
-        if model is not None:
-            return self.uses_of_model(item, model)
+        if item.key.name in self.models:
+            return self.uses_of_model(item, self.models[item.key.name])
         rows = [self.rows[number] for number in item.lines]
         text = "\n".join(SILENT.sub("", row) for row in rows)
         if item.kind == "fn":
