@@ -4,8 +4,6 @@
 The driver does as drivers do: each contact ends before another one begins in its slot. With --raw it does
 not, and sends autorepeats of keys, whether they are down or not."""
 
-from __future__ import annotations
-
 import random
 import sys
 from typing import Dict, List, Sequence, Tuple
@@ -24,15 +22,14 @@ class RandomDevice:
     """A device of random keys, lights, switches, axes and slots, and what its driver sends."""
 
     def __init__(self, seed: int, is_raw: bool = False):
-        self.random, self.is_raw = random.Random(seed), is_raw
-        self.hint = self.random.choice((8, 8, 16, 47))
-        self.keys = self.random.sample(KEYS, self.random.randint(0, 7))
-        self.leds = self.random.sample(LEDS, self.random.randint(0, 3)) if self.random.random() < 0.5 else []
-        has_switches = self.random.random() < 0.4
-        self.switches = self.random.sample(SWITCHES, self.random.randint(1, 3)) if has_switches else []
-        self.axes = self.random.sample(AXES, self.random.randint(0, 4))
-        self.slots = self.random.choice((0, 0, 2, 5, 10, 20))
-        self.of_slots = self.random.sample(AXES_OF_SLOTS, self.random.randint(1, 4)) if self.slots else []
+        self.random = r = random.Random(seed)
+        self.is_raw, self.hint = is_raw, r.choice((8, 8, 16, 47))
+        self.keys = r.sample(KEYS, r.randint(0, 7))
+        self.leds = r.sample(LEDS, r.randint(0, 3)) if r.random() < 0.5 else []
+        self.switches = r.sample(SWITCHES, r.randint(1, 3)) if r.random() < 0.4 else []
+        self.axes = r.sample(AXES, r.randint(0, 4))
+        self.slots = r.choice((0, 0, 2, 5, 10, 20))
+        self.of_slots = r.sample(AXES_OF_SLOTS, r.randint(1, 4)) if self.slots else []
         if not (self.keys or self.leds or self.switches or self.axes or self.slots):
             self.keys = [KEYS[0]]
         self.ids: Dict[int, int] = {}
@@ -42,8 +39,7 @@ class RandomDevice:
         lines = ["device d", f"hint {self.hint}"]
         for kind, codes in (("EV_KEY", self.keys), ("EV_LED", self.leds), ("EV_SW", self.switches)):
             lines += [f"cap {kind} {code}" for code in codes]
-        for code in self.axes:
-            lines.append(f"axis {code} {self.random.randint(-5, 5)} -1000 1000 {self.fuzz()} 0 0")
+        lines += [f"axis {code} {self.random.randint(-5, 5)} -1000 1000 {self.fuzz()} 0 0" for code in self.axes]
         if self.slots:
             lines.append(f"slots {self.slots}")
         lines += [f"axis {code} 0 0 1000 {self.fuzz()} 0 0" for code in self.of_slots]

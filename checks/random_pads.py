@@ -1,8 +1,6 @@
 #!/usr/bin/env python3
 """Makes a random record of a gamepad, and how it stands at last: checks/random_pads.py SEED FRAMES > FILE"""
 
-from __future__ import annotations
-
 import random
 import sys
 from typing import Dict, List, Tuple
@@ -19,15 +17,12 @@ class RandomPad:
         self.random = random.Random(seed)
         self.state: Dict[Tuple[int, int], int] = {}
         self.lines: List[str] = []
-        for number in range(frames):
-            self.add_frame(1000 + 4000 * number)
-
-    def add_frame(self, now: int) -> None:
-        for _ in range(self.random.randint(1, 3)):
-            kind, code, value = self.change()
-            self.state[kind, code] = value
-            self.lines.append(f"do s event {now} {kind} {code} {value}")
-        self.lines.append(f"do s event {now} 0 0 0")
+        for now in range(1000, 1000 + 4000 * frames, 4000):
+            for _ in range(self.random.randint(1, 3)):
+                kind, code, value = self.change()
+                self.state[kind, code] = value
+                self.lines.append(f"do s event {now} {kind} {code} {value}")
+            self.lines.append(f"do s event {now} 0 0 0")
 
     def change(self) -> Tuple[int, int, int]:
         if self.random.random() < 0.5:
