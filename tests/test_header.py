@@ -29,31 +29,31 @@ SECONDS = 120
 class Header(unittest.TestCase):
     """The header and the crate say the same, by their texts."""
 
-    def test_a_struct_has_the_crate_s_fields(self):
+    def compared(self):
+        """What is compared, what the header has, and what the crate, a package or the header's texts have: the
+        fields of structs, the numbers of names, and limits."""
         for struct, file in declared.STRUCTS.items():
-            with self.subTest(struct):
-                fields = list(declared.fields_of_crate(CRATE.parent / file))
-                self.assertEqual(fields, list(declared.fields_of_header(HEADER, struct)))
-
-    def test_a_number_is_the_crate_s(self):
-        for about, file, form in declared.NUMBERS:
-            with self.subTest(about):
-                wanted = declared.numbers_of_crate((CRATE / file).read_text(), form)
-                self.assertEqual(wanted, declared.numbers_of_header(HEADER, about))
-
-    def test_a_number_is_the_packages_too(self):
-        for about, file, begin, form in declared.PACKAGED:
-            with self.subTest(f"{file}: {about}"):
-                wanted = declared.numbers_of_header(HEADER, about)
-                part = declared.part_of((BINDINGS / file).read_text(), begin)
-                self.assertEqual(wanted, declared.numbers_of_crate(part, form))
-
-    def test_a_cause_s_text_is_its_name(self):
+            fields = list(declared.fields_of_crate(CRATE.parent / file))
+            yield struct, list(declared.fields_of_header(HEADER, struct)), fields
+        parts = [(about, file, (CRATE / file).read_text(), form) for about, file, form in declared.NUMBERS]
+        parts += [(about, file, declared.part_of((BINDINGS / file).read_text(), begin), form)
+                  for about, file, begin, form in declared.PACKAGED]
+        for about, file, part, form in parts:
+            numbers = declared.numbers_of_header(HEADER, about)
+            yield f"{file}: {about}", numbers, declared.numbers_of_crate(part, form)
         for function, about in (("cause", "a record is refused"), ("why", "a step was refused")):
-            with self.subTest(function):
-                words = declared.words_of_header(HEADER, f"inputplay_{function}_text")
-                came = {declared.plain(word.replace("-", "_")): place for place, word in words if place}
-                self.assertEqual(declared.numbers_of_header(HEADER, about), came)
+            words = declared.words_of_header(HEADER, f"inputplay_{function}_text")
+            texts = {declared.plain(word.replace("-", "_")): place for place, word in words if place}
+            yield f"texts: {about}", declared.numbers_of_header(HEADER, about), texts
+        for name, file in declared.LIMITS.items():
+            text = (CRATE.parent / file).read_text()
+            limit = re.search(rf"pub const {name}: u(?:\d+|size) = ([\d_]+);", text)[1].replace("_", "")
+            yield name, re.search(rf"^#define INPUTPLAY_{name} (\d+)u?$", HEADER, re.M)[1], limit
+
+    def test_the_header_says_the_same(self):
+        for about, header, other in self.compared():
+            with self.subTest(about):
+                self.assertEqual(header, other)
 
     def test_each_status_has_a_text(self):
         words = declared.words_of_header(HEADER, "inputplay_status_text")
@@ -73,14 +73,6 @@ class Header(unittest.TestCase):
             told.update((kind, code) for code in range(low, high + 1))
         rows = (line.split() for line in (TOP / "tests" / "data" / "codes.txt").read_text().splitlines())
         self.assertEqual({(row[0], int(row[1])) for row in rows if len(row) == 3}, told)
-
-    def test_a_limit_is_the_crate_s(self):
-        for name, file in declared.LIMITS.items():
-            with self.subTest(name):
-                text = (CRATE.parent / file).read_text()
-                limit = re.search(rf"pub const {name}: u(?:\d+|size) = ([\d_]+);", text)[1]
-                came = re.search(rf"^#define INPUTPLAY_{name} (\d+)u?$", HEADER, re.M)[1]
-                self.assertEqual(int(limit.replace("_", "")), int(came))
 
     def test_what_is_exported_is_what_is_declared(self):
         names = set(re.findall(r"^(?:uint32_t|void) (inputplay_\w+)\(", HEADER, re.M))
