@@ -1,7 +1,5 @@
 """Follows a keyboard, as a program does that ignores losses: run by tools/run, which ends it."""
 
-from __future__ import annotations
-
 import os
 import select
 import struct

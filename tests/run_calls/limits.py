@@ -1,8 +1,6 @@
 """How many files may be open, whether descriptors leak, and a server that is stopped. Run by tools/run with
 --quiet 60000 on keys.rec; it prints a line for each thing."""
 
-from __future__ import annotations
-
 import errno
 import fcntl
 import os

@@ -1,7 +1,5 @@
 """What the programs of this folder share that read nodes, and talk to the server past the shim."""
 
-from __future__ import annotations
-
 import array
 import errno
 import fcntl

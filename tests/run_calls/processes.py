@@ -2,8 +2,6 @@
 rubbish, and a server that goes. Run by tools/run with --frames 1 on keys.rec; it prints a line for each
 thing."""
 
-from __future__ import annotations
-
 import fcntl
 import os
 import select

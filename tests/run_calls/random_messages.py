@@ -1,8 +1,6 @@
 """Messages at random to the server: random_messages.py COUNT SEED, run by tools/run with --frames 1. It
 drops those that are no request, answers the others, and still serves afterwards."""
 
-from __future__ import annotations
-
 import os
 import random
 import socket

@@ -1,8 +1,6 @@
 """Reads the first device to its end, so many events at once, and prints each: its time in microseconds,
 type, code and value. With `held` it has a second open file, which it does not read."""
 
-from __future__ import annotations
-
 import os
 import struct
 import sys
