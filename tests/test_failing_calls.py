@@ -1,7 +1,7 @@
 """What `checks/alloc` and `checks/faults` say of programs that are right, and of some that are not.
 
 The programs are small ones in C, which do as the real one at calls that fail. Where there is no C compiler
-the scripts must say so, and the rules by which they judge are tested alone.
+the scripts must say so.
 """
 
 import os
@@ -11,9 +11,7 @@ import sys
 
 from checks.trial import Run
 from second.side_by_side import play_side_by_side
-from tests.playing import TOP, USAGE, FolderCase, loaded, said
-
-HAS_COMPILER = shutil.which(os.environ.get("CC", "cc")) is not None
+from tests.playing import TOP, USAGE, FolderCase, loaded, needs, said
 
 # Reads a file, and writes how many bytes it has, in pieces.
 RIGHT = r"""
@@ -87,22 +85,22 @@ class FailingCalls(FolderCase):
 
     def compile(self, text, *more):
         source = self.write("program.c", text)
-        command = [os.environ.get("CC", "cc"), *more, "-o", self.program, source]
+        command = [needs(self, os.environ.get("CC", "cc"), "gcc"), *more, "-o", self.program, source]
         subprocess.run(command, check=True, capture_output=True, timeout=60)
 
-    def says(self, name, status, *told, words=()):
-        env = {**os.environ, "TMPDIR": str(self.folder)}
+    def says(self, name, status, *told, words=(), **variables):
+        env = {**os.environ, "TMPDIR": str(self.folder), **variables}
         done = said(f"checks/{name}", "--program", self.program, *words, self.folder / "f", env=env)
         self.assertEqual(status, done.status, done.text + done.errors)
         for text in told:
             self.assertIn(text, done.text + done.errors)
 
+    def test_without_a_compiler(self):
+        shutil.copy(sys.executable, self.program)
+        for name in ("alloc", "faults"):
+            self.says(name, 2, "there is no C compiler: none: No such file or directory", CC="none")
+
     def test_a_program_that_is_right(self):
-        if not HAS_COMPILER:
-            shutil.copy(sys.executable, self.program)
-            for name in ("alloc", "faults"):
-                self.says(name, 2, "there is no C compiler: ")
-            return
         self.compile(RIGHT)
         self.says("alloc", 0,
                   "f: 1 status 0, 1 status 2, 1 status 5\n3 runs of 1 records, none that ends otherwise\n")
@@ -117,14 +115,10 @@ class FailingCalls(FolderCase):
         for name, (script, before, after, told) in WRONG.items():
             with self.subTest(name):
                 self.assertIn(before, RIGHT)
-                if not HAS_COMPILER:
-                    self.skipTest("there is no C compiler")
                 self.compile(RIGHT.replace(before, after))
                 self.says(script, 1, told, " that end otherwise\n")
 
     def test_a_program_whose_calls_cannot_be_made_to_fail(self):
-        if not HAS_COMPILER:
-            self.skipTest("there is no C compiler")
         for text, words, status, told in (
             ("void _start(void) {}", ["-static", "-nostdlib"], 2, "is not linked dynamically"),
             ("int main() {}", [], 1, "no call could be made to fail\n"),
