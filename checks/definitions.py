@@ -153,14 +153,7 @@ class Repository:
 
     def reached(self, roots: Iterable[Key]) -> Dict[Key, Item]:
         """The items that the roots rest on, roots included."""
-        seen: Dict[Key, Item] = {}
-        waiting = list(roots)
-        while waiting:
-            key = waiting.pop()
-            if key not in seen:
-                seen[key] = self.item(key)
-                waiting.extend(seen[key].uses)
-        return seen
+        return {key: self.item(key) for key in in_order(roots, lambda key: self.item(key).uses)}
 
 
 class SourceFile:
