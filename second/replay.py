@@ -296,6 +296,11 @@ def check(text: str, printed: List[str], folder: str = ".", idle: int = IDLE) ->
     return devices
 
 
+def status_of(printed: List[str]) -> int:
+    """The status of a run that printed this: 6 where the history of a device was full."""
+    return 6 if any(" full " in line for line in printed if line.startswith(("stop ", "source "))) else 0
+
+
 def text_of(path: str) -> str:
     """The text of a record or a report. A comment may have any bytes."""
     with open(path, encoding="latin1", newline="") as file:

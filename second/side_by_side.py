@@ -10,6 +10,7 @@ import argparse
 import os
 import random
 import threading
+from concurrent.futures import ThreadPoolExecutor
 from typing import Dict, List, Optional
 
 from second.device import Device
@@ -105,14 +106,12 @@ def play_side_by_side(text: str, seed: int, folder: str = ".", idle: int = IDLE)
     order = Order(seed, len(record.actors))
     sources = [sum(role == "source" and d == i for _, role, d in record.actors) for i in range(len(devices))]
     jobs = [Job(name, role, devices[d], order, sources[d], idle) for name, role, d in record.actors]
-    threads = []
-    for job in jobs:
-        lines = [words for name, *words in record.actions if name == job.name]
-        threads.append(threading.Thread(target=job.work, args=(lines, streams_of(folder))))
-    for thread in threads:
-        thread.start()
-    for thread in threads:
-        thread.join()
+
+    def work(job: Job) -> None:
+        job.work([words for name, *words in record.actions if name == job.name], streams_of(folder))
+
+    with ThreadPoolExecutor(len(jobs) or 1) as pool:
+        list(pool.map(work, jobs))
     for job in jobs:
         job.device = job.shared
     return report(devices, jobs, history=True)

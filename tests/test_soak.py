@@ -8,20 +8,20 @@ import sys
 
 from tests.playing import TOP, FolderCase, said
 
-RUN = f"""#!{sys.executable}
+SAME = f"""#!{sys.executable}
 import os, sys
 sys.path.insert(0, {str(TOP)!r})
+from second.replay import status_of
 from second.side_by_side import play_side_by_side
 words = sys.argv[1:]
 idle = int(words[words.index("--idle") + 1])
-lines = play_side_by_side(open(words[-1]).read(), SEED, idle=idle)
-full = any(" full " in line for line in lines if line.startswith(("stop", "source")))
+lines = play_side_by_side(open(words[-1]).read(), 1, idle=idle)
+print(*lines, sep="\\n")
+sys.exit(status_of(lines))
 """
-
-SAME = RUN.replace("SEED", "1") + "print('\\n'.join(lines))\nsys.exit(6 if full else 0)\n"
 OTHER = SAME.replace("read(), 1,", "read(), os.getpid(),")
-SPOILED = RUN.replace("SEED", "1") + "print('\\n'.join(lines[:-1] + ['stop full 0']))\nsys.exit(6)\n"
-STATUS = RUN.replace("SEED", "1") + "print('\\n'.join(lines))\nsys.exit(3)\n"
+SPOILED = SAME.replace("print(", "lines[-1] = 'stop full 0'\nprint(")
+STATUS = SAME.replace("exit(status_of(lines))", "exit(3)")
 
 # Of the jobs that wait for their turn the last one by name is next: a client comes when all sources and taps
 # have ended.

@@ -7,7 +7,7 @@ played on one thread by a second program (second/replay.py), which has to give t
 from tests.playing import EXAMPLES, RECORDS, FolderCase, assert_run, needs_program, run
 
 from checks.random_records import Generator
-from second.replay import Differs, check
+from second.replay import Differs, check, status_of
 
 # A `follow` ends after so many reads in a row that found nothing.
 IDLE = 1000
@@ -46,8 +46,7 @@ class Threads(FolderCase):
             check((folder / record).read_text(), printed, folder, idle)
         except Differs as error:
             self.fail(f"{error}\n{came.text.decode()}")
-        is_full = any(" full " in line for line in printed if line.startswith(("stop ", "source ")))
-        self.assertEqual((6 if is_full else 0, b""), (came.status, came.errors))
+        self.assertEqual((status_of(printed), b""), (came.status, came.errors))
         return printed
 
     def test_records_are_played_by_their_history(self):
