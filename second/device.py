@@ -1,6 +1,6 @@
 """A device and its clients, by the rules of docs/RULES.md. An event is a tuple (type, code, value)."""
 
-from typing import Any, Callable, Dict, List, Optional, Sequence, Set, Tuple
+from typing import Any, Callable, Dict, Iterator, List, Optional, Sequence, Set, Tuple
 
 from second.names import ABS, KEY, LED, MSC, REL, REP, SND, SW, SYN
 from second.values import Answer, Event, Fed, Item, Step, Words
@@ -90,9 +90,9 @@ class Filter:
         self.form, self.words = form, words
         self.given: List[Tuple[Event, int, bool]] = []
 
-    def of_key(self, key: int, end: int) -> List[int]:
+    def of_key(self, key: int, end: int) -> Iterator[int]:
         """The places of the events on a key before this place, the newest first."""
-        return [at for at in range(end - 1, -1, -1) if self.given[at][0][:2] == (KEY, key)]
+        return (at for at in range(end - 1, -1, -1) if self.given[at][0][:2] == (KEY, key))
 
     def press_before(self, key: int, end: int) -> Optional[int]:
         """The place of the last press on a key before this place, unless a release stands between."""

@@ -240,8 +240,10 @@ class Actor:
     def part(self) -> List[str]:
         if self.role == "source":
             return [f"source {self.name} calls {self.accepted} stop {self.stop}"]
-        end = {"joy": self.picture_lines, "owner": list}.get(self.role, self.view_lines)()
-        return [f"{self.role} {self.name}"] + self.sight + end + [f"stop {self.stop}"]
+        ends: List[str] = []
+        if self.role != "owner":
+            ends = self.picture_lines() if self.role == "joy" else self.view_lines()
+        return [f"{self.role} {self.name}"] + self.sight + ends + [f"stop {self.stop}"]
 
     def picture_lines(self) -> List[str]:
         down = [str(number) for number, value in enumerate(self.joystick.down) if value]

@@ -53,4 +53,3 @@ def outcome(path: str, history: bool = False, folder: Optional[str] = None) -> T
         return played(path, history, folder or os.path.dirname(os.path.abspath(path)))
     except Ends as end:
         return end.status, f"inputplay: {end}\n".encode()
-

@@ -9,6 +9,7 @@ import sys
 
 from second.outcome import outcome
 from tests.playing import EXAMPLES, RECORDS, TOP, FolderCase, assert_run, loaded, run, said
+from tests.test_records import status_of
 from tests.test_statuses import ONE_KEY, ONE_KEY_REPORT
 
 SCRIPT = TOP / "checks" / "damage"
@@ -69,9 +70,8 @@ class Texts(FolderCase):
     def test_the_second_program_plays_the_stored_records(self):
         for record in sorted([*EXAMPLES.glob("*.rec"), *RECORDS.glob("*.rec")]):
             with self.subTest(record=record.name):
-                stored = record.with_suffix(".status")
-                status = int(stored.read_text()) if stored.exists() else 0
-                self.assertEqual((status, record.with_suffix(".report").read_bytes()), outcome(record))
+                wanted = status_of(record), record.with_suffix(".report").read_bytes()
+                self.assertEqual(wanted, outcome(record))
 
 
 class Damage(FolderCase):
