@@ -68,36 +68,33 @@ class Loads(FolderCase):
 
     def compiled(self, name):
         compiler = needs(self, "cc", "gcc")
-        self.write("plain_names.h", self.names())
+        self.write("plain_names.h", said("bench/plain_names").text)
         words = [compiler, "-O2", "-pthread", "-I", self.folder, "-o", self.folder / name,
                  BENCH / f"{name}.c"]
         subprocess.run(words, check=True)
         return self.folder / name
 
-    def names(self):
-        return said("bench/plain_names").text
+    def both_print_the_same(self, plain, status):
+        ours = run(["one"], self.folder)
+        theirs = subprocess.run([plain, "one"], cwd=self.folder, capture_output=True, check=False)
+        self.assertEqual((status, theirs.stdout), (ours.status, ours.text))
 
     def test_both_programs_print_the_same(self):
         for kind, plain in (("followed", "plain_play"), ("streamed", "plain_play"),
                             ("recorded", "plain_recorded")):
             with self.subTest(kind=kind):
                 self.written(kind, "one", "--frames", "300", "--clients", "2")
-                ours = run(["one"], self.folder)
-                theirs = subprocess.run([self.compiled(plain), "one"], cwd=self.folder, capture_output=True,
-                                        check=True)
-                self.assertEqual((0, theirs.stdout), (ours.status, ours.text))
+                self.both_print_the_same(self.compiled(plain), 0)
 
     def test_both_programs_refuse_the_same(self):
         plain = self.compiled("plain_recorded")
         for line in REFUSED:
             with self.subTest(line=line):
-                (self.folder / "one").write_bytes(HEAD.encode() + b"do c0 open\n" + line + b"\n")
-                ours = run(["one"], self.folder)
-                theirs = subprocess.run([plain, "one"], cwd=self.folder, capture_output=True, check=False)
-                self.assertEqual((1, theirs.stdout), (ours.status, ours.text))
+                self.write("one", HEAD.encode() + b"do c0 open\n" + line + b"\n")
+                self.both_print_the_same(plain, 1)
 
     def test_names(self):
-        lines = self.names().splitlines()
+        lines = said("bench/plain_names").text.splitlines()
         self.assertIn('{ "EV_REP", 6, 20, 0 },', lines)
         self.assertIn('{ "KEY_A", 5, 1, 30 },', lines)
         self.assertIn('{ "ABS_MT_SLOT", 11, 3, 47 },', lines)

@@ -9,7 +9,8 @@ SCRIPT = TOP / "bench" / "gate_cost"
 
 
 def run(*words):
-    return said(SCRIPT, "--no-measure", *words)
+    # (on a machine that does much else a process gets little of it)
+    return said(SCRIPT, "--no-measure", *words, timeout=900)
 
 
 class GateCost(FolderCase):
