@@ -12,12 +12,11 @@ from pathlib import Path
 from typing import Counter as Counts
 from typing import Iterator, List
 
-TOP = Path(__file__).resolve().parent.parent
-
 from inputtools.runbuild import FLAGS, SOURCES, NotBuilt, archive, compile_by, sources
 from inputtools.running import Run, Settings, environment, new_folder, remove_folder
 
 from checks.random_devices import RandomDevice
+from checks.trial import TOP
 
 HERE = SOURCES / "tests"
 SERVER, PROGRAM = "beside_server", "beside_libevdev"

@@ -103,7 +103,7 @@ class Joystick:
     def button_value(self, value: int) -> int:
         return int(value != 0)
 
-    def axis_value(self, _index: int, value: int) -> int:
+    def axis_value(self, index: int, value: int) -> int:
         return cut(value)
 
     def tell(self, event: Event, time: int) -> Read:
