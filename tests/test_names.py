@@ -5,7 +5,7 @@ import unittest
 
 from tests.playing import TOP
 
-from checks.definitions import Repository, below, dependencies
+from checks.definitions import Key, Repository, below, dependencies
 
 CRATES, DOCS = TOP / "crates", TOP / "docs"
 OTHER_PAGES = ("README.md", "CONTRIBUTING.md", "CHANGELOG.md", "bench/README.md", "checks/README.md",
@@ -297,6 +297,12 @@ def table(page, heading):
     return [[cell.strip() for cell in row.strip("|").split(" | ")] for row in rows]
 
 
+def is_proved(repository, key):
+    """Whether a number is proved to be the one that is written beside it."""
+    rows = repository.file(key.crate, key.path).rows
+    return any(row.startswith(f"const _: () = prove!({key.name} ") and " == " in row for row in rows)
+
+
 def anchors(page):
     """How links name the sections of a page."""
     return [(name, re.sub(r"[^a-z0-9 -]", "", name.lower()).replace(" ", "-")) for name in sections(page)]
@@ -340,6 +346,17 @@ class Names(unittest.TestCase):
             self.assertEqual(anchors(page), links, page.name)
             led = re.findall(rf"\[([^\]]+)\]\({page.name}#([^)]+)\)", rules)
             self.assertEqual([] if page.stem == "RULES" else anchors(page), led, page.name)
+
+
+class Numbers(unittest.TestCase):
+    def test_each_number_stands_twice_but_those_that_the_page_names(self):
+        repository = Repository(TOP)
+        reached = repository.reached([Key("inp_tool", "src/top.rt", "inputplay")])
+        numbers = [key for key, item in reached.items() if item.kind == "const"]
+        self.assertGreater(len(numbers), 40)
+        once = {key.name for key in numbers if not is_proved(repository, key)}
+        paragraph = re.search(r"Beside each constant.*?\n\n", (DOCS / "PROMISES.md").read_text(), re.S)[0]
+        self.assertEqual(once, set(re.findall(r"`(\w+)`", paragraph)))
 
 
 class Tables(unittest.TestCase):
