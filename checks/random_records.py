@@ -10,7 +10,7 @@ import random
 import struct
 import sys
 from pathlib import Path
-from typing import Callable, Iterable, List, Optional, Set, Tuple
+from typing import Callable, Dict, Iterable, List, Optional, Set, Tuple
 
 if not __package__:
     import repository_path  # noqa: F401  (run as a script: the packages of this repository)
@@ -160,7 +160,9 @@ class Generator:
             actors, codes, slots = r.choice(self.devices)
             weights = [(12 if busy else 3) if role == "source" else 1 for role, _ in actors]
             role, name = r.choices(actors, weights)[0]
-            act: Callable[..., List[str]] = getattr(self, f"{role}_action", self.client_action)
+            acts: Dict[str, Callable[..., List[str]]] = {
+                "source": self.source_action, "joy": self.joy_action, "owner": self.owner_action}
+            act = acts.get(role, self.client_action)
             actions += [f"do {name} {action}" for action in act(role, codes, slots, busy)]
         for actors, _, _ in self.devices:
             last = {"client": "follow", "joy": "read 4294967295", "owner": "feedback 4096"}

@@ -110,7 +110,7 @@ class Filter:
     def eats(self, event: Event, now: int) -> bool:
         """Takes an event, and answers whether it is eaten."""
         self.given.append((event, now, False))
-        is_eaten: bool = getattr(self, f"eats_by_{self.form}")(event, *self.words)
+        is_eaten = FORMS[self.form](self, event, *self.words)
         self.given[-1] = (event, now, is_eaten)
         return is_eaten
 
@@ -137,6 +137,12 @@ class Filter:
             if value == 0 and not is_eaten:
                 return moment <= self.given[press][1] < moment + micros
         return False
+
+
+FORMS: Dict[str, Callable[..., bool]] = {
+    "eat": Filter.eats_by_eat, "norepeat": Filter.eats_by_norepeat, "chord": Filter.eats_by_chord,
+    "bounce": Filter.eats_by_bounce,
+}
 
 
 class Client:
@@ -378,8 +384,11 @@ class Device:
             return ("refused", place, why), None
         self.history.append(step)
         op, *words = step
-        way: Callable[..., Answer] = getattr(self, f"do_{op}", self.do_plain)
-        return way(op, words, place)
+        # (a device of another kind may open its clients otherwise)
+        if op == "open":
+            return self.do_open(op, words, place)
+        way = self.table.get(op)
+        return way(self, op, words, place) if way else self.do_plain(op, words, place)
 
     def do_plain(self, op: str, words: Words, place: int) -> Answer:
         if op in ("inject", "write") and not self.inhibited:
@@ -423,8 +432,6 @@ class Device:
         self.clients[words[0]].flush(lambda event: event[0] == kind)
         return ("bits", place, kind, sorted(self.on[kind])), None
 
-    do_getkeys = do_getswitches = do_getleds = do_getsounds = bits
-
     def do_getaxis(self, _: str, words: Words, place: int) -> Answer:
         code = words[1]
         if code not in self.caps.axes:
@@ -463,3 +470,10 @@ class Device:
             if client.queue:
                 client.queue = [((SYN, DROPPED, 0), now + self.caps.offsets[clock], place)]
         return ("done", place), None
+
+    # What a step does that has more to reply than that it is done.
+    table: Dict[str, Callable[..., Answer]] = {
+        **dict.fromkeys(BITS, bits), "read": do_read, "discard": do_discard, "getaxis": do_getaxis,
+        "setaxis": do_setaxis, "getslots": do_getslots, "syncslots": do_syncslots, "mask": do_mask,
+        "clock": do_clock,
+    }

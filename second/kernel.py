@@ -181,3 +181,8 @@ class KernelDevice(Device):
             return super().do_syncslots(op, words, place)
         cells = [value for values in self.cells for value in values]
         return ("cells", place, len(cells), self.announced), cells
+
+    table = {
+        **Device.table, "clock": do_clock, "getaxis": do_getaxis, "getslots": do_getslots,
+        "syncslots": do_syncslots,
+    }

@@ -6,7 +6,7 @@ the record for one that has a meaning, and plays on one thread.
 
 import os
 import struct
-from typing import Any, List, NamedTuple, Optional, Sequence, Tuple
+from typing import Any, Callable, Dict, List, NamedTuple, Optional, Sequence, Tuple
 
 from second.device import Caps, Device, FIRST, LAST, SLOT
 from second.joydev import JoydevDevice, JoydevStick
@@ -151,7 +151,11 @@ class Actor:
 
     def do(self, words: List[str], streams: Streams) -> None:
         if self.stop == "finished":
-            getattr(self, f"do_{self.role}")(words, streams)
+            ways: Dict[str, Callable[[List[str], Streams], None]] = {
+                "source": self.do_source, "tap": self.do_tap, "client": self.do_client, "joy": self.do_joy,
+                "owner": self.do_owner,
+            }
+            ways[self.role](words, streams)
 
     def do_source(self, words: List[str], streams: Streams) -> None:
         for step in source_steps(words, streams):

@@ -131,8 +131,8 @@ DESCRIPTION = {**dict.fromkeys(("hint", "log", "slots"), "U32"), "clock": "AHEAD
                "cap": "TYPE CODE", "axis": AXIS}
 
 # The words behind `filter`, by the first of them.
-FILTERS = {"eat": "FILTER TYPE CODE", "norepeat": "FILTER", "chord": "FILTER KEY KEY",
-           "bounce": "FILTER KEY MICROS"}
+FILTERS: Dict[str, str] = {"eat": "FILTER TYPE CODE", "norepeat": "FILTER", "chord": "FILTER KEY KEY",
+                           "bounce": "FILTER KEY MICROS"}
 MOST_FILTERS = 8
 
 DEVICES = {"device": "NAME", "udevice": "NAME"}

@@ -2,6 +2,7 @@
 
 import re
 import unittest
+from collections import Counter
 
 from tests.playing import TOP
 
@@ -29,6 +30,9 @@ QUOTED_CODE = re.compile(r"From\s`([^`]+)`,[^:]*:\n\n```rust\n(.*?)^```$", re.M 
 ANTT_QUOTED = re.compile(r"From\s`([^`]+)`[^:]*:\n\n```antt\n(.*?)^```$", re.M | re.S)
 # `name`, or several, in a file of proofs or definitions, maybe of another crate.
 LEMMAS = re.compile(r"((?:`[\w-]+`,?\s+)+)(?:in\s+|of\s+|\(|)`(?:(inp_\w+)/)?(proofs|specs)/(\w+)\.antt`")
+# What a file of proofs hands on, and what a file takes from one that does.
+HANDED_ON = re.compile(r"^(?:unfoldable )?pub use Rattle\.[\w.]+\.\{(.*)\}$", re.M)
+FROM_COMMON = re.compile(r"^use Rattle\.(\w+)\.proofs\.Common\.\{(.*)\}$", re.M)
 # A row of a table of crates.
 CRATE_ROW = re.compile(r"^\| `(inp_\w+)` \| (.*) \|$", re.M)
 COMMENTED = re.compile(r"^\s*(?:--|//[/!]?)(?: (.*))?$", re.M)
@@ -308,6 +312,27 @@ def anchors(page):
     return [(name, re.sub(r"[^a-z0-9 -]", "", name.lower()).replace(" ", "-")) for name in sections(page)]
 
 
+def taken_words(text):
+    """What a file of proofs takes from a file of common words: the crate, and each name as that has it."""
+    for crate, braces in FROM_COMMON.findall(text):
+        yield from ((crate, name.split(" as ")[0].strip()) for name in braces.split(","))
+
+
+class CommonWords(unittest.TestCase):
+    """A word has one path; only `proofs/Common.antt` of a crate hands words on, as in the toolchain."""
+
+    def test_each_is_taken_by_three_files_and_nothing_else_is_handed_on(self):
+        texts = {path: path.read_text() for _, path in files_of_crates("proofs/**/*.antt")}
+        counts = Counter(word for text in texts.values() for word in taken_words(text))
+        for path, text in texts.items():
+            lines = [line for line in text.splitlines() if line and not line.startswith("--")]
+            is_common, crate = path.name == "Common.antt", path.relative_to(CRATES).parts[0]
+            self.assertEqual([], [line for line in lines if bool(HANDED_ON.match(line)) != is_common], path)
+            names = [name.split(" as ")[-1].strip() for braces in HANDED_ON.findall(text)
+                     for name in braces.split(",")]
+            self.assertEqual([], [name for name in names if counts[crate, name] < 3], path)
+
+
 class Names(unittest.TestCase):
     def test_what_is_named_is_there(self):
         for names, least in NAMED.items():
@@ -315,6 +340,12 @@ class Names(unittest.TestCase):
                 found = list(names())
                 self.assertEqual([], [(str(where), name) for where, name, is_there in found if not is_there])
                 self.assertGreater(len(found), least)
+
+    def test_the_way_of_an_event_is_counted(self):
+        page = (DOCS / "ARCHITECTURE.md").read_text()
+        names = [name for row, _ in WAY_ROW.findall(page) for name in re.findall(r"`([\w:]+)`", row)]
+        self.assertEqual(len(names), len(set(names)))
+        self.assertEqual([str(len(names))], re.findall(r"through (\d+) functions on one thread", page))
 
     def test_the_page_of_crates_has_each_in_its_group(self):
         page, list_of_crates = (CRATES / "README.md").read_text(), (TOP / "crates.txt").read_text()

@@ -34,7 +34,9 @@ class Moments:
         told = [step.moment for step in history]
         first = next((moment for moment in told if moment is not None), None)
         self.are_told = first is not None
-        self.all = list(accumulate(((first or 0) if moment is None else moment for moment in told), max))
+        least = first or 0
+        moments = [least if moment is None else moment for moment in told]
+        self.all: List[int] = list(accumulate(moments, max))
 
     def range_text(self, begin: int, end: int) -> str:
         """The places from `begin` up to, and without, `end`."""

@@ -161,7 +161,7 @@ class Table:
         self.digits = 6 if any(moment % 1000 for moment in told) else 3
         self.wide = max(len(self.seconds(max(told, default=0))), len("seconds"))
         # (times may go back)
-        self.gap = max(len(self.seconds(max(map(abs, gaps), default=0))), len("gap")) + 1
+        self.gap = max(len(self.seconds(max([abs(gap) for gap in gaps], default=0))), len("gap")) + 1
         widest = max((len(sides(row)[0]) for row in rows), default=0)
         self.left = max(min(widest, max(width // 2 - 20, LEAST_SIDE)), len("sources"))
         self.right = max(width - self.left - self.wide - self.gap - 15, LEAST_SIDE)
