@@ -149,30 +149,10 @@ class Python(CommandCase):
         self.runs(sys.executable, "-B", *tests, env=variables)
 
 
-SMALL_HEADER = """#ifndef _INPUT_EVENT_CODES_H
-#define EV_KEY\t\t0x01
-#define BTN_MOUSE 0x110
-#define BTN_LEFT\t0x110 /* the left one */
-#define KEY_OLD BTN_LEFT
-#define KEY_BRIGHTNESS_MAX\t0x251
-#define KEY_MAX\t0x2ff
-#define KEY_CNT\t(KEY_MAX+1)
-"""
-SMALL_TABLE = """- EV_KEY 1
-1 BTN_LEFT 272
-1 KEY_BRIGHTNESS_MAX 593
-- KEY_MAX 767
-- KEY_CNT 768
-1 BTN_MOUSE 272
-1 KEY_OLD 272
-"""
-
-
-class EventCodes(FolderCase):
-    """The numbers and names that the packages know, and the script that makes them of the system's header."""
-
-    def test_they_are_the_system_s(self):
-        """All, where its header is of the same release; of another one the names that both have."""
+class EventCodes(unittest.TestCase):
+    def test_what_packages_know_is_the_system_s(self):
+        """All, where its header is of the same release; of another one the names that both have. What the
+        script makes of a small header is tests/transcripts/event_codes.txt."""
         if not loaded(TOP / SCRIPT).HEADER.is_file():
             self.skipTest("the kernel's header is not installed (Debian: linux-libc-dev)")
         kept, made = EVENT_CODES.read_text(), said(SCRIPT).text
@@ -181,17 +161,6 @@ class EventCodes(FolderCase):
         ours, theirs = (dict(re.findall(r"^\d+ (\w+) (\d+)$", text, re.M)) for text in (kept, made))
         for name in ours.keys() & theirs.keys():
             self.assertEqual(ours[name], theirs[name], name)
-
-    def test_a_small_header(self):
-        status, made, errors = said(SCRIPT, self.write("input-event-codes.h", SMALL_HEADER))
-        self.assertEqual((0, SMALL_TABLE, ""), (status, re.sub("^#.*\n", "", made, flags=re.M), errors))
-        self.assertIn(", of an unknown release. ", made)
-
-    def test_wrong_input(self):
-        self.write("none.h", "int i;\n")
-        for name, why in (("none.h", "it has no event codes"), ("gone.h", "No such file or directory")):
-            header = self.folder / name
-            self.assertEqual((2, "", f"{SCRIPT}: {header}: {why}\n"), said(SCRIPT, header))
 
 
 class Stamp(FolderCase):
