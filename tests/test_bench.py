@@ -1,5 +1,5 @@
-"""Plain C does the same as the program with small loads of bench/, and threads are timed. What the scripts make
-of loads is tests/transcripts/bench.txt."""
+"""Plain C does the same as the program with small loads of bench/, and threads are timed. What the scripts
+make of loads is tests/transcripts/bench.txt."""
 
 import subprocess
 

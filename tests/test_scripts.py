@@ -36,4 +36,5 @@ class Scripts(unittest.TestCase):
                 status, text, errors = said(script, "--help")
                 self.assertEqual((0, ""), (status, errors))
                 self.assertRegex(text, rf"^usage: (\w+/)?{script.split('/')[1]} \[-h\] ")
-                self.assertEqual([], [option for option in options[script] - {"--fast"} if option not in text])
+                lacking = [option for option in options[script] - {"--fast"} if option not in text]
+                self.assertEqual([], lacking)
