@@ -1,7 +1,6 @@
-"""tools/check with several records at a time, where it is stopped, and the files that it writes. What it says
-of expectations is in tests/transcripts/."""
+"""tools/check where it is stopped, parts of it by GNU parallel, and names of any characters. What it says else is
+in tests/transcripts/check.txt."""
 
-import json
 import os
 import shutil
 import signal
@@ -13,7 +12,6 @@ from unittest import mock
 
 from inputtools import program as program_module
 from tests.desk_cases import PROGRAM, TOOLS, TOP, DeskCase, heed_stops, needs_program
-from tests.test_statuses import with_file_size
 
 # A grab hides a release, as in examples/stuck_key.rec; the desktop asks nothing after it.
 STICKS = """inputrecord 1
@@ -55,7 +53,7 @@ class CheckCase(DeskCase):
 
 
 class Many(CheckCase):
-    """Folders, several records at a time, parts of them, and what is written where a check is stopped."""
+    """Parts of a folder, and what is written where a check of several records is stopped."""
 
     def setUp(self):
         super().setUp()
@@ -66,9 +64,6 @@ class Many(CheckCase):
                         for n in range(6)]
         self.file("inputs/notes.txt", "no record")
 
-    def objects(self, *words):
-        return [json.loads(line) for line in self.tool("check", "--json", *words)[1].splitlines()]
-
     def start(self, program, *words):
         """The tool, started with a program that takes long to play a record of the name slow.rec."""
         script = f'#!/bin/sh\ncase "$*" in *slow.rec*) sleep 20;; esac\nexec {PROGRAM} "$@"\n'
@@ -77,19 +72,6 @@ class Many(CheckCase):
         env = {**os.environ, "INPUTPLAY": str(program)}
         return subprocess.Popen([TOOLS / "check", *words], env=env, text=True, stdout=subprocess.PIPE,
                                 stderr=subprocess.PIPE, start_new_session=True, preexec_fn=heed_stops)
-
-    def test_several_at_a_time(self):
-        """The same comes, in whatever order; the file of --junit has that of the records."""
-        alone = self.objects(*self.records)
-        self.assertEqual([str(path) for path in self.records], [each["record"] for each in alone])
-        for words in (("-j", "3", *self.records), (self.inputs,), (self.inputs, "-j", "1")):
-            with self.subTest(words[0]):
-                result = self.folder / "result.xml"
-                self.assertEqual(alone, sorted(self.objects("--junit", result, *words),
-                                               key=lambda each: each["record"]))
-                suites = ElementTree.parse(result).getroot()
-                self.assertEqual([str(path) for path in self.records],
-                                 [suite.attrib["name"] for suite in suites])
 
     def test_parts_by_gnu_parallel(self):
         """The block of docs/CI.md, on this machine alone."""
@@ -149,8 +131,6 @@ class Many(CheckCase):
 
 
 class Files(CheckCase):
-    """What is written is whole, and well-formed, whatever a file is named."""
-
     def test_xml_of_any_name(self):
         needs_program(self)
         path = self.record(STICKS, "desktop never KEY_A", name='a&b<c>"\x01\x1b[31m\u00e9\n.rec')
@@ -165,26 +145,6 @@ class Files(CheckCase):
         self.assertEqual(["1", "1"], [suite.attrib["failures"] for suite in (first, second)])
         self.assertEqual(f"{self.folder}/none\\udcff.rec", second.attrib["name"])
         self.assertTrue(all(" " <= char <= "~" or char == "\n" for char in written), written)
-
-    def test_outputs_are_written_beside_and_renamed(self):
-        """Who has the file open reads the one before; what cannot be written leaves it."""
-        record, output = self.file("case.rec", STICKS), self.file("out.evemu", "before\n")
-        output.chmod(0o640)
-        words = [TOOLS / "export", record, "--evemu", "--output", output]
-        with open(output, encoding="ascii") as before:
-            subprocess.run(words, check=True)
-            self.assertEqual("before\n", before.read())
-        self.assertTrue(output.read_text().startswith("# EVEMU"))
-        self.assertEqual(0o640, output.stat().st_mode & 0o777)
-        output.write_text("before\n")
-        done = subprocess.run(words, preexec_fn=with_file_size(100), capture_output=True, text=True,
-                              check=False)
-        self.assertEqual((2, f"export: {output}: File too large\n"), (done.returncode, done.stderr))
-        self.assertEqual("before\n", output.read_text())
-        self.assertEqual({"case.rec", "out.evemu"}, {path.name for path in self.folder.iterdir()})
-        # what is no regular file is written to as it is
-        done = subprocess.run([*words[:-1], "/dev/stdout"], capture_output=True, text=True, check=True)
-        self.assertTrue(done.stdout.startswith("# EVEMU"))
 
 
 class Threads(CheckCase):

@@ -4,7 +4,6 @@ of its fields, and each that is told there is written."""
 import json
 import re
 
-from tests import test_stuck
 from tests.desk_cases import DATA, TOP, needs_program
 from tests.test_play import PlayCase
 
@@ -62,7 +61,8 @@ class Page(PlayCase):
                    RECORDS / "slot_255.rec"]
         texts = [self.written("stuck", "--json", record) for record in records]
         texts.append(self.written("stuck", "--json", "--end", records[0]))
-        texts.append(self.tool("stuck", "--json", self.file("cut.rec", test_stuck.CUT))[1])
+        cut = (EXAMPLES / "stuck_key.rec").read_text().replace("hint 8", "hint 8\nlog 6")
+        texts.append(self.tool("stuck", "--json", self.file("cut.rec", cut))[1])
         self.assertEqual(set(), self.check("stuck", texts))
         partings = [each for text in texts for each in map(json.loads, text.splitlines())
                     if each["kind"] == "parting"]

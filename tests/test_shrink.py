@@ -10,18 +10,8 @@ from inputtools.shrinking import frames_of, shorter
 
 HEAD = "inputrecord 1\ndevice d\ncap EV_KEY KEY_A\ncap EV_KEY KEY_B\nsource s\nclient c\n"
 HEAD += "# A comment.\ndo c open\n"
-
-
-def frame(moment, *events):
-    return "".join(f"do s event {moment} {event}\n" for event in (*events, "EV_SYN SYN_REPORT 0"))
-
-
-def press(key, value=1):
-    return f"EV_KEY {key} {value}"
-
-
-RECORD = HEAD + "".join(frame(n, press("KEY_A", n % 2), press("KEY_B", n % 2)) + "do c follow\n"
-                        for n in range(1, 10))
+FRAME = "do s event {0} EV_KEY KEY_A {1}\ndo s event {0} EV_KEY KEY_B {1}\ndo s event {0} EV_SYN SYN_REPORT 0\n"
+RECORD = HEAD + "".join(FRAME.format(n, n % 2) + "do c follow\n" for n in range(1, 10))
 
 
 class Shrink(DeskCase):
@@ -30,8 +20,7 @@ class Shrink(DeskCase):
         script = f"echo >> {count}; sleep 0.02; grep -q 'event 7 EV_KEY KEY_B' $1"
         words = [TOOLS / "shrink", path, "--", "sh", "-c", script, "sh", "{}"]
         started = subprocess.Popen(words, stdout=subprocess.PIPE, stderr=subprocess.PIPE, text=True,
-                                   start_new_session=True,
-                                   preexec_fn=heed_stops)
+                                   start_new_session=True, preexec_fn=heed_stops)
         while not count.exists() or len(count.read_text()) < 12:
             time.sleep(0.02)
         os.killpg(started.pid, signal.SIGINT)

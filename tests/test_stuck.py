@@ -1,7 +1,6 @@
-"""tools/stuck on random frames, long streams and a terminal, and what it writes as JSON. What it says of
-small records is in tests/transcripts/."""
+"""tools/stuck on random frames, long streams and a terminal. What it says of small records is in
+tests/transcripts/."""
 
-import json
 import os
 import pty
 import random
@@ -17,7 +16,7 @@ from inputtools.progress import Progress
 from inputtools.report import Took
 from inputtools.source import Given
 
-EXAMPLES, RECORDS = TOP / "examples", TOP / "tests" / "records"
+EXAMPLES = TOP / "examples"
 KEYBOARD = """inputrecord 1
 device kbd
 hint 8
@@ -44,11 +43,6 @@ def frame(moment, *events):
     """The lines of a frame: events of the source, and a report."""
     lines = [f"do s event {moment} {event}" for event in (*events, "EV_SYN SYN_REPORT 0")]
     return "\n".join(lines) + "\n"
-
-
-# A play that is cut, of which tests/test_json.py asks.
-CUT = KEYBOARD.replace("hint 8\n", "hint 8\nlog 4\n") + "client c\ndo c open\n"
-CUT += frame(1, "EV_KEY KEY_A 1") + "do c follow\n"
 
 
 class Records(DeskCase):
@@ -136,15 +130,6 @@ class Long(DeskCase):
                          "are 690000: take a part of the capture by tools/record --from and --to"):
                 self.refused("stuck", record, because=said)
         self.assertFalse(begun.exists())
-
-
-class Json(DeskCase):
-    def test_json_of_each_kind_of_reader(self):
-        for record in (EXAMPLES / "joystick.rec", EXAMPLES / "feedback.rec", RECORDS / "slot_255.rec"):
-            with self.subTest(record.name):
-                objects = [json.loads(line) for line in self.written("stuck", "--json", record).splitlines()]
-                readers = [each for each in objects if each["kind"] == "reader"]
-                self.assertEqual(len(readers), sum(each["kind"] == "end" for each in objects))
 
 
 class Waiting(DeskCase):

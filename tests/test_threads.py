@@ -4,6 +4,8 @@ The result of a record depends on the order in which the threads made their step
 played on one thread by a second program (second/replay.py), which has to give the same report, byte for byte.
 """
 
+from itertools import islice
+
 from tests.playing import EXAMPLES, RECORDS, FolderCase, assert_run, needs_program, run
 
 from checks.random_records import Generator
@@ -77,15 +79,10 @@ class Threads(FolderCase):
 
     def each_telling(self, count, calls):
         """The sounds that an owner was told, in each run that told it one. The test fails where none did."""
-        telling = 0
-        for _ in range(MOST_RUNS):
-            told = self.told_of(count, calls)
-            if told:
-                telling += 1
-                yield told
-            if telling == TELLING_RUNS:
-                return
+        runs = (self.told_of(count, calls) for _ in range(MOST_RUNS))
+        telling = list(islice(filter(None, runs), TELLING_RUNS))
         self.assertTrue(telling, f"none of {MOST_RUNS} runs told the owner anything")
+        return telling
 
     def test_an_owner_is_told_what_was_sent_in_its_order(self):
         """Which call takes what differs by run. As long as all that is sent can wait nothing is left out."""
