@@ -13,26 +13,14 @@ from unittest import mock
 from inputtools import program as program_module
 from tests.desk_cases import PROGRAM, TOOLS, TOP, DeskCase, heed_stops, needs_program
 
-# A grab hides a release, as in examples/stuck_key.rec; the desktop asks nothing after it.
-STICKS = """inputrecord 1
+KEY = """inputrecord 1
 device kbd
 cap EV_KEY KEY_A
-cap EV_KEY KEY_B
-cap EV_LED LED_CAPSL
-axis ABS_X 5 0 100 0 0 0
 source usb
 client desktop
-client remapper
-tap probe
 do desktop open
-do remapper open
 do usb event 1000000 EV_KEY KEY_A 1
 do usb event 1000000 EV_SYN SYN_REPORT 0
-do desktop follow
-do remapper grab
-do usb event 2500000 EV_KEY KEY_A 0
-do usb event 2500000 EV_SYN SYN_REPORT 0
-do remapper ungrab
 do desktop follow
 """
 
@@ -46,10 +34,9 @@ def is_alive(pid):
 
 
 class CheckCase(DeskCase):
-    def record(self, text, *expectations, name="case.rec"):
-        """A record with these expectations from line 2 on."""
-        first, rest = text.split("\n", 1)
-        return self.file(name, "\n".join([first, *(f"#= {each}" for each in expectations), rest]))
+    def record(self, name, expectation):
+        """A record that expects this in its first line."""
+        return self.file(name, f"#= {expectation}\n{KEY}")
 
 
 class Many(CheckCase):
@@ -60,8 +47,7 @@ class Many(CheckCase):
         needs_program(self)
         self.inputs = self.folder / "inputs"
         self.inputs.mkdir()
-        self.records = [self.record(STICKS, f"desktop takes KEY_A {n % 2}", name=f"inputs/{n}.rec")
-                        for n in range(6)]
+        self.records = [self.record(f"inputs/{n}.rec", f"desktop takes KEY_A {n % 2}") for n in range(6)]
         self.file("inputs/notes.txt", "no record")
 
     def start(self, program, *words):
@@ -92,7 +78,7 @@ class Many(CheckCase):
         self.assertEqual(6, len(list(self.inputs.glob("*.rec"))))
 
     def test_results_come_at_once_and_stay_where_it_is_stopped(self):
-        slow = self.record(STICKS, "desktop agrees", name="slow.rec")
+        slow = self.record("slow.rec", "desktop agrees")
         for number, stop, form in ((1, signal.SIGINT, "--tap"), (2, signal.SIGTERM, "--json")):
             with self.subTest(stop.name, jobs=number):
                 result = self.folder / "result.xml"
@@ -112,9 +98,9 @@ class Many(CheckCase):
                 self.assertEqual(["0", "1", "1" if number == 1 else "0"], errors)
 
     def test_processes_end_with_the_one_that_started_them(self):
-        slow = self.record(STICKS, "desktop agrees", name="slow.rec")
+        slow = self.record("slow.rec", "desktop agrees")
         started = self.start("slow", "-j", "3", slow, *self.records[:3])
-        self.assertIn(".rec:2: desktop takes KEY_A 0", started.stdout.readline())
+        self.assertIn(".rec:1: desktop takes KEY_A 0", started.stdout.readline())
         children = Path(f"/proc/{started.pid}/task/{started.pid}/children").read_text().split()
         self.assertEqual(3, len(children))
         started.kill()
@@ -130,10 +116,10 @@ class Many(CheckCase):
         started.communicate()
 
 
-class Files(CheckCase):
+class Alone(CheckCase):
     def test_xml_of_any_name(self):
         needs_program(self)
-        path = self.record(STICKS, "desktop never KEY_A", name='a&b<c>"\x01\x1b[31m\u00e9\n.rec')
+        path = self.record('a&b<c>"\x01\x1b[31m\u00e9\n.rec', "desktop never KEY_A")
         result = self.folder / "result.xml"
         # (the program itself takes no name that is not in UTF-8)
         other = os.fsdecode(os.fsencode(self.folder) + b"/none\xff.rec")
@@ -146,10 +132,8 @@ class Files(CheckCase):
         self.assertEqual(f"{self.folder}/none\\udcff.rec", second.attrib["name"])
         self.assertTrue(all(" " <= char <= "~" or char == "\n" for char in written), written)
 
-
-class Threads(CheckCase):
-    def test_the_second_program_has_none(self):
+    def test_the_second_program_has_no_threads(self):
         with mock.patch.dict(os.environ), mock.patch.object(program_module, "BUILT", "/no/program"):
             os.environ.pop("INPUTPLAY", None)
-            self.refused("check", "--threads", self.record(STICKS, "status 0"),
+            self.refused("check", "--threads", self.record("case.rec", "status 0"),
                          because="--threads wants the built program")

@@ -17,13 +17,14 @@ from inputtools.report import Took
 from inputtools.source import Given
 
 EXAMPLES = TOP / "examples"
-KEYBOARD = """inputrecord 1
+KEYBOARD = """inputrecord 2
 device kbd
 hint 8
 cap EV_KEY KEY_A
 cap EV_KEY KEY_B
+cap EV_KEY KEY_C
 cap EV_REL REL_X
-source s
+type EV_REP
 """
 TOUCHPAD = """inputrecord 1
 device pad
@@ -37,12 +38,6 @@ do c open
 do s stream long.bin
 do c follow
 """
-
-
-def frame(moment, *events):
-    """The lines of a frame: events of the source, and a report."""
-    lines = [f"do s event {moment} {event}" for event in (*events, "EV_SYN SYN_REPORT 0")]
-    return "\n".join(lines) + "\n"
 
 
 class Records(DeskCase):
@@ -86,15 +81,15 @@ def random_filtered(r):
     keys = ["KEY_A", "KEY_B", "KEY_C"]
     forms = ["norepeat", "eat EV_REL REL_X", *(f"chord {a} {b}" for a in keys for b in keys if a != b)]
     forms += [f"bounce {key} {micros}" for key in keys for micros in (5, 20)]
-    lines = KEYBOARD.replace("inputrecord 1", "inputrecord 2").splitlines()[:-1]
-    lines += ["cap EV_KEY KEY_C", "type EV_REP"]
+    lines = KEYBOARD.splitlines()
     lines += [f"filter {form}" for form in r.sample(forms, r.randint(2, 5))]
     lines += ["source s", "tap t", "do t open"]
     now, is_grabbed = 10, False
     for _ in range(120):
         now += r.choice([0, 1, 3, 7, 30, -4])
         events = [f"EV_KEY {r.choice(keys)} {r.choice([0, 1, 2])}" for _ in range(r.choice([1, 1, 1, 2, 3]))]
-        lines += frame(max(now, 0), "EV_REL REL_X 1", *events).splitlines() + ["do t read 64"]
+        events = ["EV_REL REL_X 1", *events, "EV_SYN SYN_REPORT 0"]
+        lines += [*(f"do s event {max(now, 0)} {event}" for event in events), "do t read 64"]
         if r.random() < 0.1:
             lines.append("do t ungrab" if is_grabbed else "do t grab")
             is_grabbed = not is_grabbed
