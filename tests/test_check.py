@@ -1,5 +1,5 @@
-"""tools/check where it is stopped, parts of it by GNU parallel, and names of any characters. What it says else is
-in tests/transcripts/check.txt."""
+"""tools/check where it is stopped, parts of it by GNU parallel, and names of any characters. What else it
+says is in tests/transcripts/check.txt."""
 
 import os
 import shutil

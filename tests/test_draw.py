@@ -73,8 +73,8 @@ class DrawCase(DeskCase):
 class Pages(DrawCase):
     def test_each_record_is_drawn(self):
         """So is one with more rows than a picture has room for, and one of which there is nothing to draw."""
-        records = [self.file("rows.rec", typed(MORE_KEYS)), self.file("none.rec", "inputrecord 1\ndevice d\n")]
-        for record in sorted([*EXAMPLES.glob("*.rec"), *RECORDS.glob("*.rec"), *records]):
+        rows, none = self.file("rows.rec", typed(MORE_KEYS)), self.file("none.rec", "inputrecord 1\ndevice d")
+        for record in sorted([*EXAMPLES.glob("*.rec"), *RECORDS.glob("*.rec"), rows, none]):
             with self.subTest(record.name):
                 text = self.page(record)
                 self.assertIn(f"<h1>{record.name}</h1>", text)

@@ -1,5 +1,5 @@
-"""docs/JSON.md: each object that `play`, `stuck`, `show` and `describe` write with --json is told there, with all
-of its fields, and each that is told there is written."""
+"""docs/JSON.md: each object that `play`, `stuck`, `show` and `describe` write with --json is told there, with
+all of its fields, and each that is told there is written."""
 
 import json
 import re

@@ -10,8 +10,12 @@ from inputtools.shrinking import frames_of, shorter
 
 HEAD = "inputrecord 1\ndevice d\ncap EV_KEY KEY_A\ncap EV_KEY KEY_B\nsource s\nclient c\n"
 HEAD += "# A comment.\ndo c open\n"
-FRAME = "do s event {0} EV_KEY KEY_A {1}\ndo s event {0} EV_KEY KEY_B {1}\ndo s event {0} EV_SYN SYN_REPORT 0\n"
-RECORD = HEAD + "".join(FRAME.format(n, n % 2) + "do c follow\n" for n in range(1, 10))
+FRAME = """do s event {0} EV_KEY KEY_A {1}
+do s event {0} EV_KEY KEY_B {1}
+do s event {0} EV_SYN SYN_REPORT 0
+do c follow
+"""
+RECORD = HEAD + "".join(FRAME.format(n, n % 2) for n in range(1, 10))
 
 
 class Shrink(DeskCase):
