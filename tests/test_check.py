@@ -50,12 +50,10 @@ class Many(CheckCase):
         self.records = [self.record(f"inputs/{n}.rec", f"desktop takes KEY_A {n % 2}") for n in range(6)]
         self.file("inputs/notes.txt", "no record")
 
-    def start(self, program, *words):
+    def start(self, *words):
         """The tool, started with a program that takes long to play a record of the name slow.rec."""
         script = f'#!/bin/sh\ncase "$*" in *slow.rec*) sleep 20;; esac\nexec {PROGRAM} "$@"\n'
-        program = self.file(program, script)
-        program.chmod(0o755)
-        env = {**os.environ, "INPUTPLAY": str(program)}
+        env = {**os.environ, "INPUTPLAY": str(self.file("slow", script, 0o755))}
         return subprocess.Popen([TOOLS / "check", *words], env=env, text=True, stdout=subprocess.PIPE,
                                 stderr=subprocess.PIPE, start_new_session=True, preexec_fn=heed_stops)
 
@@ -83,7 +81,7 @@ class Many(CheckCase):
             with self.subTest(stop.name, jobs=number):
                 result = self.folder / "result.xml"
                 words = ("-j", str(number), form, "--junit", result, self.records[1], slow, self.records[3])
-                started = self.start("slow", *words)
+                started = self.start(*words)
                 lines = [started.stdout.readline() for _ in range(2)]
                 self.assertIsNone(started.poll())
                 errors = [suite.attrib["errors"] for suite in ElementTree.parse(result).getroot()]
@@ -99,7 +97,7 @@ class Many(CheckCase):
 
     def test_processes_end_with_the_one_that_started_them(self):
         slow = self.record("slow.rec", "desktop agrees")
-        started = self.start("slow", "-j", "3", slow, *self.records[:3])
+        started = self.start("-j", "3", slow, *self.records[:3])
         self.assertIn(".rec:1: desktop takes KEY_A 0", started.stdout.readline())
         children = Path(f"/proc/{started.pid}/task/{started.pid}/children").read_text().split()
         self.assertEqual(3, len(children))

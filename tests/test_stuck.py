@@ -4,7 +4,6 @@ tests/transcripts/."""
 import os
 import pty
 import random
-import stat
 import subprocess
 from unittest import mock
 
@@ -116,8 +115,7 @@ class Long(DeskCase):
 
     def test_too_many_are_refused_before_they_are_played(self):
         begun = self.folder / "begun"
-        program = self.file("program", f"#!/bin/sh\n: > {begun}\n")
-        program.chmod(0o755)
+        program = self.file("program", f"#!/bin/sh\n: > {begun}\n", 0o755)
         with mock.patch.dict(os.environ, {"INPUTPLAY": str(program)}):
             record = self.stream(690000)
             for said in ("long.rec: its devices' state can be asked for after about 5",
@@ -146,8 +144,7 @@ class Waiting(DeskCase):
 
     def test_waiting_is_told_on_a_terminal_alone(self):
         needs_program(self)
-        slow = self.file("slow", f"#!/bin/sh\nsleep 1.5\nexec '{PROGRAM}' \"$@\"\n")
-        slow.chmod(slow.stat().st_mode | stat.S_IXUSR)
+        slow = self.file("slow", f"#!/bin/sh\nsleep 1.5\nexec '{PROGRAM}' \"$@\"\n", 0o755)
         env, words = {**os.environ, "INPUTPLAY": str(slow)}, [TOOLS / "stuck", EXAMPLES / "stuck_key.rec"]
         quiet = subprocess.run(words, env=env, capture_output=True, text=True)
         self.assertEqual((0, ""), (quiet.returncode, quiet.stderr))
