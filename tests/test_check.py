@@ -52,7 +52,7 @@ class Many(CheckCase):
 
     def start(self, *words):
         """The tool, started with a program that takes long to play a record of the name slow.rec."""
-        script = f'#!/bin/sh\ncase "$*" in *slow.rec*) sleep 20;; esac\nexec {PROGRAM} "$@"\n'
+        script = f'#!/bin/sh\ncase "$*" in *slow.rec*) sleep 100;; esac\nexec {PROGRAM} "$@"\n'
         env = {**os.environ, "INPUTPLAY": str(self.file("slow", script, 0o755))}
         return subprocess.Popen([TOOLS / "check", *words], env=env, text=True, stdout=subprocess.PIPE,
                                 stderr=subprocess.PIPE, start_new_session=True, preexec_fn=heed_stops)
@@ -87,7 +87,7 @@ class Many(CheckCase):
                 errors = [suite.attrib["errors"] for suite in ElementTree.parse(result).getroot()]
                 self.assertEqual(["1"] * 3, errors)
                 os.killpg(started.pid, stop)
-                text, said = started.communicate(timeout=15)
+                text, said = started.communicate(timeout=60)
                 self.assertEqual((130, f"check: stopped: {number} of 3 records checked"),
                                  (started.returncode, said.strip()))
                 self.assertIn(self.records[1].name, "".join(lines))

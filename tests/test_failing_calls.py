@@ -86,7 +86,7 @@ class FailingCalls(FolderCase):
     def compile(self, text, *more):
         source = self.write("program.c", text)
         command = [needs(self, os.environ.get("CC", "cc"), "gcc"), *more, "-o", self.program, source]
-        subprocess.run(command, check=True, capture_output=True, timeout=60)
+        subprocess.run(command, check=True, capture_output=True, timeout=300)
 
     def says(self, name, status, *told, words=(), **variables):
         env = {**os.environ, "TMPDIR": str(self.folder), **variables}

@@ -66,7 +66,7 @@ class RealTools(DeskCase):
         needs(self, "umockdev-run", "umockdev")
         words = ["umockdev-run", "-d", self.devices, "-e", f"/dev/input/event0={self.evemu}", "--"]
         words += ["head", "-c", str(24 * len(self.events)), "/dev/input/event0"]
-        done = subprocess.run(words, capture_output=True, timeout=30, check=False)
+        done = subprocess.run(words, capture_output=True, timeout=300, check=False)
         self.assert_played(done.stdout)
 
     def test_umockdev_udevadm_and_libinput_take_it(self) -> None:
@@ -81,6 +81,6 @@ class RealTools(DeskCase):
             with self.subTest(words[0]):
                 needs(self, words[0], package)
                 words = ["umockdev-run", "-d", self.devices, "--", *words]
-                done = subprocess.run(words, capture_output=True, text=True, timeout=30, check=False)
+                done = subprocess.run(words, capture_output=True, text=True, timeout=300, check=False)
                 missing = [line for line in wanted if line not in done.stdout]
                 self.assertEqual((0, []), (done.returncode, missing), done.stderr)

@@ -28,7 +28,7 @@ class Shrink(DeskCase):
         while not count.exists() or len(count.read_text()) < 12:
             time.sleep(0.02)
         os.killpg(started.pid, signal.SIGINT)
-        text, said = started.communicate(timeout=20)
+        text, said = started.communicate(timeout=60)
         self.assertEqual(130, started.returncode, said)
         self.assertIn("note: stopped: this is the shortest until now: ", said)
         self.assertIn("event 7 EV_KEY KEY_B", text)

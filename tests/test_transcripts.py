@@ -129,7 +129,7 @@ class Transcript(DeskCase):
                 status, text, lines = self.tool(words[0][6:], *words[1:])
             return told(status, text, "\n".join(lines).replace(f"{self.folder}/", ""))
         env = {**os.environ, "PATH": f"{self.folder}:{os.environ['PATH']}", "PYTHONDONTWRITEBYTECODE": "1"}
-        done = subprocess.run(["sh", "-c", command], env=env, capture_output=True, check=False, timeout=120)
+        done = subprocess.run(["sh", "-c", command], env=env, capture_output=True, check=False, timeout=600)
         text, errors = (each.decode("utf-8", "backslashreplace") for each in (done.stdout, done.stderr))
         if f"INPUTPLAY names {PROGRAM}, which is no program" in errors:
             needs_program()
