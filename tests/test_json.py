@@ -4,8 +4,8 @@ all of its fields, and each that is told there is written."""
 import json
 import re
 
-from tests.desk_cases import DATA, TOP, needs_program
-from tests.test_play import PlayCase
+from tests.desk_cases import DATA, TOP, DeskCase, needs_program
+from tests.playing import said
 
 EXAMPLES, RECORDS = TOP / "examples", TOP / "tests" / "records"
 PAGE = TOP / "docs" / "JSON.md"
@@ -33,7 +33,7 @@ def causes():
             for word in re.findall(r"`([a-z-]+)`", row.split("|")[1])}
 
 
-class Page(PlayCase):
+class Page(DeskCase):
     def check(self, name, texts, common=()):
         """The objects of these texts are those that the section tells. What it tells and none of them has, as
         (kind, field), or as a kind alone."""
@@ -52,7 +52,8 @@ class Page(PlayCase):
         letter = self.file("letter.rec", "dear all\n")
         records = [RECORDS / "owners_stand_behind_all_joysticks.rec", EXAMPLES / "views.rec",
                    EXAMPLES / "joystick.rec"]
-        text = self.play_tool("--json", "--history", *records, letter)[1]
+        needs_program(self)
+        text = said("tools/play", "--json", "--history", *records, letter).text
         self.assertEqual(set(), self.check("play", [text], common=["file"]))
 
     def test_stuck(self):

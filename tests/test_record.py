@@ -3,6 +3,7 @@ others. What it makes of small captures is in tests/transcripts/."""
 
 import re
 import struct
+from unittest import mock
 
 from tests.desk_cases import (
     DATA, DeskCase, belief, needs_program, raw_capture, raw_events, taken, without_comments,
@@ -205,6 +206,13 @@ class Parts(DeskCase):
         lines = text.split("# The captures.")[1].splitlines()
         moments = [int(line.split()[3]) for line in lines if " event " in line]
         self.assertEqual(sorted(moments), moments)
+
+    def test_limits_of_a_capture_say_what_helps(self):
+        with mock.patch("inputtools.writing.GREATEST_TEXT", 100):
+            said = "would have more than 100 bytes: take a part with --from and --to"
+            self.refused("record", DATA / "lid.evtest",
+                         because=f"the record {said}, fewer readers, or have")
+            self.refused("record", DATA / "mouse.evtest", "--stream", self.folder / "x.bin", because=said)
 
     def test_keys_are_hidden(self):
         """Each key is another one, one to one; modifiers, times and all else stay, and no scan code is left."""
