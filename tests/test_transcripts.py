@@ -37,7 +37,7 @@ NO_LINE_FEED = "(no line feed at the end)"
 BELOW = re.compile(r"  .*|")
 WANTED = re.compile(r"  .*|! .*|\[\d+\]|")
 SPREAD = re.compile(r"(\d+)\.\.(\d+): (.*)")
-PLAYS = re.compile(r"\binputplay\b|--threads")
+PLAYS = re.compile(r"(?<!\w/)\binputplay\b(?!-)|--threads")
 SHELL = re.compile(r"[|&;<>()$*?]")
 
 
