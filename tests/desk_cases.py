@@ -14,8 +14,9 @@ from tests.playing import PROGRAM, TOP, FolderCase, loaded, needs_program
 
 TOOLS, DATA = TOP / "tools", TOP / "tests" / "data"
 
-# An event of a capture: its time, type, code and value.
+# An event of a capture: its time, type, code and value; and as a raw one has it.
 Captured = Tuple[int, int, int, int]
+EVENT = struct.Struct("<QQHHi")
 
 
 def heed_stops() -> None:
@@ -23,17 +24,15 @@ def heed_stops() -> None:
     signal.signal(signal.SIGINT, signal.SIG_DFL)
 
 
-def raw_events(data: bytes, size: int = 24) -> List[Captured]:
+def raw_events(data: bytes) -> List[Captured]:
     """The events of a raw capture: (time from the first one on, type, code, value)."""
-    form = struct.Struct("<QQHHi" if size == 24 else "<IIHHi")
     found = [(s * 1000000 + micros, kind, code, value)
-             for s, micros, kind, code, value in form.iter_unpack(data)]
+             for s, micros, kind, code, value in EVENT.iter_unpack(data)]
     return [(time - found[0][0], kind, code, value) for time, kind, code, value in found]
 
 
-def raw_capture(events: Iterable[Captured], size: int = 24, base: int = 1764252210496169) -> bytes:
-    form = struct.Struct("<QQHHi" if size == 24 else "<IIHHi")
-    return b"".join(form.pack(*divmod(base + time, 1000000), *event) for time, *event in events)
+def raw_capture(events: Iterable[Captured]) -> bytes:
+    return b"".join(EVENT.pack(*divmod(1764252210496169 + time, 1000000), *event) for time, *event in events)
 
 
 class DeskCase(FolderCase):
@@ -103,7 +102,3 @@ def belief(report: List[str], name: str = "reader") -> List[str]:
     lines = part_of(report, name)
     first = next(i for i, line in enumerate(lines) if line.split()[0] in ("keys", "switches", "leds", "axes"))
     return lines[first:]
-
-
-def without_comments(text: str) -> List[str]:
-    return [line for line in text.splitlines() if not line.startswith("#")]

@@ -1,13 +1,10 @@
 """tools/record on captures by the real tools: a record that is played has the capture's events and no
-others. What it makes of small captures is in tests/transcripts/."""
+others. What it makes of small captures, and that forms of one capture give one record, is in tests/transcripts/."""
 
 import re
-import struct
 from unittest import mock
 
-from tests.desk_cases import (
-    DATA, DeskCase, belief, needs_program, raw_capture, raw_events, taken, without_comments,
-)
+from tests.desk_cases import DATA, DeskCase, belief, needs_program, raw_capture, raw_events, taken
 from inputtools.verifying import found_in_order
 
 DEVICES = ("keyboard", "mouse", "touchpad", "lid")
@@ -77,52 +74,6 @@ class RoundTrip(DeskCase):
                 with self.subTest(name=name, source=source):
                     self.assertEqual(beliefs["evtest"], came)
 
-    def test_the_forms_give_one_record(self):
-        for name in DEVICES:
-            raw = DATA / f"{name}.bin"
-            first = without_comments(self.written("record", DATA / f"{name}.evtest", raw))
-            for files in ([".evtest"], [".evemu", ".bin"], [".libinput.yml", ".bin"]):
-                with self.subTest(name=name, files=files):
-                    other = self.written("record", *(DATA / (name + form) for form in files))
-                    self.assertEqual(first, without_comments(other))
-
-    def test_the_last_belief_is_the_device_s(self):
-        """What is known at the end of the captures: the last value of each thing that an event told."""
-        report = self.play(self.written("record", DATA / "keyboard.evemu"))
-        self.assertEqual(["keys", "leds LED_NUML"], belief(report))
-        report = self.play(self.written("record", DATA / "lid.evtest"))
-        self.assertEqual(["switches SW_LID"], belief(report))
-
-    def test_records_of_16_bytes(self):
-        wanted = self.written("record", DATA / "keyboard.evemu", DATA / "keyboard.bin")
-        data = (DATA / "keyboard.bin").read_bytes()
-        short = [struct.pack("<IIHHi", *event) for event in struct.iter_unpack("<QQHHi", data)]
-        path = self.file("short.bin", b"".join(short))
-        self.assertEqual(wanted, self.written("record", DATA / "keyboard.evemu", path, "--16"))
-        self.assertEqual(wanted, self.written("record", DATA / "keyboard.evemu", path))
-
-    def test_the_terminal_s_noise_means_nothing(self):
-        text = self.written("record", DATA / "keyboard-terminal.evtest")
-        came = taken(self.play(text))
-        self.assertEqual(32, len(came))
-        self.assertEqual(raw_events((DATA / "keyboard.bin").read_bytes())[:32], came)
-
-    def test_a_byte_order_mark(self):
-        for form in ("evtest", "evemu", "libinput.yml"):
-            marked = self.file("marked", b"\xef\xbb\xbf" + (DATA / f"lid.{form}").read_bytes())
-            self.assertEqual(self.written("record", DATA / f"lid.{form}"), self.written("record", marked))
-
-    def test_what_a_terminal_shows_besides(self):
-        """A list of devices before a tool's first line, `^C` after its last one, a fault that it met."""
-        noise = "Available devices:\n/dev/input/event0:\tKeyboard\nSelect the device event number [0-1]: "
-        for form, before, behind in (("evemu", noise, "^C\n"), ("evtest", noise, "^C\n$ \n"),
-                                     ("libinput.yml", "", "^CError: Interrupted system call\n")):
-            with self.subTest(form=form):
-                wanted = self.written("record", DATA / f"lid.{form}")
-                text = before + (DATA / f"lid.{form}").read_text() + behind
-                shown = self.file("shown", text.replace("\n", "\r\n"))
-                self.assertEqual(wanted, self.written("record", shown))
-
 
 class Losses(DeskCase):
     """Captures that lack events, and say so."""
@@ -157,17 +108,7 @@ class Losses(DeskCase):
 
 
 class Parts(DeskCase):
-    """Streams, parts of a capture, several devices, and hidden keys."""
-
-    def test_a_stream(self):
-        text = self.written("record", DATA / "keyboard.evtest", DATA / "keyboard.bin", "--stream",
-                            self.folder / "keys.bin", notes=["428 events, and a ring holds 63"])
-        self.assertEqual(1, text.count(" stream "))
-        captured = raw_events((DATA / "keyboard.bin").read_bytes())
-        self.assertEqual(captured, raw_events((self.folder / "keys.bin").read_bytes()))
-        report = self.play(text)
-        self.assertIn((0, 3, 0), [event[1:] for event in taken(report)])
-        self.assertEqual(["keys", "leds LED_NUML"], belief(report))
+    """Parts of a capture, several devices, and hidden keys."""
 
     def test_a_part_of_a_capture(self):
         """Each part has the events of its times, at these times, and begins in the state that was then."""
