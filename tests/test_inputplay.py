@@ -1,5 +1,5 @@
-"""bin/inputplay and tools/build in a tree of its own: what stands on a terminal meanwhile, how long it takes, and the
-library. What else bin/inputplay and tools/install do is in tests/transcripts/inputplay.txt."""
+"""bin/inputplay and tools/build in a tree of their own: what a terminal shows meanwhile, how long it takes,
+and the library. What else bin/inputplay and tools/install do is in tests/transcripts/inputplay.txt."""
 
 import contextlib
 import os

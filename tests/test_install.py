@@ -1,4 +1,5 @@
-"""What tools/install puts in place: list, modes, names, manual pages, completion; and Debian's packages."""
+"""What tools/install puts in place: list, modes, names, manual pages, completion; and Debian's packages. How
+what is installed works is in tests/transcripts/installed.txt and inputplay.txt."""
 
 import os
 import platform
@@ -40,10 +41,10 @@ def run(*words, umask=0o022, **more):
     return status, text, errors.splitlines()
 
 
-def files_of(folder, below=""):
-    """All that is below a folder and no folder, by its path below another one, each with its mode."""
+def files_of(folder):
+    """All that is below a folder and no folder, by its path there, each with its mode."""
     paths = (path for path in folder.rglob("*") if path.is_symlink() or not path.is_dir())
-    return {str(path)[len(str(below)) :]: path.lstat().st_mode & 0o777 for path in paths}
+    return {f"/{path.relative_to(folder)}": path.lstat().st_mode & 0o777 for path in paths}
 
 
 class Tools(unittest.TestCase):
@@ -66,14 +67,14 @@ class Tools(unittest.TestCase):
         self.assertEqual(0, status, lines)
         *files, lib, docs = listed.splitlines()
         self.assertEqual(("/usr/lib/inputplay", "/usr/share/doc/inputplay"), (lib, docs))
-        self.assertEqual(set(files_of(self.stage, self.stage)), set(files))
+        self.assertEqual(set(files_of(self.stage)), set(files))
         programs = sorted(path.name for path in (self.prefix / "bin").iterdir())
         self.assertEqual([f"inputplay-{tool}" for tool in TOOLS], programs)
 
     def test_modes_do_not_hang_on_the_umask(self):
         modes = {path.stat().st_mode & 0o777 for path in self.stage.rglob("*") if path.is_dir()}
         self.assertEqual({0o755}, modes)
-        files = files_of(self.stage, self.stage)
+        files = files_of(self.stage)
         programs = {path for path, mode in files.items() if mode == 0o755}
         self.assertEqual({f"/usr/lib/inputplay/tools/{tool}" for tool in TOOLS}, programs)
         self.assertEqual({0o644, 0o755, 0o777}, set(files.values()))
@@ -94,32 +95,6 @@ class Tools(unittest.TestCase):
                 self.assertTrue(line.startswith(f"{name}: "), line)
         self.assertEqual({"JSON.md", "RUN.md"}, {Path(page).name for page in pages})
         self.assertEqual([], [page for page in pages if not Path(page).is_file()])
-
-    def test_what_they_say_of_other_files(self):
-        """A file of the user's keeps its name, whatever that is."""
-        picture = self.folder / "tools" / "check.svg"
-        picture.parent.mkdir()
-        picture.write_text("<svg>")
-        for tool in ("play", "record"):
-            with self.subTest(tool):
-                lines = " ".join(self.installed(tool, picture)[2])
-                self.assertIn("as inputplay-draw writes one", lines)
-                self.assertIn(str(picture), lines)
-
-    def test_what_they_write_of_each_other(self):
-        long, out = TOP / "examples" / "touchpad.rec", self.folder / "out"
-        for words, wanted in ((["explore", "--out", out, RECORD], "why in full:  inputplay-stuck "),
-                              (["draw", long], "<code>inputplay-draw --from PLACE ")):
-            with self.subTest(words[0]):
-                status, told, _ = self.installed(*words)
-                self.assertEqual((0, True, False), (status, wanted in told, "tools/" in told))
-
-    def test_they_play(self):
-        told = "inputplay-play: played by the second program (second), in Python, without proof"
-        self.assertEqual((0, REPORT, [told]), self.installed("play", RECORD))
-        link = self.folder / "inputplay-stuck"
-        link.symlink_to(self.prefix / "bin" / "inputplay-stuck")
-        self.assertIn("KEY_LEFTCTRL: down for it", run(link, RECORD)[1])
 
     def test_all_files_of_a_kind(self):
         docs, lib = self.prefix / "share" / "doc" / "inputplay", self.prefix / "lib" / "inputplay"
@@ -147,66 +122,6 @@ class Tools(unittest.TestCase):
         how, words = told.splitlines()
         self.assertEqual("complete -F _longopt inputplay-stuck", how)
         self.assertEqual({"--client"}, set(words.split()))
-
-
-class Parts(FolderCase):
-    def test_the_list_removes_all(self):
-        """What was used by root meanwhile has more files, which go too."""
-        prefix = self.folder / "prefix"
-        listed = run(INSTALL, "--only", "tools", prefix)[1]
-        for path in (prefix / "lib" / "inputplay").rglob("__pycache__"):
-            shutil.rmtree(path)
-        run(prefix / "bin" / "inputplay-stuck", RECORD)
-        self.assertTrue(list((prefix / "lib").rglob("__pycache__")))
-        removed = subprocess.run(["xargs", "-d", "\n", "rm", "-rf"], input=listed, text=True, check=False)
-        self.assertEqual((0, {}), (removed.returncode, files_of(prefix)))
-        self.assertEqual([], [path for path in prefix.rglob("*") if "inputplay" in path.name])
-
-    def test_what_was_written_before_a_fault_is_listed(self):
-        (self.folder / "share").write_text("")
-        status, listed, (line,) = run(INSTALL, "--only", "tools", self.folder)
-        self.assertEqual(2, status)
-        self.assertIn("Not a directory", line)
-        self.assertEqual(set(files_of(self.folder)), {*listed.splitlines(), str(self.folder / "share")})
-
-    def test_the_library(self):
-        """It names the folder in which it is to be, and its links are listed."""
-        top, stage = self.folder / "top", self.folder / "stage"
-        for name in ("tools", "include"):
-            shutil.copytree(TOP / name, top / name, ignore=shutil.ignore_patterns("__pycache__"))
-        made = ("libinputplay.a", "libinputplay.so", "libinputplay.so.2", "libinputplay.so.2.0.0")
-        older = ("libinputplay.so.1", "libinputplay.so.1.0.0")
-        for name in made + older:
-            self.write(f"top/out/library/{name}", "")
-        self.write("top/out/library/inputplay.pc", "prefix=/nowhere\nlibdir=${prefix}/lib\n")
-        words = ["--library", "--destdir", stage, "/opt/it"]
-        status, listed, lines = run(top / "tools" / "install", *words, umask=0o077)
-        self.assertEqual((0, []), (status, lines))
-        self.assertEqual(set(files_of(stage, stage)), set(listed.splitlines()))
-        lib = stage / "opt" / "it" / "lib"
-        self.assertEqual(sorted([*made, "pkgconfig"]), sorted(os.listdir(lib)))
-        self.assertEqual("libinputplay.so.2.0.0", os.readlink(lib / "libinputplay.so.2"))
-        page = (lib / "pkgconfig" / "inputplay.pc").read_text()
-        self.assertEqual("prefix=/opt/it\nlibdir=${prefix}/lib\n", page)
-
-    def test_the_program(self):
-        program = self.write("program", "#!/bin/sh\necho \"played: $*\"\nexit 3\n", 0o755)
-        prefix, link = self.folder / "prefix", self.folder / "link"
-        words = ["--only", "program", "--program", program, prefix]
-        status, listed, lines = run(INSTALL, *words, umask=0o077)
-        self.assertEqual((0, []), (status, lines))
-        self.assertEqual(set(files_of(prefix)), set(listed.splitlines()))
-        # again, over it
-        self.assertEqual((0, listed, []), run(INSTALL, *words))
-        self.assertEqual(set(files_of(prefix)), set(listed.splitlines()))
-        page = prefix / "share" / "man" / "man1" / "inputplay.1"
-        self.assertEqual((TOP / "docs" / "inputplay.1").read_bytes(), page.read_bytes())
-        link.symlink_to(prefix / "bin" / "inputplay")
-        for installed in (prefix / "bin" / "inputplay", link):
-            with self.subTest(installed.name):
-                self.assertEqual((3, "played: --history a b\n", []), run(installed, "--history", "a b"))
-                self.assertEqual((0, f"inputplay {VERSION}\n", []), run(installed, "--version"))
-                self.assertEqual((0, "played: \n", []), run(installed, "--help"))
 
 
 class Versions(unittest.TestCase):

@@ -1,4 +1,4 @@
-"""tools/play has a hint for each cause. What it says is in tests/transcripts/play.txt and play_unbuilt.txt."""
+"""tools/play has a hint for each cause. What it says is in tests/transcripts/play.txt, play_unbuilt.txt."""
 
 import re
 import unittest

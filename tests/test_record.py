@@ -1,5 +1,5 @@
 """tools/record on captures by the real tools: a record that is played has the capture's events and no
-others. What it makes of small captures, and that forms of one capture give one record, is in tests/transcripts/."""
+others. What it makes of small captures, and that the forms of one give one record, is in tests/transcripts/."""
 
 import re
 from unittest import mock
