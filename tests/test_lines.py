@@ -7,7 +7,7 @@ import re
 from typing import Iterator, NamedTuple, Optional
 
 from tests.desk_cases import DATA
-from tests.playing import FolderCase, Run, run
+from tests.playing import FolderCase, run
 
 from second.outcome import outcome
 
@@ -48,16 +48,13 @@ class Lines(FolderCase):
         super().setUp()
         self.write("keys", "")
 
-    def told(self, text: str, *words: str) -> Run:
-        (self.folder / "f").write_bytes(text.encode("latin1"))
-        return run([*words, "f"], self.folder)
-
     def test_a_line_that_is_just_refused_or_accepted(self) -> None:
         """The program plays or rewrites a text, or says why it does neither."""
         for given in texts():
+            self.write("f", given.text.encode("latin1"))
             for words in ([], ["--migrate"]):
                 with self.subTest(words=words, text=given.text[-60:]):
-                    status, text, errors = self.told(given.text, *words)
+                    status, text, errors = run([*words, "f"], self.folder)
                     line = f"inputplay: line {given.number}: {given.cause}\n".encode()
                     self.assertEqual(b"", errors)
                     self.assertEqual(given.cause is not None, (status, text) == (1, line), text[:200])
@@ -68,17 +65,7 @@ class Lines(FolderCase):
     def test_the_second_program_refuses_as_the_first_one(self) -> None:
         for given in texts():
             with self.subTest(text=given.text[-60:]):
-                (self.folder / "f").write_bytes(given.text.encode("latin1"))
-                status, text = outcome(str(self.folder / "f"))
+                status, text = outcome(str(self.write("f", given.text.encode("latin1"))))
                 self.assertEqual(int(given.cause is not None), status)
                 if given.cause:
                     self.assertEqual(f"inputplay: line {given.number}: {given.cause}\n".encode(), text)
-
-    def test_a_stream_is_judged_before_a_text_is_written(self) -> None:
-        text = "inputrecord 1\ndevice d\ncap EV_KEY KEY_A\nsource s\ndo s stream keys\n"
-        for size, status in [(48, 0), (47, 1)]:
-            with self.subTest(size=size):
-                (self.folder / "keys").write_bytes(bytes(size))
-                ran = self.told(text, "--migrate")
-                self.assertEqual((status, b""), (ran.status, ran.errors))
-                self.assertEqual(status == 1, ran.text == b"inputplay: line 5: bad-stream\n")
