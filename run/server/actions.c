@@ -9,51 +9,7 @@
 #include <stdlib.h>
 #include <string.h>
 
-enum { PATH_ROOM = 8192, READ_AT_ONCE = 65536 };
-
-/** How the words behind a command say what its step is. */
-enum words_form { NO_WORDS, MOMENT, MOMENT_AND_EVENT, MASK_WORD, AXIS_INFO };
-
-/** The commands that change something for others. What only asks is left out. */
-static const struct command {
-    const char *name;
-    uint32_t step;
-    enum words_form form;
-} COMMANDS[] = {
-    {"event", INPUTPLAY_INJECT, MOMENT_AND_EVENT},
-    {"write", INPUTPLAY_WRITE, MOMENT_AND_EVENT},
-    {"tick", INPUTPLAY_TICK, MOMENT},
-    {"inhibit", INPUTPLAY_INHIBIT, MOMENT},
-    {"uninhibit", INPUTPLAY_UNINHIBIT, NO_WORDS},
-    {"mask", INPUTPLAY_MASK, MASK_WORD},
-    {"setaxis", INPUTPLAY_SET_AXIS, AXIS_INFO},
-    {"open", INPUTPLAY_OPEN, NO_WORDS},
-    {"close", INPUTPLAY_CLOSE, NO_WORDS},
-    {"grab", INPUTPLAY_GRAB, NO_WORDS},
-    {"ungrab", INPUTPLAY_UNGRAB, NO_WORDS},
-    {"revoke", INPUTPLAY_REVOKE, NO_WORDS},
-};
-
-uint16_t type_of_word(const char *word) {
-    static const struct {
-        const char *name;
-        uint16_t type;
-    } types[] = {
-        {"EV_SYN", EV_SYN}, {"EV_KEY", EV_KEY}, {"EV_REL", EV_REL}, {"EV_ABS", EV_ABS}, {"EV_MSC", EV_MSC},
-        {"EV_SW", EV_SW},   {"EV_LED", EV_LED}, {"EV_SND", EV_SND}, {"EV_REP", EV_REP},
-    };
-    for (size_t i = 0; i < sizeof types / sizeof types[0]; i++)
-        if (!strcmp(word, types[i].name))
-            return types[i].type;
-    return (uint16_t)strtoul(word, NULL, 0);
-}
-
-uint16_t code_of_word(const char *word) {
-    uint16_t type, code;
-    if (inputplay_code_of((const uint8_t *)word, strlen(word), &type, &code) == INPUTPLAY_OK)
-        return code;
-    return (uint16_t)strtoul(word, NULL, 0);
-}
+enum { PATH_ROOM = 8192, FILE_ROOM = 4096, READ_AT_ONCE = 65536, EVENTS_AT_ONCE = 512 };
 
 uint8_t *file_bytes(const char *name, size_t *length) {
     FILE *file = fopen(name, "rb");
@@ -77,80 +33,64 @@ uint8_t *file_bytes(const char *name, size_t *length) {
     return bytes;
 }
 
-/* A stream line: the events of its file, which lies beside the record. Seconds and microseconds have `half`
- * bytes each. */
-static void add_stream(struct actor *actor, const char *name, size_t half) {
-    char path[PATH_ROOM];
+/* Gives a stream line the bytes of its file, which lies beside the record. */
+static void load_stream(inputplay_handle_t *handle, uint32_t number) {
+    char name[FILE_ROOM] = {0}, path[PATH_ROOM];
+    size_t length = 0;
+    inputplay_record_file(handle, number, (uint8_t *)name, sizeof name - 1, &length);
     const char *slash = strrchr(settings.record, '/');
     int folder = slash && name[0] != '/' ? (int)(slash - settings.record + 1) : 0;
     snprintf(path, sizeof path, "%.*s%s", folder, settings.record, name);
-    struct action action = {.actor = actor, .is_timed = true, .step.step = INPUTPLAY_INJECT};
-    size_t length, size = 2 * half + 8;
     uint8_t *bytes = file_bytes(path, &length);
-    if (length % size)
-        fail("%s: it is no stream, of %zu bytes an event", path, size);
-    for (const uint8_t *at = bytes; at < bytes + length; at += size) {
-        uint64_t seconds = 0, micros = 0;
-        memcpy(&seconds, at, half);
-        memcpy(&micros, at + half, half);
-        memcpy(&action.step.type, at + 2 * half, 2);
-        memcpy(&action.step.code, at + 2 * half + 2, 2);
-        memcpy(&action.step.value, at + 2 * half + 4, 4);
-        action.step.now = seconds * 1000000 + micros;
-        if (micros >= 1000000 || action.step.now > INPUTPLAY_MOMENT_MAX)
-            fail("%s: an event has a time that is none", path);
-        record_add(&action);
-    }
+    uint32_t status = inputplay_record_load(handle, number, bytes, length);
+    if (status != INPUTPLAY_OK)
+        fail("%s: %s", path, inputplay_status_text(status));
     free(bytes);
 }
 
-static int32_t signed_of(const char *word) {
-    return (int32_t)strtol(word, NULL, 0);
-}
-
-static void take_info(inputplay_info *info, char **words) {
-    *info = (inputplay_info){signed_of(words[0]), signed_of(words[1]), signed_of(words[2]),
-                             signed_of(words[3]), signed_of(words[4]), signed_of(words[5])};
-}
-
-/* The words of a canonical text have their forms, and as many of them stand there as the command has. */
-static void take_words(struct action *action, enum words_form form, char **words) {
-    inputplay_step_t *step = &action->step;
-    action->is_timed = form == MOMENT || form == MOMENT_AND_EVENT;
-    if (action->is_timed)
-        step->now = strtoull(words[0], NULL, 0);
-    if (form == MOMENT_AND_EVENT) {
-        step->type = type_of_word(words[1]);
-        step->code = code_of_word(words[2]);
-        step->value = signed_of(words[3]);
-    } else if (form == MASK_WORD) {
-        step->type = type_of_word(words[0]);
-        step->code = (uint16_t)strtoul(words[1], NULL, 0);
-        step->bits = strtoull(words[2], NULL, 0);
-    } else if (form == AXIS_INFO) {
-        step->code = code_of_word(words[0]);
-        take_info(&step->info, words + 1);
+static void add_stream(inputplay_handle_t *handle, uint32_t number, struct actor *actor) {
+    static inputplay_stamped_t events[EVENTS_AT_ONCE];
+    struct action action = {.actor = actor, .is_timed = true, .step.step = INPUTPLAY_INJECT};
+    size_t from = 0, left = 1;
+    load_stream(handle, number);
+    while (left) {
+        inputplay_record_events(handle, number, from, events, EVENTS_AT_ONCE, &left);
+        size_t count = left < EVENTS_AT_ONCE ? left : EVENTS_AT_ONCE;
+        for (size_t i = 0; i < count; i++) {
+            action.step.type = events[i].type;
+            action.step.code = events[i].code;
+            action.step.value = events[i].value;
+            action.step.now = events[i].now;
+            record_add(&action);
+        }
+        from += count;
+        left -= count;
     }
 }
 
-void actions_take(struct actor *actor, char **words, int count) {
-    const char *name = words[2];
-    if (count < 3)
-        return;
-    if (actor->is_program && !strcmp(name, "open") && !record.is_opened) {
+/* Whether a command changes something for others. What only asks is left out. */
+static bool is_change(uint32_t command) {
+    return command <= INPUTPLAY_DO_SET_AXIS && command != INPUTPLAY_DO_CLOCK;
+}
+
+static bool has_moment(uint32_t step) {
+    return step == INPUTPLAY_INJECT || step == INPUTPLAY_WRITE || step == INPUTPLAY_TICK ||
+           step == INPUTPLAY_INHIBIT;
+}
+
+void actions_take(inputplay_handle_t *handle, uint32_t number) {
+    inputplay_line_t line;
+    if (inputplay_record_line(handle, number, &line) != INPUTPLAY_OK)
+        fail("the library does not tell of the lines of %s", settings.record);
+    struct actor *actor = &record.actors[line.actor];
+    if (actor->is_program && line.command == INPUTPLAY_DO_OPEN && !record.is_opened) {
         record.is_opened = true;
         record.before_open = record.action_count;
     }
     if (actor->is_program)
         return;
-    if (!strcmp(name, "stream") || !strcmp(name, "stream16")) {
-        add_stream(actor, words[3], name[6] ? 4 : 8);
-        return;
-    }
-    for (size_t i = 0; i < sizeof COMMANDS / sizeof COMMANDS[0]; i++)
-        if (!strcmp(name, COMMANDS[i].name)) {
-            struct action action = {.actor = actor, .step.step = COMMANDS[i].step};
-            take_words(&action, COMMANDS[i].form, words + 3);
-            record_add(&action);
-        }
+    if (line.command == INPUTPLAY_DO_STREAM || line.command == INPUTPLAY_DO_STREAM16)
+        add_stream(handle, number, actor);
+    else if (is_change(line.command))
+        record_add(&(struct action){actor, has_moment(line.step.step), line.step});
 }

@@ -11,20 +11,12 @@
 
 struct record record;
 
-enum { WORDS = 12, ACTORS = 2048, LINE_ROOM = 8192, USUAL_LOG = 1048576 };
-
-static const char *const CAUSES[] = {
-    "no cause",    "not-text", "bad-header", "bad-line",   "out-of-place", "no-actor",
-    "bad-command", "bad-word", "twice",      "too-many",   "bad-code",     "bad-axis",
-    "bad-slots",   "bad-hint", "bad-log",    "bad-offset", "bad-filter",   "bad-stream",
-};
-
-/** What is known while the lines of a record are read. */
+/** A description that is read line by line. */
 struct reading {
-    struct device *device; /**< Whose lines these are, or NULL. */
-    FILE *description;     /**< The lines of its description, or NULL where it was made. */
+    struct device *device;
+    FILE *file; /**< Its lines, or NULL where none is read. */
     char *text;
-    size_t text_length;
+    size_t length;
 };
 
 void record_add(const struct action *action) {
@@ -37,115 +29,127 @@ void record_add(const struct action *action) {
     record.actions[record.action_count++] = *action;
 }
 
-static void end_description(struct reading *reading) {
-    if (!reading->description)
-        return;
-    fclose(reading->description);
-    if (!device_make(reading->device, reading->text))
-        fail("the device %s was refused", reading->device->record_name);
-    free(reading->text);
-    reading->description = NULL;
+static bool begins_with(const char *line, const char *word) {
+    return !strncmp(line, word, strlen(word));
 }
 
-static void begin_device(struct reading *reading, const char *line, const char *name) {
-    end_description(reading);
-    reading->device = device_new(name);
-    reading->description = open_memstream(&reading->text, &reading->text_length);
-    if (!reading->device || !reading->description)
+/* Whether a line is none of a description, and so ends the one before it. */
+static bool ends_description(const char *line) {
+    static const char *const words[] = {"device ", "udevice ", "source ", "client ",
+                                        "tap ",    "joy ",     "owner ",  "do "};
+    for (size_t i = 0; i < sizeof words / sizeof words[0]; i++)
+        if (begins_with(line, words[i]))
+            return true;
+    return false;
+}
+
+static void begin_description(struct reading *reading, const char *line) {
+    reading->device = device_new(strchr(line, ' ') + 1);
+    reading->file = open_memstream(&reading->text, &reading->length);
+    if (!reading->device || !reading->file)
         fail("memory ran out");
-    fprintf(reading->description, "inputrecord 2\n%s\n", line);
-}
-
-static void add_actor(const struct reading *reading, const char *role, const char *name) {
-    struct actor *actor = &record.actors[record.actor_count++];
-    *actor = (struct actor){
-        .device = reading->device, .is_source = !strcmp(role, "source"), .client = INPUTPLAY_NO_CLIENT};
-    snprintf(actor->name, sizeof actor->name, "%s", name);
-    const char *program = settings.actor;
-    actor->is_program = program && !actor->is_source && (!strcmp(program, "*") || !strcmp(program, name));
+    fprintf(reading->file, "inputrecord 2\n%s\n", line);
 }
 
 /* A line of a description goes to the library as it stands, but for two things: clocks are those of this
  * machine, and a history is as long as it may be where the record does not say. */
-static void add_description(struct reading *reading, const char *line, char **words) {
-    struct device *device = reading->device;
-    const char *what = words[0];
-    if (!strcmp(what, "type") || !strcmp(what, "cap"))
-        device_set(device, EV_SYN, type_of_word(words[1]));
-    if (!strcmp(what, "cap"))
-        device_set(device, type_of_word(words[1]), code_of_word(words[2]));
-    if (!strcmp(what, "axis")) {
-        device_set(device, EV_SYN, EV_ABS);
-        device_set(device, EV_ABS, code_of_word(words[1]));
-    }
-    if (!strcmp(what, "clock"))
-        device->ahead[words[1][0] == 'b'] = strtoull(words[2], NULL, 10);
-    if (!strcmp(what, "slots"))
-        device->slots = (uint32_t)strtoul(words[1], NULL, 10);
-    if (!strcmp(what, "log") && strtoul(words[1], NULL, 10) == USUAL_LOG)
-        fprintf(reading->description, "log %d\n", LONGEST_LOG);
-    else if (!strcmp(what, "clock") && !settings.is_record_clock)
-        fprintf(reading->description, "clock %s %llu\n", words[1],
-                (unsigned long long)clock_ahead(words[1][0] == 'r' ? CLOCK_REALTIME : CLOCK_BOOTTIME));
+static void add_description(FILE *file, const char *line) {
+    static const char realtime[] = "clock realtime ", boottime[] = "clock boottime ";
+    bool is_here = !settings.is_record_clock;
+    if (!strcmp(line, "log 1048576"))
+        fprintf(file, "log %d\n", LONGEST_LOG);
+    else if (is_here && begins_with(line, realtime))
+        fprintf(file, "%s%llu\n", realtime, (unsigned long long)clock_ahead(CLOCK_REALTIME));
+    else if (is_here && begins_with(line, boottime))
+        fprintf(file, "%s%llu\n", boottime, (unsigned long long)clock_ahead(CLOCK_BOOTTIME));
     else
-        fprintf(reading->description, "%s\n", line);
+        fprintf(file, "%s\n", line);
 }
 
-static struct actor *actor_named(const char *name) {
-    size_t at = 0;
-    while (at < record.actor_count && strcmp(record.actors[at].name, name))
-        at++;
-    return &record.actors[at];
-}
-
-static bool is_one_of(const char *word, const char *const *words) {
-    while (*words && strcmp(word, *words))
-        words++;
-    return *words;
-}
-
-static void take_line(struct reading *reading, char *line) {
-    static const char *const roles[] = {"source", "client", "tap", "joy", "owner", NULL};
-    static const char *const begins[] = {"device", "udevice", NULL};
-    static char whole[LINE_ROOM];
-    char *words[WORDS], *rest = NULL;
-    int count = 0;
-    snprintf(whole, sizeof whole, "%s", line);
-    for (char *word = strtok_r(line, " ", &rest); word && count < WORDS; word = strtok_r(NULL, " ", &rest))
-        words[count++] = word;
-    if (count < 2)
-        return; /* (the header has two words too; no line has fewer) */
-    if (is_one_of(words[0], begins)) {
-        begin_device(reading, whole, words[1]);
-    } else if (!strcmp(words[0], "do")) {
-        end_description(reading);
-        actions_take(actor_named(words[1]), words, count);
-    } else if (is_one_of(words[0], roles)) {
-        add_actor(reading, words[0], words[1]);
-    } else if (reading->description) {
-        add_description(reading, whole, words);
+/* What the device has, as the library tells it. */
+static void take_abilities(struct device *device) {
+    uint64_t words[KEY_CNT / 64];
+    inputplay_limits_t limits;
+    if (inputplay_device_limits(&device->handle, &limits) != INPUTPLAY_OK)
+        fail("the library does not tell of %s", device->record_name);
+    device->slots = limits.slots;
+    device->ahead[0] = limits.realtime;
+    device->ahead[1] = limits.boottime;
+    for (unsigned type = EV_SYN; type < EV_CNT; type++) {
+        inputplay_device_bits(&device->handle, (uint16_t)type, words);
+        for (unsigned code = 0; code < KEY_CNT; code++)
+            if (words[code / 64] >> code % 64 & 1)
+                device_set(device, type, code);
     }
+}
+
+static void end_description(struct reading *reading) {
+    if (!reading->file)
+        return;
+    if (fclose(reading->file))
+        fail("memory ran out");
+    if (!device_make(reading->device, reading->text))
+        fail("the device %s was refused", reading->device->record_name);
+    free(reading->text);
+    reading->file = NULL;
+    take_abilities(reading->device);
+}
+
+static void make_devices(char *text) {
+    struct reading reading = {0};
+    char *rest = NULL;
+    for (char *line = strtok_r(text, "\n", &rest); line; line = strtok_r(NULL, "\n", &rest)) {
+        if (ends_description(line))
+            end_description(&reading);
+        if (begins_with(line, "device ") || begins_with(line, "udevice "))
+            begin_description(&reading, line);
+        else if (reading.file)
+            add_description(reading.file, line);
+    }
+    end_description(&reading);
+    if (!device_count)
+        fail("%s has no device", settings.record);
+}
+
+static inputplay_handle_t handle_of(const uint8_t *text, size_t length) {
+    inputplay_handle_t handle = INPUTPLAY_NOTHING;
+    uint32_t line, cause;
+    uint32_t status = inputplay_record_new(text, length, &handle, &line, &cause);
+    if (status == INPUTPLAY_REFUSED)
+        fail("%s: line %u: %s", settings.record, line, inputplay_cause_text(cause));
+    if (status == INPUTPLAY_TOO_LONG)
+        fail("%s: it is longer than 16 MiB", settings.record);
+    if (status != INPUTPLAY_OK)
+        fail("memory ran out");
+    return handle;
 }
 
 /* The record's text in its newest version, where each thing has one form. */
-static char *newest_text(const char *name, const uint8_t *text, size_t length) {
-    inputplay_handle handle = INPUTPLAY_NOTHING;
-    uint32_t line, cause;
+static char *newest_text(inputplay_handle_t *handle) {
     size_t made, left;
-    uint32_t status = inputplay_record_new(text, length, &handle, &line, &cause);
-    if (status == INPUTPLAY_REFUSED)
-        fail("%s: line %u: %s", name, line, CAUSES[cause]);
-    if (status == INPUTPLAY_TOO_LONG)
-        fail("%s: it is longer than 16 MiB", name);
     char *newest = NULL;
-    if (status == INPUTPLAY_OK && inputplay_record_migrate(&handle, &made) == INPUTPLAY_OK)
+    if (inputplay_record_migrate(handle, &made) == INPUTPLAY_OK)
         newest = malloc(made + 1);
     if (!newest)
         fail("memory ran out");
-    inputplay_record_text(&handle, 0, (uint8_t *)newest, made, &left);
-    inputplay_free(&handle);
+    inputplay_record_text(handle, 0, (uint8_t *)newest, made, &left);
     newest[made] = 0;
     return newest;
+}
+
+static void take_actor(inputplay_handle_t *handle, uint32_t number) {
+    struct actor *actor = &record.actors[number];
+    const char *program = settings.actor;
+    uint32_t role, device;
+    size_t length;
+    *actor = (struct actor){.client = INPUTPLAY_NO_CLIENT};
+    if (inputplay_record_actor(handle, number, &role, &device, (uint8_t *)actor->name, NAME_ROOM - 1,
+                               &length) != INPUTPLAY_OK)
+        fail("the library does not tell of the actors of %s", settings.record);
+    actor->device = &devices[device];
+    actor->is_source = role == INPUTPLAY_SOURCE;
+    actor->is_program =
+        program && !actor->is_source && (!strcmp(program, "*") || !strcmp(program, actor->name));
 }
 
 /* A wrong name of --as would leave the program beside the one that it is to be. */
@@ -161,22 +165,26 @@ static void check_program(void) {
 
 void record_read(void) {
     size_t length;
-    struct reading reading = {0};
+    inputplay_counts_t counts;
     uint8_t *bytes = file_bytes(settings.record, &length);
-    char *text = newest_text(settings.record, bytes, length), *rest = NULL;
-    record.actors = calloc(ACTORS, sizeof *record.actors);
+    inputplay_handle_t handle = handle_of(bytes, length);
+    char *text = newest_text(&handle);
+    make_devices(text);
+    free(text);
+    inputplay_record_counts(&handle, &counts);
+    record.actor_count = counts.actors;
+    record.actors = calloc(counts.actors + 1, sizeof *record.actors);
     if (!record.actors)
         fail("memory ran out");
-    for (char *line = strtok_r(text, "\n", &rest); line; line = strtok_r(NULL, "\n", &rest))
-        take_line(&reading, line);
-    end_description(&reading);
-    if (!device_count)
-        fail("%s has no device", settings.record);
+    for (uint32_t i = 0; i < counts.actors; i++)
+        take_actor(&handle, i);
     check_program();
+    for (uint32_t i = 0; i < counts.lines; i++)
+        actions_take(&handle, i);
+    inputplay_free(&handle);
     identities_take((const char *)bytes, length);
     nodes_make_maker();
     for (int i = 0; i < device_count; i++)
         nodes_make(&devices[i]);
     free(bytes);
-    free(text);
 }

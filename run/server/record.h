@@ -41,12 +41,8 @@ void record_read(void);
 /** Adds an action. */
 void record_add(const struct action *action);
 
-/** Adds the actions of a line `do ACTOR COMMAND ..`, which has these words. (actions.c) */
-void actions_take(struct actor *actor, char **words, int count);
-
-/** The type that a word names, and the code. (actions.c) */
-uint16_t type_of_word(const char *word);
-uint16_t code_of_word(const char *word);
+/** Adds the actions of an action line of a record, by its number. (actions.c) */
+void actions_take(inputplay_handle_t *handle, uint32_t number);
 
 /** The bytes of a file, with a NUL behind them. What cannot be read ends the server. (actions.c) */
 uint8_t *file_bytes(const char *name, size_t *length);
