@@ -1,11 +1,14 @@
 """What documents and crates name is there: definitions, files, sections. A name means one thing."""
 
 import re
+import tempfile
 import unittest
 from collections import Counter
+from pathlib import Path
 
 from tests.playing import TOP
 
+from checks import proof_lines
 from checks.definitions import Key, Repository, below, dependencies
 
 CRATES, DOCS = TOP / "crates", TOP / "docs"
@@ -331,6 +334,25 @@ class CommonWords(unittest.TestCase):
             names = [name.split(" as ")[-1].strip() for braces in HANDED_ON.findall(text)
                      for name in braces.split(",")]
             self.assertEqual([], [name for name in names if counts[crate, name] < 3], path)
+
+
+class ProofLines(unittest.TestCase):
+    """Proofs rewrite by `rw`, and can be read on a screen."""
+
+    def test_no_line_is_wide_and_few_congruences_are_written_out(self):
+        proofs = proof_lines.of(TOP)
+        self.assertEqual([], proofs.wide)
+        self.assertLessEqual(proofs.written_out, 1200)
+        self.assertGreaterEqual(proofs.rewrites_in_a_thousand, 60)
+
+    def test_what_is_counted(self):
+        said = "use A.{\n  one,\n  two,\n}\n-- ap (λ\nabc = ap (λ x. f x) e\n  ∙ rw e (subst (λ x. P x) e t)\npub use B.{c}\n"
+        with tempfile.TemporaryDirectory() as folder:
+            path = Path(folder) / "Some.antt"
+            path.write_text(said + "w" * 111 + "\n" + "w " * 60 + "\n")
+            proofs = proof_lines.ProofLines([path])
+        self.assertEqual((4, 205, 2, 1, [f"{path}:10"]),
+                         (proofs.lines, proofs.characters, proofs.written_out, proofs.rewrites, proofs.wide))
 
 
 class Names(unittest.TestCase):
