@@ -1,6 +1,5 @@
-use Rattle.std.proofs.Common.{◌≡◌, ℕ, ◌+◌, ◌*◌, ◌/◌, ◌%◌, set, ap, ◌∙◌, arith}
+use Rattle.std.proofs.Common.{◌≡◌, ◌+◌, ◌*◌, ◌/◌, ◌%◌, set, arith}
 use Rattle.std.proofs.lemmas.List.{length-set}
-use Rattle.inp_bits.specs.Words.{bits_of}
 use Rattle.inp_bits.proofs.BitsOf.{length-bits_of, bits_of-set_value}
 use Rattle.inp_bits.proofs.bits.Bits.set.Goals as goal
 
@@ -9,9 +8,19 @@ returns-clause-written g c =
     let words = c.self.inside.words in
     let index = c.args.index in
     let whole : 64 * (index / 64) + index % 64 ≡ index = omega arith in
-    bits_of-set_value words (index / 64) (index % 64) c.with_bit.result c.args.on (omega (arith, c.self.invariant.count)) (omega arith) c.with_bit.ensures.written c.with_bit.ensures.others ∙ ap (λ (i : ℕ). set (bits_of words) i c.args.on) whole ∙ ap (λ bits. set bits index c.args.on) c.self.view_is
+    rw (
+      bits_of-set_value words (index / 64) (index % 64) c.with_bit.result c.args.on
+          (omega (arith, c.self.invariant.count))
+          (omega arith) c.with_bit.ensures.written c.with_bit.ensures.others,
+      whole,
+      c.self.view_is,
+    )
 
 pub returns-clause-len : goal.returns-clause-len
 returns-clause-len g c =
     let words = c.self.inside.words in
-    length-bits_of (set words (c.args.index / 64) c.with_bit.result) ∙ ap (λ (n : ℕ). 64 * n) (length-set words (c.args.index / 64) c.with_bit.result ∙ c.self.invariant.count)
+    rw (
+      length-bits_of (set words (c.args.index / 64) c.with_bit.result),
+      length-set words (c.args.index / 64) c.with_bit.result,
+      c.self.invariant.count,
+    )
