@@ -1,8 +1,10 @@
 -- Lists of codes and of axes, and two descriptions: of nothing but EV_SYN, and of a keyboard with one key.
-use Rattle.std.proofs.Common.{◌≡◌, ℕ, zero, suc, ◌+◌, ◌<◌, ◌≤◌, Bool, false, true, List, ◌∷◌, ◌++◌, length, replicate, get_or, refl, ◌∙◌, ap, arith}
+use Rattle.std.proofs.Common.{◌≡◌, ℕ, zero, suc, ◌+◌, ◌<◌, ◌≤◌, Bool, false, true, List, ◌∷◌, ◌++◌, length}
+use Rattle.std.proofs.Common.{replicate, get_or, refl, ◌∙◌, ap, arith}
 use Rattle.std.proofs.lemmas.List.{get_or_past}
 use Rattle.inp_model.specs.declared.event.TheConstants.{EV_SYN, EV_MAX, KEY_MAX}
-use Rattle.inp_model.specs.Description.{AreCodes, AreAxes, IsDescription, syn_alone, one_key, no_info, is_bad_axis, is_kind, has_kind}
+use Rattle.inp_model.specs.Description.{AreCodes, AreAxes, IsDescription, syn_alone, one_key, no_info}
+use Rattle.inp_model.specs.Description.{is_bad_axis, is_kind, has_kind}
 
 -- copies of one value are that value, also past their end
 pub get_or-replicate_same : {X : Type 0} → (n k : ℕ) (x : X) → get_or (replicate n x) k x ≡ x
@@ -19,15 +21,24 @@ is_bad_axis-no_info code = grind arith
 
 -- no axis is described
 pub AreAxes-none : AreAxes (replicate 64 no_info)
-AreAxes-none = record { length_is = refl; good = λ code. ap (is_bad_axis code) (get_or-replicate_same 64 code no_info) ∙ is_bad_axis-no_info code }
+AreAxes-none =
+    record {
+      length_is = refl;
+      good = λ code. ap (is_bad_axis code) (get_or-replicate_same 64 code no_info)
+          ∙ is_bad_axis-no_info code;
+    }
 
 -- a code past the end of its list is not supported
-pub AreCodes-all : (count greatest : ℕ) (codes : List Bool) → length codes ≡ count → count ≤ greatest + 1 → AreCodes count greatest codes
-AreCodes-all count greatest codes e l = record { length_is = e; within = λ code h. get_or_past codes code false (omega arith) }
+pub AreCodes-all : (count greatest : ℕ) (codes : List Bool) → length codes ≡ count → count ≤ greatest + 1
+    → AreCodes count greatest codes
+AreCodes-all count greatest codes e l =
+    record { length_is = e; within = λ code h. get_or_past codes code false (omega arith) }
 
 -- A description with EV_SYN, other types and keys, and no more is one, where these are lists as they may be.
-pub IsDescription-with : (kinds keys : List Bool) → AreCodes 64 EV_MAX kinds → ((kind : ℕ) → is_kind kind ≡ false → get_or kinds kind false ≡ false) → get_or kinds EV_SYN false ≡ true
-    → AreCodes 768 KEY_MAX keys → get_or keys 0 false ≡ false → IsDescription (record syn_alone { kinds = kinds; keys = keys })
+pub IsDescription-with : (kinds keys : List Bool) → AreCodes 64 EV_MAX kinds
+    → ((kind : ℕ) → is_kind kind ≡ false → get_or kinds kind false ≡ false) → get_or kinds EV_SYN false ≡ true
+    → AreCodes 768 KEY_MAX keys → get_or keys 0 false ≡ false
+    → IsDescription (record syn_alone { kinds = kinds; keys = keys })
 IsDescription-with kinds keys are known syn are_keys reserved = record {
   kinds = are;
   known = known;
@@ -59,7 +70,8 @@ syn_known (suc kind) h = get_or-replicate_same 63 kind false
 
 pub IsDescription-syn_alone : IsDescription syn_alone
 IsDescription-syn_alone =
-    IsDescription-with (true ∷ replicate 63 false) (replicate 768 false) (record { length_is = refl; within = syn_within }) syn_known refl
+    IsDescription-with (true ∷ replicate 63 false) (replicate 768 false)
+    (record { length_is = refl; within = syn_within }) syn_known refl
     (AreCodes-all 768 767 (replicate 768 false) refl (omega arith)) refl
 
 key_within : (kind : ℕ) → 31 < kind → get_or (true ∷ true ∷ replicate 62 false) kind false ≡ false
@@ -74,5 +86,6 @@ key_known (suc (suc kind)) h = get_or-replicate_same 62 kind false
 
 pub IsDescription-one_key : IsDescription one_key
 IsDescription-one_key =
-    IsDescription-with (true ∷ true ∷ replicate 62 false) (replicate 30 false ++ true ∷ replicate 737 false) (record { length_is = refl; within = key_within }) key_known refl
+    IsDescription-with (true ∷ true ∷ replicate 62 false) (replicate 30 false ++ true ∷ replicate 737 false)
+    (record { length_is = refl; within = key_within }) key_known refl
     (AreCodes-all 768 767 (replicate 30 false ++ true ∷ replicate 737 false) refl (omega arith)) refl

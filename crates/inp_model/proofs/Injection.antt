@@ -1,7 +1,10 @@
 -- A call that injects many events is calls, one after another.
-use Rattle.std.proofs.Common.{◌≡◌, ℕ, zero, suc, ◌+◌, ◌<◌, ◌≤◌, Bool, true, false, if◌then◌else◌, nat_lt, nat_le, List, [], ◌∷◌, ◌++◌, length, map, take, reverse, refl, sym, ap, subst, ◌∙◌, arith, inl, Option, Some, None, append_assoc, append-nil, length-append}
+use Rattle.std.proofs.Common.{◌≡◌, ℕ, zero, suc, ◌+◌, ◌<◌, ◌≤◌, Bool, true, false, if◌then◌else◌, nat_lt}
+use Rattle.std.proofs.Common.{nat_le, List, [], ◌∷◌, ◌++◌, length, map, take, reverse, refl, sym, ap, subst}
+use Rattle.std.proofs.Common.{◌∙◌, arith, inl, Option, Some, None, append_assoc, append-nil, length-append}
 use Rattle.std.specs.List.{range_with_len}
-use Rattle.std.proofs.lemmas.List.{length-reverse, reverse-reverse, reverse-append, length-map, length-take-le}
+use Rattle.std.proofs.lemmas.List.{length-reverse, reverse-reverse, reverse-append, length-map}
+use Rattle.std.proofs.lemmas.List.{length-take-le}
 use Rattle.std.proofs.lemmas.Bool.Decides.{nat_tests}
 use Rattle.inp_model.specs.declared.limits.TheConstants.{LOG_MAX}
 use Rattle.inp_model.specs.declared.stamped.Stamped.{Stamped}
@@ -12,12 +15,14 @@ use Rattle.inp_model.specs.declared.reply.Refusal.TheVariants.{LogFull}
 use Rattle.inp_model.specs.Description.{Description}
 use Rattle.inp_model.specs.DeviceView.{DeviceView, evdev_view}
 use Rattle.inp_model.specs.History.{IsHistory}
-use Rattle.inp_model.specs.Reply.{IsAnswer, answer_by, is_full, alone}
-use Rattle.inp_model.specs.Run.{Call, HasPlace}
+use Rattle.inp_model.specs.Reply.{IsAnswer, is_full, alone}
+use Rattle.inp_model.specs.Run.{Call}
 use Rattle.inp_model.specs.Step.{is_inject}
-use Rattle.inp_model.specs.Evdev.{EvdevView, BeginsWith, TurnsRise, TurnsStand, IsCall, own_after, agains_after}
+use Rattle.inp_model.specs.Evdev.{EvdevView, BeginsWith, TurnsRise, TurnsStand, IsCall, own_after}
+use Rattle.inp_model.specs.Evdev.{agains_after}
 use Rattle.inp_model.specs.Leaves.{AreCalls}
-use Rattle.inp_model.specs.Injection.{inject_of, entered_count, history_with, IsInjectAll, entered_call, full_call, calls_of}
+use Rattle.inp_model.specs.Injection.{inject_of, entered_count, history_with, IsInjectAll, entered_call}
+use Rattle.inp_model.specs.Injection.{full_call, calls_of}
 use Rattle.inp_model.proofs.Leaves.{BeginsWith-trans}
 use Rattle.inp_model.proofs.Told.{called_by, turned}
 
@@ -28,11 +33,10 @@ pub past-shorter : (d : Description) (later past : List Step) → IsHistory d (l
 past-shorter d [] past h = h
 past-shorter d (x ∷ later) past h = past-shorter d later past h.0
 
-pub history-shorter : (d : Description) (history more : List Step) → IsHistory d (reverse (history ++ more)) → IsHistory d (reverse history)
-history-shorter d history more h = past-shorter d (reverse more) (reverse history) (subst (IsHistory d) (reverse-append history more) h)
-
-not_full : (n limit : ℕ) → nat_le limit n ≡ false → n < limit
-not_full n limit h = grind (arith, nat_tests, h)
+pub history-shorter : (d : Description) (history more : List Step) → IsHistory d (reverse (history ++ more))
+    → IsHistory d (reverse history)
+history-shorter d history more h =
+    past-shorter d (reverse more) (reverse history) (subst (IsHistory d) (reverse-append history more) h)
 
 -- The answers to one event
 
@@ -40,15 +44,19 @@ full_by : (b : Bool) (n limit : ℕ) → nat_lt n limit ≡ b → nat_le limit n
 full_by true n limit h = grind (arith, nat_tests, h)
 full_by false n limit h = grind (arith, nat_tests, h)
 
-answer-entered : (d : Description) (past : List Step) (stamped : Stamped) → nat_lt (length past) d.log_limit ≡ true → IsAnswer d past (inject_of stamped) (alone (Done (length past)))
+answer-entered : (d : Description) (past : List Step) (stamped : Stamped)
+    → nat_lt (length past) d.log_limit ≡ true
+    → IsAnswer d past (inject_of stamped) (alone (Done (length past)))
 answer-entered d past stamped h =
     let room : is_full d past ≡ false = full_by true (length past) d.log_limit h in
-    inl (sym (ap (λ (b : Bool). answer_by (if b then Some (Refused (length past) LogFull) else None) (alone (Done (length past)))) room))
+    inl (sym (rw room))
 
-answer-full : (d : Description) (past : List Step) (stamped : Stamped) → nat_lt (length past) d.log_limit ≡ false → IsAnswer d past (inject_of stamped) (alone (Refused (length past) LogFull))
+answer-full : (d : Description) (past : List Step) (stamped : Stamped)
+    → nat_lt (length past) d.log_limit ≡ false
+    → IsAnswer d past (inject_of stamped) (alone (Refused (length past) LogFull))
 answer-full d past stamped h =
     let full : is_full d past ≡ true = full_by false (length past) d.log_limit h in
-    inl (sym (ap (λ (b : Bool). answer_by (if b then Some (Refused (length past) LogFull) else None) (alone (Done (length past)))) full))
+    inl (sym (rw full))
 
 -- One event
 
@@ -65,38 +73,41 @@ TurnsStand-rise (Some m) (Some n) h = omega (arith, h)
 abbrev with_event : EvdevView → Stamped → EvdevView
 with_event v stamped = record v { seen = v.seen ++ inject_of stamped ∷ []; own = v.own ++ length v.seen ∷ [] }
 
-entered-is_call : (v : EvdevView) (stamped : Stamped) → nat_lt (length v.seen) v.description.log_limit ≡ true → IsHistory v.description (reverse v.seen) → IsCall v (with_event v stamped) (entered_call (length v.seen) stamped)
+entered-is_call : (v : EvdevView) (stamped : Stamped) → nat_lt (length v.seen) v.description.log_limit ≡ true
+    → IsHistory v.description (reverse v.seen)
+    → IsCall v (with_event v stamped) (entered_call (length v.seen) stamped)
 entered-is_call v stamped room h =
     let d : Description = v.description in
     let x : Step = inject_of stamped in
     let past : List Step = reverse v.seen in
     let long : length past ≡ length v.seen = length-reverse v.seen in
     let exact : IsAnswer d past x (alone (Done (length v.seen))) =
-    subst (λ (n : ℕ). IsAnswer d past x (alone (Done n))) long (answer-entered d past stamped (ap (λ (n : ℕ). nat_lt n d.log_limit) long ∙ room)) in
+    rw (← long) (answer-entered d past stamped (rw long room)) in
     let c = called_by d past 0 x (alone (Done (length v.seen))) true refl (sym long) exact h in
-    let now : reverse (x ∷ past) ≡ v.seen ++ x ∷ [] = turned past x ∙ ap (λ (xs : List Step). xs ++ x ∷ []) (reverse-reverse v.seen) in
+    let now : reverse (x ∷ past) ≡ v.seen ++ x ∷ [] = rw (turned, reverse-reverse) in
     record {
       description = refl;
       tie = refl;
       seen = (x ∷ [], refl);
       fresh = omega arith;
       long = omega (arith, length-append v.seen (x ∷ []));
-      placed = subst (λ (xs : List Step). HasPlace d xs (entered_call (length v.seen) stamped)) now c.placed;
+      placed = rw now at c.placed;
       own = refl;
       agains = refl;
       turns = TurnsStand-refl v.turns;
       rises = λ e. absurd (cc e);
-      history = subst (λ (xs : List Step). IsHistory d (reverse xs)) now c.history;
+      history = rw now at c.history;
     }
 
-full-is_call : (v : EvdevView) (stamped : Stamped) → nat_lt (length v.seen) v.description.log_limit ≡ false → IsHistory v.description (reverse v.seen) → IsCall v v (full_call (length v.seen) stamped)
+full-is_call : (v : EvdevView) (stamped : Stamped) → nat_lt (length v.seen) v.description.log_limit ≡ false
+    → IsHistory v.description (reverse v.seen) → IsCall v v (full_call (length v.seen) stamped)
 full-is_call v stamped full h =
     let d : Description = v.description in
     let x : Step = inject_of stamped in
     let past : List Step = reverse v.seen in
     let long : length past ≡ length v.seen = length-reverse v.seen in
     let exact : IsAnswer d past x (alone (Refused (length v.seen) LogFull)) =
-    subst (λ (n : ℕ). IsAnswer d past x (alone (Refused n LogFull))) long (answer-full d past stamped (ap (λ (n : ℕ). nat_lt n d.log_limit) long ∙ full)) in
+    rw (← long) (answer-full d past stamped (rw long full)) in
     let c = called_by d past 0 x (alone (Refused (length v.seen) LogFull)) false refl (sym long) exact h in
     record {
       description = refl;
@@ -104,7 +115,7 @@ full-is_call v stamped full h =
       seen = ([], sym (append-nil v.seen));
       fresh = omega arith;
       long = refl;
-      placed = subst (λ (xs : List Step). HasPlace d xs (full_call (length v.seen) stamped)) (reverse-reverse v.seen) c.placed;
+      placed = rw reverse-reverse at c.placed;
       own = refl;
       agains = refl;
       turns = TurnsStand-refl v.turns;
@@ -125,29 +136,38 @@ length-begins xs ys h = omega (arith, ap length h.1, length-append xs h.0)
 
 -- what is seen behind so many of these events
 abbrev with_events : EvdevView → ℕ → List Stamped → EvdevView
-with_events v count events = record v { seen = history_with v.seen count events; own = v.own ++ range_with_len (length v.seen) count }
+with_events v count events =
+    record v { seen = history_with v.seen count events; own = v.own ++ range_with_len (length v.seen) count }
 
 with_events-none : (v : EvdevView) (events : List Stamped) → with_events v 0 events ≡ v
 with_events-none v events = λ i. record v { seen = append-nil v.seen i; own = append-nil v.own i }
 
-with_events-more : (v : EvdevView) (stamped : Stamped) (count : ℕ) (events : List Stamped) → with_events (with_event v stamped) count events ≡ with_events v (suc count) (stamped ∷ events)
+with_events-more : (v : EvdevView) (stamped : Stamped) (count : ℕ) (events : List Stamped)
+    → with_events (with_event v stamped) count events ≡ with_events v (suc count) (stamped ∷ events)
 with_events-more v stamped count events =
     let x : Step = inject_of stamped in
     let later : List Step = map inject_of (take count events) in
     let next : length (v.seen ++ x ∷ []) ≡ length v.seen + 1 = length-append v.seen (x ∷ []) in
     let seen : (v.seen ++ x ∷ []) ++ later ≡ v.seen ++ x ∷ later = append_assoc v.seen (x ∷ []) later in
-    let own : (v.own ++ length v.seen ∷ []) ++ range_with_len (length (v.seen ++ x ∷ [])) count ≡ v.own ++ range_with_len (length v.seen) (suc count) =
-    append_assoc v.own (length v.seen ∷ []) (range_with_len (length (v.seen ++ x ∷ [])) count)
-    ∙ ap (λ (n : ℕ). v.own ++ length v.seen ∷ range_with_len n count) next in
+    let own : (v.own ++ length v.seen ∷ []) ++ range_with_len (length (v.seen ++ x ∷ [])) count ≡ v.own
+    ++ range_with_len (length v.seen) (suc count) =
+    rw (append_assoc, next) in
     λ i. record v { seen = seen i; own = own i }
 
 -- one more, before the others
-chain-more : (v : EvdevView) (stamped : Stamped) (events : List Stamped) (count rest : ℕ) → count ≡ entered_count v.description (length v.seen) (stamped ∷ events)
-    → rest ≡ entered_count v.description (length (v.seen ++ inject_of stamped ∷ [])) events → IsHistory v.description (reverse v.seen)
-    → (nat_lt (length v.seen) v.description.log_limit ≡ true → (let next : EvdevView = with_event v stamped in AreCalls next (with_events next rest events) (calls_of v.description.log_limit (length next.seen) events)))
-    → AreCalls v (with_events v count (stamped ∷ events)) (calls_of v.description.log_limit (length v.seen) (stamped ∷ events))
+chain-more : (v : EvdevView) (stamped : Stamped) (events : List Stamped) (count rest : ℕ)
+    → count ≡ entered_count v.description (length v.seen) (stamped ∷ events)
+    → rest ≡ entered_count v.description (length (v.seen ++ inject_of stamped ∷ [])) events
+    → IsHistory v.description (reverse v.seen)
+    → (nat_lt (length v.seen) v.description.log_limit ≡ true
+    → (let next : EvdevView = with_event v stamped in
+    AreCalls next (with_events next rest events)
+    (calls_of v.description.log_limit (length next.seen) events)))
+    → AreCalls v (with_events v count (stamped ∷ events))
+    (calls_of v.description.log_limit (length v.seen) (stamped ∷ events))
 unfolding AreCalls
-chain-more v stamped events count rest is later h others = by_room (nat_lt (length v.seen) v.description.log_limit) refl
+chain-more v stamped events count rest is later h others =
+    by_room (nat_lt (length v.seen) v.description.log_limit) refl
   where
     limit : ℕ
     limit = v.description.log_limit
@@ -159,30 +179,36 @@ chain-more v stamped events count rest is later h others = by_room (nat_lt (leng
     longer = omega (arith, length-append v.seen (inject_of stamped ∷ []))
 
     by_room : (room : Bool) → nat_lt (length v.seen) v.description.log_limit ≡ room
-        → AreCalls v (with_events v count (stamped ∷ events)) (if room then entered_call (length v.seen) stamped ∷ calls_of v.description.log_limit (suc (length v.seen)) events else full_call (length v.seen) stamped ∷ [])
+        → AreCalls v (with_events v count (stamped ∷ events))
+        (if room then entered_call (length v.seen) stamped
+        ∷ calls_of v.description.log_limit (suc (length v.seen)) events
+        else full_call (length v.seen) stamped ∷ [])
     by_room true room =
         let below : length v.seen < v.description.log_limit = grind (arith, nat_tests, room) in
         let one : count ≡ suc rest = omega (arith, is, later, below, longer) in
-        let same : with_events next rest events ≡ with_events v count (stamped ∷ events) = with_events-more v stamped rest events ∙ ap (λ (n : ℕ). with_events v n (stamped ∷ events)) (sym one) in (
+        let same : with_events next rest events ≡ with_events v count (stamped ∷ events) =
+        rw (one, ← with_events-more v stamped rest events) in (
           next,
           entered-is_call v stamped room h,
-          subst (λ (n : ℕ). AreCalls next (with_events v count (stamped ∷ events)) (calls_of v.description.log_limit n events)) longer
-              (subst (λ (w : EvdevView). AreCalls next w (calls_of v.description.log_limit (length next.seen) events)) same (others room)),
+          rw longer at
+              (rw same at (others room)),
         )
     by_room false room =
         let above : v.description.log_limit ≤ length v.seen = grind (arith, nat_tests, room) in
         let none : count ≡ 0 = omega (arith, is, above) in
-        (v, full-is_call v stamped room h, ap (λ (n : ℕ). with_events v n (stamped ∷ events)) none ∙ with_events-none v (stamped ∷ events))
+        (v, full-is_call v stamped room h, rw none (with_events-none v (stamped ∷ events)))
 
 -- one by one
-chain : (v : EvdevView) (events : List Stamped) (count : ℕ) → count ≡ entered_count v.description (length v.seen) events → IsHistory v.description (reverse v.seen)
+chain : (v : EvdevView) (events : List Stamped) (count : ℕ)
+    → count ≡ entered_count v.description (length v.seen) events → IsHistory v.description (reverse v.seen)
     → AreCalls v (with_events v count events) (calls_of v.description.log_limit (length v.seen) events)
 unfolding AreCalls
-chain v [] count is h = let none : count ≡ 0 = omega (arith, is) in ap (λ (n : ℕ). with_events v n []) none ∙ with_events-none v []
+chain v [] count is h = let none : count ≡ 0 = omega (arith, is) in rw none (with_events-none v [])
 chain v (stamped ∷ events) count is h =
     let next : EvdevView = with_event v stamped in
     let rest : ℕ = entered_count v.description (length next.seen) events in
-    chain-more v stamped events count rest is refl h (λ room. chain next events rest refl (entered-is_call v stamped room h).history)
+    chain-more v stamped events count rest is refl h
+    (λ room. chain next events rest refl (entered-is_call v stamped room h).history)
 
 -- The turn is taken before the first of them
 
@@ -195,7 +221,8 @@ pub record IsEarlier (early v : EvdevView) : Type 0 where
   pub agains : v.agains ≡ early.agains
   pub turns : TurnsStand early.turns v.turns
 
-call-earlier : (early v after : EvdevView) (call : Call) → IsEarlier early v → is_inject call.step ≡ true → IsCall v after call → IsCall early after call
+call-earlier : (early v after : EvdevView) (call : Call) → IsEarlier early v → is_inject call.step ≡ true
+    → IsCall v after call → IsCall early after call
 call-earlier early v after call e injects c = record {
   description = c.description ∙ e.description;
   tie = c.tie ∙ e.tie;
@@ -210,16 +237,22 @@ call-earlier early v after call e injects c = record {
   history = c.history;
 }
 
-calls-earlier : (early v after : EvdevView) (limit from : ℕ) (first : Stamped) (events : List Stamped) → IsEarlier early v → AreCalls v after (calls_of limit from (first ∷ events)) → AreCalls early after (calls_of limit from (first ∷ events))
+calls-earlier : (early v after : EvdevView) (limit from : ℕ) (first : Stamped) (events : List Stamped)
+    → IsEarlier early v → AreCalls v after (calls_of limit from (first ∷ events))
+    → AreCalls early after (calls_of limit from (first ∷ events))
 unfolding AreCalls
 calls-earlier early v after limit from first events e = by_room (nat_lt from limit)
   where
-    by_room : (room : Bool) → AreCalls v after (if room then entered_call from first ∷ calls_of limit (suc from) events else full_call from first ∷ [])
-        → AreCalls early after (if room then entered_call from first ∷ calls_of limit (suc from) events else full_call from first ∷ [])
+    by_room : (room : Bool)
+        → AreCalls v after (if room then entered_call from first ∷ calls_of limit (suc from) events
+        else full_call from first ∷ [])
+        → AreCalls early after (if room then entered_call from first ∷ calls_of limit (suc from) events
+        else full_call from first ∷ [])
     by_room true are = (are.0, call-earlier early v are.0 (entered_call from first) e refl are.1, are.2)
     by_room false are = (are.0, call-earlier early v are.0 (full_call from first) e refl are.1, are.2)
 
-pub injected-calls : (before after : EvdevView) (first : Stamped) (events : List Stamped) (injected : Injected) → IsInjectAll before after (first ∷ events) injected
+pub injected-calls : (before after : EvdevView) (first : Stamped) (events : List Stamped)
+    (injected : Injected) → IsInjectAll before after (first ∷ events) injected
     → AreCalls before after (calls_of before.description.log_limit injected.from (first ∷ events))
 injected-calls before after first events injected all =
     let found : EvdevView = record before { seen = all.found; turns = after.turns } in
@@ -234,15 +267,25 @@ injected-calls before after first events injected all =
       turns = TurnsStand-rise before.turns after.turns all.turns;
     } in
     let history : IsHistory d (reverse (history_with all.found injected.count stamps)) =
-    subst (λ (k : Description). IsHistory k (reverse (history_with all.found injected.count stamps))) all.description
-    (subst (λ (xs : List Step). IsHistory after.description (reverse xs)) all.seen all.history) in
-    let begun : IsHistory d (reverse all.found) = history-shorter d all.found (map inject_of (take injected.count stamps)) history in
-    let count : injected.count ≡ entered_count d (length all.found) stamps = all.count ∙ ap (λ (n : ℕ). entered_count d n stamps) all.from in
-    let own : before.own ++ range_with_len (length all.found) injected.count ≡ after.own = sym (all.own ∙ ap (λ (n : ℕ). before.own ++ range_with_len n injected.count) all.from) in
+    rw all.description at
+    (rw all.seen at all.history) in
+    let begun : IsHistory d (reverse all.found) =
+    history-shorter d all.found (map inject_of (take injected.count stamps)) history in
+    let count : injected.count ≡ entered_count d (length all.found) stamps = rw (all.count, all.from) in
+    let own : before.own ++ range_with_len (length all.found) injected.count ≡ after.own =
+    sym (rw (all.own, all.from)) in
     let is : with_events found injected.count stamps ≡ after =
-    λ i. record { description = sym all.description i; seen = sym all.seen i; own = own i; agains = sym all.agains i; turns = after.turns; tie = sym all.tie i } in
-    let calls : AreCalls found after (calls_of d.log_limit (length all.found) stamps) = subst (λ (w : EvdevView). AreCalls found w (calls_of d.log_limit (length all.found) stamps)) is (chain found stamps injected.count count begun) in
-    subst (λ (n : ℕ). AreCalls before after (calls_of d.log_limit n stamps)) (sym all.from) (calls-earlier before found after d.log_limit (length all.found) first events early calls)
+    λ i. record {
+      description = sym all.description i;
+      seen = sym all.seen i;
+      own = own i;
+      agains = sym all.agains i;
+      turns = after.turns;
+      tie = sym all.tie i;
+    } in
+    let calls : AreCalls found after (calls_of d.log_limit (length all.found) stamps) =
+    rw is at (chain found stamps injected.count count begun) in
+    rw all.from (calls-earlier before found after d.log_limit (length all.found) first events early calls)
 
 -- What the caller of a device is told of it
 
@@ -250,25 +293,28 @@ pub range-append : (a m n : ℕ) → range_with_len a (m + n) ≡ range_with_len
 range-append a zero n =
     let start : a ≡ a + 0 = omega arith in
     let all : zero + n ≡ n = omega arith in
-    ap (range_with_len a) all ∙ ap (λ (k : ℕ). range_with_len k n) start
+    cc (all, start)
 range-append a (suc m) n =
     let more : suc m + n ≡ suc (m + n) = omega arith in
     let start : (a + 1) + m ≡ a + suc m = omega arith in
-    ap (range_with_len a) more ∙ ap (λ (ks : List ℕ). a ∷ ks) (range-append (a + 1) m n) ∙ ap (λ (k : ℕ). a ∷ (range_with_len (a + 1) m ++ range_with_len k n)) start
+    rw (more, range-append (a + 1) m n, start)
 
 -- how long a history is behind so many of these events
-pub history_with-long : (history : List Step) (count : ℕ) (events : List Stamped) → count ≤ length events → length (history_with history count events) ≡ length history + count
-history_with-long history count events few =
-    length-append history (map inject_of (take count events))
-    ∙ ap (λ (n : ℕ). length history + n) (length-map (take count events) inject_of ∙ length-take-le count events few)
+pub history_with-long : (history : List Step) (count : ℕ) (events : List Stamped) → count ≤ length events
+    → length (history_with history count events) ≡ length history + count
+history_with-long history count events few = rw (length-append, length-map, length-take-le)
 
-pub evdev_injected : (before after : DeviceView) (events : List Stamped) (injected : Injected) → after.description ≡ before.description → injected.from ≡ length before.past
-    → injected.count ≡ entered_count before.description injected.from events → injected.from + injected.count ≤ LOG_MAX → reverse after.past ≡ history_with (reverse before.past) injected.count events
-    → after.agains ≡ before.agains → IsHistory after.description after.past → IsInjectAll (evdev_view before) (evdev_view after) events injected
+pub evdev_injected : (before after : DeviceView) (events : List Stamped) (injected : Injected)
+    → after.description ≡ before.description → injected.from ≡ length before.past
+    → injected.count ≡ entered_count before.description injected.from events
+    → injected.from + injected.count ≤ LOG_MAX
+    → reverse after.past ≡ history_with (reverse before.past) injected.count events
+    → after.agains ≡ before.agains → IsHistory after.description after.past
+    → IsInjectAll (evdev_view before) (evdev_view after) events injected
 evdev_injected before after events injected same from count within entered agains history =
     let few : injected.count ≤ length events = omega (arith, count) in
     let long : length after.past ≡ length before.past + injected.count =
-    sym (length-reverse after.past) ∙ ap length entered ∙ history_with-long (reverse before.past) injected.count events few ∙ ap (λ (n : ℕ). n + injected.count) (length-reverse before.past) in
+    rw (← length-reverse, entered, history_with-long, length-reverse) in
     let start : 0 + length before.past ≡ injected.from = omega (arith, from) in
     record {
       found = reverse before.past;
@@ -279,7 +325,7 @@ evdev_injected before after events injected same from count within entered again
       count = count;
       within = within;
       seen = entered;
-      own = ap (range_with_len 0) long ∙ range-append 0 (length before.past) injected.count ∙ ap (λ (n : ℕ). range_with_len 0 (length before.past) ++ range_with_len n injected.count) start;
+      own = rw (long, range-append, start);
       agains = agains;
       turns = tt;
       history = subst (IsHistory after.description) (sym (reverse-reverse after.past)) history;

@@ -1,5 +1,6 @@
 -- The removal of events from a queue, in one walk over it.
-use Rattle.std.proofs.Common.{◌≡◌, ◌≤◌, suc, Bool, true, false, ◌&&◌, ◌||◌, not, if◌then◌else◌, List, [], ◌∷◌, ◌++◌, length, map, All, refl, sym, ap, subst, ◌∙◌, arith}
+use Rattle.std.proofs.Common.{◌≡◌, ◌≤◌, suc, Bool, true, false, ◌&&◌, ◌||◌, not, if◌then◌else◌, List, [], ◌∷◌}
+use Rattle.std.proofs.Common.{◌++◌, length, map, All, refl, sym, ap, subst, ◌∙◌, arith}
 use Rattle.std.proofs.lemmas.Bool.{cond_both}
 use Rattle.std.proofs.lemmas.List.Elements.{All-cons, All-head, All-tail}
 use Rattle.inp_model.specs.declared.event.Event.{Event}
@@ -21,7 +22,8 @@ module _ {X : Type 0} (event : X → Event) (drops : Event → Bool) where
   flush_from flag (x ∷ q) = (if stays flag x then x ∷ [] else []) ++ flush_from (report_stays_after flag x) q
 
   -- one item more in front of a queue
-  apart-step : (x : X) (q : List X) (flag : Bool) → ((after : Bool) → apart event (not after) (without event drops q) ≡ flush_from after q) →
+  apart-step : (x : X) (q : List X) (flag : Bool)
+      → ((after : Bool) → apart event (not after) (without event drops q) ≡ flush_from after q) →
       apart event (not flag) (without event drops (x ∷ q)) ≡ flush_from flag (x ∷ q)
   apart-step x q flag later = by (is_report (event x)) (drops (event x)) refl refl
     where
@@ -30,7 +32,9 @@ module _ {X : Type 0} (event : X → Event) (drops : Event → Bool) where
 
       -- what the walk makes of an item, by whether it is a report, and whether it is dropped
       walked : Bool → Bool → List X
-      walked report dropped = (if (if report then flag else not dropped) then x ∷ [] else []) ++ flush_from (if report then false else if dropped then flag else true) q
+      walked report dropped =
+          (if (if report then flag else not dropped) then x ∷ [] else [])
+          ++ flush_from (if report then false else if dropped then flag else true) q
 
       kept : Bool → Bool → List X
       kept report dropped = apart event (not flag) (if report || not dropped then x ∷ rest else rest)
@@ -38,14 +42,17 @@ module _ {X : Type 0} (event : X → Event) (drops : Event → Bool) where
       first : Bool → List X
       first report = (if report && not flag then [] else x ∷ []) ++ apart event report rest
 
-      report_first : (b : Bool) (r : List X) → (if not b then [] else x ∷ []) ++ r ≡ (if b then x ∷ [] else []) ++ r
+      report_first : (b : Bool) (r : List X)
+          → (if not b then [] else x ∷ []) ++ r ≡ (if b then x ∷ [] else []) ++ r
       report_first true r = refl
       report_first false r = refl
 
-      by : (report dropped : Bool) → is_report (event x) ≡ report → drops (event x) ≡ dropped → kept (is_report (event x)) (drops (event x)) ≡ walked (is_report (event x)) (drops (event x))
+      by : (report dropped : Bool) → is_report (event x) ≡ report → drops (event x) ≡ dropped
+          → kept (is_report (event x)) (drops (event x)) ≡ walked (is_report (event x)) (drops (event x))
       by true dropped r d =
           ap (λ b. kept b (drops (event x))) r ∙ ap first r ∙ report_first flag (apart event true rest)
-          ∙ ap (λ s. (if flag then x ∷ [] else []) ++ s) (later false) ∙ sym (ap (λ b. walked b (drops (event x))) r)
+          ∙ ap (λ s. (if flag then x ∷ [] else []) ++ s) (later false)
+          ∙ sym (ap (λ b. walked b (drops (event x))) r)
       by false true r d =
           ap (λ b. kept b (drops (event x))) r ∙ ap (kept false) d ∙ later flag
           ∙ sym (ap (λ b. walked b (drops (event x))) r ∙ ap (walked false) d)
@@ -67,7 +74,8 @@ module _ {X : Type 0} (event : X → Event) (drops : Event → Bool) where
   flush_from-length flag (x ∷ q) =
       let rest = flush_from (report_stays_after flag x) q in
       cond_both (stays flag x) (x ∷ []) [] (λ y. length (y ++ rest) ≤ suc (length q))
-      (λ _. omega (arith, flush_from-length (report_stays_after flag x) q)) (λ _. omega (arith, flush_from-length (report_stays_after flag x) q))
+      (λ _. omega (arith, flush_from-length (report_stays_after flag x) q))
+      (λ _. omega (arith, flush_from-length (report_stays_after flag x) q))
 
   pub flush-length : (q : List X) → length (flush event drops q) ≤ length q
   flush-length q = omega (arith, ap length (flush-walk q), flush_from-length true q)
@@ -81,22 +89,25 @@ module _ {X : Type 0} (event : X → Event) (drops : Event → Bool) where
       walk flag (x ∷ q) all =
           let rest = flush_from (report_stays_after flag x) q in
           let later : All P rest = walk (report_stays_after flag x) q (All-tail P x q all) in
-          cond_both (stays flag x) (x ∷ []) [] (λ y. All P (y ++ rest)) (λ _. All-cons P x rest (All-head P x q all) later) (λ _. later)
+          cond_both (stays flag x) (x ∷ []) [] (λ y. All P (y ++ rest))
+          (λ _. All-cons P x rest (All-head P x q all) later) (λ _. later)
 
 -- Items that are made of others, with the same events, are flushed alike.
-module _ {X Y : Type 0} (f : X → Y) (event : X → Event) (event' : Y → Event) (same : (x : X) → event' (f x) ≡ event x) where
-  pub flush-map : (drops : Event → Bool) (q : List X) → map f (flush event drops q) ≡ flush event' drops (map f q)
-  flush-map drops q = ap (map f) (flush-walk event drops q) ∙ walk true q ∙ sym (flush-walk event' drops (map f q))
+module _ {X Y : Type 0} (f : X → Y) (event : X → Event) (event' : Y → Event) (same : (x : X)
+    → event' (f x) ≡ event x) where
+  pub flush-map : (drops : Event → Bool) (q : List X)
+      → map f (flush event drops q) ≡ flush event' drops (map f q)
+  flush-map drops q =
+      ap (map f) (flush-walk event drops q) ∙ walk true q ∙ sym (flush-walk event' drops (map f q))
     where
-      walk : (flag : Bool) (q : List X) → map f (flush_from event drops flag q) ≡ flush_from event' drops flag (map f q)
+      walk : (flag : Bool) (q : List X)
+          → map f (flush_from event drops flag q) ≡ flush_from event' drops flag (map f q)
       walk flag [] = refl
       walk flag (x ∷ q) =
           let next = report_stays_after event drops flag x in
-          one (stays event drops flag x) (flush_from event drops next q)
-          ∙ ap (λ r. (if stays event drops flag x then f x ∷ [] else []) ++ r) (walk next q)
-          ∙ ap (λ e. (if (if is_report e then flag else not (drops e)) then f x ∷ [] else [])
-          ++ flush_from event' drops (if is_report e then false else if drops e then flag else true) (map f q)) (sym (same x))
+          rw (one (stays event drops flag x) (flush_from event drops next q), walk next q, ← same x)
         where
-          one : (b : Bool) (r : List X) → map f ((if b then x ∷ [] else []) ++ r) ≡ (if b then f x ∷ [] else []) ++ map f r
+          one : (b : Bool) (r : List X)
+              → map f ((if b then x ∷ [] else []) ++ r) ≡ (if b then f x ∷ [] else []) ++ map f r
           one true r = refl
           one false r = refl
