@@ -1,62 +1,19 @@
 -- Alike pasts answer a step alike, but for places and times.
-use Rattle.std.proofs.Common.{
-  ◌≡◌,
-  ℕ,
-  suc,
-  ◌+◌,
-  ◌*◌,
-  Bool,
-  true,
-  false,
-  List,
-  [],
-  ◌∷◌,
-  length,
-  refl,
-  sym,
-  ap,
-  ◌∙◌,
-  if◌then◌else◌,
-  not,
-  nat_eq,
-  nat_le,
-  take,
-}
-use Rattle.std.specs.Prelude.{ℤ, pos, map, filter, min, Option, Some, None}
+use Rattle.std.proofs.Common.{◌≡◌, ℕ, suc, ◌+◌, ◌*◌, Bool, true, false, List, [], ◌∷◌, length, refl, sym, ap}
+use Rattle.std.proofs.Common.{◌∙◌, if◌then◌else◌, nat_eq, take}
+use Rattle.std.specs.Prelude.{ℤ, pos, map, min, Option, Some, None}
 use Rattle.std.specs.List.{range_with_len}
 use Rattle.std.proofs.lemmas.List.{take-map}
 use Rattle.inp_model.specs.declared.event.TheConstants.{EV_KEY, EV_SW, EV_LED, EV_SND}
-use Rattle.inp_model.specs.declared.limits.TheConstants.{CLIENTS_MAX}
 use Rattle.inp_model.specs.declared.multi_touch.TheConstants.{ABS_MT_TOUCH_MAJOR, SLOT_VALUES}
-use Rattle.inp_model.specs.declared.event.Event.{Event}
 use Rattle.inp_model.specs.declared.step.Step.{Step}
-use Rattle.inp_model.specs.declared.step.Step.TheVariants.{
-  Open,
-  Read,
-  Discard,
-  GetKeys,
-  GetSwitches,
-  GetLeds,
-  GetSounds,
-  GetAxis,
-  GetSlots,
-  SyncSlots,
-  Grab,
-  Ungrab,
-}
+use Rattle.inp_model.specs.declared.step.Step.TheVariants.{Open, Read, Discard, GetKeys, GetSwitches, GetLeds}
+use Rattle.inp_model.specs.declared.step.Step.TheVariants.{GetSounds, GetAxis, GetSlots, SyncSlots, Grab}
+use Rattle.inp_model.specs.declared.step.Step.TheVariants.{Ungrab}
 use Rattle.inp_model.specs.declared.reply.Reply.{Reply}
-use Rattle.inp_model.specs.declared.reply.Reply.TheVariants.{
-  Done,
-  Opened,
-  Took,
-  Discarded,
-  Bits,
-  Axis,
-  Cells,
-  Again,
-  Refused,
-}
-use Rattle.inp_model.specs.Description.{Description, ring}
+use Rattle.inp_model.specs.declared.reply.Reply.TheVariants.{Done, Opened, Took, Discarded, Bits, Axis, Cells}
+use Rattle.inp_model.specs.declared.reply.Reply.TheVariants.{Again, Refused}
+use Rattle.inp_model.specs.Description.{Description}
 use Rattle.inp_model.specs.RawItem.{RawItem}
 use Rattle.inp_model.specs.State.{cell}
 use Rattle.inp_model.specs.Step.{client_of}
@@ -64,36 +21,11 @@ use Rattle.inp_model.specs.Past.{opens, is_open, open_clients, is_revoked, holde
 use Rattle.inp_model.specs.Raw.{raw}
 use Rattle.inp_model.specs.Left.{eaten}
 use Rattle.inp_model.specs.Queue.{Entry, event_of, visible, queue, taken_by_with}
-use Rattle.inp_model.specs.Reply.{
-  Answer,
-  Case,
-  refusals,
-  refused_with,
-  first_reply,
-  is_bad_client,
-  is_no_device,
-  finds_nothing,
-  is_busy,
-  is_not_grabber,
-  is_one_too_many,
-  is_full,
-  code_on,
-  bitmap_word,
-  bitmap_of,
-  number_of_bits,
-  column,
-  row,
-  rows,
-  axis_answer,
-  bits_answer,
-  cells_answer,
-  took_answer,
-  taken_of,
-  accepted_with,
-  answer_by,
-  answer,
-  is_accepted,
-}
+use Rattle.inp_model.specs.Reply.{Answer, Case, refusals, refused_with, first_reply, is_bad_client}
+use Rattle.inp_model.specs.Reply.{is_no_device, finds_nothing, is_busy, is_not_grabber, is_one_too_many}
+use Rattle.inp_model.specs.Reply.{is_full, code_on, bitmap_word, bitmap_of, number_of_bits, column, row, rows}
+use Rattle.inp_model.specs.Reply.{axis_answer, bits_answer, cells_answer, took_answer, taken_of}
+use Rattle.inp_model.specs.Reply.{accepted_with, answer_by, answer, is_accepted}
 use Rattle.inp_alike.specs.Alike.{AreItemsAlike, AreAlike, AreAnswersAlike, without_place, event_taken}
 use Rattle.inp_alike.proofs.Pointwise.{map_same, flat_map_same, filter_same}
 use Rattle.inp_alike.proofs.Queues.{visible_alike}
@@ -103,7 +35,7 @@ use Rattle.inp_alike.proofs.Queues.{visible_alike}
 bad_client : (past other : List Step) → ((client : ℕ) → is_open past client ≡ is_open other client)
     → (o : Option ℕ) → is_bad_client past o ≡ is_bad_client other o
 bad_client past other h None = refl
-bad_client past other h (Some client) = ap (λ (b : Bool). not b) (h client)
+bad_client past other h (Some client) = rw (h client)
 
 no_device : (past other : List Step) (x : Step) → ((client : ℕ)
     → is_revoked past client ≡ is_revoked other client) → (o : Option ℕ)
@@ -114,8 +46,7 @@ no_device past other x h (Some client) = cc (h client)
 nothing : (d : Description) (past other : List Step) (x : Step) → AreAlike d past other
     → finds_nothing (eaten d) d past x ≡ finds_nothing (eaten d) d other x
 nothing d past other (Read client count) h =
-    ap (λ (n : ℕ). nat_eq n 0)
-    (visible_alike (queue d past client) (queue d other client) (h.queues client))
+    rw (visible_alike (queue d past client) (queue d other client) (h.queues client))
 nothing d past other x h = refl
 
 busy : (past other : List Step) (x : Step) → holder past ≡ holder other → is_busy past x ≡ is_busy other x
@@ -130,12 +61,11 @@ not_grabber past other x h = refl
 opened : (d : Description) (past other : List Step) → AreAlike d past other
     → open_clients past ≡ open_clients other
 opened d past other h =
-    filter_same (is_open past) (is_open other) (range_with_len 0 (opens past)) h.are_open
-    ∙ ap (λ (n : ℕ). filter (is_open other) (range_with_len 0 n)) h.opened
+    rw (filter_same (is_open past) (is_open other) (range_with_len 0 (opens past)) h.are_open, h.opened)
 
 too_many : (d : Description) (past other : List Step) (x : Step) → AreAlike d past other
     → is_one_too_many past x ≡ is_one_too_many other x
-too_many d past other Open h = ap (λ (cs : List ℕ). nat_le CLIENTS_MAX (length cs)) (opened d past other h)
+too_many d past other Open h = rw (opened d past other h)
 too_many d past other x h = refl
 
 -- both refuse, with the same reply but for its place, or neither does
@@ -279,7 +209,7 @@ rows_alike d r s h = flat_map_same (row d r) (row d s) (range_with_len 0 d.slots
 
 taken_events : (q : List Entry) → map event_taken (map taken_of q) ≡ map event_of q
 taken_events [] = refl
-taken_events (e ∷ q) = ap (λ (r : List Event). event_of e ∷ r) (taken_events q)
+taken_events (e ∷ q) = rw (taken_events q)
 
 taken_length : (q : List Entry) → length q ≡ length (map event_of q)
 taken_length [] = refl
@@ -288,7 +218,7 @@ taken_length (e ∷ q) = ap suc (taken_length q)
 took_alike : (past other : List Step) (q p : List Entry) → map event_of q ≡ map event_of p
     → AreAnswersAlike (took_answer past q) (took_answer other p)
 took_alike past other q p same = record {
-  reply = ap (Took 0) (taken_length q ∙ ap (λ (es : List Event). length es) same ∙ sym (taken_length p));
+  reply = ap (Took 0) (rw (taken_length q, same) (sym (taken_length p)));
   events = taken_events q ∙ same ∙ sym (taken_events p);
   cells = refl;
 }
@@ -311,26 +241,20 @@ read_events d past other client count h =
     ∙ ap (take n) (h.queues client)
     ∙ ap (λ (k : ℕ). take (min count k) (map event_of p)) (visible_alike q p (h.queues client))
     ∙ take-map event_of m p in
-    if_taken (nat_eq client client) (take n q) []
-    ∙ ap (λ (r : List Event). if nat_eq client client then r else []) same
-    ∙ sym (if_taken (nat_eq client client) (take m p) [])
-
-alike : (one other : Answer) → one.events ≡ [] → other.events ≡ [] → one.cells ≡ other.cells
-    → without_place one.reply ≡ without_place other.reply → AreAnswersAlike one other
-alike one other none also cells reply = record { reply = reply; events = cc (none, also); cells = cells }
+    rw (if_taken (nat_eq client client) (take n q) [], same)
+    (sym (if_taken (nat_eq client client) (take m p) []))
 
 pub accepted_alike : (d : Description) (past other : List Step) (x : Step) → AreAlike d past other
     → AreAnswersAlike (accepted_with (eaten d) d past x) (accepted_with (eaten d) d other x)
 accepted_alike d past other Open h = record
-    { reply = ap (λ (n : ℕ). Opened 0 n (ring d)) h.opened; events = refl; cells = refl }
+    { reply = rw h.opened; events = refl; cells = refl }
 accepted_alike d past other (Read client count) h =
     took_alike past other _ _ (read_events d past other client count h)
 accepted_alike d past other (Discard client) h = record {
   reply = ap (Discarded 0)
       (visible_alike (queue d past client) (queue d other client) (h.queues client));
   events = refl;
-  cells =
-      refl;
+  cells = refl;
 }
 accepted_alike d past other (GetKeys client) h = bits_answered d past other EV_KEY h
 accepted_alike d past other (GetSwitches client) h = bits_answered d past other EV_SW h
@@ -339,8 +263,7 @@ accepted_alike d past other (GetSounds client) h = bits_answered d past other EV
 accepted_alike d past other (GetAxis client code) h = record {
   reply = ap (Axis 0) (axis_alike d (raw d past) (raw d other) code h.items);
   events = refl;
-  cells =
-      refl;
+  cells = refl;
 }
 accepted_alike d past other (GetSlots client code) h =
     cells_answered d past other d.slots _ _ h (column_alike d (raw d past) (raw d other) code h.items)

@@ -1,5 +1,5 @@
 -- The frames that the same items end after alike ones have the same events, and end at alike items.
-use Rattle.std.proofs.Common.{◌≡◌, ℕ, suc, ◌+◌, List, [], ◌∷◌, ◌++◌, length, refl, ap, subst, ◌∙◌, arith}
+use Rattle.std.proofs.Common.{◌≡◌, ℕ, suc, ◌+◌, List, [], ◌∷◌, ◌++◌, length, refl, ap, ◌∙◌, arith}
 use Rattle.std.specs.Prelude.{Option, Some, None, option_map, option_to_list}
 use Rattle.inp_model.specs.declared.event.Event.{Event}
 use Rattle.inp_model.specs.declared.event.TheConstants.{REP_DELAY, REP_PERIOD}
@@ -45,7 +45,7 @@ for_item : (d : Description) (n m : ℕ) (r s : List RawItem) (x : RawItem) → 
     → length r + m ≡ length s + n → AreCutsAlike d n m (cut_for d r x) (cut_for d s x)
 unfolding cut_of
 for_item d n m r s (Occurred e) h long =
-    subst (λ o. AreCutsAlike d n m (cut_for d r (Occurred e)) (cut_of e s o)) (cut_alike d r s e h)
+    rw (← cut_alike d r s e h)
     (one d n m r s e (item_more d r s (Occurred e) h) (omega (arith, long)) (cut_events d r e))
 for_item d n m r s (Described axis i) h long = tt
 

@@ -1,29 +1,8 @@
 -- The filters eat the same of the frames of a step after alike pasts.
-use Rattle.std.proofs.Common.{
-  ◌≡◌,
-  ℕ,
-  zero,
-  suc,
-  ◌+◌,
-  Bool,
-  true,
-  false,
-  List,
-  [],
-  ◌∷◌,
-  ◌++◌,
-  length,
-  refl,
-  sym,
-  ap,
-  subst,
-  ◌∙◌,
-  arith,
-  if◌then◌else◌,
-  nat_lt,
-}
+use Rattle.std.proofs.Common.{◌≡◌, ℕ, zero, suc, ◌+◌, Bool, true, false, List, [], ◌∷◌, ◌++◌, length, refl}
+use Rattle.std.proofs.Common.{sym, ap, ◌∙◌, arith, if◌then◌else◌, nat_lt}
 use Rattle.std.proofs.lemmas.List.{append_assoc}
-use Rattle.std.specs.Prelude.{map, filter, is_some, Option}
+use Rattle.std.specs.Prelude.{map, filter, is_some}
 use Rattle.inp_model.specs.declared.event.Event.{Event}
 use Rattle.inp_model.specs.declared.filter.Filter.{Filter}
 use Rattle.inp_model.specs.declared.step.Step.{Step}
@@ -33,19 +12,9 @@ use Rattle.inp_model.specs.RawItem.{Cut, Frame}
 use Rattle.inp_model.specs.Step.{moment_of}
 use Rattle.inp_model.specs.Past.{holder}
 use Rattle.inp_model.specs.Frame.{moment, frame_of, frames_of_step, cuts_of_step}
-use Rattle.inp_model.specs.Left.{
-  given_by,
-  given_in,
-  given_before,
-  ends_later,
-  eaten_from,
-  eaten_by,
-  eaten,
-  left_from,
-  left,
-}
+use Rattle.inp_model.specs.Left.{given_by, given_in, given_before, ends_later, eaten_from, eaten_by, eaten}
+use Rattle.inp_model.specs.Left.{left_from, left}
 use Rattle.inp_model.specs.Raw.{raw, raw_of_step}
-use Rattle.inp_model.specs.Cut.{cuts}
 use Rattle.inp_alike.specs.Alike.{AreAlike, DecideAlike}
 use Rattle.inp_alike.proofs.Cuts.{IsCutAlike, AreCutsAlike, cuts_alike}
 use Rattle.inp_alike.proofs.Raws.{raws_alike}
@@ -79,7 +48,7 @@ events_more fs m (e ∷ es) given other h =
 frame_more : (fs : List Filter) (m : ℕ) (es ds : List Event) (given other : List Timed) → es ≡ ds
     → DecideAlike fs given other → DecideAlike fs (given_after m given es) (given_after m other ds)
 frame_more fs m es ds given other same h =
-    subst (λ ds. DecideAlike fs (given_after m given es) (given_after m other ds)) same
+    rw (← same)
     (events_more fs m es given other h)
 
 pub frames_more : (d : Description) (fs : List Filter) (n m : ℕ) (past before : List Step) (x : Step)
@@ -151,8 +120,7 @@ pub step_cuts : (d : Description) (past other : List Step) (x : Step) → AreAli
     → AreCutsAlike d (length (raw d past)) (length (raw d other)) (cuts_of_step d past x)
     (cuts_of_step d other x)
 step_cuts d past other x h =
-    subst (λ xs. AreCutsAlike d (length (raw d past)) (length (raw d other)) (cuts_of_step d past x)
-    (cuts d (raw d other) xs)) (raws_alike d past other x h)
+    rw (← raws_alike d past other x h)
     (cuts_alike d (length (raw d past)) (length (raw d other)) (raw d past) (raw d other)
     (raw_of_step d past x) h.items (omega arith))
 
@@ -204,7 +172,7 @@ filters_more d past other x h =
     given_by_test d.filters (is_some (holder past)) (is_some (holder other)) (given_in d past)
     (given_by (frames_of_step d past x) (given_in d past)) (given_in d other)
     (given_by (frames_of_step d other x) (given_in d other))
-    (ap (λ (o : Option ℕ). is_some o) h.holders)
+    (rw h.holders)
     h.filters
     (frames_more d d.filters (length (raw d past)) (length (raw d other)) past other x
     (cuts_of_step d past x) (cuts_of_step d other x) (given_in d past) (given_in d other)

@@ -1,25 +1,10 @@
 -- One item more leaves the core alike.
-use Rattle.std.proofs.Common.{◌≡◌, ℕ, ℤ, Bool, List, [], ◌∷◌, ap, ◌∙◌, if◌then◌else◌, ◌&&◌, not}
-use Rattle.std.specs.Prelude.{nat_eq}
-use Rattle.std.specs.Ordering.{int_eq}
+use Rattle.std.proofs.Common.{◌≡◌, ℕ, ℤ, List, [], ◌∷◌}
 use Rattle.inp_model.specs.declared.event.Event.{Event}
-use Rattle.inp_model.specs.declared.event.TheConstants.{EV_KEY, EV_ABS, EV_REP}
-use Rattle.inp_model.specs.declared.multi_touch.TheConstants.{ABS_MT_SLOT}
 use Rattle.inp_model.specs.declared.axis_info.AxisInfo.{AxisInfo}
-use Rattle.inp_model.specs.Description.{Description, info}
-use Rattle.inp_model.specs.Event.{is_on, is_repeat, is_set, is_negative, is_multi_touch}
+use Rattle.inp_model.specs.Description.{Description}
 use Rattle.inp_model.specs.RawItem.{RawItem, Occurred, Described}
-use Rattle.inp_model.specs.Defuzz.{defuzz}
-use Rattle.inp_model.specs.State.{
-  key_down,
-  turned_on,
-  repeat_setting,
-  axis_info,
-  axis_value,
-  staged,
-  cell,
-  is_slot,
-}
+use Rattle.inp_model.specs.State.{key_down, turned_on, repeat_setting, axis_info, axis_value, staged, cell}
 use Rattle.inp_model.specs.Passed.{passed, passes_as, announced}
 use Rattle.inp_model.specs.Cut.{pending, at_frame, cut_events, raw_after}
 use Rattle.inp_alike.specs.Alike.{AreItemsAlike}
@@ -27,43 +12,32 @@ use Rattle.inp_alike.specs.Alike.{AreItemsAlike}
 keys : (d : Description) (r s : List RawItem) (e : Event) → AreItemsAlike d r s → (key : ℕ)
     → key_down d (Occurred e ∷ r) key ≡ key_down d (Occurred e ∷ s) key
 unfolding key_down
-keys d r s e h key =
-    ap (λ (b : Bool). if is_on d EV_KEY key e && not (is_repeat e) then is_set e else b) (h.keys key)
+keys d r s e h key = rw (h.keys key)
 
 codes : (d : Description) (r s : List RawItem) (e : Event) → AreItemsAlike d r s → (kind code : ℕ)
     → turned_on d (Occurred e ∷ r) kind code ≡ turned_on d (Occurred e ∷ s) kind code
 unfolding turned_on
-codes d r s e h kind code = ap (λ (b : Bool). if is_on d kind code e then is_set e else b) (h.codes kind code)
+codes d r s e h kind code = rw (h.codes kind code)
 
 settings : (d : Description) (r s : List RawItem) (e : Event) → AreItemsAlike d r s → (code : ℕ)
     → repeat_setting d (Occurred e ∷ r) code ≡ repeat_setting d (Occurred e ∷ s) code
 unfolding repeat_setting
-settings d r s e h code =
-    ap (λ (v : ℤ). if is_on d EV_REP code e && not (is_negative e) then e.value else v) (h.settings code)
+settings d r s e h code = rw (h.settings code)
 
 values : (d : Description) (r s : List RawItem) (e : Event) → AreItemsAlike d r s → (code : ℕ)
     → axis_value d (Occurred e ∷ r) code ≡ axis_value d (Occurred e ∷ s) code
 unfolding axis_value
-values d r s e h code =
-    ap (λ (v : ℤ). if is_on d EV_ABS code e && not (is_multi_touch e) then defuzz e.value v
-    (axis_info d r code).fuzz else v) (h.values code)
-    ∙ ap (λ (i : AxisInfo). if is_on d EV_ABS code e && not (is_multi_touch e) then defuzz e.value
-    (axis_value d s code) i.fuzz else axis_value d s code) (h.infos code)
+values d r s e h code = rw (h.values code, h.infos code)
 
 slot_of : (d : Description) (r s : List RawItem) (e : Event) → AreItemsAlike d r s
     → staged d (Occurred e ∷ r) ≡ staged d (Occurred e ∷ s)
 unfolding staged
-slot_of d r s e h =
-    ap (λ (v : ℤ). if is_on d EV_ABS ABS_MT_SLOT e && is_slot d e.value then e.value else v) h.slot
+slot_of d r s e h = rw h.slot
 
 cells : (d : Description) (r s : List RawItem) (e : Event) → AreItemsAlike d r s → (slot : ℤ) (code : ℕ)
     → cell d (Occurred e ∷ r) slot code ≡ cell d (Occurred e ∷ s) slot code
 unfolding cell
-cells d r s e h slot code =
-    ap (λ (v : ℤ). if is_on d EV_ABS code e && int_eq (staged d r) slot then defuzz e.value v
-    (info d code).fuzz else v) (h.cells slot code)
-    ∙ ap (λ (n : ℤ). if is_on d EV_ABS code e && int_eq n slot then defuzz e.value (cell d s slot code)
-    (info d code).fuzz else cell d s slot code) h.slot
+cells d r s e h slot code = rw (h.cells slot code, h.slot)
 
 pub passes : (d : Description) (r s : List RawItem) (e : Event) → AreItemsAlike d r s
     → passes_as d r e ≡ passes_as d s e
@@ -118,8 +92,8 @@ described d r s axis i h = record {
   keys = h.keys;
   codes = h.codes;
   settings = h.settings;
-  infos = λ code. ap (λ (before : AxisInfo). if nat_eq axis code then i else before) (h.infos code);
-  values = λ code. ap (λ (before : ℤ). if nat_eq axis code then i.value else before) (h.values code);
+  infos = λ code. rw (h.infos code);
+  values = λ code. rw (h.values code);
   cells = h.cells;
   slot = h.slot;
   told_slot = h.told_slot;

@@ -1,41 +1,13 @@
 -- What is done with a queue is done with its events: what else an item has decides nothing.
-use Rattle.std.proofs.Common.{
-  ◌≡◌,
-  ℕ,
-  suc,
-  Bool,
-  true,
-  false,
-  List,
-  [],
-  ◌∷◌,
-  ◌++◌,
-  length,
-  refl,
-  ap,
-  ◌∙◌,
-  if◌then◌else◌,
-  ◌&&◌,
-  ◌||◌,
-  not,
-  nat_lt,
-}
+use Rattle.std.proofs.Common.{◌≡◌, ℕ, suc, Bool, true, false, List, [], ◌∷◌, ◌++◌, length, refl, ap, ◌∙◌}
+use Rattle.std.proofs.Common.{if◌then◌else◌, ◌&&◌, ◌||◌, not, nat_lt}
 use Rattle.std.specs.Prelude.{map, Option, Some, None}
 use Rattle.std.proofs.lemmas.List.{map-append}
 use Rattle.inp_model.specs.declared.event.Event.{Event}
 use Rattle.inp_model.specs.Event.{is_report, syn_dropped}
 use Rattle.inp_model.specs.Step.{Query, is_part_of}
-use Rattle.inp_model.specs.Queue.{
-  ends_in_report,
-  is_empty,
-  put,
-  put_all,
-  visible,
-  without,
-  apart,
-  flush_for,
-  clock_changed,
-}
+use Rattle.inp_model.specs.Queue.{ends_in_report, is_empty, put, put_all, visible, without, apart, flush_for}
+use Rattle.inp_model.specs.Queue.{clock_changed}
 
 -- an event by itself, and what a loss makes of it
 abbrev pub itself : Event → Event
@@ -71,23 +43,22 @@ put_one : {X : Type 0} (event : X → Event) (dropped : X → X) → ((x : X)
     → event (dropped x) ≡ syn_dropped) → (places : ℕ) (q : List X) (x : X)
     → map event (put event dropped places q x) ≡ put itself lost places (map event q) (event x)
 put_one event dropped h places q x =
-    if_map event (is_report (event x) && (is_empty q || ends_in_report event q)) q
-    (if nat_lt (suc (length q)) places then q ++ x ∷ [] else dropped x ∷ x ∷ [])
-    ∙ ap (λ (r : List Event). if is_report (event x) && (is_empty q || ends_in_report event q) then map
-    event q else r)
-    (if_map event (nat_lt (suc (length q)) places) (q ++ x ∷ []) (dropped x ∷ x ∷ [])
-    ∙ ap (λ (r : List Event). if nat_lt (suc (length q)) places then r else event (dropped x) ∷ event x ∷
-    []) (map-append event q (x ∷ [])))
-    ∙ cc (h x, map-length event q, ends event q, empty event q)
+    rw (
+      if_map event (is_report (event x) && (is_empty q || ends_in_report event q)) q
+          (if nat_lt (suc (length q)) places then q ++ x ∷ [] else dropped x ∷ x ∷ []),
+      if_map event (nat_lt (suc (length q)) places) (q ++ x ∷ []) (dropped x ∷ x ∷ []),
+      map-append event q (x ∷ []),
+    ) (cc (h x, map-length event q, ends event q, empty event q))
 
 pub put_on_events : {X : Type 0} (event : X → Event) (dropped : X → X) → ((x : X)
     → event (dropped x) ≡ syn_dropped) → (places : ℕ) (q xs : List X)
     → map event (put_all event dropped places q xs) ≡ put_all itself lost places (map event q) (map event xs)
 put_on_events event dropped h places q [] = refl
 put_on_events event dropped h places q (x ∷ xs) =
-    put_on_events event dropped h places (put event dropped places q x) xs
-    ∙ ap (λ (p : List Event). put_all itself lost places p (map event xs))
-    (put_one event dropped h places q x)
+    rw (
+      put_on_events event dropped h places (put event dropped places q x) xs,
+      put_one event dropped h places q x,
+    )
 
 without_on_events : {X : Type 0} (event : X → Event) (drops : Event → Bool) (q : List X)
     → map event (without event drops q) ≡ without itself drops (map event q)

@@ -1,21 +1,6 @@
 -- A step leaves the same events in each client's queue after alike pasts.
-use Rattle.std.proofs.Common.{
-  ◌≡◌,
-  ℕ,
-  Bool,
-  true,
-  false,
-  List,
-  [],
-  ◌∷◌,
-  length,
-  refl,
-  sym,
-  ap,
-  ◌∙◌,
-  if◌then◌else◌,
-  drop,
-}
+use Rattle.std.proofs.Common.{◌≡◌, ℕ, Bool, true, false, List, [], ◌∷◌, length, refl, sym, ap, ◌∙◌}
+use Rattle.std.proofs.Common.{if◌then◌else◌, drop}
 use Rattle.std.specs.Prelude.{map, filter, min}
 use Rattle.std.proofs.lemmas.List.{map-append, drop-map}
 use Rattle.inp_model.specs.declared.event.Event.{Event}
@@ -29,40 +14,22 @@ use Rattle.inp_model.specs.Past.{clock_of, admits, is_call_of}
 use Rattle.inp_model.specs.Frame.{frame_of, frames_of_step, cuts_of_step}
 use Rattle.inp_model.specs.Left.{eaten, left}
 use Rattle.inp_model.specs.Raw.{raw}
-use Rattle.inp_model.specs.Queue.{
-  Entry,
-  event_of,
-  entry_dropped_at,
-  visible,
-  flush_for,
-  is_offered,
-  entry,
-  entries_of,
-  entries_with,
-  is_same_clock,
-  clock_entry,
-  left_by_call,
-  queue_with,
-  queue,
-}
+use Rattle.inp_model.specs.Queue.{Entry, event_of, entry_dropped_at, visible, flush_for, is_offered, entry}
+use Rattle.inp_model.specs.Queue.{entries_of, entries_with, is_same_clock, clock_entry, left_by_call}
+use Rattle.inp_model.specs.Queue.{queue_with, queue}
 use Rattle.inp_alike.specs.Alike.{AreAlike}
 use Rattle.inp_alike.proofs.Pointwise.{filter_same}
 use Rattle.inp_alike.proofs.Cuts.{IsCutAlike, AreCutsAlike}
 use Rattle.inp_alike.proofs.Filters.{step_cuts, left_alike}
-use Rattle.inp_alike.proofs.OnEvents.{
-  itself,
-  put_on_events,
-  flush_on_events,
-  clock_on_events,
-  visible_on_events,
-}
+use Rattle.inp_alike.proofs.OnEvents.{itself, put_on_events, flush_on_events, clock_on_events}
+use Rattle.inp_alike.proofs.OnEvents.{visible_on_events}
 
 -- what comes of a frame
 
 entry_events : (d : Description) (client : ℕ) (f : Frame) (es : List Event)
     → map event_of (map (entry d client f) es) ≡ es
 entry_events d client f [] = refl
-entry_events d client f (e ∷ es) = ap (λ (r : List Event). e ∷ r) (entry_events d client f es)
+entry_events d client f (e ∷ es) = rw (entry_events d client f es)
 
 offered_events : (d : Description) (client : ℕ) (f : Frame) (b : Bool) (es : List Event)
     → map event_of (if b then map (entry d client f) es else []) ≡ (if b then es else [])
@@ -137,13 +104,11 @@ read_alike : (d : Description) (past other : List Step) (client count : ℕ) (q 
     → map event_of (left_by_call d past (Read client count) q) ≡ map event_of
     (left_by_call d other (Read client count) p)
 read_alike d past other client count q p same =
-    ap (λ (n : ℕ). map event_of (drop (min count n) q)) (visible_alike q p same)
-    ∙ drop_events (min count (visible event_of p)) q p same
+    rw (visible_alike q p same) (drop_events (min count (visible event_of p)) q p same)
 
 discard_alike : (q p : List Entry) → map event_of q ≡ map event_of p
     → map event_of (drop (visible event_of q) q) ≡ map event_of (drop (visible event_of p) p)
-discard_alike q p same = ap (λ (n : ℕ). map event_of (drop n q)) (visible_alike q p same)
-    ∙ drop_events (visible event_of p) q p same
+discard_alike q p same = rw (visible_alike q p same) (drop_events (visible event_of p) q p same)
 
 call_alike : (d : Description) (past other : List Step) (x : Step) (q p : List Entry) → ((client : ℕ)
     → clock_of past client ≡ clock_of other client) → map event_of q ≡ map event_of p

@@ -1,60 +1,25 @@
 -- A step stands for the same raw events and descriptions after alike pasts. It leaves the core and the timer
 -- alike.
-use Rattle.std.proofs.Common.{◌≡◌, ℕ, ◌+◌, List, ◌∷◌, length, refl, ap, subst, ◌∙◌, arith}
+use Rattle.std.proofs.Common.{◌≡◌, ℕ, ◌+◌, List, ◌∷◌, length, refl, ap, ◌∙◌, arith}
 use Rattle.std.specs.Prelude.{pos}
 use Rattle.std.specs.List.{range_with_len}
 use Rattle.inp_model.specs.declared.event.TheConstants.{KEY_MAX, REP_PERIOD}
 use Rattle.inp_model.specs.declared.multi_touch.TheConstants.{ABS_MT_TRACKING_ID}
 use Rattle.inp_model.specs.declared.timer.Timer.{Timer}
 use Rattle.inp_model.specs.declared.step.Step.{Step}
-use Rattle.inp_model.specs.declared.step.Step.TheVariants.{
-  Inject,
-  Tick,
-  Open,
-  Close,
-  Read,
-  Discard,
-  GetKeys,
-  GetSwitches,
-  GetLeds,
-  GetSounds,
-  GetAxis,
-  SetAxis,
-  GetSlots,
-  SyncSlots,
-  Write,
-  Grab,
-  Ungrab,
-  Mask,
-  Clock as ToClock,
-  Revoke,
-  Inhibit,
-  Uninhibit,
-  End,
-}
+use Rattle.inp_model.specs.declared.step.Step.TheVariants.{Inject, Tick, Open, Close, Read, Discard, GetKeys}
+use Rattle.inp_model.specs.declared.step.Step.TheVariants.{GetSwitches, GetLeds, GetSounds, GetAxis, SetAxis}
+use Rattle.inp_model.specs.declared.step.Step.TheVariants.{GetSlots, SyncSlots, Write, Grab, Ungrab, Mask}
+use Rattle.inp_model.specs.declared.step.Step.TheVariants.{Clock as ToClock, Revoke, Inhibit, Uninhibit, End}
 use Rattle.inp_model.specs.Description.{Description}
 use Rattle.inp_model.specs.RawItem.{RawItem}
 use Rattle.inp_model.specs.Step.{moment_of}
 use Rattle.inp_model.specs.Past.{is_inhibited}
 use Rattle.inp_model.specs.Cut.{raw_after, cuts}
 use Rattle.inp_model.specs.Timer.{timer_at_cuts}
-use Rattle.inp_model.specs.Raw.{
-  RawAndTimer,
-  raw,
-  timer,
-  raw_and_timer,
-  raw_of_step,
-  items_after,
-  fires,
-  releases,
-  slot_releases,
-  slot_release,
-  key_releases,
-  key_release,
-  timer_after,
-  rearmed_by,
-  disarmed_by,
-}
+use Rattle.inp_model.specs.Raw.{RawAndTimer, raw, timer, raw_and_timer, raw_of_step, items_after, fires}
+use Rattle.inp_model.specs.Raw.{releases, slot_releases, slot_release, key_releases, key_release, timer_after}
+use Rattle.inp_model.specs.Raw.{rearmed_by, disarmed_by}
 use Rattle.inp_alike.specs.Alike.{AreItemsAlike, AreAlike}
 use Rattle.inp_alike.proofs.Pointwise.{flat_map_same}
 use Rattle.inp_alike.proofs.Items.{items_more}
@@ -138,9 +103,8 @@ pub core_alike : (d : Description) (past other : List Step) (x : Step) → AreAl
     → AreItemsAlike d (raw d (x ∷ past)) (raw d (x ∷ other))
 unfolding raw timer raw_and_timer
 core_alike d past other x h =
-    subst (λ xs. AreItemsAlike d (raw_after (raw d past) (items_after d past x (raw_and_timer d past)))
-    (raw_after (raw d other) xs))
-    (items_alike d past other x (raw_and_timer d past) (raw_and_timer d other) h.items h.timers h.inhibited)
+    rw (← items_alike d past other x (raw_and_timer d past)
+    (raw_and_timer d other) h.items h.timers h.inhibited)
     (items_more d (raw d past) (raw d other) (items_after d past x (raw_and_timer d past)) h.items)
 
 -- the timer after a step
