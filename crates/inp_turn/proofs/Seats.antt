@@ -1,5 +1,6 @@
 -- A pass's seat at a give: with the value in hand, and after it.
-use Rattle.std.proofs.Common.{◌≡◌, ℕ, ◌<◌, Bool, true, List, [], ◌∷◌, if◌then◌else◌, sym, ap, ◌∙◌, subst, Option, Some, None}
+use Rattle.std.proofs.Common.{◌≡◌, ℕ, ◌<◌, Bool, true, List, [], ◌∷◌, if◌then◌else◌, sym, ◌∙◌, Option, Some}
+use Rattle.std.proofs.Common.{None}
 use mathlib.Core.List.{IsPrefix}
 use Rattle.atomic_table.specs.Table.{rest}
 use Rattle.inp_turn.specs.declared.seat_view.SeatView.{SeatView}
@@ -13,8 +14,10 @@ slots_of has_turn = if has_turn then (0, None) ∷ [] else []
 
 module _ {S B E : Type 0} where
   -- the value is back in the slot, which the seat still holds
-  pub in_hand : (before after : Sitting S B E) (x : S) → before.1 ≡ slots_of before.0.has_turn → before.0.has_turn ≡ true → after ≡ (before.0, (0, Some x) ∷ rest before.1) → after.1 ≡ (0, Some x) ∷ []
-  in_hand before after x slots turn is = ap (λ (m : Sitting S B E). m.1) is ∙ ap (λ (l : List (ℕ × Option S)). (0, Some x) ∷ rest l) (slots ∙ ap slots_of turn)
+  pub in_hand : (before after : Sitting S B E) (x : S) → before.1 ≡ slots_of before.0.has_turn
+      → before.0.has_turn ≡ true → after ≡ (before.0, (0, Some x) ∷ rest before.1)
+      → after.1 ≡ (0, Some x) ∷ []
+  in_hand before after x slots turn is = rw (is, slots, turn)
 
   -- what a pass keeps of its seat
   pub record IsKept (me : Sitting S B E) : Type 0 where
@@ -23,10 +26,12 @@ module _ {S B E : Type 0} where
     pub owns_seen : OwnsSeen me.0.pass
     pub holds_slot : me.1 ≡ slots_of me.0.has_turn
 
-  pub kept-give : (v : SeatView B E) (given : List E) (after : Sitting S B E) → after.0 ≡ seat_after_give v given → after.1 ≡ [] → v.met ≡ spent_view → 0 < v.pass.share → OwnsSeen v.pass → IsPrefix v.pass.seen given → IsKept after
+  pub kept-give : (v : SeatView B E) (given : List E) (after : Sitting S B E)
+      → after.0 ≡ seat_after_give v given → after.1 ≡ [] → v.met ≡ spent_view → 0 < v.pass.share
+      → OwnsSeen v.pass → IsPrefix v.pass.seen given → IsKept after
   kept-give v given after is empty clear alive owns more = record {
-    in_no_join = ap (λ (s : SeatView B E). s.met) is ∙ clear;
-    has_share = subst (λ (s : SeatView B E). 0 < s.pass.share) (sym is) alive;
-    owns_seen = subst (λ (s : SeatView B E). OwnsSeen s.pass) (sym is) (owns-give v.pass given owns more);
-    holds_slot = empty ∙ sym (ap (λ (s : SeatView B E). slots_of s.has_turn) is);
+    in_no_join = rw is clear;
+    has_share = rw is alive;
+    owns_seen = rw is (owns-give v.pass given owns more);
+    holds_slot = empty ∙ sym (rw is);
   }

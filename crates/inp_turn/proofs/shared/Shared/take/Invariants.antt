@@ -4,4 +4,5 @@ use Rattle.inp_turn.specs.Shared.{IsPassOf}
 use Rattle.inp_turn.proofs.shared.Shared.take.Given as goal
 
 abbrev pub invariant-loop : goal.invariant-loop
-invariant-loop g l = IsPassOf l.self l.pass × (has_turn l.pass ≡ false) × (view_of l.pass ≡ view_of l.initial.pass)
+invariant-loop g l =
+    IsPassOf l.self l.pass × (has_turn l.pass ≡ false) × (view_of l.pass ≡ view_of l.initial.pass)
