@@ -1,5 +1,6 @@
 -- How often a number is in a list, as the list changes.
-use Rattle.std.proofs.Common.{◌≡◌, ◌≢◌, ◌≤◌, ℕ, zero, suc, ◌+◌, Bool, true, false, if◌then◌else◌, nat_eq, List, [], ◌∷◌, ◌++◌, length, take, drop, refl, sym, ap, subst, inl, inr, arith}
+use Rattle.std.proofs.Common.{◌≡◌, ◌≢◌, ◌≤◌, ℕ, zero, suc, ◌+◌, Bool, true, false, if◌then◌else◌, nat_eq}
+use Rattle.std.proofs.Common.{List, [], ◌∷◌, ◌++◌, length, take, drop, refl, sym, subst, inl, inr, arith}
 use Rattle.std.proofs.lemmas.Bool.{cases_eq, eq-eqb, ne_eqb}
 use Rattle.inp_ring.specs.Ring.{times, AreDifferent}
 
@@ -12,10 +13,10 @@ abbrev pub once : ℕ → ℕ → ℕ
 once n m = if nat_eq m n then 1 else 0
 
 pub once_same : (n : ℕ) → once n n ≡ 1
-once_same n = ap (λ (b : Bool). if b then 1 else 0) (eq-eqb n n refl)
+once_same n = rw (eq-eqb n n refl)
 
 pub once_other : (n m : ℕ) → m ≢ n → once n m ≡ 0
-once_other n m h = ap (λ (b : Bool). if b then 1 else 0) (ne_eqb m n h)
+once_other n m h = rw (ne_eqb m n h)
 
 pub once-le : (n m : ℕ) → once n m ≤ 1
 once-le n m = le (nat_eq m n)

@@ -7,4 +7,6 @@ use Rattle.inp_ring.proofs.removal.read_each.Given as goal
 abbrev pub invariant-loop-at : goal.invariant-loop-at
 invariant-loop-at l =
     IsLetGo l.initial.store l.numbers l.store l.at
-    × (l.out ≡ (take l.from l.initial.out ++ map (cell_taken l.offset) (take l.at (queue_in l.initial.store l.numbers))) ++ drop (l.from + l.at) l.initial.out)
+    × (l.out
+    ≡ (take l.from l.initial.out ++ map (cell_taken l.offset)
+    (take l.at (queue_in l.initial.store l.numbers))) ++ drop (l.from + l.at) l.initial.out)

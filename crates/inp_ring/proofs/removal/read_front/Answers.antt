@@ -1,25 +1,28 @@
-use Rattle.std.proofs.Common.{ℕ, ◌≡◌, ◌++◌, ◌-◌, List, drop, take, map, length, arith, sym, ap, ◌∙◌, subst}
+use Rattle.std.proofs.Common.{◌≡◌, ◌-◌, List, drop, take, map, length, arith, sym, subst}
 use Rattle.std.proofs.lemmas.List.{length-map, length-take-le, map-append, take-map}
-use Rattle.circular_buffer.specs.Buffer.{Buffer, keep_last}
-use Rattle.inp_model.specs.declared.taken.Taken.{Taken}
-use Rattle.inp_model.specs.Reply.{written}
 use Rattle.inp_ring.specs.declared.cell.Cell.{Cell}
 use Rattle.inp_ring.specs.Store.{cell_taken}
 use Rattle.inp_ring.specs.Ring.{cell_at, queue_in, AreFit}
-use Rattle.inp_ring.proofs.Releases.{first_held, second_held, second_stays, first_fit, second_fit, both_out, take_parts, left_is_rest, read_parts}
+use Rattle.inp_ring.proofs.Releases.{first_held, second_held, second_stays, first_fit, second_fit, both_out}
+use Rattle.inp_ring.proofs.Releases.{take_parts, left_is_rest, read_parts}
 use Rattle.inp_ring.proofs.removal.read_front.Goals as goal
 
 pub read_each-requires-clause-held : goal.read_each-requires-clause-held
 read_each-requires-clause-held c =
-    first_held c.as_slices.result.0.now c.as_slices.result.1.now c.args.numbers.now.items c.as_slices.ensures c.args.count c.min-in_front.result c.min-in_front.ensures c.requires.some c.args.store.now c.requires.held
+    first_held c.as_slices.result.0.now c.as_slices.result.1.now c.args.numbers.now.items c.as_slices.ensures
+    c.args.count c.min-in_front.result c.min-in_front.ensures c.requires.some c.args.store.now c.requires.held
 
 pub read_each-requires-clause-moments : goal.read_each-requires-clause-moments
 read_each-requires-clause-moments c =
-    first_fit c.as_slices.result.0.now c.as_slices.result.1.now c.args.numbers.now.items c.as_slices.ensures c.args.count c.min-in_front.result c.min-in_front.ensures c.requires.some c.args.store.now c.requires.moments
+    first_fit c.as_slices.result.0.now c.as_slices.result.1.now c.args.numbers.now.items c.as_slices.ensures
+    c.args.count c.min-in_front.result c.min-in_front.ensures c.requires.some c.args.store.now
+    c.requires.moments
 
 pub read_each-requires-2-clause-held : goal.read_each-requires-2-clause-held
 read_each-requires-2-clause-held c =
-    second_held c.as_slices.result.0.now c.as_slices.result.1.now c.args.numbers.now.items c.as_slices.ensures c.args.count c.min-in_front.result c.min-in_front.ensures c.requires.some c.args.store.now c.requires.held c.read_each.ensures.moved
+    second_held c.as_slices.result.0.now c.as_slices.result.1.now c.args.numbers.now.items c.as_slices.ensures
+    c.args.count c.min-in_front.result c.min-in_front.ensures c.requires.some c.args.store.now c.requires.held
+    c.read_each.ensures.moved
 
 pub read_each-requires-2-clause-moments : goal.read_each-requires-2-clause-moments
 read_each-requires-2-clause-moments c =
@@ -27,8 +30,12 @@ read_each-requires-2-clause-moments c =
     let back = c.as_slices.result.1.now in
     let q = c.args.numbers.now.items in
     let P : List Cell → Type 0 = λ l. AreFit l in
-    subst P (sym (second_stays front back q c.as_slices.ensures c.args.count c.min-in_front.result c.min-in_front.ensures c.requires.some c.args.store.now c.requires.held c.read_each.ensures.moved))
-    (second_fit front back q c.as_slices.ensures c.args.count c.min-in_front.result c.min-in_front.ensures c.requires.some c.args.store.now c.requires.moments)
+    subst P
+    (sym
+    (second_stays front back q c.as_slices.ensures c.args.count c.min-in_front.result c.min-in_front.ensures
+    c.requires.some c.args.store.now c.requires.held c.read_each.ensures.moved))
+    (second_fit front back q c.as_slices.ensures c.args.count c.min-in_front.result c.min-in_front.ensures
+    c.requires.some c.args.store.now c.requires.moments)
 
 pub returns-clause-read : goal.returns-clause-read
 returns-clause-read c =
@@ -41,19 +48,33 @@ returns-clause-read c =
     let in_front = c.min-in_front.result in
     let xs = map f (queue_in s (take in_front front)) in
     let ys = map f (queue_in s (take (count - in_front) back)) in
-    let long : length xs ≡ in_front = omega (arith, length-map (queue_in s (take in_front front)) f, length-map (take in_front front) (cell_at s), length-take-le in_front front (omega (arith, c.min-in_front.ensures)), c.min-in_front.ensures) in
-    let stays = second_stays front back q c.as_slices.ensures count in_front c.min-in_front.ensures c.requires.some c.args.store.now c.requires.held c.read_each.ensures.moved in
-    c.read_each-2.ensures.read
-    ∙ ap (λ (o : List Taken). take in_front o ++ written (map f (queue_in c.read_each.new.store (take (count - in_front) back))) (drop in_front o)) c.read_each.ensures.read
-    ∙ ap (λ (l : List Cell). take in_front (written xs c.args.out.now) ++ written (map f l) (drop in_front (written xs c.args.out.now))) stays
-    ∙ read_parts xs ys c.args.out.now in_front long
-    ∙ ap (λ (l : List Taken). written l c.args.out.now)
-    (sym (map-append f (queue_in s (take in_front front)) (queue_in s (take (count - in_front) back)))
-    ∙ ap (map f) (sym (map-append (cell_at s) (take in_front front) (take (count - in_front) back)) ∙ ap (queue_in s) (sym (take_parts front back q c.as_slices.ensures count in_front c.min-in_front.ensures c.requires.some)) ∙ sym (take-map (cell_at s) count q)))
+    let long : length xs ≡ in_front =
+    omega (
+      arith,
+      length-map (queue_in s (take in_front front)) f,
+      length-map (take in_front front) (cell_at s),
+      length-take-le in_front front (omega (arith, c.min-in_front.ensures)),
+      c.min-in_front.ensures,
+    ) in
+    let stays =
+    second_stays front back q c.as_slices.ensures count in_front c.min-in_front.ensures c.requires.some
+    c.args.store.now c.requires.held c.read_each.ensures.moved in
+    rw (
+      c.read_each-2.ensures.read,
+      c.read_each.ensures.read,
+      stays,
+      read_parts xs ys c.args.out.now in_front long,
+      ← map-append f (queue_in s (take in_front front)) (queue_in s (take (count - in_front) back)),
+      ← map-append (cell_at s) (take in_front front) (take (count - in_front) back),
+      ← take_parts front back q c.as_slices.ensures count in_front c.min-in_front.ensures c.requires.some,
+      ← take-map (cell_at s) count q,
+    )
 
 pub returns-clause-moved : goal.returns-clause-moved
 returns-clause-moved c =
     let q = c.args.numbers.now.items in
     let rest : c.truncate_front.new.self.items ≡ drop c.args.count q =
-    ap (λ (b : Buffer ℕ). b.items) c.truncate_front.ensures ∙ ap (λ k. keep_last (k - c.args.count) q) c.len.ensures.len ∙ left_is_rest q c.args.count c.requires.some in
-    both_out c.as_slices.result.0.now c.as_slices.result.1.now q c.as_slices.ensures c.args.count c.min-in_front.result c.min-in_front.ensures c.requires.some c.args.store.now c.requires.held c.read_each.ensures.moved c.truncate_front.new.self.items c.read_each-2.ensures.moved rest
+    rw (c.truncate_front.ensures, c.len.ensures.len) (left_is_rest q c.args.count c.requires.some) in
+    both_out c.as_slices.result.0.now c.as_slices.result.1.now q c.as_slices.ensures c.args.count
+    c.min-in_front.result c.min-in_front.ensures c.requires.some c.args.store.now c.requires.held
+    c.read_each.ensures.moved c.truncate_front.new.self.items c.read_each-2.ensures.moved rest
