@@ -1,4 +1,5 @@
-use Rattle.std.proofs.Common.{◌≡◌, Bool, true, false, if◌then◌else◌, ℤ, to_z, of_z, w32, FitsSigned, refl, ap, sym, ◌∙◌, Some, None}
+use Rattle.std.proofs.Common.{◌≡◌, Bool, true, false, if◌then◌else◌, ℤ, to_z, of_z, w32, FitsSigned, refl, ap}
+use Rattle.std.proofs.Common.{sym, ◌∙◌, Some, None}
 use Rattle.std.specs.Ordering.{int_eq}
 use Rattle.std.proofs.lemmas.Bool.Decides.{Decides-int_eq}
 use Rattle.std.proofs.lemmas.Int.{to_z-of_z}
@@ -27,8 +28,12 @@ returns-else-before-after-clause-change c =
     let after_fits : FitsSigned w32 c.defuzz-after.result = record { sfits = c.defuzz-after.type_inv } in
     let after_is : c.defuzz-after.result ≡ after =
     c.defuzz-after.ensures.value
-    ∙ defuzz_same (kept c.args.value) (kept c.value-before.result) (kept c.args.fuzz) c.args.value before c.args.fuzz
-    (to_z-of_z w32 c.args.value c.ranges.value) (to_z-of_z w32 c.value-before.result before_fits ∙ c.value-before.ensures.value) (to_z-of_z w32 c.args.fuzz c.ranges.fuzz) in
+    ∙ defuzz_same (kept c.args.value) (kept c.value-before.result)
+    (kept c.args.fuzz) c.args.value before c.args.fuzz
+    (to_z-of_z w32 c.args.value c.ranges.value) (to_z-of_z w32 c.value-before.result before_fits
+    ∙ c.value-before.ensures.value) (to_z-of_z w32 c.args.fuzz c.ranges.fuzz) in
     chosen before after (kept c.defuzz-after.result)
-    (differs before after (int_eq before after) refl (λ same. c.if-before-after.false (ap (of_z w32) c.value-before.ensures.value ∙ same ∙ ap (of_z w32) (sym after_is))))
+    (differs before after (int_eq before after) refl
+    (λ same. c.if-before-after.false (ap (of_z w32) c.value-before.ensures.value ∙ same
+    ∙ ap (of_z w32) (sym after_is))))
     (to_z-of_z w32 c.defuzz-after.result after_fits ∙ after_is)
