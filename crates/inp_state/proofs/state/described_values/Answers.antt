@@ -1,6 +1,6 @@
-use Rattle.std.proofs.Common.{◌≡◌, ◌<◌, ◌≢◌, ℕ, ℤ, pos, length, set, get_or, to_z, of_z, w32, FitsSigned, arith, rules, ap, sym, get_or-set_other, get_or-set_same, length-set, below_more, ◌∙◌}
+use Rattle.std.proofs.Common.{◌≡◌, ◌<◌, ◌≢◌, ℤ, pos, length, to_z, of_z, w32, FitsSigned, arith, rules}
+use Rattle.std.proofs.Common.{get_or-set_other, get_or-set_same, length-set, below_more, ◌∙◌}
 use Rattle.std.proofs.lemmas.Int.{to_z-of_z}
-use Rattle.inp_model.specs.declared.axis_info.AxisInfo.{AxisInfo}
 use Rattle.inp_state.proofs.state.described_values.Goals as goal
 
 pub loop-code-preserved : goal.loop-code-preserved
@@ -12,12 +12,17 @@ loop-code-preserved c =
     record {
       long = length-set c.loop-code.values c.from.result (to_z w32 (of_z w32 c.axis.result.value)) ∙ long;
       filled = below_more _ _
-          (λ k h. let ne : k ≢ c.from.result = omega arith in get_or-set_other c.loop-code.values c.from.result k new (pos 0) ne ∙ c.loop-code.invariant.filled k h)
+          (λ k h. let ne : k ≢ c.from.result =
+          omega arith in get_or-set_other c.loop-code.values c.from.result k new (pos 0) ne
+          ∙ c.loop-code.invariant.filled k h)
           (let lt : c.from.result < length c.loop-code.values = omega arith in
-          ap (λ (k : ℕ). get_or (set c.loop-code.values c.from.result (to_z w32 (of_z w32 c.axis.result.value))) k (pos 0)) (sym same)
-          ∙ get_or-set_same c.loop-code.values c.from.result (to_z w32 (of_z w32 c.axis.result.value)) (pos 0) lt
-          ∙ to_z-of_z w32 c.axis.result.value fits
-          ∙ ap (λ (i : AxisInfo). i.value) c.axis.ensures.axis);
+          cc (
+            same,
+            get_or-set_same c.loop-code.values c.from.result (to_z w32 (of_z w32 c.axis.result.value))
+                (pos 0) lt,
+            to_z-of_z w32 c.axis.result.value fits,
+            c.axis.ensures.axis,
+          ));
     }
 
 pub returns : goal.returns

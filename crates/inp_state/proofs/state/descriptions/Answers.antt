@@ -1,4 +1,5 @@
-use Rattle.std.proofs.Common.{◌≡◌, ◌<◌, ◌≢◌, ℕ, length, set, get_or, arith, ap, sym, get_or-set_other, get_or-set_same, length-set, below_more, ◌∙◌}
+use Rattle.std.proofs.Common.{◌≡◌, ◌<◌, ◌≢◌, length, arith, get_or-set_other, get_or-set_same, length-set}
+use Rattle.std.proofs.Common.{below_more, ◌∙◌}
 use Rattle.inp_model.specs.Description.{no_info}
 use Rattle.inp_state.proofs.state.descriptions.Goals as goal
 
@@ -9,11 +10,15 @@ loop-code-preserved c =
     record {
       long = length-set c.loop-code.infos c.from.result c.axis.result ∙ long;
       filled = below_more _ _
-          (λ k h. let ne : k ≢ c.from.result = omega arith in get_or-set_other c.loop-code.infos c.from.result k c.axis.result no_info ne ∙ c.loop-code.invariant.filled k h)
+          (λ k h. let ne : k ≢ c.from.result =
+          omega arith in get_or-set_other c.loop-code.infos c.from.result k c.axis.result no_info ne
+          ∙ c.loop-code.invariant.filled k h)
           (let lt : c.from.result < length c.loop-code.infos = omega arith in
-          ap (λ (k : ℕ). get_or (set c.loop-code.infos c.from.result c.axis.result) k no_info) (sym same)
-          ∙ get_or-set_same c.loop-code.infos c.from.result c.axis.result no_info lt
-          ∙ c.axis.ensures.axis);
+          cc (
+            same,
+            get_or-set_same c.loop-code.infos c.from.result c.axis.result no_info lt,
+            c.axis.ensures.axis,
+          ));
     }
 
 pub returns : goal.returns

@@ -1,4 +1,4 @@
-use Rattle.std.proofs.Common.{◌<◌, ℕ, ℤ, length, set, to_z, of_z, w32, FitsSigned, arith, rules, ap, sym, subst, ◌∙◌}
+use Rattle.std.proofs.Common.{◌<◌, length, w32, FitsSigned, arith, rules, sym, subst}
 use Rattle.std.proofs.lemmas.Int.{to_z-of_z}
 use Rattle.inp_state.specs.State.{StateStandsFor}
 use Rattle.inp_state.specs.contracts.state.State.{the_view}
@@ -12,7 +12,7 @@ returns c =
     let there : c.args.code < length c.self.inside.infos = omega (arith, c.requires.within) in
     record {
       stands = λ d r h. described-stands d r (the_view c.self.inside) c.args.code c.args.info _ _ within there
-          (ap (λ (k : ℕ). set c.self.inside.axes k (to_z w32 (of_z w32 c.args.info.value))) c.from.ensures ∙ ap (λ (v : ℤ). set c.self.inside.axes c.args.code v) (to_z-of_z w32 c.args.info.value fits))
-          (ap (λ (k : ℕ). set c.self.inside.infos k c.args.info) c.from-2.ensures)
+          (rw (c.from.ensures, to_z-of_z w32 c.args.info.value fits))
+          (rw c.from-2.ensures)
           (subst (StateStandsFor d r) (sym c.self.view_is) h);
     }
