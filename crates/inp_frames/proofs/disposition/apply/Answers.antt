@@ -1,29 +1,28 @@
-use Rattle.std.proofs.Common.{◌≡◌, sym, ◌∙◌, ap, subst, rules, ◌∷◌, FitsSigned, w32, to_z, of_z}
-use Rattle.std.specs.Prelude.{unwrap_or}
+use Rattle.std.proofs.Common.{◌≡◌, sym, ◌∙◌, ap, rules, FitsSigned, w32, to_z, of_z}
 use Rattle.std.proofs.lemmas.Int.{to_z-of_z}
-use Rattle.inp_model.specs.declared.event.Event.{Event}
-use Rattle.inp_model.specs.RawItem.{Occurred}
-use Rattle.inp_model.specs.Passed.{passes_as}
 use Rattle.inp_caps.specs.Disposition.{flags_after}
 use Rattle.inp_state.proofs.Steps.{StateStandsFor-multi_touch}
-use Rattle.inp_slots.specs.Slots.{SlotsStandFor, touch}
+use Rattle.inp_slots.specs.Slots.{touch}
 use Rattle.inp_slots.proofs.Others.{SlotsStandFor-other}
 use Rattle.inp_frames.proofs.PassedEvents.{touches}
 use Rattle.inp_frames.proofs.disposition.apply.Goals as goal
 
 -- the event that the slots were given
-touched : (c : goal.After-apply) → touch c.args.event.code (to_z w32 (of_z w32 c.args.event.value)) ≡ c.args.event
+touched : (c : goal.After-apply)
+    → touch c.args.event.code (to_z w32 (of_z w32 c.args.event.value)) ≡ c.args.event
 touched c =
     let fits : FitsSigned w32 c.args.event.value = search rules in
-    touches c.args.event (to_z w32 (of_z w32 c.args.event.value)) (sym c.is_multi_touch.ensures.multi_touch ∙ c.if-is_multi_touch.true) (to_z-of_z w32 c.args.event.value fits)
+    touches c.args.event (to_z w32 (of_z w32 c.args.event.value)) (sym c.is_multi_touch.ensures.multi_touch
+    ∙ c.if-is_multi_touch.true) (to_z-of_z w32 c.args.event.value fits)
 
 pub returns-then-is_multi_touch-clause-state : goal.returns-then-is_multi_touch-clause-state
 returns-then-is_multi_touch-clause-state c =
-    λ r h. StateStandsFor-multi_touch c.args.caps.now r c.args.state.now c.args.event (sym c.is_multi_touch.ensures.multi_touch ∙ c.if-is_multi_touch.true) h
+    λ r h. StateStandsFor-multi_touch c.args.caps.now r c.args.state.now c.args.event
+    (sym c.is_multi_touch.ensures.multi_touch ∙ c.if-is_multi_touch.true) h
 
 pub returns-then-is_multi_touch-clause-slots : goal.returns-then-is_multi_touch-clause-slots
 returns-then-is_multi_touch-clause-slots c =
-    λ r h. subst (λ (e : Event). SlotsStandFor c.args.caps.now (Occurred e ∷ r) c.apply.new.self) (touched c) (c.apply.ensures.stands r h)
+    λ r h. rw touched at (c.apply.ensures.stands r h)
 
 pub returns-then-is_multi_touch-clause-disposition : goal.returns-then-is_multi_touch-clause-disposition
 returns-then-is_multi_touch-clause-disposition c =
@@ -31,11 +30,12 @@ returns-then-is_multi_touch-clause-disposition c =
 
 pub returns-then-is_multi_touch-clause-value : goal.returns-then-is_multi_touch-clause-value
 returns-then-is_multi_touch-clause-value c =
-    λ r h k. c.apply.ensures.value r k ∙ ap (λ (e : Event). unwrap_or (passes_as c.args.caps.now r e) e.value) (touched c)
+    λ r h k. rw (← touched, ← c.apply.ensures.value)
 
 pub returns-else-is_multi_touch-clause-slots : goal.returns-else-is_multi_touch-clause-slots
 returns-else-is_multi_touch-clause-slots c =
-    λ r h. SlotsStandFor-other c.args.caps.now r c.args.slots.now c.args.event (sym c.is_multi_touch.ensures.multi_touch ∙ c.if-is_multi_touch.false) h
+    λ r h. SlotsStandFor-other c.args.caps.now r c.args.slots.now c.args.event
+    (sym c.is_multi_touch.ensures.multi_touch ∙ c.if-is_multi_touch.false) h
 
 pub returns-else-is_multi_touch-clause-value : goal.returns-else-is_multi_touch-clause-value
 returns-else-is_multi_touch-clause-value c = λ r h k. c.apply-else-is_multi_touch.ensures.value r h

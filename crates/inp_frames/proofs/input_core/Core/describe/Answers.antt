@@ -6,4 +6,5 @@ use Rattle.inp_frames.proofs.input_core.Core.describe.Goals as goal
 
 pub returns-clause-stands : goal.returns-clause-stands
 returns-clause-stands c = λ d past client h.
-    CoreStandsFor-described d past client c.args.code c.args.info (the_view c.self.inside) c.describe.new.self (c.describe.ensures.stands d) (subst (CoreStandsFor d past) (sym c.self.view_is) h)
+    CoreStandsFor-described d past client c.args.code c.args.info (the_view c.self.inside) c.describe.new.self
+    (c.describe.ensures.stands d) (subst (CoreStandsFor d past) (sym c.self.view_is) h)

@@ -13,5 +13,6 @@ invariant-loop-key g l = record {
   within : All (λ k. k < 768) l.key-iterator;
   made : IsFor l.caps l.self;
   handled : (r : List RawItem) → StandsAfter l.caps r l.fn.self
-      → Handles l.caps r (flat_map release_events l.yielded) l.now g.F.Frames.takes l.fn.self l.self l.fn.to l.to;
+      → Handles l.caps r (flat_map release_events l.yielded) l.now g.F.Frames.takes l.fn.self
+      l.self l.fn.to l.to;
 }

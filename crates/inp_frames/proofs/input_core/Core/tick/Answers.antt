@@ -1,22 +1,28 @@
-use Rattle.std.proofs.Common.{[], ◌∷◌, sym, ap, ◌∙◌}
-use Rattle.inp_model.specs.declared.event.Event.{Event}
-use Rattle.inp_model.specs.Raw.{raw, key_event}
+use Rattle.std.proofs.Common.{[], ◌∷◌, sym, ◌∙◌}
+use Rattle.inp_model.specs.Raw.{raw}
 use Rattle.inp_frames.proofs.EnteredSteps.{tick-waits, tick-disarms, tick-fires, begins}
 use Rattle.inp_frames.proofs.input_core.Core.tick.Goals as goal
 
 pub returns-then-not-is_due-clause-enters : goal.returns-then-not-is_due-clause-enters
 returns-then-not-is_due-clause-enters g c = λ past h.
-    tick-waits c.args.caps.now past c.args.now g.F.Frames.takes c.args.self.now c.args.to.now (sym c.is_due.ensures ∙ c.if-not-is_due.true) h
+    tick-waits c.args.caps.now past c.args.now g.F.Frames.takes c.args.self.now c.args.to.now
+    (sym c.is_due.ensures ∙ c.if-not-is_due.true) h
 
 pub returns-then-not-may_repeat-clause-enters : goal.returns-then-not-may_repeat-clause-enters
 returns-then-not-may_repeat-clause-enters g c = λ past h.
-    tick-disarms c.args.caps.now past c.args.now g.F.Frames.takes c.args.self.now c.disarm.new.self c.args.to.now
-    (sym c.is_due.ensures ∙ c.if-not-is_due.false) (sym c.may_repeat.ensures ∙ c.if-not-may_repeat.true) h c.disarm.ensures
+    tick-disarms c.args.caps.now past c.args.now g.F.Frames.takes c.args.self.now
+    c.disarm.new.self c.args.to.now
+    (sym c.is_due.ensures ∙ c.if-not-is_due.false) (sym c.may_repeat.ensures
+    ∙ c.if-not-may_repeat.true) h c.disarm.ensures
 
 pub returns-clause-enters : goal.returns-clause-enters
 returns-clause-enters g c = λ past h.
-    tick-fires c.args.caps.now past c.args.now g.F.Frames.takes c.args.self.now c.disarm.new.self c.gather_two.new.self c.rearm.new.self (c.repeat_event-repeat.result ∷ c.core_report.result ∷ []) c.args.to.now c.gather_two.new.to
-    (sym c.is_due.ensures ∙ c.if-not-is_due.false) (sym c.may_repeat.ensures ∙ c.if-not-may_repeat.false) h c.disarm.ensures
-    (ap (λ (e : Event). e ∷ c.core_report.result ∷ []) c.repeat_event-repeat.ensures ∙ ap (λ (e : Event). key_event c.disarm.new.self.timer.key 2 ∷ e ∷ []) c.core_report.ensures)
-    (c.gather_two.ensures.handled (raw c.args.caps.now past) (begins c.args.caps.now past c.args.self.now c.disarm.new.self h c.disarm.ensures))
+    tick-fires c.args.caps.now past c.args.now g.F.Frames.takes c.args.self.now c.disarm.new.self
+    c.gather_two.new.self c.rearm.new.self
+    (c.repeat_event-repeat.result ∷ c.core_report.result ∷ []) c.args.to.now c.gather_two.new.to
+    (sym c.is_due.ensures ∙ c.if-not-is_due.false) (sym c.may_repeat.ensures
+    ∙ c.if-not-may_repeat.false) h c.disarm.ensures
+    (rw (c.repeat_event-repeat.ensures, c.core_report.ensures))
+    (c.gather_two.ensures.handled (raw c.args.caps.now past)
+    (begins c.args.caps.now past c.args.self.now c.disarm.new.self h c.disarm.ensures))
     c.rearm.ensures.timer_rearmed
