@@ -1,6 +1,7 @@
--- What the first filter was given before each of the frames that a step ends: what it was given before the step, and the
--- frames of the step that end earlier.
-use Rattle.std.proofs.Common.{◌≡◌, ℕ, suc, ◌<◌, ◌≤◌, Bool, if◌then◌else◌, List, [], ◌∷◌, ◌++◌, length, map, refl, sym, ap, ◌∙◌, subst, arith, Option, Some, None, append_assoc}
+-- What the first filter was given before each of the frames that a step ends: what it was given before
+-- the step, and the frames of the step that end earlier.
+use Rattle.std.proofs.Common.{◌≡◌, ℕ, suc, ◌<◌, ◌≤◌, Bool, List, [], ◌∷◌, ◌++◌, length, map, refl, sym, ◌∙◌}
+use Rattle.std.proofs.Common.{subst, arith, Option, Some, None, append_assoc}
 use Rattle.std.specs.Prelude.{filter, nat_lt, option_to_list, option_map}
 use Rattle.std.proofs.lemmas.List.{map-append}
 use Rattle.inp_model.specs.declared.event.Event.{Event}
@@ -26,11 +27,17 @@ in_order-from : (n m : ℕ) (cs : List Cut) → n ≤ m → AreInOrder m cs → 
 in_order-from n m [] le h = tt
 in_order-from n m (c ∷ cs) le h = (omega (arith, le, h.0), h.1)
 
-in_order-cut : (r : List RawItem) (e : Event) (events : Option (List Event)) (cs : List Cut) → AreInOrder (suc (length r)) cs → AreInOrder (length r) (option_to_list (option_map (λ (es : List Event). let c : Cut = record { events = es; until = Occurred e ∷ r } in c) events) ++ cs)
+in_order-cut : (r : List RawItem) (e : Event) (events : Option (List Event)) (cs : List Cut)
+    → AreInOrder (suc (length r)) cs
+    → AreInOrder (length r)
+    (option_to_list
+    (option_map (λ (es : List Event). let c : Cut =
+    record { events = es; until = Occurred e ∷ r } in c) events) ++ cs)
 in_order-cut r e None cs h = in_order-from (length r) (suc (length r)) cs (omega arith) h
 in_order-cut r e (Some es) cs h = (omega arith, h)
 
-in_order-item : (d : Description) (r : List RawItem) (x : RawItem) (cs : List Cut) → AreInOrder (suc (length r)) cs → AreInOrder (length r) (cut_for d r x ++ cs)
+in_order-item : (d : Description) (r : List RawItem) (x : RawItem) (cs : List Cut)
+    → AreInOrder (suc (length r)) cs → AreInOrder (length r) (cut_for d r x ++ cs)
 in_order-item d r (Occurred e) cs h = in_order-cut r e (cut_events d r e) cs h
 in_order-item d r (Described code axis) cs h = in_order-from (length r) (suc (length r)) cs (omega arith) h
 
@@ -40,7 +47,8 @@ cuts-in_order d r [] = tt
 cuts-in_order d r (x ∷ xs) = in_order-item d r x (cuts d (x ∷ r) xs) (cuts-in_order d (x ∷ r) xs)
 
 -- the last of some ends later than all of them began
-in_order-last : (n : ℕ) (first : List Cut) (c : Cut) (rest : List Cut) → AreInOrder n (first ++ c ∷ rest) → n < length c.until
+in_order-last : (n : ℕ) (first : List Cut) (c : Cut) (rest : List Cut) → AreInOrder n (first ++ c ∷ rest)
+    → n < length c.until
 in_order-last n [] c rest h = h.0
 in_order-last n (b ∷ first) c rest h =
     let later : length b.until < length c.until = in_order-last (length b.until) first c rest h.1 in
@@ -53,50 +61,57 @@ abbrev is_before : ℕ → Frame → Bool
 is_before n g = nat_lt (length g.cut.until) n
 
 module _ (past : List Step) (x : Step) where
-  none_before : (n m : ℕ) (cs : List Cut) → n ≤ m → AreInOrder m cs → filter (is_before n) (map (frame_of past x) cs) ≡ []
+  none_before : (n m : ℕ) (cs : List Cut) → n ≤ m → AreInOrder m cs
+      → filter (is_before n) (map (frame_of past x) cs) ≡ []
   none_before n m [] le h = refl
   none_before n m (c ∷ cs) le h =
       let later : n ≤ length c.until = omega (arith, le, h.0) in
-      ap (λ (b : Bool). if b then frame_of past x c ∷ filter (is_before n) (map (frame_of past x) cs) else filter (is_before n) (map (frame_of past x) cs)) (le-ltb (length c.until) n later)
-      ∙ none_before n (length c.until) cs later h.1
+      rw (le-ltb (length c.until) n later) (none_before n (length c.until) cs later h.1)
 
-  all_before : (n : ℕ) (first : List Cut) (c : Cut) (rest : List Cut) → AreInOrder n (first ++ c ∷ rest) → filter (is_before (length c.until)) (map (frame_of past x) (first ++ c ∷ rest)) ≡ map (frame_of past x) first
+  all_before : (n : ℕ) (first : List Cut) (c : Cut) (rest : List Cut) → AreInOrder n (first ++ c ∷ rest)
+      → filter (is_before (length c.until)) (map (frame_of past x) (first ++ c ∷ rest))
+      ≡ map (frame_of past x) first
   all_before n [] c rest h =
-      ap (λ (b : Bool). if b then frame_of past x c ∷ filter (is_before (length c.until)) (map (frame_of past x) rest) else filter (is_before (length c.until)) (map (frame_of past x) rest)) (le-ltb (length c.until) (length c.until) (omega arith))
-      ∙ none_before (length c.until) (length c.until) rest (omega arith) h.1
+      rw (le-ltb (length c.until) (length c.until) (omega arith))
+      (none_before (length c.until) (length c.until) rest (omega arith) h.1)
   all_before n (b ∷ first) c rest h =
       let earlier : length b.until < length c.until = in_order-last (length b.until) first c rest h.1 in
-      ap (λ (t : Bool). if t then frame_of past x b ∷ filter (is_before (length c.until)) (map (frame_of past x) (first ++ c ∷ rest)) else filter (is_before (length c.until)) (map (frame_of past x) (first ++ c ∷ rest))) (lt-ltb (length b.until) (length c.until) earlier)
-      ∙ ap (λ (fs : List Frame). frame_of past x b ∷ fs) (all_before (length b.until) first c rest h.1)
+      rw (lt-ltb (length b.until) (length c.until) earlier, all_before (length b.until) first c rest h.1)
 
-given_by-append : (fs gs : List Frame) (before : List Timed) → given_by (fs ++ gs) before ≡ given_by gs (given_by fs before)
+given_by-append : (fs gs : List Frame) (before : List Timed)
+    → given_by (fs ++ gs) before ≡ given_by gs (given_by fs before)
 given_by-append [] gs before = refl
 given_by-append (f ∷ fs) gs before = given_by-append fs gs _
 
--- Behind what the first filter was given so far: before each of these cuts of a step it was given that, and the frames of
--- those before it.
+-- Behind what the first filter was given so far: before each of these cuts of a step it was given that,
+-- and the frames of those before it.
 abbrev pub AreGiven : Description → List Step → Step → List Cut → List Timed → Type 0
 AreGiven d past x [] given = Unit {0}
 AreGiven d past x (c ∷ cs) given =
-    (given_before d (frame_of past x c) ≡ given) × AreGiven d past x cs (given_after (moment_of x) given c.events)
+    (given_before d (frame_of past x c) ≡ given)
+    × AreGiven d past x cs (given_after (moment_of x) given c.events)
 
 module _ (d : Description) (past : List Step) (x : Step) where
-  first_given : (first : List Cut) (c : Cut) (rest : List Cut) → AreInOrder (length (raw d past)) (first ++ c ∷ rest) → cuts_of_step d past x ≡ first ++ c ∷ rest → given_before d (frame_of past x c) ≡ given_by (map (frame_of past x) first) (given_in d past)
-  first_given first c rest h e =
-      ap (λ (cs : List Cut). given_by (filter (is_before (length c.until)) (map (frame_of past x) cs)) (given_in d past)) e
-      ∙ ap (λ (fs : List Frame). given_by fs (given_in d past)) (all_before past x (length (raw d past)) first c rest h)
+  first_given : (first : List Cut) (c : Cut) (rest : List Cut)
+      → AreInOrder (length (raw d past)) (first ++ c ∷ rest) → cuts_of_step d past x ≡ first ++ c ∷ rest
+      → given_before d (frame_of past x c) ≡ given_by (map (frame_of past x) first) (given_in d past)
+  first_given first c rest h e = rw (e, all_before past x (length (raw d past)) first c rest h)
 
-  rest_given : (first rest : List Cut) → AreInOrder (length (raw d past)) (first ++ rest) → cuts_of_step d past x ≡ first ++ rest → AreGiven d past x rest (given_by (map (frame_of past x) first) (given_in d past))
+  rest_given : (first rest : List Cut) → AreInOrder (length (raw d past)) (first ++ rest)
+      → cuts_of_step d past x ≡ first ++ rest
+      → AreGiven d past x rest (given_by (map (frame_of past x) first) (given_in d past))
   rest_given first [] h e = tt
   rest_given first (c ∷ rest) h e =
       let here = frame_of past x c in
       let moved : first ++ c ∷ rest ≡ (first ++ c ∷ []) ++ rest = sym (append_assoc first (c ∷ []) rest) in
-      let after : given_by (map (frame_of past x) (first ++ c ∷ [])) (given_in d past) ≡ given_after (moment_of x) (given_by (map (frame_of past x) first) (given_in d past)) c.events =
-      ap (λ (fs : List Frame). given_by fs (given_in d past)) (map-append (frame_of past x) first (c ∷ []))
-      ∙ given_by-append (map (frame_of past x) first) (here ∷ []) (given_in d past) in (
+      let after : given_by (map (frame_of past x) (first ++ c ∷ [])) (given_in d past)
+      ≡ given_after (moment_of x) (given_by (map (frame_of past x) first) (given_in d past)) c.events =
+      rw (map-append (frame_of past x) first (c ∷ []))
+      (given_by-append (map (frame_of past x) first) (here ∷ []) (given_in d past)) in (
         first_given first c rest h e,
-        subst (λ (given : List Timed). AreGiven d past x rest given) after
-            (rest_given (first ++ c ∷ []) rest (subst (AreInOrder (length (raw d past))) moved h) (e ∙ moved)),
+        rw after at
+            (rest_given (first ++ c ∷ []) rest
+            (subst (AreInOrder (length (raw d past))) moved h) (e ∙ moved)),
       )
 
   -- so before all of its frames

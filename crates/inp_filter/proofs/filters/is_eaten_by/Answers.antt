@@ -17,11 +17,14 @@ pub loop-filter-preserved : goal.loop-filter-preserved
 loop-filter-preserved c =
     let here = c.loop-filter in
     let next = c.takes-is_eaten.ensures in
-    comes_so_far-more (timed c.args.now c.args.event) c.args.filters.now here.filters here.filter-index none c.takes-is_eaten.new.self (omega arith) here.is_eaten c.takes-is_eaten.result here.invariant
+    comes_so_far-more (timed c.args.now c.args.event) c.args.filters.now here.filters here.filter-index none
+    c.takes-is_eaten.new.self (omega arith) here.is_eaten c.takes-is_eaten.result here.invariant
     (record { eaten_is = next.eaten; kept = next.kept; eats = next.eats; stands = next.stands })
 
 pub returns : goal.returns
 returns c =
     let here = c.loop-filter in
-    let all = comes_so_far-all (timed c.args.now c.args.event) c.args.filters.now here.filters here.filter-index here.is_eaten (omega arith) here.invariant in
+    let all =
+    comes_so_far-all (timed c.args.now c.args.event) c.args.filters.now here.filters here.filter-index
+    here.is_eaten (omega arith) here.invariant in
     record { eaten = all.eaten_is; stands = all.stands }

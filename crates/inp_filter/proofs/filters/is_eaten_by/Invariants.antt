@@ -4,4 +4,5 @@ use Rattle.inp_filter.proofs.Rows.{ComesSoFar}
 use Rattle.inp_filter.proofs.filters.is_eaten_by.Given as goal
 
 abbrev pub invariant-loop-filter : goal.invariant-loop-filter
-invariant-loop-filter l = ComesSoFar (timed l.now l.event) l.initial.filters l.filters l.filter-index l.is_eaten
+invariant-loop-filter l =
+    ComesSoFar (timed l.now l.event) l.initial.filters l.filters l.filter-index l.is_eaten

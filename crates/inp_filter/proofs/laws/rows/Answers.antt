@@ -3,4 +3,8 @@ use Rattle.inp_filter.proofs.RowLaws.{filter-let_through, let_through-no_filter,
 use Rattle.inp_filter.proofs.laws.rows.Goals as goal
 
 pub returns : goal.returns
-returns c = record { syn = filter-let_through; none = let_through-no_filter; one_after_another = let_through-row }
+returns c = record {
+  syn = filter-let_through;
+  none = let_through-no_filter;
+  one_after_another = let_through-row;
+}

@@ -6,4 +6,7 @@ use Rattle.inp_filter.proofs.chord.Chord.new.Goals as goal
 pub returns : goal.returns
 unfolding is_down
 returns c =
-    record { fresh = record { first_is = refl; down = refl; hold = c.new.ensures.fresh (is_chorded c.args.first) } }
+    record {
+      fresh =
+          record { first_is = refl; down = refl; hold = c.new.ensures.fresh (is_chorded c.args.first) };
+    }

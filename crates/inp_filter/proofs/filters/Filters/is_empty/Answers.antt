@@ -1,5 +1,5 @@
 -- As many are kept as there are.
-use Rattle.std.proofs.Common.{◌≡◌, ◌∙◌, ℕ, List, [], ◌∷◌, refl, ap, length, arith}
+use Rattle.std.proofs.Common.{◌≡◌, List, [], ◌∷◌, refl, length, arith}
 use Rattle.std.specs.Prelude.{◌==◌}
 use Rattle.std.proofs.lemmas.Bool.Decides.{nat_tests}
 use Rattle.inp_model.specs.Queue.{is_empty}
@@ -14,4 +14,5 @@ none_by_length (s ∷ states) = grind (arith, nat_tests)
 
 pub returns : goal.returns
 returns c = λ fs given h.
-    c.is_empty.ensures ∙ ap (λ (n : ℕ). n == 0) c.self.inside.filters.ok.0 ∙ ap (λ (states : List FilterState). length states == 0) c.self.view_is ∙ none_by_length c.args.self.now ∙ FiltersStandFor-is_empty fs given c.args.self.now h
+    rw (c.is_empty.ensures, c.self.inside.filters.ok.0, c.self.view_is, none_by_length c.args.self.now)
+    (FiltersStandFor-is_empty fs given c.args.self.now h)

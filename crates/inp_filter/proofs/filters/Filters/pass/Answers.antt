@@ -1,11 +1,9 @@
 -- Each event is left and written, or eaten; behind the last one nothing more is left.
-use Rattle.std.proofs.Common.{ℕ, ◌+◌, List, ◌++◌, take, refl, sym, ap, ◌∙◌, subst, arith, pos}
+use Rattle.std.proofs.Common.{take, refl, sym, ◌∙◌, arith, pos}
 use Rattle.std.proofs.lemmas.List.{append-nil, drop_all}
 use Rattle.inp_model.specs.declared.event.Event.{Event}
-use Rattle.inp_model.specs.Filter.{Timed, given_after}
-use Rattle.inp_filter.specs.Row.{let_through}
-use Rattle.inp_filter.specs.FilterState.{FiltersStandFor}
-use Rattle.inp_filter.proofs.LetThrough.{Writes, passing-none, writes-left, writes-eaten, let_through-none, given_after-none}
+use Rattle.inp_filter.proofs.LetThrough.{passing-none, writes-left, writes-eaten, let_through-none}
+use Rattle.inp_filter.proofs.LetThrough.{given_after-none}
 use Rattle.inp_filter.proofs.filters.Filters.pass.Goals.{then-lets_through, else-lets_through}
 use Rattle.inp_filter.proofs.filters.Filters.pass.Goals as goal
 
@@ -26,13 +24,18 @@ loop-event-preserved c =
     let events = c.args.events.now in
     elim c.if-lets_through.branch [
       | then-lets_through w ↦
-          let next = writes-left c.args.now events c.args.self.now c.args.out.now here.event-index here.count here.self c.lets_through.new.self here.out none (omega arith) here.invariant c.lets_through.ensures.stands (λ fs given h. sym w.if-lets_through.true ∙ c.lets_through.ensures.left fs given h) (omega (arith, here.invariant.few, c.requires.room)) in
-          subst (λ (n : ℕ). Writes c.args.now events c.args.self.now c.args.out.now (here.event-index + 1) n c.lets_through.new.self c.if-lets_through.out) (sym w.count-is)
-          (subst (λ (o : List Event). Writes c.args.now events c.args.self.now c.args.out.now (here.event-index + 1) (here.count + 1) c.lets_through.new.self o) (sym w.out-is) next)
+          let next =
+          writes-left c.args.now events c.args.self.now c.args.out.now here.event-index here.count here.self
+          c.lets_through.new.self here.out none (omega arith) here.invariant c.lets_through.ensures.stands
+          (λ fs given h. sym w.if-lets_through.true ∙ c.lets_through.ensures.left fs given h)
+          (omega (arith, here.invariant.few, c.requires.room)) in
+          rw (w.count-is, w.out-is) next
       | else-lets_through w ↦
-          let next = writes-eaten c.args.now events c.args.self.now c.args.out.now here.event-index here.count here.self c.lets_through.new.self here.out none (omega arith) here.invariant c.lets_through.ensures.stands (λ fs given h. sym w.if-lets_through.false ∙ c.lets_through.ensures.left fs given h) in
-          subst (λ (n : ℕ). Writes c.args.now events c.args.self.now c.args.out.now (here.event-index + 1) n c.lets_through.new.self c.if-lets_through.out) (sym w.count-is)
-          (subst (λ (o : List Event). Writes c.args.now events c.args.self.now c.args.out.now (here.event-index + 1) here.count c.lets_through.new.self o) (sym w.out-is) next)
+          let next =
+          writes-eaten c.args.now events c.args.self.now c.args.out.now here.event-index here.count here.self
+          c.lets_through.new.self here.out none (omega arith) here.invariant c.lets_through.ensures.stands
+          (λ fs given h. sym w.if-lets_through.false ∙ c.lets_through.ensures.left fs given h) in
+          rw (w.count-is, w.out-is) next
     ]
 
 pub returns : goal.returns
@@ -42,12 +45,12 @@ returns c =
     record {
       left = λ fs given h.
           let p = here.invariant.passing fs given h in
-          let end = ap (λ (es : List Event). let_through fs c.args.now p.given_so_far es) none_more ∙ let_through-none fs c.args.now p.given_so_far in
-          sym (p.left_is ∙ ap (λ (es : List Event). take here.count here.out ++ es) end ∙ append-nil (take here.count here.out));
+          let end = rw (← none_more) at (let_through-none fs c.args.now p.given_so_far) in
+          sym (cc (p.left_is, end, append-nil (take here.count here.out)));
       stands = λ fs given h.
           let p = here.invariant.passing fs given h in
-          let end = p.given_is ∙ ap (λ (es : List Event). given_after c.args.now p.given_so_far es) none_more ∙ given_after-none c.args.now p.given_so_far in
-          subst (λ (l : List Timed). FiltersStandFor fs l here.self) (sym end) p.stands;
+          let end = rw (← none_more, ← p.given_is) at (given_after-none c.args.now p.given_so_far) in
+          rw end p.stands;
       fits = omega (arith, here.invariant.few);
       rest = here.invariant.rest;
     }
