@@ -1,5 +1,5 @@
 -- One digit, or two of the table.
-use Rattle.std.proofs.Common.{◌≡◌, ℕ, ◌+◌, List, ◌++◌, take, sym, ap, ◌∙◌, arith}
+use Rattle.std.proofs.Common.{◌+◌, arith}
 use Rattle.std.proofs.lemmas.Fmt.{decimal_digit}
 use Rattle.std.proofs.lemmas.Grind.{take-set_at}
 use Rattle.itoa.proofs.Decimal.{decimal_two}
@@ -16,8 +16,11 @@ returns-then-number-lt10-clause-end c =
 pub returns-then-number-lt10-clause-stored : goal.returns-then-number-lt10-clause-stored
 returns-then-number-lt10-clause-stored c =
     let one = decimal-length-one c.args.number c.if-number-lt10.true in
-    take-set_at c.args.bytes.now c.args.at (c.args.at + 1) (48 + c.args.number) (omega arith) (omega arith)
-    ∙ ap (λ (l : List ℕ). take c.args.at c.args.bytes.now ++ l) (sym (decimal_digit c.args.number c.if-number-lt10.true))
+    rw (
+      take-set_at c.args.bytes.now c.args.at (c.args.at + 1) (48 + c.args.number) (omega arith)
+          (omega arith),
+      ← decimal_digit c.args.number c.if-number-lt10.true,
+    )
 
 pub store_two-requires-clause-room : goal.store_two-requires-clause-room
 store_two-requires-clause-room c =
@@ -29,5 +32,4 @@ returns-clause-end c =
 
 pub returns-clause-stored : goal.returns-clause-stored
 returns-clause-stored c =
-    c.store_two.ensures.stored
-    ∙ ap (λ (l : List ℕ). take c.args.at c.args.bytes.now ++ l) (sym (decimal_two c.args.number c.if-number-lt10.false c.requires.short))
+    rw (c.store_two.ensures.stored, ← decimal_two c.args.number c.if-number-lt10.false c.requires.short)

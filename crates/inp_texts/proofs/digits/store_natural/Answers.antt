@@ -1,5 +1,5 @@
 -- One digit.
-use Rattle.std.proofs.Common.{◌≡◌, ℕ, ◌+◌, List, ◌++◌, take, sym, ap, ◌∙◌, arith}
+use Rattle.std.proofs.Common.{◌+◌, arith}
 use Rattle.std.proofs.lemmas.Fmt.{decimal_digit}
 use Rattle.std.proofs.lemmas.Grind.{take-set_at}
 use Rattle.inp_texts.proofs.Decimals.{decimal-length-one}
@@ -15,5 +15,8 @@ returns-then-number-lt10-clause-end c =
 pub returns-then-number-lt10-clause-stored : goal.returns-then-number-lt10-clause-stored
 returns-then-number-lt10-clause-stored c =
     let one = decimal-length-one c.args.number c.if-number-lt10.true in
-    take-set_at c.args.bytes.now c.args.at (c.args.at + 1) (48 + c.args.number) (omega arith) (omega arith)
-    ∙ ap (λ (l : List ℕ). take c.args.at c.args.bytes.now ++ l) (sym (decimal_digit c.args.number c.if-number-lt10.true))
+    rw (
+      take-set_at c.args.bytes.now c.args.at (c.args.at + 1) (48 + c.args.number) (omega arith)
+          (omega arith),
+      ← decimal_digit c.args.number c.if-number-lt10.true,
+    )

@@ -1,5 +1,5 @@
 -- Two digits more.
-use Rattle.std.proofs.Common.{◌≡◌, ℕ, ◌+◌, arith}
+use Rattle.std.proofs.Common.{arith}
 use Rattle.inp_texts.proofs.Decimals.{decimal-length-pair, two-more}
 use Rattle.inp_texts.proofs.digits.store_short.Goals as goal
 
@@ -18,4 +18,5 @@ returns-clause-end c =
 
 pub returns-clause-stored : goal.returns-clause-stored
 returns-clause-stored c =
-    two-more c.args.number _ _ _ c.if-number-lt100.false c.ranges.number.fits c.store_first-next.ensures.stored c.store_two.ensures.stored
+    two-more c.args.number _ _ _ c.if-number-lt100.false c.ranges.number.fits
+    c.store_first-next.ensures.stored c.store_two.ensures.stored

@@ -18,6 +18,7 @@ returns-else-other-eq0 c =
     let v = chunk c.args.at 16 c.args.line.now in
     let long = length-chunk c.args.at 16 c.args.line.now c.requires in
     let mask = above_mask v long in
-    let first = ap (count_trailing_zeros 64) mask ∙ trailing_mask_l is_above 64 v (omega arith) (omega arith) in
+    let first =
+    ap (count_trailing_zeros 64) mask ∙ trailing_mask_l is_above 64 v (omega arith) (omega arith) in
     let run = run_is c.args.line.now c.args.at _ c.requires c.type_inv.line first in
     record { within = run.within; printed = run.printed; other = run.other }

@@ -5,4 +5,8 @@ use Rattle.inp_texts.proofs.number_words.numeral.Given as goal
 
 abbrev pub invariant-loop-byte : goal.invariant-loop-byte
 invariant-loop-byte l =
-    record { longer : 0 < length l.digits; digits : list_all (is_digit l.base) (take l.byte-index l.digits) ≡ true; value : l.value ≡ value_of l.base (take l.byte-index l.digits) }
+    record {
+      longer : 0 < length l.digits;
+      digits : list_all (is_digit l.base) (take l.byte-index l.digits) ≡ true;
+      value : l.value ≡ value_of l.base (take l.byte-index l.digits);
+    }

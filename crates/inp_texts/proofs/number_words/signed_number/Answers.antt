@@ -19,7 +19,8 @@ returns-in_ok-below-in-45 c =
     let minus = signed_number_minus c.args.word.now (omega arith) (grind arith) in
     let n = c.in_ok-below-in-45.below in
     let bound : n ≤ 2147483648 = search rules in
-    let value : to_z w32 (of_z w32 (to_z w64 (of_z w64 (pos 0 -ℤ to_z w64 n)))) ≡ neg_ℤ (pos n) = omega (arith, ints) in
+    let value : to_z w32 (of_z w32 (to_z w64 (of_z w64 (pos 0 -ℤ to_z w64 n)))) ≡ neg_ℤ (pos n) =
+    omega (arith, ints) in
     grind (arith, common_steps)
 
 pub returns-in_ok-above-in_default : goal.returns-in_ok-above-in_default

@@ -12,8 +12,14 @@ returns-in-Some c =
     let first = c.in-Some.ensures in
     record {
       within = omega (arith, first.0.high);
-      first = first_line c.args.text.now c.in-Some.end first.0.high (λ k lt. not_true _ (first.0.before k (omega arith) lt)) first.1;
+      first =
+          first_line c.args.text.now c.in-Some.end first.0.high
+          (λ k lt. not_true _ (first.0.before k (omega arith) lt)) first.1;
     }
 
 pub returns-in-None : goal.returns-in-None
-returns-in-None c = record { within = omega arith; first = last_line c.args.text.now (λ k lt. not_true _ (c.in-None.ensures k (omega arith) lt)) }
+returns-in-None c =
+    record {
+      within = omega arith;
+      first = last_line c.args.text.now (λ k lt. not_true _ (c.in-None.ensures k (omega arith) lt));
+    }
