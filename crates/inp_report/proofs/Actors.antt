@@ -1,5 +1,5 @@
 -- The numbers of a device's actors are those of actors.
-use Rattle.std.proofs.Common.{◌≡◌, ℕ, ◌<◌, List, [], ◌∷◌, length, map, get_or, Some, sym, ap, subst, ◌∙◌, zero-add}
+use Rattle.std.proofs.Common.{◌≡◌, ℕ, ◌<◌, List, [], ◌∷◌, length, map, get_or, Some, ap, ◌∙◌, zero-add}
 use Rattle.std.specs.Prelude.{not, ◌||◌, slice_get}
 use Rattle.std.specs.List.{All, flat_map, range_with_len}
 use Rattle.std.proofs.lemmas.List.{get_or-map, length-map}
@@ -9,54 +9,71 @@ use Rattle.inp_bits.proofs.Indices.{All-filter_range}
 use Rattle.inp_actors.specs.declared.actor_text.ActorText.{ActorText}
 use Rattle.inp_actors.specs.Record.{RecordView}
 use Rattle.inp_script.specs.Job.{JobView, JoyJobView, OwnerView}
-use Rattle.inp_script.specs.Runs.{is_on_device, is_joystick, is_owning, actors_of, jobs_of, joysticks_of, owners_of, AreJoysOf, AreOwnersOf}
+use Rattle.inp_script.specs.Runs.{is_on_device, is_joystick, is_owning, actors_of, jobs_of, joysticks_of}
+use Rattle.inp_script.specs.Runs.{owners_of, AreJoysOf, AreOwnersOf}
 
 -- each is the number of an actor
-actors_of-within : (actors : List ActorText) (device : ℕ) → All (λ i. i < length actors) (actors_of actors device)
+actors_of-within : (actors : List ActorText) (device : ℕ)
+    → All (λ i. i < length actors) (actors_of actors device)
 actors_of-within actors device =
-    subst (λ (n : ℕ). All (λ i. i < n) (actors_of actors device)) (zero-add (length actors))
+    rw (zero-add (length actors)) at
     (All-filter_range (λ i. is_on_device device (slice_get actors i)) 0 (length actors))
 
 -- so is each of those of its jobs, of its joysticks, and of its owners
 jobs_of-within : (actors : List ActorText) (device : ℕ) → All (λ i. i < length actors) (jobs_of actors device)
 jobs_of-within actors device =
-    All-filter (λ i. not (is_joystick (slice_get actors i) || is_owning (slice_get actors i))) (λ i. i < length actors) (actors_of actors device) (actors_of-within actors device)
+    All-filter (λ i. not (is_joystick (slice_get actors i) || is_owning (slice_get actors i)))
+    (λ i. i < length actors) (actors_of actors device) (actors_of-within actors device)
 
-joysticks_of-within : (actors : List ActorText) (device : ℕ) → All (λ i. i < length actors) (joysticks_of actors device)
+joysticks_of-within : (actors : List ActorText) (device : ℕ)
+    → All (λ i. i < length actors) (joysticks_of actors device)
 joysticks_of-within actors device =
-    All-filter (λ i. is_joystick (slice_get actors i)) (λ i. i < length actors) (actors_of actors device) (actors_of-within actors device)
+    All-filter (λ i. is_joystick (slice_get actors i)) (λ i. i < length actors) (actors_of actors device)
+    (actors_of-within actors device)
 
-owners_of-within : (actors : List ActorText) (device : ℕ) → All (λ i. i < length actors) (owners_of actors device)
+owners_of-within : (actors : List ActorText) (device : ℕ)
+    → All (λ i. i < length actors) (owners_of actors device)
 owners_of-within actors device =
-    All-filter (λ i. is_owning (slice_get actors i)) (λ i. i < length actors) (actors_of actors device) (actors_of-within actors device)
+    All-filter (λ i. is_owning (slice_get actors i)) (λ i. i < length actors) (actors_of actors device)
+    (actors_of-within actors device)
 
 -- and of those of some devices, where it is so of each
-of_devices-within : (n : ℕ) (of : ℕ → List ℕ) (each : (device : ℕ) → All (λ i. i < n) (of device)) (devices : List ℕ) → All (λ i. i < n) (flat_map of devices)
+of_devices-within : (n : ℕ) (of : ℕ → List ℕ) (each : (device : ℕ) → All (λ i. i < n) (of device))
+    (devices : List ℕ) → All (λ i. i < n) (flat_map of devices)
 of_devices-within n of each [] = All-nil (λ i. i < n)
 of_devices-within n of each (device ∷ devices) =
-    All-append (λ i. i < n) (of device) (flat_map of devices) (each device) (of_devices-within n of each devices)
+    All-append (λ i. i < n) (of device) (flat_map of devices) (each device)
+    (of_devices-within n of each devices)
 
 -- one of some numbers that are below a bound
-number-within : {X : Type 0} (f : X → ℕ) (n : ℕ) (xs : List X) (i : ℕ) (x : X) → All (λ k. k < n) (map f xs) → slice_get xs i ≡ Some x → f x < n
+number-within : {X : Type 0} (f : X → ℕ) (n : ℕ) (xs : List X) (i : ℕ) (x : X) → All (λ k. k < n) (map f xs)
+    → slice_get xs i ≡ Some x → f x < n
 number-within {X} f n xs i x all at =
     let inside : i < length xs = slice_get_within xs i x at in
-    let is : get_or (map f xs) i 0 ≡ f x = get_or-map f xs i x 0 inside ∙ ap f (get_or_from_slice_get xs i x x at) in
-    subst (λ (k : ℕ). k < n) is (All-get_or (λ k. k < n) (map f xs) i 0 (subst (λ (k : ℕ). i < k) (sym (length-map xs f)) inside) all)
+    let is : get_or (map f xs) i 0 ≡ f x =
+    get_or-map f xs i x 0 inside ∙ ap f (get_or_from_slice_get xs i x x at) in
+    rw is at (All-get_or (λ k. k < n) (map f xs) i 0 (rw (length-map xs f) inside) all)
 
 -- a job of a device is an actor's
-pub actor_within : (actors : List ActorText) (device : ℕ) (jobs : List JobView) (i : ℕ) (job : JobView) → map (λ (j : JobView). j.actor) jobs ≡ jobs_of actors device → slice_get jobs i ≡ Some job → job.actor < length actors
+pub actor_within : (actors : List ActorText) (device : ℕ) (jobs : List JobView) (i : ℕ) (job : JobView)
+    → map (λ (j : JobView). j.actor) jobs ≡ jobs_of actors device → slice_get jobs i ≡ Some job
+    → job.actor < length actors
 actor_within actors device jobs i job of at =
     number-within (λ (j : JobView). j.actor) (length actors) jobs i job
-    (subst (λ (ns : List ℕ). All (λ n. n < length actors) ns) (sym of) (jobs_of-within actors device)) at
+    (rw of (jobs_of-within actors device)) at
 
 -- and so is a joystick's
-pub joy_within : (r : RecordView) (joys : List JoyJobView) (i : ℕ) (joy : JoyJobView) → AreJoysOf r joys → slice_get joys i ≡ Some joy → joy.actor < length r.actors
+pub joy_within : (r : RecordView) (joys : List JoyJobView) (i : ℕ) (joy : JoyJobView) → AreJoysOf r joys
+    → slice_get joys i ≡ Some joy → joy.actor < length r.actors
 joy_within r joys i joy of at =
     number-within (λ (j : JoyJobView). j.actor) (length r.actors) joys i joy
-    (subst (λ (ns : List ℕ). All (λ n. n < length r.actors) ns) (sym of) (of_devices-within (length r.actors) (joysticks_of r.actors) (joysticks_of-within r.actors) (range_with_len 0 (length r.devices)))) at
+    (rw of (of_devices-within (length r.actors) (joysticks_of r.actors) (joysticks_of-within r.actors)
+    (range_with_len 0 (length r.devices)))) at
 
 -- and an owner's
-pub owner_within : (r : RecordView) (owners : List OwnerView) (i : ℕ) (owner : OwnerView) → AreOwnersOf r owners → slice_get owners i ≡ Some owner → owner.actor < length r.actors
+pub owner_within : (r : RecordView) (owners : List OwnerView) (i : ℕ) (owner : OwnerView)
+    → AreOwnersOf r owners → slice_get owners i ≡ Some owner → owner.actor < length r.actors
 owner_within r owners i owner of at =
     number-within (λ (o : OwnerView). o.actor) (length r.actors) owners i owner
-    (subst (λ (ns : List ℕ). All (λ n. n < length r.actors) ns) (sym of) (of_devices-within (length r.actors) (owners_of r.actors) (owners_of-within r.actors) (range_with_len 0 (length r.devices)))) at
+    (rw of (of_devices-within (length r.actors) (owners_of r.actors) (owners_of-within r.actors)
+    (range_with_len 0 (length r.devices)))) at

@@ -1,5 +1,6 @@
 -- What is written and counted of a sight, one entry on.
-use Rattle.std.proofs.Common.{◌≡◌, ℕ, ◌+◌, Bool, true, false, cond, List, [], ◌∷◌, ◌++◌, take, Some, refl, ap, ◌∙◌, sym}
+use Rattle.std.proofs.Common.{◌≡◌, ℕ, ◌+◌, Bool, true, false, cond, List, [], ◌∷◌, ◌++◌, take, Some, refl, ap}
+use Rattle.std.proofs.Common.{◌∙◌, sym}
 use Rattle.std.specs.Prelude.{slice_get}
 use Rattle.std.specs.List.{count_by, flat_map}
 use Rattle.std.proofs.lemmas.List.{take_more, flat_map_more}
@@ -10,20 +11,23 @@ use Rattle.inp_report.specs.declared.sights.SightCounts.{SightCounts}
 use Rattle.inp_report.specs.Sights.{is_took, is_made, is_again_sight}
 
 -- the items up to one
-taken-more : {X : Type 0} (xs : List X) (i : ℕ) (x : X) → slice_get xs i ≡ Some x → take (i + 1) xs ≡ take i xs ++ x ∷ []
+taken-more : {X : Type 0} (xs : List X) (i : ℕ) (x : X) → slice_get xs i ≡ Some x
+    → take (i + 1) xs ≡ take i xs ++ x ∷ []
 taken-more {X} xs i x at =
-    take_more xs i x (slice_get_within xs i x at)
-    ∙ ap (λ (y : X). take i xs ++ y ∷ []) (get_or_from_slice_get xs i x x at)
+    rw (take_more xs i x (slice_get_within xs i x at), get_or_from_slice_get xs i x x at)
 
 -- one that counts, and one that does not
 pub counted-yes : {X : Type 0} (p : X → Bool) (xs : List X) (i : ℕ) (x : X) (count : ℕ)
-    → p x ≡ true → slice_get xs i ≡ Some x → count ≡ count_by p (take i xs) → count + 1 ≡ count_by p (take (i + 1) xs)
+    → p x ≡ true → slice_get xs i ≡ Some x → count ≡ count_by p (take i xs)
+    → count + 1 ≡ count_by p (take (i + 1) xs)
 counted-yes p xs i x count counts at before =
     let same = get_or_from_slice_get xs i x x at in
-    ap (λ (n : ℕ). n + 1) before ∙ sym (count_by_more_yes p xs i x (slice_get_within xs i x at) (ap p same ∙ counts))
+    rw before (sym (count_by_more_yes p xs i x (slice_get_within xs i x at) (ap p same ∙ counts)))
 
+-- an entry that is not counted leaves the count as it was
 pub counted-no : {X : Type 0} (p : X → Bool) (xs : List X) (i : ℕ) (x : X) (count : ℕ)
-    → p x ≡ false → slice_get xs i ≡ Some x → count ≡ count_by p (take i xs) → count ≡ count_by p (take (i + 1) xs)
+    → p x ≡ false → slice_get xs i ≡ Some x → count ≡ count_by p (take i xs)
+    → count ≡ count_by p (take (i + 1) xs)
 counted-no p xs i x count fails at before =
     let same = get_or_from_slice_get xs i x x at in
     before ∙ sym (count_by_more_no p xs i x (slice_get_within xs i x at) (ap p same ∙ fails))
@@ -33,8 +37,8 @@ counted-more : {X : Type 0} (p : X → Bool) (xs : List X) (i : ℕ) (x : X) (co
 counted-more p xs i x count at before = by (p x) refl
   where
     by : (b : Bool) → p x ≡ b → cond (p x) (count + 1) count ≡ count_by p (take (i + 1) xs)
-    by true counts = ap (λ (b : Bool). cond b (count + 1) count) counts ∙ counted-yes p xs i x count counts at before
-    by false fails = ap (λ (b : Bool). cond b (count + 1) count) fails ∙ counted-no p xs i x count fails at before
+    by true counts = rw counts (counted-yes p xs i x count counts at before)
+    by false fails = rw fails (counted-no p xs i x count fails at before)
 
 -- the counts of each kind, with one entry more
 abbrev pub counts_with : SightCounts → Sight → SightCounts
@@ -51,23 +55,22 @@ AreCounted sights i n = record {
   again : n.again ≡ count_by is_again_sight (take i sights);
 }
 
+-- each of the three counts gains one where the entry is of its kind, and else stays
 pub kinds-more : (sights : List Sight) (i : ℕ) (read sight : Sight) (old new : SightCounts)
     → slice_get sights i ≡ Some read → read ≡ sight → new ≡ counts_with old sight → AreCounted sights i old
     → AreCounted sights (i + 1) new
 kinds-more sights i read sight old new at is more before =
-    let there : slice_get sights i ≡ Some sight = at ∙ ap (λ (s : Sight). Some s) is in
+    let there : slice_get sights i ≡ Some sight = rw (at, is) in
     record {
-      took = ap (λ (n : SightCounts). n.took) more
-          ∙ counted-more is_took sights i sight old.took there before.took;
-      made = ap (λ (n : SightCounts). n.made) more
-          ∙ counted-more is_made sights i sight old.made there before.made;
-      again = ap (λ (n : SightCounts). n.again) more
-          ∙ counted-more is_again_sight sights i sight old.again there before.again;
+      took = rw more (counted-more is_took sights i sight old.took there before.took);
+      made = rw more (counted-more is_made sights i sight old.made there before.made);
+      again = rw more (counted-more is_again_sight sights i sight old.again there before.again);
     }
 
 -- What is written
 
-pub written-more : {X : Type 0} (f : X → List ℕ) (before : List ℕ) (xs : List X) (i : ℕ) (x : X) → slice_get xs i ≡ Some x
+-- the text of the next entry is put behind that of those before it
+pub written-more : {X : Type 0} (f : X → List ℕ) (before : List ℕ) (xs : List X) (i : ℕ) (x : X)
+    → slice_get xs i ≡ Some x
     → (before ++ flat_map f (take i xs)) ++ f x ≡ before ++ flat_map f (take (i + 1) xs)
-written-more {X} f before xs i x at =
-    flat_map_more f before (take i xs) x ∙ ap (λ (ys : List X). before ++ flat_map f ys) (sym (taken-more xs i x at))
+written-more {X} f before xs i x at = rw (flat_map_more f before (take i xs) x, ← taken-more xs i x at)

@@ -5,5 +5,4 @@ use Rattle.inp_report.proofs.brief.push_run_brief.Given as goal
 
 -- the jobs so far
 abbrev pub invariant-loop-job : goal.invariant-loop-job
-invariant-loop-job l =
-    l.text ≡ l.initial.text ++ flat_map (job_brief l.actors) (take l.job-index l.job-items)
+invariant-loop-job l = l.text ≡ l.initial.text ++ flat_map (job_brief l.actors) (take l.job-index l.job-items)

@@ -5,5 +5,4 @@ use Rattle.inp_report.proofs.joysticks.push_joysticks.Given as goal
 
 -- the joysticks so far
 abbrev pub invariant-loop-joy : goal.invariant-loop-joy
-invariant-loop-joy l =
-    l.text ≡ l.initial.text ++ flat_map (joy_text l.rec) (take l.joy-index l.joy-items)
+invariant-loop-joy l = l.text ≡ l.initial.text ++ flat_map (joy_text l.rec) (take l.joy-index l.joy-items)

@@ -9,13 +9,21 @@ loop-number-init c = record {
   written = sym (append-nil _);
 }
 
+-- the next number is written behind those before it
 pub loop-number-preserved : goal.loop-number-preserved
 loop-number-preserved c = record {
-  whole = whole_more c.in-Some.number c.loop-number.yielded c.loop-number.number-iterator c.next.new.self _ c.in-Some.ensures.steps c.loop-number.invariant.whole;
-  written = given_more spaced_number _ _ _ c.loop-number.yielded c.in-Some.number c.loop-number.invariant.written c.in_ok-push_spaced_number.ensures.pushed;
+  whole =
+      whole_more c.in-Some.number c.loop-number.yielded c.loop-number.number-iterator c.next.new.self _
+      c.in-Some.ensures.steps c.loop-number.invariant.whole;
+  written =
+      given_more spaced_number _ _ _ c.loop-number.yielded c.in-Some.number c.loop-number.invariant.written
+      c.in_ok-push_spaced_number.ensures.pushed;
 }
 
+-- no number is left, so all are written
 pub returns : goal.returns
 returns c = record {
-  pushed = given_all spaced_number _ _ c.loop-number.yielded c.loop-number.number-iterator _ c.in-None.ensures.steps.0 c.loop-number.invariant.whole c.loop-number.invariant.written;
+  pushed =
+      given_all spaced_number _ _ c.loop-number.yielded c.loop-number.number-iterator _
+      c.in-None.ensures.steps.0 c.loop-number.invariant.whole c.loop-number.invariant.written;
 }

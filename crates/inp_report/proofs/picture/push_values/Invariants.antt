@@ -5,5 +5,4 @@ use Rattle.inp_report.proofs.picture.push_values.Given as goal
 
 -- the values so far
 abbrev pub invariant-loop-value : goal.invariant-loop-value
-invariant-loop-value l =
-    l.text ≡ l.initial.text ++ flat_map spaced_value (take l.value-index l.values)
+invariant-loop-value l = l.text ≡ l.initial.text ++ flat_map spaced_value (take l.value-index l.values)

@@ -4,6 +4,7 @@ use Rattle.inp_report.proofs.SightCounts.{counted-yes, counted-no}
 use Rattle.inp_report.proofs.sights.counted_calls.Goals.{then-is_counted_call, else-is_counted_call}
 use Rattle.inp_report.proofs.sights.counted_calls.Goals as goal
 
+-- an entry that is a counted call adds one, and another one leaves the count
 pub loop-index-preserved : goal.loop-index-preserved
 loop-index-preserved c =
     let sights = c.args.sights.now in

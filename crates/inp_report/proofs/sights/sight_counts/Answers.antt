@@ -5,6 +5,7 @@ use Rattle.inp_report.proofs.SightCounts.{counts_with, kinds-more}
 use Rattle.inp_report.proofs.sights.sight_counts.Goals.{in-Took, in-Made, in-Again, in-Call, in-Record}
 use Rattle.inp_report.proofs.sights.sight_counts.Goals as goal
 
+-- whatever kind the next entry is of, the counts are those with it
 pub loop-index-preserved : goal.loop-index-preserved
 loop-index-preserved c =
     let sights = c.args.sights.now in

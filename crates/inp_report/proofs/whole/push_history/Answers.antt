@@ -4,8 +4,15 @@ use Rattle.inp_report.proofs.whole.push_history.Goals as goal
 
 pub loop-place-preserved : goal.loop-place-preserved
 loop-place-preserved c =
-    enumerated_more step_line c.args.history.now _ _ _ c.loop-place.place _ c.loop-place-test.true c.loop-place.invariant c.in_ok-push_step.ensures.pushed
+    enumerated_more step_line c.args.history.now _ _ _ c.loop-place.place _ c.loop-place-test.true
+    c.loop-place.invariant c.in_ok-push_step.ensures.pushed
 
+-- no step is left, so all lines of the history are written
 pub returns : goal.returns
 unfolding history_text
-returns c = record { pushed = enumerated_all step_line c.args.history.now _ _ c.loop-place.place c.loop-place-test.false c.loop-place.invariant }
+returns c =
+    record {
+      pushed =
+          enumerated_all step_line c.args.history.now _ _ c.loop-place.place c.loop-place-test.false
+          c.loop-place.invariant;
+    }

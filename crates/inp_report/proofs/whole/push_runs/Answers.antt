@@ -12,6 +12,7 @@ push_run-requires c = record {
       c.get-device.ensures.item c.loop-index-test.true c.run-item.is c.requires.runs;
 }
 
+-- the next device's part of the report is written behind those before it
 pub loop-index-preserved : goal.loop-index-preserved
 loop-index-preserved c =
     run_more c.args.rec.now c.args.runs.now _ _ _ c.loop-index.index _ _
@@ -20,8 +21,11 @@ loop-index-preserved c =
     (λ (them : List ActorText). run_text them c.args.history) _ _ _
     c.loop-index.invariant c.in_ok-push_run.ensures.pushed
 
+-- there are as many runs as devices, and all are written
 pub returns : goal.returns
 unfolding report
 returns c = record {
-  pushed = zipped_all (run_text c.args.rec.now.actors c.args.history) c.args.rec.now.devices c.args.runs.now _ _ c.loop-index.index (omega (arith, ap length c.as_slice-run-items.ensures.items)) c.loop-index.invariant;
+  pushed =
+      zipped_all (run_text c.args.rec.now.actors c.args.history) c.args.rec.now.devices c.args.runs.now _ _
+      c.loop-index.index (omega (arith, ap length c.as_slice-run-items.ensures.items)) c.loop-index.invariant;
 }

@@ -6,4 +6,5 @@ use Rattle.inp_report.proofs.whole.push_runs.Given as goal
 -- the devices so far
 abbrev pub invariant-loop-index : goal.invariant-loop-index
 invariant-loop-index l =
-    l.text ≡ l.initial.text ++ flat_map (run_text l.rec.actors l.history) (take l.index (zip l.rec.devices l.runs))
+    l.text ≡ l.initial.text ++ flat_map (run_text l.rec.actors l.history)
+    (take l.index (zip l.rec.devices l.runs))
