@@ -1,5 +1,6 @@
 -- A device has steps for entries: what is told of a port of it is what the pass has seen and owns.
-use Rattle.std.proofs.Common.{◌≡◌, ◌+◌, ◌≤◌, Bool, true, false, if◌then◌else◌, List, [], ◌∷◌, length, take, refl, sym, ap, ◌∙◌, subst, ℤ, Option, Some}
+use Rattle.std.proofs.Common.{◌≡◌, ◌+◌, ◌≤◌, Bool, true, false, if◌then◌else◌, List, [], ◌∷◌, length, take}
+use Rattle.std.proofs.Common.{refl, sym, ap, ◌∙◌, subst, ℤ, Option, Some}
 use Rattle.std.specs.Prelude.{map, reverse}
 use Rattle.std.proofs.lemmas.List.{reverse-reverse, length-reverse}
 use Rattle.inp_model.specs.declared.limits.TheConstants.{LOG_MAX}
@@ -22,20 +23,33 @@ itself x = Some x
 
 pub steps-all : (es : List Step) → steps_among itself es ≡ es
 steps-all [] = refl
-steps-all (x ∷ es) = ap (λ (ss : List Step). x ∷ ss) (steps-all es)
+steps-all (x ∷ es) = rw (steps-all es)
 
 past-same : (past : List Step) → past_of itself (reverse past) ≡ past
 past-same past = ap reverse (steps-all (reverse past)) ∙ reverse-reverse past
 
-grown : (past new : List Step) (x : Step) (b : Bool) → new ≡ (if b then x ∷ past else past) → Grown itself (reverse past) x b (reverse new)
+grown : (past new : List Step) (x : Step) (b : Bool) → new ≡ (if b then x ∷ past else past)
+    → Grown itself (reverse past) x b (reverse new)
 grown past new x true e = (x, refl, ap reverse e ∙ turned past x)
 grown past new x false e = ap reverse e
 
-pub device_served : (d : Description) (past new : List Step) (x : Step) (reply : Reply) (out new_out : List Taken) (cells new_cells : List ℤ) → IsDeviceStep d past x reply out new_out cells new_cells new → IsHistory d past
+-- the entries of a device are its steps, so an accepted step is the last entry
+pub device_served : (d : Description) (past new : List Step) (x : Step) (reply : Reply)
+    (out new_out : List Taken) (cells new_cells : List ℤ)
+    → IsDeviceStep d past x reply out new_out cells new_cells new → IsHistory d past
     → IsServed itself d (reverse past) x reply out new_out cells new_cells (reverse new)
 device_served d past new x reply out new_out cells new_cells s h =
-    let P : List Step → Type 0 = λ p. IsDeviceStep d p x reply out new_out cells new_cells (past_after reply x p) in
-    let same : P past = record { given = s.given; exact = s.exact; replied = s.replied; out_written = s.out_written; cells_written = s.cells_written; entered = refl } in
+    let P : List Step → Type 0 =
+    λ p. IsDeviceStep d p x reply out new_out cells new_cells (past_after reply x p) in
+    let same : P past =
+    record {
+      given = s.given;
+      exact = s.exact;
+      replied = s.replied;
+      out_written = s.out_written;
+      cells_written = s.cells_written;
+      entered = refl;
+    } in
     record {
       step = subst P (sym (past-same past)) same;
       grown = grown past new x (is_accepted reply) s.entered;
@@ -43,12 +57,16 @@ device_served d past new x reply out new_out cells new_cells s h =
     }
 
 -- of many events
-pub device_served_all : (d e : Description) (past new : List Step) (events : List Stamped) (injected : Injected) → e ≡ d → injected.from ≡ length past → injected.count ≡ entered_count d injected.from events
-    → injected.from + injected.count ≤ LOG_MAX → reverse new ≡ history_with (reverse past) injected.count events → IsHistory e new → IsServedAll itself d (reverse past) events injected (reverse new)
+pub device_served_all : (d e : Description) (past new : List Step) (events : List Stamped)
+    (injected : Injected) → e ≡ d → injected.from ≡ length past
+    → injected.count ≡ entered_count d injected.from events
+    → injected.from + injected.count ≤ LOG_MAX
+    → reverse new ≡ history_with (reverse past) injected.count events → IsHistory e new
+    → IsServedAll itself d (reverse past) events injected (reverse new)
 device_served_all d e past new events injected same from count within entered h = record {
   from = from ∙ sym (length-reverse past) ∙ sym (ap length (steps-all (reverse past)));
   count = count;
   within = within;
   grown = (map inject_of (take injected.count events), entered, refl);
-  accepted = subst (IsHistory d) (sym (past-same new)) (subst (λ (k : Description). IsHistory k new) same h);
+  accepted = subst (IsHistory d) (sym (past-same new)) (rw same at h);
 }
