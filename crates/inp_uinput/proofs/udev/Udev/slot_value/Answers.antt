@@ -8,6 +8,7 @@ use Rattle.inp_feedback.proofs.Lists.{steps_in-kept_of}
 use Rattle.inp_uinput.specs.UdevView.{UdevView}
 use Rattle.inp_uinput.proofs.udev.Udev.slot_value.Goals as goal
 
+-- the steps of the kept list are the device's own past, so the slot's value is as that says
 pub returns : goal.returns
 returns c =
     let d = c.self.inside.device.description in
@@ -18,5 +19,6 @@ returns c =
           to_z-of_z w32 c.slot_value.result fits
           ∙ c.slot_value.ensures.value
           ∙ ap (λ (p : List Step). cell d (raw d p) (pos c.args.slot) c.args.code) same
-          ∙ ap (λ (u : UdevView). cell u.description (raw u.description (steps_in u.kept)) (pos c.args.slot) c.args.code) c.self.view_is;
+          ∙ ap (λ (u : UdevView). cell u.description (raw u.description (steps_in u.kept))
+          (pos c.args.slot) c.args.code) c.self.view_is;
     }
