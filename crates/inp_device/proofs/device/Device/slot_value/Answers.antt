@@ -8,6 +8,7 @@ use Rattle.inp_model.specs.Raw.{raw}
 use Rattle.inp_model.specs.State.{cell}
 use Rattle.inp_device.proofs.device.Device.slot_value.Goals as goal
 
+-- the core behind the pointer stands for the history, so the slot's value is as that says
 pub returns : goal.returns
 returns c =
     let d = c.self.inside.present.value.caps in
@@ -16,5 +17,8 @@ returns c =
     let stands = subst P (sym c.deref.ensures) c.self.invariant.stands.core in
     let fits : FitsSigned w32 c.slot_value.result = record { sfits = c.slot_value.type_inv } in
     record {
-      value = to_z-of_z w32 c.slot_value.result fits ∙ c.slot_value.ensures.value d past stands ∙ ap (λ (v : StoringView). cell v.description (raw v.description v.past) (pos c.args.slot) c.args.code) c.self.view_is;
+      value =
+          to_z-of_z w32 c.slot_value.result fits ∙ c.slot_value.ensures.value d past stands
+          ∙ ap (λ (v : StoringView).
+          cell v.description (raw v.description v.past) (pos c.args.slot) c.args.code) c.self.view_is;
     }

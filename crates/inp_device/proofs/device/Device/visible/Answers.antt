@@ -1,10 +1,9 @@
-use Rattle.std.proofs.Common.{reverse, sym, ap, subst, ◌∙◌}
+use Rattle.std.proofs.Common.{reverse, sym, subst}
 use Rattle.inp_device.specs.declared.present.Present.{Present}
-use Rattle.inp_device.specs.Device.{StoringView}
 use Rattle.inp_device.specs.Present.{PresentStandsFor}
-use Rattle.inp_device.specs.Queries.{visible_to}
 use Rattle.inp_device.proofs.device.Device.visible.Goals as goal
 
+-- what lies behind the pointer stands for the history, so what can be seen is as that says
 pub returns : goal.returns
 returns c =
     let d = c.self.inside.present.value.caps in
@@ -12,5 +11,5 @@ returns c =
     let P : Present → Type 0 = λ p. PresentStandsFor d past p in
     let stands = subst P (sym c.deref.ensures) c.self.invariant.stands in
     record {
-      visible = c.visible.ensures.visible d past stands ∙ ap (λ (v : StoringView). visible_to v.description v.past c.args.client) c.self.view_is;
+      visible = rw (← c.self.view_is, ← c.visible.ensures.visible);
     }

@@ -1,5 +1,6 @@
 -- A frame that passes the filters by is offered whole; another one is offered as the filters leave it.
-use Rattle.std.proofs.Common.{◌≡◌, ℕ, true, List, map, Option, None, sym, ap, subst, ◌∙◌, refl, Bool, false, [], ◌∷◌, Some, is_some}
+use Rattle.std.proofs.Common.{◌≡◌, ℕ, true, List, map, Option, None, sym, ap, subst, ◌∙◌, refl, Bool, false}
+use Rattle.std.proofs.Common.{[], ◌∷◌, Some, is_some}
 use Rattle.inp_model.specs.declared.event.Event.{Event}
 use Rattle.inp_model.specs.declared.filter.Filter.{Filter}
 use Rattle.inp_model.specs.Filter.{Timed}
@@ -38,11 +39,15 @@ somebody_holds : (o : Option ℕ) (is : Bool) → is ≡ is_some o → is ≡ tr
 somebody_holds o is e h none = absurd (cc (e, h, ap is_some none))
 
 -- where nobody holds the grab there is no filter
-passes_by : (c : goal.After-offer) (fs : List Filter) (given : List Timed) → FiltersStandFor fs given c.args.self.now.filters.kept → c.args.self.now.holder ≡ None → is_empty fs ≡ true
+passes_by : (c : goal.After-offer) (fs : List Filter) (given : List Timed)
+    → FiltersStandFor fs given c.args.self.now.filters.kept → c.args.self.now.holder ≡ None
+    → is_empty fs ≡ true
 passes_by c fs given stands none =
     elim c.if-is_some.branch [
-      | then-is_some w ↦ absurd (somebody_holds c.args.self.now.holder c.is_some.result c.is_some.ensures w.if-is_some.true none)
-      | else-is_some w ↦ sym (w.is_empty-frame_is_whole.ensures fs given stands) ∙ sym w.frame_is_whole-is ∙ c.if-frame_is_whole.true
+      | then-is_some w ↦ absurd
+          (somebody_holds c.args.self.now.holder c.is_some.result c.is_some.ensures w.if-is_some.true none)
+      | else-is_some w ↦ sym (w.is_empty-frame_is_whole.ensures fs given stands) ∙ sym w.frame_is_whole-is
+          ∙ c.if-frame_is_whole.true
     ]
 
 pub returns-then-frame_is_whole : goal.returns-then-frame_is_whole
@@ -51,11 +56,16 @@ returns-then-frame_is_whole c =
     record {
       taken = record {
         clients = λ fs given stands.
-            c.offer.ensures.offered
-            ∙ ap (λ (es : List Event). map (after_offer es c.args.now h.place h.holder) h.clients.list) (sym (whole_offered h.holder fs c.args.now given c.args.events.now (passes_by c fs given stands)));
+            rw (
+              whole_offered h.holder fs c.args.now given c.args.events.now (passes_by c fs given stands),
+              ← c.offer.ensures.offered,
+            );
         once = λ fs given stands.
-            subst (λ (es : List Event). IsStoredOnce es c.args.now h.place h.holder h.clients c.offer.new.self) (sym (whole_offered h.holder fs c.args.now given c.args.events.now (passes_by c fs given stands))) c.offer.ensures.once;
-        filters = λ fs given stands. whole_given h.holder fs c.args.now given c.args.events.now h.filters.kept (passes_by c fs given stands) stands;
+            rw (whole_offered h.holder fs c.args.now given c.args.events.now (passes_by c fs given stands))
+            c.offer.ensures.once;
+        filters = λ fs given stands.
+            whole_given h.holder fs c.args.now given c.args.events.now h.filters.kept
+            (passes_by c fs given stands) stands;
         place = refl;
         holder = refl;
       };
@@ -66,7 +76,8 @@ is_free : (c : goal.After-offer-else-frame_is_whole) → c.args.self.now.holder 
 is_free c =
     elim c.if-is_some.branch [
       | then-is_some w ↦ absurd (cc (w.frame_is_whole-is, c.if-frame_is_whole.false))
-      | else-is_some w ↦ nobody_holds c.args.self.now.holder c.is_some.result c.is_some.ensures w.if-is_some.false
+      | else-is_some w ↦ nobody_holds c.args.self.now.holder c.is_some.result c.is_some.ensures
+          w.if-is_some.false
     ]
 
 pub returns-else-frame_is_whole : goal.returns-else-frame_is_whole
@@ -77,13 +88,16 @@ returns-else-frame_is_whole c =
         clients = λ fs given stands.
             c.offer-else-frame_is_whole.ensures.offered
             ∙ ap (λ (es : List Event). map (after_offer es c.args.now h.place h.holder) h.clients.list)
-            (c.left-left.ensures ∙ c.pass.ensures.left fs given stands ∙ ap (λ (o : Option ℕ). offered_of o fs c.args.now given c.args.events.now) (sym (is_free c)));
+            (c.left-left.ensures ∙ c.pass.ensures.left fs given stands
+            ∙ ap (λ (o : Option ℕ). offered_of o fs c.args.now given c.args.events.now) (sym (is_free c)));
         once = λ fs given stands.
-            subst (λ (es : List Event). IsStoredOnce es c.args.now h.place h.holder h.clients c.offer-else-frame_is_whole.new.self)
-            (c.left-left.ensures ∙ c.pass.ensures.left fs given stands ∙ ap (λ (o : Option ℕ). offered_of o fs c.args.now given c.args.events.now) (sym (is_free c)))
+            subst (λ (es : List Event).
+            IsStoredOnce es c.args.now h.place h.holder h.clients c.offer-else-frame_is_whole.new.self)
+            (c.left-left.ensures ∙ c.pass.ensures.left fs given stands
+            ∙ ap (λ (o : Option ℕ). offered_of o fs c.args.now given c.args.events.now) (sym (is_free c)))
             c.offer-else-frame_is_whole.ensures.once;
         filters = λ fs given stands.
-            subst (λ (o : Option ℕ). FiltersStandFor fs (given_with o c.args.now given c.args.events.now) c.pass.new.self.kept) (sym (is_free c)) (c.pass.ensures.stands fs given stands);
+            rw is_free (c.pass.ensures.stands fs given stands);
         place = refl;
         holder = refl;
       };

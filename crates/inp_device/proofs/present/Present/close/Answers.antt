@@ -12,6 +12,7 @@ use Rattle.inp_device.proofs.present.Present.close.Goals as goal
 pub close-requires : goal.close-requires
 close-requires c = record { «open» = named_there c.requires.ready refl }
 
+-- the client is left out, it gives up its grab, and its cells go with its ring
 pub returns : goal.returns
 returns c =
     let ready = c.requires.ready in
@@ -19,10 +20,12 @@ returns c =
     record {
       made = made_call refl c.done.ensures.done
           (called ready refl refl refl refl refl refl refl refl
-          (ap (clients_on old.caps) c.close.ensures.closed ∙ without_client-on old.caps c.args.client old.handler.clients.list
+          (ap (clients_on old.caps) c.close.ensures.closed
+          ∙ without_client-on old.caps c.args.client old.handler.clients.list
           ∙ ap (without_client c.args.client) ready.stands.handler.clients
           ∙ sym (clients_after-close old.caps (reverse c.args.history.now) c.args.client))
-          (ap (λ (h : HandleState). h.holder) c.release.ensures.holder ∙ ap (holder_without c.args.client) ready.stands.holder
+          (ap (λ (h : HandleState). h.holder) c.release.ensures.holder
+          ∙ ap (holder_without c.args.client) ready.stands.holder
           ∙ holder-close (reverse c.args.history.now) c.args.client));
       stored = stored_closed old.handler.clients c.close.new.self _ c.close.ensures.rings;
     }

@@ -8,11 +8,14 @@ use Rattle.inp_device.proofs.present.Present.get_axis.Goals as goal
 pub axis-requires : goal.axis-requires
 axis-requires c = record { within = axis_code _ _ c.args.client _ (permitted c.requires.ready) }
 
+-- the reply has the axis as the core keeps it, and no client changes
 pub returns : goal.returns
 returns c =
     let ready = c.requires.ready in
     record {
-      made = made_alone refl (ap₂ Axis (at_place ready) (c.axis.ensures.axis (reverse c.args.history.now) ready.stands.core))
+      made =
+          made_alone refl
+          (ap₂ Axis (at_place ready) (c.axis.ensures.axis (reverse c.args.history.now) ready.stands.core))
           (called ready refl refl refl refl refl refl refl refl (clients_same ready refl)
           (holder_same ready refl));
       stored = stored_kept c.args.self.now.handler.clients _;

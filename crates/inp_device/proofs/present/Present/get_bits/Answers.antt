@@ -3,7 +3,8 @@ use Rattle.inp_model.specs.declared.reply.Reply.TheVariants.{Bits}
 use Rattle.inp_model.specs.Step.{Codes}
 use Rattle.inp_client.proofs.OnClock.{on_flush}
 use Rattle.inp_device.proofs.Calls.{clients_after-query}
-use Rattle.inp_device.proofs.StepParts.{at_place, clients_called, IsQuery, query, kind_has_bits, kind_not_syn, named_there, made_alone, called, accepted-bits, holder_same}
+use Rattle.inp_device.proofs.StepParts.{at_place, clients_called, IsQuery, query, kind_has_bits, kind_not_syn}
+use Rattle.inp_device.proofs.StepParts.{named_there, made_alone, called, accepted-bits, holder_same}
 use Rattle.inp_device.proofs.Growth.{stored_flushed}
 use Rattle.inp_device.proofs.present.Present.get_bits.Goals as goal
 
@@ -16,6 +17,7 @@ flush-requires-clause-open c = named_there c.requires.ready c.requires.asks.name
 pub flush-requires-clause-not_syn : goal.flush-requires-clause-not_syn
 flush-requires-clause-not_syn c = kind_not_syn c.args.step c.args.client c.args.kind c.requires.asks
 
+-- the reply has the bits of the kind, and the client's events of that kind are flushed
 pub returns : goal.returns
 returns c =
     let ready = c.requires.ready in

@@ -3,6 +3,7 @@ use Rattle.inp_device.proofs.StepParts.{made_call, called, holder_taken, clients
 use Rattle.inp_device.proofs.Growth.{stored_kept}
 use Rattle.inp_device.proofs.present.Present.grab.Goals as goal
 
+-- nobody had the grab, so the client takes it, and no queue changes
 pub returns : goal.returns
 returns c = record {
   made = made_call refl c.done.ensures.done

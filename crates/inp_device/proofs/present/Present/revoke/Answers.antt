@@ -10,6 +10,7 @@ use Rattle.inp_device.proofs.present.Present.revoke.Goals as goal
 pub revoke-requires : goal.revoke-requires
 revoke-requires c = record { «open» = named_there c.requires.ready refl }
 
+-- the client is marked and gives up its grab, and no ring changes
 pub returns : goal.returns
 returns c =
     let ready = c.requires.ready in
@@ -18,7 +19,8 @@ returns c =
           (called ready refl refl refl refl refl refl refl refl
           (clients_called ready c.args.client _ after_revoke (λ v. refl) c.revoke.ensures.revoked
           (clients_after-revoke c.args.self.now.caps _ c.args.client))
-          (ap (λ (h : HandleState). h.holder) c.release.ensures.holder ∙ ap (holder_without c.args.client) ready.stands.holder
+          (ap (λ (h : HandleState). h.holder) c.release.ensures.holder
+          ∙ ap (holder_without c.args.client) ready.stands.holder
           ∙ holder-revoke (reverse c.args.history.now) c.args.client));
       stored = stored_rings c.args.self.now.handler.clients c.revoke.new.self _ c.revoke.ensures.numbers;
     }

@@ -5,8 +5,10 @@ use Rattle.inp_device.proofs.Growth.{stored_kept}
 use Rattle.inp_device.proofs.present.Present.set_axis.Goals as goal
 
 pub describe-requires : goal.describe-requires
-describe-requires c = record { within = set_axis_code _ _ c.args.client _ c.args.info (permitted c.requires.ready) }
+describe-requires c =
+    record { within = set_axis_code _ _ c.args.client _ c.args.info (permitted c.requires.ready) }
 
+-- the core takes the axis's new description, and no frame ends
 pub returns : goal.returns
 returns c = record {
   made = made_call refl c.done.ensures.done

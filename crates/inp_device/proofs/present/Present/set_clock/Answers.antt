@@ -10,6 +10,7 @@ use Rattle.inp_device.proofs.present.Present.set_clock.Goals as goal
 pub set_clock-requires-clause-open : goal.set_clock-requires-clause-open
 set_clock-requires-clause-open c = named_there c.requires.ready refl
 
+-- the clock is the client's, and if the queue went by it the loss is counted
 pub returns : goal.returns
 returns c =
     let ready = c.requires.ready in
@@ -26,7 +27,8 @@ returns c =
       stored =
           omega (
             arith,
-            stored_clock c.args.client c.args.clock c.args.now (length (reverse c.args.history.now)) c.args.self.now.handler.clients c.set_clock.new.self
+            stored_clock c.args.client c.args.clock c.args.now
+                (length (reverse c.args.history.now)) c.args.self.now.handler.clients c.set_clock.new.self
                 (rw (← at_place ready) c.set_clock.ensures.set) c.set_clock.ensures.stored,
             lost_told d (reverse c.args.history.now) step _ done.stands,
           );

@@ -2,7 +2,8 @@ use Rattle.std.proofs.Common.{refl}
 use Rattle.inp_model.proofs.Allowed.{mask_kind, mask_word}
 use Rattle.inp_client.specs.Client.{after_mask}
 use Rattle.inp_device.proofs.Calls.{clients_after-mask}
-use Rattle.inp_device.proofs.StepParts.{permitted, clients_called, made_call, called, named_there, holder_same}
+use Rattle.inp_device.proofs.StepParts.{permitted, clients_called, made_call, called, named_there}
+use Rattle.inp_device.proofs.StepParts.{holder_same}
 use Rattle.inp_device.proofs.Growth.{stored_rings}
 use Rattle.inp_device.proofs.present.Present.set_mask.Goals as goal
 
@@ -15,6 +16,7 @@ set_mask-requires-clause-kind c = mask_kind _ _ _ _ _ _ (permitted c.requires.re
 pub set_mask-requires-clause-word : goal.set_mask-requires-clause-word
 set_mask-requires-clause-word c = mask_word _ _ _ _ _ _ (permitted c.requires.ready)
 
+-- the word of the client's mask is set, and no ring changes
 pub returns : goal.returns
 returns c =
     let ready = c.requires.ready in

@@ -3,6 +3,7 @@ use Rattle.inp_device.proofs.StepParts.{made_call, stands_in_core}
 use Rattle.inp_device.proofs.Growth.{stored_kept}
 use Rattle.inp_device.proofs.present.Present.uninhibit.Goals as goal
 
+-- the core alone changes, and no frame ends
 pub returns : goal.returns
 returns c = record {
   made = made_call refl c.done.ensures.done
