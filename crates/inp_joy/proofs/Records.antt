@@ -1,5 +1,7 @@
 -- The records that a joystick client hands out: their bytes tell them.
-use Rattle.std.proofs.Common.{◌≡◌, ℕ, zero, suc, ◌<◌, ◌+◌, ◌%◌, ◌/◌, ◌^◌, ℤ, pos, negsuc, Bool, true, false, if◌then◌else◌, nat_lt, nat_eq, int_eq, List, [], ◌∷◌, ◌++◌, map, Some, None, ap, subst, ◌∙◌, arith}
+use Rattle.std.proofs.Common.{◌≡◌, ℕ, zero, suc, ◌<◌, ◌+◌, ◌%◌, ◌/◌, ◌^◌, ℤ, pos, negsuc, Bool, true, false}
+use Rattle.std.proofs.Common.{if◌then◌else◌, nat_lt, nat_eq, int_eq, List, [], ◌∷◌, ◌++◌, map, Some, None}
+use Rattle.std.proofs.Common.{arith}
 use Rattle.std.specs.Prelude.{Option, slice_get}
 use Rattle.std.specs.Int.{w16, cast_unsigned, cast_signed}
 use Rattle.std.specs.Int.RustNames.{FitsSigned}
@@ -22,13 +24,20 @@ use Rattle.inp_joy.specs.declared.joy_read.JoyRead.TheVariants.{Record}
 use Rattle.inp_joy.specs.declared.joy_record.JoyRecord.{JoyRecord}
 use Rattle.inp_joy.specs.JoyRecord.{bytes_of_record, record_in, within_16_bits, startup_button, startup_axis}
 use Rattle.inp_joy.specs.Codes.{buttons, axes, number_among}
-use Rattle.inp_joy.specs.Joy.{Joying, JoyAnswer, JoyTurn, gives, goes_on, hand_out_record, next_in_startup, map_numbered, startup, last_value, record_of_key, record_of_axis, joy_record_of, record_or_on, joy_read_of, stop_or_on, joying_after_next, joying_after_sync, turns, with_reading, with_startup}
+use Rattle.inp_joy.specs.Joy.{Joying, JoyAnswer, JoyTurn, gives, goes_on, hand_out_record, next_in_startup}
+use Rattle.inp_joy.specs.Joy.{map_numbered, startup, last_value, record_of_key, record_of_axis, joy_record_of}
+use Rattle.inp_joy.specs.Joy.{record_or_on, joy_read_of, stop_or_on, joying_after_next, joying_after_sync}
+use Rattle.inp_joy.specs.Joy.{turns, with_reading, with_startup}
 use Rattle.inp_joy.specs.Picture.{PictureView, is_down_in, value_in}
-use Rattle.inp_joy.proofs.TurnCases.{Synchronises, TurnCase, of_startup, of_sync, of_loss, of_next, turn-case, turns-all}
+use Rattle.inp_joy.proofs.TurnCases.{Synchronises, TurnCase, of_startup, of_sync, of_loss, of_next, turn-case}
+use Rattle.inp_joy.proofs.TurnCases.{turns-all}
 
--- A record fits its bytes: its time has 32 bits, and its value 16 with a sign. Its type and number are bytes as they are.
+-- A record fits its bytes: its time has 32 bits, and its value 16 with a sign. Its type and number are bytes
+-- as they are.
 pub record FitsBytes (r : JoyRecord) : Type 0 where
+  -- the time fits in 32 bits
   pub time : r.time < 2 ^ 32
+  -- the value fits in 16 bits with a sign
   pub value : FitsSigned w16 r.value
 
 unsigned-below : (value : ℤ) → FitsSigned w16 value → cast_unsigned w16 value < 2 ^ 16
@@ -38,18 +47,27 @@ unsigned-below (negsuc n) h = omega arith
 -- its bytes are read as the record
 pub record-back : (r : JoyRecord) → FitsBytes r → record_in (bytes_of_record r) ≡ r
 record-back r h =
-    let value_back : cast_signed w16 _ ≡ r.value = ap (λ (n : ℕ). cast_signed w16 n) (from_le_bytes-to_le_bytes_2 (cast_unsigned w16 r.value) (unsigned-below r.value h.value)) ∙ to_z-of_z w16 r.value h.value in
-    λ i. record { time = from_le_bytes-to_le_bytes_4 r.time h.time i; value = value_back i; kind = r.kind; number = r.number }
+    let value_back : cast_signed w16 _ ≡ r.value =
+    rw (from_le_bytes-to_le_bytes_2 (cast_unsigned w16 r.value) (unsigned-below r.value h.value))
+    (to_z-of_z w16 r.value h.value) in
+    λ i. record {
+      time = from_le_bytes-to_le_bytes_4 r.time h.time i;
+      value = value_back i;
+      kind = r.kind;
+      number = r.number;
+    }
 
 -- Each record that a client makes
 
 within_16_bits-fits : (value : ℤ) → FitsSigned w16 (within_16_bits value)
 within_16_bits-fits (pos n) =
     cond_both (nat_lt 32767 n) _ _ (FitsSigned w16)
-    (λ is. record { sfits = omega arith }) (λ is. let most : n < 32768 = grind (arith, nat_tests, is) in record { sfits = omega (arith, most) })
+    (λ is. record { sfits = omega arith }) (λ is. let most : n < 32768 =
+    grind (arith, nat_tests, is) in record { sfits = omega (arith, most) })
 within_16_bits-fits (negsuc n) =
     cond_both (nat_lt 32766 n) _ _ (FitsSigned w16)
-    (λ is. record { sfits = omega arith }) (λ is. let most : n < 32767 = grind (arith, nat_tests, is) in record { sfits = omega (arith, most) })
+    (λ is. record { sfits = omega arith }) (λ is. let most : n < 32767 =
+    grind (arith, nat_tests, is) in record { sfits = omega (arith, most) })
 
 bit-fits : (b : Bool) → FitsSigned w16 (bit_value b)
 bit-fits true = record { sfits = omega arith }
@@ -69,13 +87,15 @@ numbered-fit : {X : Type 0} (made : ℕ → X → JoyRecord) (f : ℕ → X)
     → AllFit (map_numbered made n (map f codes))
 numbered-fit made f fits n [] k r is = absurd cc
 numbered-fit made f fits n (code ∷ codes) zero r is =
-    let same : made n (f code) ≡ r = cc in subst (λ (s : JoyRecord). FitsBytes s) same (fits n code)
+    let same : made n (f code) ≡ r = cc in rw same at (fits n code)
 numbered-fit made f fits n (code ∷ codes) (suc k) r is = numbered-fit made f fits (n + 1) codes k r is
 
+-- its times are 0, its values bits of buttons or cut values of axes
 pub startup-fits : (d : Description) (v : View) → AllFit (startup d v)
 unfolding startup
 startup-fits d v =
-    fit-append (map_numbered startup_button 0 (map (is_down_in v) (buttons d))) (map_numbered startup_axis 0 (map (λ code. within_16_bits (value_in v code)) (axes d)))
+    fit-append (map_numbered startup_button 0 (map (is_down_in v) (buttons d)))
+    (map_numbered startup_axis 0 (map (λ code. within_16_bits (value_in v code)) (axes d)))
     (numbered-fit startup_button (is_down_in v)
     (λ n code. record { time = omega arith; value = bit-fits (is_down_in v code) }) 0 (buttons d))
     (numbered-fit startup_axis (λ code. within_16_bits (value_in v code))
@@ -98,8 +118,12 @@ axis-fits : (p : PictureView) (number : Option ℕ) (taken : Taken) → FitsIf (
 axis-fits p None taken = tt
 axis-fits p (Some number) taken =
     cond_both (int_eq (within_16_bits taken.event.value) (last_value p number)) _ _ FitsIf
-    (λ _. tt) (λ _. record { time = milliseconds-below taken.time; value = within_16_bits-fits taken.event.value })
+    (λ _. tt) (λ _. record {
+      time = milliseconds-below taken.time;
+      value = within_16_bits-fits taken.event.value;
+    })
 
+-- its time is taken modulo 2^32, its value is a bit or cut to 16 bits
 pub event-fits : (d : Description) (p : PictureView) (taken : Taken) → FitsIf (joy_record_of d p taken)
 event-fits d p taken =
     let axis : Option JoyRecord = record_of_axis p (number_among taken.event.code (axes d)) taken in
@@ -126,15 +150,18 @@ IsTurnAsSaid (gives answer) = IsAnswerAsSaid answer
 IsTurnAsSaid (goes_on j) = Unit {0}
 
 turn-same : (t u : JoyTurn) → t ≡ u → IsTurnAsSaid t → IsTurnAsSaid u
-turn-same t u e h = subst (λ (x : JoyTurn). IsTurnAsSaid x) e h
+turn-same t u e h = rw e at h
 
 -- the answers of a reader that end a read hand out no record
 stop-said : (j here : Joying) (next : Next) → IsTurnAsSaid (stop_or_on j here (joy_read_of next))
 stop-said j here (Success taken) = tt
 stop-said j here _ = tt
 
-sync_turn-said : (d : Description) (j : Joying) (calls : List Call) (t : JoyTurn) → Synchronises d j calls t → IsTurnAsSaid t
-sync_turn-said d j calls t s = turn-same (joying_after_sync j (s.next, s.reading)) t s.comes_to (stop-said (with_reading j s.reading) (with_startup s.reading) s.next)
+sync_turn-said : (d : Description) (j : Joying) (calls : List Call) (t : JoyTurn) → Synchronises d j calls t
+    → IsTurnAsSaid t
+sync_turn-said d j calls t s =
+    turn-same (joying_after_sync j (s.next, s.reading)) t s.comes_to
+    (stop-said (with_reading j s.reading) (with_startup s.reading) s.next)
 
 made-said : (j : Joying) (o : Option JoyRecord) → FitsIf o → IsTurnAsSaid (record_or_on j o)
 made-said j None h = tt
@@ -142,17 +169,24 @@ made-said j (Some r) h = h
 
 next-said : (d : Description) (j : Joying) (next : Next) → IsTurnAsSaid (joying_after_next d j next)
 next-said d j (Success taken) =
-    cond_both (is_report taken.event) _ _ IsTurnAsSaid (λ _. tt) (λ _. made-said j (joy_record_of d j.picture taken) (event-fits d j.picture taken))
+    cond_both (is_report taken.event) _ _ IsTurnAsSaid (λ _. tt)
+    (λ _. made-said j (joy_record_of d j.picture taken) (event-fits d j.picture taken))
 next-said d j next = stop-said j j next
 
-turn-said : (d : Description) (j : Joying) (calls : List Call) (t : JoyTurn) → TurnCase d j calls t → IsTurnAsSaid t
-turn-said d j calls t (of_startup r at none is) = turn-same (gives (hand_out_record (next_in_startup j) r)) t is (startup-fits d j.reading.view j.handed r at)
+turn-said : (d : Description) (j : Joying) (calls : List Call) (t : JoyTurn) → TurnCase d j calls t
+    → IsTurnAsSaid t
+turn-said d j calls t (of_startup r at none is) =
+    turn-same (gives (hand_out_record (next_in_startup j) r)) t is
+    (startup-fits d j.reading.view j.handed r at)
 turn-said d j calls t (of_sync needed s) = sync_turn-said d j calls t s
-turn-said d j calls t (of_loss first second taken r plain whole h s) = sync_turn-said d (with_reading j r) second t s
-turn-said d j calls t (of_next next r plain h is) = turn-same (joying_after_next d (with_reading j r) next) t is (next-said d (with_reading j r) next)
+turn-said d j calls t (of_loss first second taken r plain whole h s) =
+    sync_turn-said d (with_reading j r) second t s
+turn-said d j calls t (of_next next r plain h is) =
+    turn-same (joying_after_next d (with_reading j r) next) t is (next-said d (with_reading j r) next)
 
 -- each answer of a read
-pub turns-said : (d : Description) (n count : ℕ) (j : Joying) (calls : List Call) (answer : JoyAnswer) → EndsWith (turns d n count j) calls (Some answer) → IsAnswerAsSaid answer
+pub turns-said : (d : Description) (n count : ℕ) (j : Joying) (calls : List Call) (answer : JoyAnswer)
+    → EndsWith (turns d n count j) calls (Some answer) → IsAnswerAsSaid answer
 turns-said d n count j calls answer h =
     turns-all d (λ i cs a. IsAnswerAsSaid a)
     (λ i cs a e. turn-said d i cs (gives a) (turn-case d i cs (gives a) e))

@@ -17,7 +17,10 @@ use Rattle.inp_reader.proofs.Meets.{Meets, AnyAnswer, meets-then, meets-weaker, 
 use Rattle.inp_joy.specs.declared.joy_read.JoyRead.{JoyRead}
 use Rattle.inp_joy.specs.declared.joy_read.JoyRead.TheVariants.{Record, Frame, More}
 use Rattle.inp_joy.specs.declared.joy_record.JoyRecord.{JoyRecord}
-use Rattle.inp_joy.specs.Joy.{Joying, JoyAnswer, JoyTurn, gives, goes_on, startup, with_reading, with_startup, joy_read_of, joy_record_of, record_or_on, stop_or_on, joying_after_next, joying_after_sync, sync_turn, after_normal, event_turn, record_or_turn, turn_talk, with_count, is_long, after_turn, turns}
+use Rattle.inp_joy.specs.Joy.{Joying, JoyAnswer, JoyTurn, gives, goes_on, startup, with_reading, with_startup}
+use Rattle.inp_joy.specs.Joy.{joy_read_of, joy_record_of, record_or_on, stop_or_on, joying_after_next}
+use Rattle.inp_joy.specs.Joy.{joying_after_sync, sync_turn, after_normal, event_turn, record_or_turn}
+use Rattle.inp_joy.specs.Joy.{turn_talk, with_count, is_long, after_turn, turns}
 
 -- of an answer, with the reader that it leaves
 abbrev pub OfAnswer : {S : Type 0} → (S → JoyRead → Reading → Type 0) → S → Option JoyAnswer → Type 0
@@ -34,24 +37,30 @@ OfTurn I Q s (goes_on k) = I s k.reading
 pub record TurnRules {S : Type 0} (P : S → Step → Type 0) (R : S → Step → Answer → S → Type 0)
     (I : S → Reading → Type 0) (N : S → Next × Reading → Type 0) (Q : S → JoyRead → Reading → Type 0)
     (d : Description) : Type 0 where
+  -- each `next` of the reader keeps to the rules and shows N
   pub nexts : (s : S) (mode : Mode) (r : Reading) → I s r → Meets P R N s (next_talk d mode r)
   -- the reader's answer is the read's too, or it is none
   pub stops : (s : S) (next : Next) (r : Reading) (read : JoyRead) → N s (next, r)
       → joy_read_of next ≡ Some read → Q s read r
+  -- an answer that does not end the read leaves what was known of the reader
   pub continues : (s : S) (next : Next) (r : Reading) → N s (next, r) → joy_read_of next ≡ None → I s r
   -- the answers that are a read's alone
   pub hands : (s : S) (r : Reading) → I s r → Q s Record r
+  -- the answer at the end of a frame
   pub frames : (s : S) (r : Reading) (place : ℕ) → I s r → Q s (Frame place) r
+  -- the answer of a read that was too long
   pub longs : (s : S) (r : Reading) → I s r → Q s More r
 
-counted-meets : {S A : Type 0} (P : S → Step → Type 0) (R : S → Step → Answer → S → Type 0) (Q : S → A → Type 0)
+counted-meets : {S A : Type 0} (P : S → Step → Type 0) (R : S → Step → Answer → S → Type 0)
+    (Q : S → A → Type 0)
     (s : S) (talk : Talk A) (n : ℕ) → Meets P R Q s talk
     → Meets P R (λ (t : S) (o : ℕ × A). Q t o.1) s (with_count talk n)
 counted-meets P R Q s (finish a) n h = h
 counted-meets P R Q s (ask x rest) n h =
     (h.0, λ t a by. counted-meets P R Q t (rest a) (if is_accepted a.reply then n + 1 else n) (h.1 t a by))
 
-turn-meets : {S : Type 0} (P : S → Step → Type 0) (R : S → Step → Answer → S → Type 0) (I : S → Reading → Type 0)
+turn-meets : {S : Type 0} (P : S → Step → Type 0) (R : S → Step → Answer → S → Type 0) (I : S
+    → Reading → Type 0)
     (N : S → Next × Reading → Type 0) (Q : S → JoyRead → Reading → Type 0) (d : Description)
     → TurnRules P R I N Q d → (s : S) (k : Joying) → I s k.reading → Meets P R (OfTurn I Q) s (turn_talk d k)
 unfolding sync_turn event_turn
@@ -98,9 +107,12 @@ turn-meets {S} P R I N Q d rules s k i = by_record (slice_get (startup d k.readi
         (λ _. meets-then P R N (OfTurn I Q) s (next_talk d Normal k.reading) (after_normal d k)
         (rules.nexts s Normal k.reading i) (λ t o h. normal t o.0 o.1 h))
 
-pub turns-meets : {S : Type 0} (P : S → Step → Type 0) (R : S → Step → Answer → S → Type 0) (I : S → Reading → Type 0)
+-- each turn meets the rules, and what is known of the reader holds at the next one
+pub turns-meets : {S : Type 0} (P : S → Step → Type 0) (R : S → Step → Answer → S → Type 0) (I : S
+    → Reading → Type 0)
     (N : S → Next × Reading → Type 0) (Q : S → JoyRead → Reading → Type 0) (d : Description)
-    → TurnRules P R I N Q d → (most n : ℕ) (s : S) (k : Joying) → I s k.reading → Meets P R (OfAnswer Q) s (turns d most n k)
+    → TurnRules P R I N Q d → (most n : ℕ) (s : S) (k : Joying) → I s k.reading
+    → Meets P R (OfAnswer Q) s (turns d most n k)
 unfolding turns
 turns-meets P R I N Q d rules zero n s k i = tt
 turns-meets {S} P R I N Q d rules (suc most) n s k i =

@@ -6,6 +6,7 @@ use Rattle.inp_joy.proofs.Events.{event-pictured}
 use Rattle.inp_joy.proofs.Records.{record-back}
 use Rattle.inp_joy.proofs.laws.pictures.Goals as goal
 
+-- each law of startups and pictures is shown in a file of its own
 pub returns : goal.returns
 returns c = record {
   whole = length-startup;

@@ -1,9 +1,8 @@
-use Rattle.std.proofs.Common.{List, ℕ, ◌++◌, ◌∙◌, ap, take}
-use Rattle.inp_joy.specs.Codes.{codes_among}
 use Rattle.inp_joy.proofs.Numbers.{axes-made}
 use Rattle.inp_joy.proofs.code_list.CodeList.axes.Goals as goal
 
+-- the two ranges of codes that were added are those of the axes
 pub returns : goal.returns
 returns c =
     axes-made c.args.caps.now c.add_supported.new.self c.add_supported-2.new.self
-    (c.add_supported.ensures.added ∙ ap (λ (xs : List ℕ). take 64 (xs ++ codes_among c.args.caps.now 3 0 47)) c.in_ok-list.ensures) c.add_supported-2.ensures.added
+    (rw (c.add_supported.ensures.added, c.in_ok-list.ensures)) c.add_supported-2.ensures.added

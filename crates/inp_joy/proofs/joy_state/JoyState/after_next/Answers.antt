@@ -1,23 +1,30 @@
-use Rattle.std.proofs.Common.{refl, ap, sym, ◌∙◌}
-use Rattle.std.specs.Prelude.{Option}
-use Rattle.inp_joy.specs.declared.joy_read.JoyRead.{JoyRead}
-use Rattle.inp_joy.specs.Joy.{stop_or_on}
+use Rattle.std.proofs.Common.{refl, sym}
 use Rattle.inp_joy.specs.Kept.{kept_joying}
 use Rattle.inp_joy.proofs.TurnCases.{stopped-other}
 use Rattle.inp_joy.proofs.joy_state.JoyState.after_next.Goals as goal
 
+-- the answer is no event, and it is one of a read too, so the read stops with it
 pub returns-in-Some : goal.returns-in-Some
 returns-in-Some c =
     let j = kept_joying c.args.self.now in
     record {
-      turn = sym (stopped-other c.args.self.now.reader.description j c.args.next c.in_default.not-Success ∙ ap (λ (o : Option JoyRead). stop_or_on j j o) (sym c.in-Some.ensures));
+      turn =
+          sym (rw (
+            stopped-other c.args.self.now.reader.description j c.args.next c.in_default.not-Success,
+            ← c.in-Some.ensures,
+          ));
       rest = refl;
     }
 
+-- the answer is no event and none of a read, so the read goes on
 pub returns-in-None : goal.returns-in-None
 returns-in-None c =
     let j = kept_joying c.args.self.now in
     record {
-      turn = sym (stopped-other c.args.self.now.reader.description j c.args.next c.in_default.not-Success ∙ ap (λ (o : Option JoyRead). stop_or_on j j o) (sym c.in-None.ensures));
+      turn =
+          sym (rw (
+            stopped-other c.args.self.now.reader.description j c.args.next c.in_default.not-Success,
+            ← c.in-None.ensures,
+          ));
       rest = refl;
     }

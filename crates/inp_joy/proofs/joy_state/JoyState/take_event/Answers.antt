@@ -9,7 +9,9 @@ use Rattle.inp_joy.proofs.joy_state.JoyState.take_event.Goals as goal
 
 pub synchronise-requires-clause-needed : goal.synchronise-requires-clause-needed
 synchronise-requires-clause-needed g c =
-    lost-needed c.args.self.now.reader.description c.args.self.now.reader.reading c.next-next.new.self.reader.reading c.in-Dropped.ensures.says.calls c.in-Dropped.event c.requires.plain c.in-Dropped.ensures.says.talk_ends
+    lost-needed c.args.self.now.reader.description c.args.self.now.reader.reading
+    c.next-next.new.self.reader.reading c.in-Dropped.ensures.says.calls c.in-Dropped.event c.requires.plain
+    c.in-Dropped.ensures.says.talk_ends
 
 pub returns-in-Dropped-clause-says : goal.returns-in-Dropped-clause-says
 returns-in-Dropped-clause-says g c =
@@ -17,7 +19,7 @@ returns-in-Dropped-clause-says g c =
     says-event_lost _ _ _ _ _ _ c.args.self.now.reader.description
     (kept_joying c.args.self.now) k c.in-Dropped.event
     c.next-next.new.self.reader.reading _ c.in-Dropped.ensures.says
-    (ap (λ (s : JoyState). kept_joying s) c.in-Dropped.ensures.rest)
+    (rw c.in-Dropped.ensures.rest)
     (rw c.in-Dropped.ensures.state.description at c.synchronise.ensures.says)
 
 pub returns-in-Dropped-clause-calls : goal.returns-in-Dropped-clause-calls
@@ -33,7 +35,7 @@ returns-in_default-clause-says g c =
     (says-event _ _ _ _ d (kept_joying c.args.self.now)
     (kept_joying mid) c.next-next.result mid.reader.reading _
     c.next-next.ensures.says c.in_default.not-Dropped
-    (ap (λ (s : JoyState). kept_joying s) c.next-next.ensures.rest)
+    (rw c.next-next.ensures.rest)
     (rw c.next-next.ensures.state.description at c.after_next.ensures.turn))
 
 pub returns-in_default-clause-calls : goal.returns-in_default-clause-calls
@@ -52,7 +54,8 @@ returns-in_default-clause-calls g c =
 
 pub returns-in-Dropped-clause-less : goal.returns-in-Dropped-clause-less
 returns-in-Dropped-clause-less g c =
-    less-then c.synchronise.result _ _ _ c.synchronise.ensures.less (omega (arith, c.in-Dropped.ensures.less refl))
+    less-then c.synchronise.result _ _ _ c.synchronise.ensures.less
+    (omega (arith, c.in-Dropped.ensures.less refl))
 
 pub returns-in_default-clause-less : goal.returns-in_default-clause-less
 returns-in_default-clause-less g c =

@@ -1,7 +1,5 @@
-use Rattle.std.proofs.Common.{refl, ◌≡◌, List, length, false, ◌∙◌, sym, ap, subst, arith}
-use Rattle.inp_model.specs.Description.{Description}
-use Rattle.inp_reader.specs.declared.call_made.CallMade.{CallMade}
-use Rattle.inp_joy.specs.Kept.{kept_joying, is_end, ReaderCalls}
+use Rattle.std.proofs.Common.{refl, length, false, ◌∙◌, sym, ap, arith}
+use Rattle.inp_joy.specs.Kept.{kept_joying, is_end}
 use Rattle.inp_joy.proofs.ReaderCalls.{calls-none, calls-then, calls-weaker}
 use Rattle.inp_joy.proofs.Outcomes.{less-then}
 use Rattle.inp_joy.proofs.ReadTurns.{passed-none, passed-more, passed-last, on-less, on-short, on-agains}
@@ -14,7 +12,7 @@ loop-outcome-init g c =
     let r = c.args.self.now.reader.reading in
     record {
       passed = passed-none _ d (kept_joying c.args.self.now) c.args.self.now.made c.requires.anew;
-      calls = subst (λ (ms : List CallMade). ReaderCalls a a ms c.args.self.now.made d r r (Unit {0})) c.requires.anew (calls-none a c.args.self.now.made d r (Unit {0}) tt);
+      calls = rw (← c.requires.anew) (calls-none a c.args.self.now.made d r (Unit {0}) tt);
       agains = refl;
       less = omega arith;
       state = c.requires.state;
@@ -28,7 +26,8 @@ returns-then-is_end-clause-says g c =
     let same = c.loop-outcome.invariant.state.description in
     passed-last _ _ _ c.args.self.now.reader.description (kept_joying c.args.self.now)
     (kept_joying c.loop-outcome.self)
-    (kept_joying c.turn-outcome.new.self) c.loop-outcome.self.made c.turn-outcome.new.self.made c.turn-outcome.result
+    (kept_joying c.turn-outcome.new.self) c.loop-outcome.self.made c.turn-outcome.new.self.made
+    c.turn-outcome.result
     c.loop-outcome.invariant.passed (rw same at c.turn-outcome.ensures.says)
     (rw (c.turn-outcome.ensures.state.description ∙ same) at (sym c.is_end.ensures ∙ c.if-is_end.true))
 
@@ -38,7 +37,8 @@ returns-then-is_end-clause-calls g c =
     (rw c.loop-outcome.invariant.state.description at c.turn-outcome.ensures.calls)
 
 pub returns-then-is_end-clause-less : goal.returns-then-is_end-clause-less
-returns-then-is_end-clause-less g c = less-then c.turn-outcome.result _ _ _ c.turn-outcome.ensures.less c.loop-outcome.invariant.less
+returns-then-is_end-clause-less g c =
+    less-then c.turn-outcome.result _ _ _ c.turn-outcome.ensures.less c.loop-outcome.invariant.less
 
 pub loop-outcome-preserved : goal.loop-outcome-preserved
 loop-outcome-preserved g c =
@@ -47,7 +47,7 @@ loop-outcome-preserved g c =
     let new = c.turn-outcome.new.self in
     let same = c.loop-outcome.invariant.state.description in
     let goes = sym c.is_end.ensures ∙ c.if-is_end.false in
-    let on = subst (λ (e : Description). is_end e c.turn-outcome.result next (length new.made) ≡ false) (c.turn-outcome.ensures.state.description ∙ same) goes in
+    let on = rw (c.turn-outcome.ensures.state.description, same) at goes in
     record {
       passed =
           passed-more _ _ _ d (kept_joying c.args.self.now)
@@ -58,8 +58,16 @@ loop-outcome-preserved g c =
           calls-weaker _ _ _ _ d _ _ _ _ (λ shown. tt)
           (calls-then _ _ _ _ _ _ d _ _ _ _ (Unit {0}) c.loop-outcome.invariant.calls
           (rw same at c.turn-outcome.ensures.calls));
-      agains = c.turn-outcome.ensures.agains ∙ on-agains d c.turn-outcome.result next (length new.made) _ on ∙ c.loop-outcome.invariant.agains;
-      less = omega (arith, on-less d c.turn-outcome.result next (length new.made) _ _ on c.turn-outcome.ensures.less, c.loop-outcome.invariant.less);
+      agains =
+          c.turn-outcome.ensures.agains ∙ on-agains d c.turn-outcome.result next (length new.made) _ on
+          ∙ c.loop-outcome.invariant.agains;
+      less =
+          omega (
+            arith,
+            on-less d c.turn-outcome.result next
+                (length new.made) _ _ on c.turn-outcome.ensures.less,
+            c.loop-outcome.invariant.less,
+          );
       state = rw same at c.turn-outcome.ensures.state;
       pictured = rw same at c.turn-outcome.ensures.pictured;
       short = λ over. on-short d c.turn-outcome.result next (length new.made) on over;
