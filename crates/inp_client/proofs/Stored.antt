@@ -1,5 +1,5 @@
 -- How many cells are kept.
-use Rattle.std.proofs.Common.{◌≡◌, ◌≤◌, ◌<◌, ℕ, List, [], ◌∷◌, ◌++◌, length, map, get_or, refl, sym, ap, ◌∙◌, arith}
+use Rattle.std.proofs.Common.{◌≡◌, ◌≤◌, ◌<◌, ℕ, List, [], ◌∷◌, length, map, get_or, refl, sym, ap, ◌∙◌, arith}
 use Rattle.std.specs.Prelude.{All, sum_by, flat_map}
 use Rattle.std.proofs.lemmas.List.{length-map, map-append}
 use Rattle.std.proofs.lemmas.List.Sums.{get_or-le-sum_by}
@@ -15,7 +15,8 @@ use Rattle.inp_client.specs.Numbers.{stored_of, held_places}
 use Rattle.inp_client.specs.Member.{Member, ring_of, client_in, cells_in, times_in, numbers_in}
 use Rattle.inp_client.specs.Locations.{clients_in}
 use Rattle.inp_client.specs.Kept.{kept_view, AreKept}
-use Rattle.inp_client.proofs.CellCounts.{cells_few, cells_many, cells_exactly, distinct-map, times-numbers_in, length-numbers_in, held_numbers-rings}
+use Rattle.inp_client.proofs.CellCounts.{cells_few, cells_many, cells_exactly, distinct-map, times-numbers_in}
+use Rattle.inp_client.proofs.CellCounts.{length-numbers_in, held_numbers-rings, times_of}
 use Rattle.std.proofs.Math.Path.{fun_ext}
 use Rattle.std.proofs.lemmas.Simd.{map-map}
 use Rattle.inp_client.proofs.Lists.{sum_by-map}
@@ -27,7 +28,8 @@ module _ (k : Inside) (kept : AreKept k) where
 
   -- each cell is in a ring
   in_some : (n : ℕ) → HasCell k.store n → 1 ≤ times n (numbers_in members)
-  in_some n there = omega (arith, kept_known k.store members kept.stored kept.none_idle n there, times-numbers_in n members)
+  in_some n there =
+      omega (arith, kept_known k.store members kept.stored kept.none_idle n there, times-numbers_in n members)
 
   -- each number of a ring has a cell
   has_cell : (n : ℕ) → 1 ≤ times_in n members → HasCell k.store n
@@ -36,28 +38,43 @@ module _ (k : Inside) (kept : AreKept k) where
   -- as many cells are kept as there are different numbers
   pub stored_exactly : cell_count k.store ≡ stored_of (kept_view k)
   stored_exactly =
-      cells_exactly k.store (numbers_in members) in_some (λ n there. has_cell n (omega (arith, there, times-numbers_in n members)))
-      ∙ ap (λ (q : List ℕ). length (distinct q)) (sym (held_numbers-rings members))
+      rw (
+        cells_exactly k.store (numbers_in members) in_some
+            (λ n there. has_cell n (omega (arith, there, times-numbers_in n members))),
+        ← held_numbers-rings,
+      )
 
   -- not fewer than a queue has events
   pub stored_least : All (λ c. length c.ring.events ≤ cell_count k.store) (kept_view k).list
-  stored_least = All-map (λ (c : ClientView Cell). length c.ring.events ≤ cell_count k.store) (client_in k.store) members (λ j d in_j. one j d in_j)
+  stored_least =
+      All-map (λ (c : ClientView Cell). length c.ring.events ≤ cell_count k.store)
+      (client_in k.store) members one
     where
-      one : (j : ℕ) (d : Member) → j < length members → length (client_in k.store (get_or members j d)).ring.events ≤ cell_count k.store
+      one : (j : ℕ) (d : Member) → j < length members
+          → length (client_in k.store (get_or members j d)).ring.events ≤ cell_count k.store
       one j d in_j =
           let m : Member = get_or members j d in
-          let ring : IsRing (ring_of m) = All-get_or (λ m. IsRing (ring_of m)) members j d in_j kept.stored.rings in
+          let ring = All-get_or (λ m. IsRing (ring_of m)) members j d in_j kept.stored.rings in
           omega (
             arith,
             length-map m.ring.events (cell_at k.store),
-            cells_many k.store m.ring.events ring.different (λ n there. has_cell n (omega (arith, there, get_or-le-sum_by (λ (m : Member). times n m.ring.events) members j d in_j))),
+            cells_many k.store m.ring.events ring.different
+                (λ n there.
+                has_cell n (omega (arith, there, get_or-le-sum_by (times_of n) members j d in_j))),
           )
 
   -- and no more than all queues have
   pub stored_most : cell_count k.store ≤ sum_by (λ c. length c.ring.events) (kept_view k).list
-  stored_most = omega (arith, cells_few k.store (numbers_in members) in_some, length-numbers_in members, lengths members)
+  stored_most =
+      omega (
+        arith,
+        cells_few k.store (numbers_in members) in_some,
+        length-numbers_in members,
+        lengths members,
+      )
     where
-      lengths : (ms : List Member) → sum_by (λ c. length c.ring.events) (cells_in k.store ms) ≡ sum_by (λ m. length m.ring.events) ms
+      lengths : (ms : List Member)
+          → sum_by (λ c. length c.ring.events) (cells_in k.store ms) ≡ sum_by (λ m. length m.ring.events) ms
       lengths ms =
           sum_by-map (λ (c : ClientView Cell). length c.ring.events) (client_in k.store) ms
           ∙ ap (λ (long : Member → ℕ). sum_by long ms)
@@ -74,9 +91,10 @@ module _ (k : Inside) (kept : AreKept k) where
         ap (λ (q : List ℕ). length (distinct q)) (held_numbers-rings members),
       )
     where
-      places : (ms : List Member) → flat_map (λ (c : ClientView Cell). map (λ (cell : Cell). cell.place) c.ring.events) (cells_in k.store ms) ≡ map (λ n. (cell_at k.store n).place) (numbers_in ms)
+      places : (ms : List Member)
+          → flat_map (λ (c : ClientView Cell). map (λ (cell : Cell). cell.place) c.ring.events)
+          (cells_in k.store ms) ≡ map (λ n. (cell_at k.store n).place) (numbers_in ms)
       places [] = refl
       places (m ∷ ms) =
-          ap (λ (ps : List ℕ). ps ++ flat_map (λ (c : ClientView Cell). map (λ (cell : Cell). cell.place) c.ring.events) (cells_in k.store ms)) (map-map (λ (cell : Cell). cell.place) (cell_at k.store) m.ring.events)
-          ∙ ap (λ (ps : List ℕ). map (λ n. (cell_at k.store n).place) m.ring.events ++ ps) (places ms)
-          ∙ sym (map-append (λ n. (cell_at k.store n).place) m.ring.events (numbers_in ms))
+          rw (map-map (λ (cell : Cell). cell.place) (cell_at k.store) m.ring.events, places ms)
+          (sym (map-append (λ n. (cell_at k.store n).place) m.ring.events (numbers_in ms)))

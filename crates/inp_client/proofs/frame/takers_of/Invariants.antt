@@ -7,4 +7,5 @@ use Rattle.inp_client.proofs.frame.takers_of.Given as goal
 abbrev pub invariant-loop-location : goal.invariant-loop-location
 invariant-loop-location l =
     (l.takers ≡ takers_in l.holder (take l.location-index (clients_in l.locations l.slab)))
-    × ((l.takers ≤ l.location-index) × All (TakesFrame l.holder l.count) (take l.location-index (clients_in l.locations l.slab)))
+    × ((l.takers ≤ l.location-index)
+    × All (TakesFrame l.holder l.count) (take l.location-index (clients_in l.locations l.slab)))

@@ -9,5 +9,7 @@ abbrev pub invariant-loop-location : goal.invariant-loop-location
 invariant-loop-location l = record {
   count : l.count ≡ length (readable_of l.store (take l.location-index (clients_in l.locations l.slab)));
   few : l.count ≤ l.location-index;
-  written : l.numbers ≡ written (take (length l.initial.numbers) (readable_of l.store (take l.location-index (clients_in l.locations l.slab)))) l.initial.numbers;
+  written : l.numbers ≡ written
+      (take (length l.initial.numbers)
+      (readable_of l.store (take l.location-index (clients_in l.locations l.slab)))) l.initial.numbers;
 }

@@ -1,4 +1,4 @@
-use Rattle.std.proofs.Common.{◌≡◌, ◌&&◌, true, Bool, Option, Some, None, sym, ap, ◌∙◌, arith}
+use Rattle.std.proofs.Common.{◌≡◌, true, Option, Some, None, sym, ◌∙◌, arith}
 use Rattle.std.specs.Option.{option_map}
 use Rattle.inp_model.specs.declared.event.Event.{Event}
 use Rattle.inp_ring.specs.declared.cell.Cell.{Cell}
@@ -15,15 +15,20 @@ event_there : (o : Option Cell) (e : Event) → option_map event_of_cell o ≡ S
 event_there None e h = cc
 event_there (Some cell) e h = cc
 
+-- the client is offered the event and admits it, so the number is put into its ring
 pub returns-clause-stored : goal.returns-clause-stored
 returns-clause-stored c =
     let m : Member = c.args.self.now in
     let s = c.args.store.now in
-    let there : (cell_at s c.args.number).event ≡ c.args.event = event_there (cell_in s c.args.number) c.args.event c.requires.event in
-    let offered : is_offered_to c.args.holder m ≡ true = sym c.is_offered_to.ensures ∙ c.if-not-is_offered_to.false in
-    let admitted : admits_of m.masks (cell_at s c.args.number).event ≡ true = ap (admits_of m.masks) there ∙ sym c.admits.ensures.admits ∙ c.if-not-admits.false in
+    let there : (cell_at s c.args.number).event ≡ c.args.event =
+    event_there (cell_in s c.args.number) c.args.event c.requires.event in
+    let offered : is_offered_to c.args.holder m ≡ true =
+    sym c.is_offered_to.ensures ∙ c.if-not-is_offered_to.false in
+    let admitted : admits_of m.masks (cell_at s c.args.number).event ≡ true =
+    rw (there, ← c.admits.ensures.admits) c.if-not-admits.false in
     let takes : takes_event (cell_at s c.args.number) c.args.holder (client_in s m) ≡ true =
-    ap (λ (b : Bool). b && admits_of m.masks (cell_at s c.args.number).event) offered ∙ admitted in
+    rw offered admitted in
     rw (← c.self.view_is)
-    (ring_stored c.args.number c.args.holder s c.enter-is_in.new.store _ _ (omega (arith, c.sound.ensures.sound.least, c.enter-is_in.ensures.places))
-    (ap (λ (x : Member). takes_event (cell_at s c.args.number) c.args.holder (client_in s x)) c.self.view_is ∙ takes) c.enter-is_in.ensures.put c.enter-is_in.ensures.lost)
+    (ring_stored c.args.number c.args.holder s c.enter-is_in.new.store _ _
+    (omega (arith, c.sound.ensures.sound.least, c.enter-is_in.ensures.places))
+    (rw (← c.self.view_is) at takes) c.enter-is_in.ensures.put c.enter-is_in.ensures.lost)

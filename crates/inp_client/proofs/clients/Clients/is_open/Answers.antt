@@ -1,10 +1,9 @@
-use Rattle.std.proofs.Common.{sym, ap, ◌∙◌}
-use Rattle.inp_client.specs.Clients.{ClientsView, has_client}
 use Rattle.inp_client.specs.Locations.{clients_in}
 use Rattle.inp_client.proofs.Locations.{has_client-clients_in, index_is_some}
 use Rattle.inp_client.proofs.OneClient.{has_client-cells_in}
 use Rattle.inp_client.proofs.clients.Clients.is_open.Goals as goal
 
+-- a search for the number finds a location if the client is open, and only then
 pub returns : goal.returns
 returns c =
     let locations = c.self.inside.locations.items in
@@ -12,8 +11,11 @@ returns c =
     let none = rw c.deref.ensures.value at c.index_of.ensures.none in
     record {
       «open» =
-          c.is_some.ensures
-          ∙ index_is_some locations c.args.number c.index_of.result found none
-          ∙ sym (has_client-cells_in c.self.inside.store (clients_in locations c.self.inside.slab) c.args.number ∙ has_client-clients_in c.self.invariant.located c.args.number)
-          ∙ ap (λ (v : ClientsView). has_client c.args.number v.list) c.self.view_is;
+          rw (
+            ← c.self.view_is,
+            has_client-cells_in c.self.inside.store (clients_in locations c.self.inside.slab) c.args.number,
+            has_client-clients_in c.self.invariant.located c.args.number,
+            ← index_is_some locations c.args.number c.index_of.result found none,
+            ← c.is_some.ensures,
+          );
     }

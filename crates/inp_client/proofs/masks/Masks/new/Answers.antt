@@ -3,6 +3,7 @@ use Rattle.std.proofs.lemmas.List.{length-replicate}
 use Rattle.inp_client.specs.Masks.{full_masks}
 use Rattle.inp_client.proofs.masks.Masks.new.Goals as goal
 
+-- each mask is made with its length, and with every bit set
 pub invariant_of-result : goal.invariant_of-result
 unfolding full_masks
 invariant_of-result c = record {
@@ -17,6 +18,7 @@ invariant_of-result c = record {
   full = λ _. cc;
 }
 
+-- every bit of each mask is set
 pub returns : goal.returns
 unfolding full_masks
 returns c = record { full = cc }
