@@ -1,85 +1,90 @@
--- What a step leaves in a client's queue before its frames come: what the client reads, loses or flushes, and what it asks
--- for.
-use Rattle.std.proofs.Common.{◌≡◌, ◌⊎◌, ℕ, ℤ, Bool, true, false, if◌then◌else◌, nat_eq, min, List, [], ◌∷◌, take, drop, refl, sym, ap, subst, ◌∙◌, Option, Some, None, inl, inr, arith}
-use Rattle.std.proofs.lemmas.Bool.{or_parts}
+-- What a step leaves in a client's queue before its frames come: what the client reads, loses or flushes,
+-- and what it asks for.
+use Rattle.std.proofs.Common.{◌≡◌, ◌⊎◌, ℕ, ℤ, Bool, true, false, if◌then◌else◌, nat_eq, min, List, [], ◌∷◌}
+use Rattle.std.proofs.Common.{take, drop, refl, sym, ap, ◌∙◌, Option, Some, None, inl, inr, arith}
+use Rattle.std.proofs.lemmas.Bool.{cases_Bool, or_parts}
 use Rattle.inp_model.specs.declared.event.TheConstants.{EV_KEY, EV_SW, EV_LED, EV_SND}
-use Rattle.inp_model.specs.declared.event.Event.{Event}
 use Rattle.inp_model.specs.declared.step.Step.{Step}
-use Rattle.inp_model.specs.declared.step.Step.TheVariants.{Open, Read, Discard, GetKeys, GetSwitches, GetLeds, GetSounds, GetAxis, SyncSlots, Clock as ToClock}
+use Rattle.inp_model.specs.declared.step.Step.TheVariants.{Open, Read, Discard, GetKeys, GetSwitches, GetLeds}
+use Rattle.inp_model.specs.declared.step.Step.TheVariants.{GetSounds, GetAxis, SyncSlots, Clock as ToClock}
 use Rattle.inp_model.specs.Description.{Description}
 use Rattle.inp_model.specs.Event.{is_report}
 use Rattle.inp_model.specs.Step.{Query, Codes, Slots, client_of, is_same, query_of, is_part_of}
 use Rattle.inp_model.specs.Past.{is_opening, is_call_of, clock_of}
 use Rattle.inp_model.specs.Left.{Eats}
-use Rattle.inp_model.specs.Queue.{Entry, event_of, visible, flush, queue_with, flush_for, is_same_clock, clock_entry, clock_changed, left_by_call, taken_by_with}
-use Rattle.inp_recon.specs.Synchronised.{Part, AllKeys, AllSwitches, AllLeds, OneAxis, AllSlots, asks_for, is_dropped, is_start, is_query_of}
+use Rattle.inp_model.specs.Queue.{Entry, event_of, visible, flush, queue_with, flush_for, is_same_clock}
+use Rattle.inp_model.specs.Queue.{clock_entry, clock_changed, left_by_call, taken_by_with}
+use Rattle.inp_recon.specs.Synchronised.{Part, AllKeys, AllSwitches, AllLeds, OneAxis, AllSlots, asks_for}
+use Rattle.inp_recon.specs.Synchronised.{is_dropped, is_start, is_query_of}
 use Rattle.inp_recon.proofs.Each.{and-left}
 use Rattle.inp_recon.proofs.EventKinds.{of_losses}
-
--- a loss is no part of what is asked for, and no report
-abbrev pub KeepsLosses : (Event → Bool) → Type 0
-KeepsLosses drops = (e : Event) → is_dropped e ≡ true → (is_report e ≡ false) × (drops e ≡ false)
+use Rattle.inp_recon.proofs.QueuedValues.{KeepsLosses}
 
 -- what a step takes from a client's queue, and what it leaves there
 pub data LeftBy (x : Step) (client : ℕ) (q taken left : List Entry) : Type 0 where
   ByRead : (n : ℕ) → taken ≡ take n q → left ≡ drop n q → LeftBy x client q taken left
-  ByLoss : (e : Entry) → is_dropped (event_of e) ≡ true → e.frame ≡ None → taken ≡ [] → left ≡ e ∷ [] → LeftBy x client q taken left
-  ByFlush : (query : Query) → query_of x ≡ Some query → is_same (client_of x) client ≡ true → (is_query_of client x ≡ true) ⊎ (query ≡ Codes EV_SND) → KeepsLosses (is_part_of query) → taken ≡ [] → left ≡ flush event_of (is_part_of query) q → LeftBy x client q taken left
+  ByLoss : (e : Entry) → is_dropped (event_of e) ≡ true → e.frame ≡ None → taken ≡ [] → left ≡ e ∷ []
+      → LeftBy x client q taken left
+  ByFlush : (query : Query) → query_of x ≡ Some query → is_same (client_of x) client ≡ true
+      → (is_query_of client x ≡ true) ⊎ (query ≡ Codes EV_SND) → KeepsLosses (is_part_of query) → taken ≡ []
+      → left ≡ flush event_of (is_part_of query) q → LeftBy x client q taken left
   ByNone : taken ≡ [] → left ≡ q → LeftBy x client q taken left
 
-keeps : (query : Query) → ((value : ℤ) → is_part_of query (record { kind = 0; code = 3; value = value }) ≡ false) → KeepsLosses (is_part_of query)
-keeps query k = of_losses (λ e. (is_report e ≡ false) × (is_part_of query e ≡ false)) (λ value. (refl, k value))
+keeps : (query : Query)
+    → ((value : ℤ) → is_part_of query (record { kind = 0; code = 3; value = value }) ≡ false)
+    → KeepsLosses (is_part_of query)
+keeps query k =
+    of_losses (λ e. (is_report e ≡ false) × (is_part_of query e ≡ false)) (λ value. (refl, k value))
 
-by_clock : (x : Step) (client : ℕ) (q taken : List Entry) (same : Bool) (e : Entry) → is_dropped (event_of e) ≡ true → e.frame ≡ None → taken ≡ [] → LeftBy x client q taken (clock_changed same e q)
+by_clock : (x : Step) (client : ℕ) (q taken : List Entry) (same : Bool) (e : Entry)
+    → is_dropped (event_of e) ≡ true → e.frame ≡ None → taken ≡ []
+    → LeftBy x client q taken (clock_changed same e q)
 by_clock x client [] taken same e loss frame none = ByNone none refl
 by_clock x client (y ∷ q) taken true e loss frame none = ByNone none refl
 by_clock x client (y ∷ q) taken false e loss frame none = ByLoss e loss frame none refl
 
--- the client's own step
-own_left : (eats : Eats) (d : Description) (past : List Step) (client : ℕ) (x : Step) → is_same (client_of x) client ≡ true → is_start past client x ≡ false → LeftBy x client (queue_with eats d past client) (taken_by_with eats d past client x) (left_by_call d past x (queue_with eats d past client))
-own_left eats d past client (Read reader count) own start =
-    let q = queue_with eats d past client in
-    ByRead (min count (visible event_of q)) (ap (λ (b : Bool). if b then take (min count (visible event_of q)) q else []) own)
-    refl
-own_left eats d past client (ToClock reader clock now) own start =
-    by_clock (ToClock reader clock now) client (queue_with eats d past client) [] (is_same_clock (clock_of past reader) clock) (clock_entry d past clock now) refl refl refl
-own_left eats d past client Open own start = absurd (let e : false ≡ true = own in cc)
-own_left eats d past client (Discard reader) own start = absurd (let e : nat_eq reader client ≡ false = start in let k : nat_eq reader client ≡ true = own in let bad : true ≡ false = sym k ∙ e in cc)
-own_left eats d past client (GetKeys reader) own start = ByFlush (Codes EV_KEY) refl own (inl own) (keeps (Codes EV_KEY) (λ value. refl)) refl refl
-own_left eats d past client (GetSwitches reader) own start = ByFlush (Codes EV_SW) refl own (inl own) (keeps (Codes EV_SW) (λ value. refl)) refl refl
-own_left eats d past client (GetLeds reader) own start = ByFlush (Codes EV_LED) refl own (inl own) (keeps (Codes EV_LED) (λ value. refl)) refl refl
-own_left eats d past client (GetSounds reader) own start = ByFlush (Codes EV_SND) refl own (inr refl) (keeps (Codes EV_SND) (λ value. refl)) refl refl
-own_left eats d past client (SyncSlots reader) own start = ByFlush Slots refl own (inl own) (keeps Slots (λ value. refl)) refl refl
-own_left eats d past client x own start = ByNone refl refl
+module _ (eats : Eats) (d : Description) (past : List Step) (client : ℕ) where
+  abbrev queue : List Entry
+  queue = queue_with eats d past client
 
--- another's step takes nothing
-pub not_taken : (eats : Eats) (d : Description) (past : List Step) (client : ℕ) (x : Step) → is_same (client_of x) client ≡ false → taken_by_with eats d past client x ≡ []
-not_taken eats d past client (Read reader count) other =
-    let q = queue_with eats d past client in
-    ap (λ (b : Bool). if b then take (min count (visible event_of q)) q else []) other
-not_taken eats d past client x other = refl
+  -- the client's own step
+  own_left : (x : Step) → is_same (client_of x) client ≡ true → is_start past client x ≡ false
+      → LeftBy x client queue (taken_by_with eats d past client x) (left_by_call d past x queue)
+  own_left (Read reader count) own start = ByRead (min count (visible event_of queue)) (rw own) refl
+  own_left (ToClock reader clock now) own start =
+      by_clock (ToClock reader clock now) client queue [] (is_same_clock (clock_of past reader) clock)
+      (clock_entry d past clock now) refl refl refl
+  own_left Open own start = absurd cc
+  own_left (Discard reader) own start = absurd cc
+  own_left (GetKeys reader) own start =
+      ByFlush (Codes EV_KEY) refl own (inl own) (keeps (Codes EV_KEY) (λ value. refl)) refl refl
+  own_left (GetSwitches reader) own start =
+      ByFlush (Codes EV_SW) refl own (inl own) (keeps (Codes EV_SW) (λ value. refl)) refl refl
+  own_left (GetLeds reader) own start =
+      ByFlush (Codes EV_LED) refl own (inl own) (keeps (Codes EV_LED) (λ value. refl)) refl refl
+  own_left (GetSounds reader) own start =
+      ByFlush (Codes EV_SND) refl own (inr refl) (keeps (Codes EV_SND) (λ value. refl)) refl refl
+  own_left (SyncSlots reader) own start =
+      ByFlush Slots refl own (inl own) (keeps Slots (λ value. refl)) refl refl
+  own_left x own start = ByNone refl refl
 
--- what a step leaves, whoever makes it
-abbrev pub left_in_queue : Eats → Description → List Step → ℕ → Step → List Entry
-left_in_queue eats d past client x = if is_call_of past client x then left_by_call d past x (queue_with eats d past client) else queue_with eats d past client
+  -- another's step takes nothing
+  pub not_taken : (x : Step) → is_same (client_of x) client ≡ false → taken_by_with eats d past client x ≡ []
+  not_taken (Read reader count) other = rw other
+  not_taken x other = refl
 
-pub left_by : (eats : Eats) (d : Description) (past : List Step) (client : ℕ) (x : Step) → is_start past client x ≡ false → LeftBy x client (queue_with eats d past client) (taken_by_with eats d past client x) (left_in_queue eats d past client x)
-left_by eats d past client x start = by (is_same (client_of x) client) refl
-  where
-    q : List Entry
-    q = queue_with eats d past client
+  -- what a step leaves, whoever makes it
+  abbrev pub left_in_queue : Step → List Entry
+  left_in_queue x = if is_call_of past client x then left_by_call d past x queue else queue
 
-    opening : is_opening past client x ≡ false
-    opening = (or_parts (is_opening past client x) _ start).0
-
-    left : (b : Bool) → is_same (client_of x) client ≡ b → left_in_queue eats d past client x ≡ (if b then left_by_call d past x q else q)
-    left b e =
-        ap (λ (o : Bool). if (if o then true else is_same (client_of x) client) then left_by_call d past x q else q) opening
-        ∙ ap (λ (o : Bool). if o then left_by_call d past x q else q) e
-
-    by : (b : Bool) → is_same (client_of x) client ≡ b → LeftBy x client q (taken_by_with eats d past client x) (left_in_queue eats d past client x)
-    by true e = subst (λ l. LeftBy x client q (taken_by_with eats d past client x) l) (sym (left true e)) (own_left eats d past client x e start)
-    by false e = ByNone (not_taken eats d past client x e) (left false e)
+  pub left_by : (x : Step) → is_start past client x ≡ false
+      → LeftBy x client queue (taken_by_with eats d past client x) (left_in_queue x)
+  left_by x start =
+      let opening : is_opening past client x ≡ false = (or_parts _ _ start).0 in
+      elim (cases_Bool (is_same (client_of x) client)) [
+        | inl e ↦ rw (opening, e) (own_left x e start)
+        | inr e ↦ ByNone (not_taken x e) (rw (opening, e))
+      ]
 
 -- ---- what a client asks for
 
@@ -95,21 +100,21 @@ query_for AllSlots = Some Slots
 pub record Asks (part : Part) (client : ℕ) (x : Step) : Type 0 where
   pub own : is_same (client_of x) client ≡ true
   pub queries : is_query_of client x ≡ true
-  pub flushes : (eats : Eats) (d : Description) (past : List Step) → left_in_queue eats d past client x ≡ flush_for event_of (query_for part) (queue_with eats d past client)
-
-flushed : Eats → Description → List Step → ℕ → Part → Bool → List Entry
-flushed eats d past client part called = if called then flush_for event_of (query_for part) (queue_with eats d past client) else queue_with eats d past client
+  pub flushes : (eats : Eats) (d : Description) (past : List Step)
+      → left_in_queue eats d past client x
+      ≡ flush_for event_of (query_for part) (queue_with eats d past client)
 
 pub part-asked : (part : Part) (client : ℕ) (x : Step) → asks_for part client x ≡ true → Asks part client x
-unfolding flushed
-part-asked AllKeys client (GetKeys named) h = record { own = h; queries = h; flushes = λ eats d past. ap (flushed eats d past client AllKeys) h }
-part-asked AllSwitches client (GetSwitches named) h = record { own = h; queries = h; flushes = λ eats d past. ap (flushed eats d past client AllSwitches) h }
-part-asked AllLeds client (GetLeds named) h = record { own = h; queries = h; flushes = λ eats d past. ap (flushed eats d past client AllLeds) h }
+part-asked AllKeys client (GetKeys named) h = record { own = h; queries = h; flushes = λ eats d past. rw h }
+part-asked AllSwitches client (GetSwitches named) h =
+    record { own = h; queries = h; flushes = λ eats d past. rw h }
+part-asked AllLeds client (GetLeds named) h = record { own = h; queries = h; flushes = λ eats d past. rw h }
 part-asked (OneAxis code) client (GetAxis named asked) h =
     let own : nat_eq named client ≡ true = and-left _ _ h in
-    record { own = own; queries = own; flushes = λ eats d past. ap (flushed eats d past client (OneAxis code)) own }
-part-asked AllSlots client (SyncSlots named) h = record { own = h; queries = h; flushes = λ eats d past. ap (flushed eats d past client AllSlots) h }
-part-asked part client _ h = absurd (let e : false ≡ true = h in cc)
+    record { own = own; queries = own; flushes = λ eats d past. rw own }
+part-asked AllSlots client (SyncSlots named) h =
+    record { own = h; queries = h; flushes = λ eats d past. rw h }
+part-asked part client _ h = absurd cc
 
 -- the type that a query tells
 unfoldable pub kind_asked : Option Query → ℕ
@@ -118,11 +123,12 @@ kind_asked (Some Slots) = 101
 kind_asked (Some (Codes kind)) = kind
 
 -- no other step of the client makes that query
-pub asked-only : (part : Part) (client : ℕ) (x : Step) (query : Query) → query_for part ≡ Some query → asks_for part client x ≡ false → is_same (client_of x) client ≡ true → query_of x ≡ Some query → ⊥
+pub asked-only : (part : Part) (client : ℕ) (x : Step) (query : Query) → query_for part ≡ Some query
+    → asks_for part client x ≡ false → is_same (client_of x) client ≡ true → query_of x ≡ Some query → ⊥
 unfolding kind_asked
-asked-only AllKeys client (GetKeys named) query q other own e = let bad : true ≡ false = sym own ∙ other in cc
-asked-only AllSwitches client (GetSwitches named) query q other own e = let bad : true ≡ false = sym own ∙ other in cc
-asked-only AllLeds client (GetLeds named) query q other own e = let bad : true ≡ false = sym own ∙ other in cc
-asked-only AllSlots client (SyncSlots named) query q other own e = let bad : true ≡ false = sym own ∙ other in cc
-asked-only (OneAxis code) client x query q other own e = let bad : None ≡ Some query = q in cc
+asked-only AllKeys client (GetKeys named) query q other own e = cc
+asked-only AllSwitches client (GetSwitches named) query q other own e = cc
+asked-only AllLeds client (GetLeds named) query q other own e = cc
+asked-only AllSlots client (SyncSlots named) query q other own e = cc
+asked-only (OneAxis code) client x query q other own e = cc
 asked-only part client x query q other own e = omega (arith, ap kind_asked (e ∙ sym q))

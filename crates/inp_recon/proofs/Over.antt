@@ -7,7 +7,8 @@ abbrev pub over : {V : Type 0} → (V → Event → V) → V → List Event → 
 over t v [] = v
 over t v (e ∷ es) = over t (t v e) es
 
-pub over-append : {V : Type 0} (t : V → Event → V) (v : V) (es later : List Event) → over t v (es ++ later) ≡ over t (over t v es) later
+pub over-append : {V : Type 0} (t : V → Event → V) (v : V) (es later : List Event)
+    → over t v (es ++ later) ≡ over t (over t v es) later
 over-append t v [] later = refl
 over-append t v (e ∷ es) later = over-append t (t v e) es later
 
@@ -15,6 +16,7 @@ over-append t v (e ∷ es) later = over-append t (t v e) es later
 abbrev pub IsIdle : {V : Type 0} → (V → Event → V) → Event → Type 0
 IsIdle {V} t e = (v : V) → t v e ≡ v
 
-pub over-idle : {V : Type 0} (t : V → Event → V) (v : V) (es : List Event) → Each (IsIdle t) es → over t v es ≡ v
+pub over-idle : {V : Type 0} (t : V → Event → V) (v : V) (es : List Event) → Each (IsIdle t) es
+    → over t v es ≡ v
 over-idle t v [] h = refl
 over-idle t v (e ∷ es) h = over-idle t (t v e) es h.1 ∙ h.0 v

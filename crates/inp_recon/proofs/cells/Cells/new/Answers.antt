@@ -1,5 +1,4 @@
-use Rattle.std.proofs.Common.{◌≡◌, ℤ, List, ◌*◌, ◌++◌, length, sym, ap, ◌∙◌, arith}
-use Rattle.inp_recon.specs.Cells.{first_row}
+use Rattle.std.proofs.Common.{◌≡◌, ◌*◌, length, sym, ap, ◌∙◌, arith}
 use Rattle.inp_recon.proofs.NoContact.{first_cells-none, first_cells-more, length-first_cells}
 use Rattle.inp_recon.proofs.cells.Cells.new.Goals as goal
 
@@ -8,9 +7,10 @@ loop-init c = c.new-cells.ensures.items ∙ sym first_cells-none
 
 pub loop-preserved : goal.loop-preserved
 loop-preserved c =
-    c.in_ok-extend_from_slice.ensures.items ∙ ap (λ (cells : List ℤ). cells ++ first_row) c.loop.invariant ∙ sym (first_cells-more c.loop.counter)
+    rw (c.in_ok-extend_from_slice.ensures.items, c.loop.invariant) (sym (first_cells-more c.loop.counter))
 
 pub invariant_of-result : goal.invariant_of-result
 invariant_of-result c =
-    let all : length c.loop.cells.items ≡ 14 * c.loop.counter = ap length c.loop.invariant ∙ length-first_cells c.loop.counter in
+    let all : length c.loop.cells.items ≡ 14 * c.loop.counter =
+    ap length c.loop.invariant ∙ length-first_cells c.loop.counter in
     record { whole = omega arith; few = omega (arith, c.requires) }
