@@ -7,5 +7,6 @@ use Rattle.inp_reader.specs.Reader.{axes_among, queries, ask_each, start_talk, r
 use Rattle.inp_reader.specs.ReaderPlace.{calls_since}
 
 unfoldable pub computing_reader : Type 0
-unfolding first_cells first_view view_after_event view_after_events bits_in view_after_answer talk_with calls_with synth axes_among queries ask_each start_talk read_talk sync_talk calls_since
+unfolding first_cells first_view view_after_event view_after_events bits_in view_after_answer talk_with
+    calls_with synth axes_among queries ask_each start_talk read_talk sync_talk calls_since
 computing_reader = Unit {0}

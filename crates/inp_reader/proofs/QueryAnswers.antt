@@ -1,5 +1,6 @@
 -- What a one-thread device answers to a query, as far as a view is set by it.
-use Rattle.std.proofs.Common.{◌≡◌, List, [], refl, sym, ap, subst, ◌∙◌, false, Option, Some, None, ℤ, ℕ, ◌*◌, length, take, drop, inl, inr, arith}
+use Rattle.std.proofs.Common.{◌≡◌, List, [], refl, sym, subst, ◌∙◌, false, Option, Some, None, ℤ, ℕ, ◌*◌}
+use Rattle.std.proofs.Common.{length, take, drop, inl, inr, arith}
 use Rattle.std.proofs.lemmas.List.{take-append-le}
 use Rattle.inp_model.specs.declared.step.Step.{Step}
 use Rattle.inp_model.specs.declared.step.Step.TheVariants.{SyncSlots}
@@ -11,10 +12,11 @@ use Rattle.inp_model.specs.Evdev.{EvdevView, IsCall}
 use Rattle.inp_model.specs.Past.{past_at}
 use Rattle.inp_model.specs.Raw.{raw}
 use Rattle.inp_model.specs.Run.{place_of}
-use Rattle.inp_model.specs.Reply.{Answer, alone, answer_by, accepted, refused, is_accepted, written, IsAnswer, rows}
+use Rattle.inp_model.specs.Reply.{Answer, alone, answer_by, accepted, refused, is_accepted, written, IsAnswer}
+use Rattle.inp_model.specs.Reply.{rows}
 use Rattle.inp_model.proofs.Refused.{refused-not_accepted}
 use Rattle.inp_recon.specs.declared.view.View.{View}
-use Rattle.inp_recon.specs.View.{view_after_answer, slot_after_reply, cells_after_reply}
+use Rattle.inp_recon.specs.View.{view_after_answer, cells_after_reply}
 use Rattle.inp_recon.proofs.ViewSteps.{length-rows}
 
 -- Any answer
@@ -36,14 +38,19 @@ answered-as d past x given P (inr l) accepts refuses =
 -- What an answer sets
 
 -- a buffer begins with what was written to it
-take-written : (front buffer : List ℤ) (n : ℕ) → length front ≡ n → take n (written front buffer) ≡ take n front
+take-written : (front buffer : List ℤ) (n : ℕ) → length front ≡ n
+    → take n (written front buffer) ≡ take n front
 take-written front buffer n h = take-append-le n front (drop (length front) buffer) (omega (arith, h))
 
-not_accepted_cells : (reply : Reply) (front buffer cells : List ℤ) → is_accepted reply ≡ false → cells_after_reply reply front cells ≡ cells_after_reply reply buffer cells
+not_accepted_cells : (reply : Reply) (front buffer cells : List ℤ) → is_accepted reply ≡ false
+    → cells_after_reply reply front cells ≡ cells_after_reply reply buffer cells
 not_accepted_cells (Cells at count slot) front buffer cells h = absurd cc
 not_accepted_cells _ front buffer cells h = refl
 
-told_cells : (d : Description) (past : List Step) (client : ℕ) (given : Answer) (cells own : List ℤ) → IsAnswer d past (SyncSlots client) given → length own ≡ 14 * d.slots → cells_after_reply given.reply (written given.cells cells) own ≡ cells_after_reply given.reply given.cells own
+told_cells : (d : Description) (past : List Step) (client : ℕ) (given : Answer) (cells own : List ℤ)
+    → IsAnswer d past (SyncSlots client) given → length own ≡ 14 * d.slots
+    → cells_after_reply given.reply (written given.cells cells) own
+    ≡ cells_after_reply given.reply given.cells own
 told_cells d past client given cells own are fits =
     answered-as d past (SyncSlots client) given
     (λ a. cells_after_reply a.reply (written a.cells cells) own ≡ cells_after_reply a.reply a.cells own) are
@@ -51,15 +58,23 @@ told_cells d past client given cells own are fits =
     (λ reply off. not_accepted_cells reply (written [] cells) [] own off)
 
 -- a view is set by the answer alone, and not by what else is in the buffer
-answered : (d : Description) (past : List Step) (x : Step) (given : Answer) (view : View) (cells : List ℤ) → IsAnswer d past x given → length view.cells ≡ 14 * d.slots → view_after_answer view x given.reply (written given.cells cells) ≡ view_after_answer view x given.reply given.cells
+answered : (d : Description) (past : List Step) (x : Step) (given : Answer) (view : View) (cells : List ℤ)
+    → IsAnswer d past x given → length view.cells ≡ 14 * d.slots
+    → view_after_answer view x given.reply (written given.cells cells)
+    ≡ view_after_answer view x given.reply given.cells
 unfolding view_after_answer
 answered d past (SyncSlots client) given view cells h fits =
-    ap (λ (cs : List ℤ). record view { slot = slot_after_reply given.reply view.slot; cells = cs }) (told_cells d past client given cells view.cells h fits)
+    rw (told_cells d past client given cells view.cells h fits)
 answered d past _ given view cells h fits = refl
 
-pub view-answered : (d : Description) (before after : EvdevView) (x : Step) (given : Answer) (reply : Reply) (cells new_cells : List ℤ) (view asked : View) → before.description ≡ d → length view.cells ≡ 14 * d.slots
-    → IsCall before after (record { step = x; answer = given }) → reply ≡ given.reply → new_cells ≡ written given.cells cells → asked ≡ view_after_answer view x reply new_cells → asked ≡ view_after_answer view x given.reply given.cells
+-- a view takes of the buffer only what the answer wrote there, so the answer alone sets it
+pub view-answered : (d : Description) (before after : EvdevView) (x : Step) (given : Answer) (reply : Reply)
+    (cells new_cells : List ℤ) (view asked : View) → before.description ≡ d → length view.cells ≡ 14 * d.slots
+    → IsCall before after (record { step = x; answer = given }) → reply ≡ given.reply
+    → new_cells ≡ written given.cells cells → asked ≡ view_after_answer view x reply new_cells
+    → asked ≡ view_after_answer view x given.reply given.cells
 view-answered d before after x given reply cells new_cells view asked same fits call replied wrote set =
-    let slots : length view.cells ≡ 14 * after.description.slots = fits ∙ ap (λ (e : Description). 14 * e.slots) (sym (call.description ∙ same)) in
-    set ∙ ap (λ (r : Reply). view_after_answer view x r new_cells) replied ∙ ap (λ (cs : List ℤ). view_after_answer view x given.reply cs) wrote
-    ∙ answered after.description (past_at after.seen (place_of given.reply)) x given view cells call.placed.exact slots
+    let slots : length view.cells ≡ 14 * after.description.slots = rw (fits, ← same, ← call.description) in
+    rw (set, replied, wrote)
+    (answered after.description
+    (past_at after.seen (place_of given.reply)) x given view cells call.placed.exact slots)

@@ -1,5 +1,5 @@
 -- Facts on `Says` for the talks of `start` and `next`.
-use Rattle.std.proofs.Common.{◌≡◌, List, [], ◌∷◌, ◌++◌, refl, sym, ap, subst, ◌∙◌, Bool, true, false, if◌then◌else◌, ℕ}
+use Rattle.std.proofs.Common.{◌≡◌, List, [], ◌∷◌, ◌++◌, refl, sym, ap, ◌∙◌, true, false, ℕ}
 use Rattle.std.specs.Prelude.{Result}
 use Rattle.inp_model.specs.declared.step.Step.{Step}
 use Rattle.inp_model.specs.declared.reply.Reply.{Reply}
@@ -10,7 +10,9 @@ use Rattle.inp_recon.specs.declared.view.View.{View}
 use Rattle.inp_reader.specs.declared.call_made.CallMade.{CallMade}
 use Rattle.inp_reader.specs.Talk.{Talk, finish, ask, and_then}
 use Rattle.inp_reader.specs.ReaderCalls.{MakesRead}
-use Rattle.inp_reader.specs.Reader.{ask_each, Reading, read_or_hand_out, read_talk, after_read, hand_out, stop_of, start_stop_of, after_open, after_queries, start_talk, talk_after_sync}
+use Rattle.inp_reader.specs.Reader.{ask_each, Reading, read_or_hand_out, read_talk, after_read, hand_out}
+use Rattle.inp_reader.specs.Reader.{stop_of, start_stop_of, after_open, after_queries, start_talk}
+use Rattle.inp_reader.specs.Reader.{talk_after_sync}
 use Rattle.inp_reader.specs.Says.{kept_call, Says}
 use Rattle.inp_model.specs.declared.taken.Taken.{Taken}
 use Rattle.inp_model.specs.declared.step.Step.TheVariants.{Open, Read}
@@ -21,17 +23,23 @@ use Rattle.inp_reader.specs.declared.started.Started.{Started}
 use Rattle.inp_reader.proofs.SaysInTurn.{says-nothing, says-then, says-one}
 
 -- no call, and the calls that were kept stay
-pub says-still : {A : Type 0} (told : EvdevView) (old new : List CallMade) (talk : Talk A) (result : A) → new ≡ old → talk ≡ finish result → Says told told old new talk result
-says-still told old new talk result h k = subst (λ (ms : List CallMade). Says told told old ms talk result) (sym h) (says-nothing told old talk result k)
+pub says-still : {A : Type 0} {told : EvdevView} {old new : List CallMade} {talk : Talk A} {result : A}
+    → new ≡ old → talk ≡ finish result → Says told told old new talk result
+says-still h k = rw h (says-nothing _ _ _ _ k)
 
 -- one call, and then what its answer says
-pub says-first : {A : Type 0} (before between after : EvdevView) (old mid new : List CallMade) (x : Step) (answer : Answer) (rest : Answer → Talk A) (result : A) → IsCall before between (record { step = x; answer = answer }) → mid ≡ old ++ kept_call x answer.reply → Says between after mid new (rest answer) result → Says before after old new (ask x rest) result
-says-first before between after old mid new x answer rest result call kept s =
-    says-then before between after old mid new (ask x finish) rest answer result (says-one before between old mid x answer finish answer call kept refl) s
+pub says-first : {A : Type 0} {before between after : EvdevView} {old mid new : List CallMade} (x : Step)
+    (answer : Answer) (rest : Answer → Talk A) (result : A)
+    → IsCall before between (record { step = x; answer = answer }) → mid ≡ old ++ kept_call x answer.reply
+    → Says between after mid new (rest answer) result → Says before after old new (ask x rest) result
+says-first x answer rest result call kept s =
+    says-then _ _ _ _ _ _ (ask x finish) rest answer result (says-one x answer finish answer call kept refl) s
 
 -- the same view
-pub says-view : (before after : EvdevView) (old new : List CallMade) (xs : List Step) (view same : View) (result : Result View Reply) → view ≡ same → Says before after old new (ask_each xs view) result → Says before after old new (ask_each xs same) result
-says-view before after old new xs view same result h s = subst (λ (v : View). Says before after old new (ask_each xs v) result) h s
+pub says-view : {before after : EvdevView} {old new : List CallMade} (xs : List Step) (view same : View)
+    (result : Result View Reply) → view ≡ same → Says before after old new (ask_each xs view) result
+    → Says before after old new (ask_each xs same) result
+says-view xs view same result h s = rw h at s
 
 -- Reading
 
@@ -39,95 +47,111 @@ hand_out-queue : (r : Reading) (queue q : List Taken) → hand_out (record r { q
 hand_out-queue r queue [] = refl
 hand_out-queue r queue (taken ∷ rest) = refl
 
-says-by_read : (before after : EvdevView) (old new : List CallMade) (r : Reading) (answer : Answer) (reply : Reply) (result : Next × Reading) → r.queue ≡ [] → IsCall before after (record { step = Read r.client 64; answer = answer }) → reply ≡ answer.reply → new ≡ old ++ kept_call (Read r.client 64) reply
+says-by_read : {before after : EvdevView} {old new : List CallMade} (r : Reading) (answer : Answer)
+    (reply : Reply) (result : Next × Reading) → r.queue ≡ []
+    → IsCall before after (record { step = Read r.client 64; answer = answer }) → reply ≡ answer.reply
+    → new ≡ old ++ kept_call (Read r.client 64) reply
     → after_read r answer ≡ result → Says before after old new (read_talk r) result
 unfolding read_talk
-says-by_read before after old new r answer reply result empty call replied kept is =
-    let talk : read_or_hand_out r r.queue ≡ ask (Read r.client 64) (λ (a : Answer). finish (after_read r a)) = ap (λ (q : List Taken). read_or_hand_out r q) empty in
-    let s : Says before after old new (ask (Read r.client 64) (λ (a : Answer). finish (after_read r a))) result =
-    says-first before after after old new new (Read r.client 64) answer (λ (a : Answer). finish (after_read r a)) result call
-    (kept ∙ ap (λ (rep : Reply). old ++ kept_call (Read r.client 64) rep) replied)
-    (says-still after new new (finish (after_read r answer)) result refl (ap (λ (o : Next × Reading). finish o) is)) in
-    subst (λ (t : Talk (Next × Reading)). Says before after old new t result) (sym talk) s
+says-by_read r answer reply result empty call replied kept is =
+    let talk : read_or_hand_out r r.queue ≡ ask (Read r.client 64) (λ (a : Answer). finish (after_read r a)) =
+    rw empty in
+    rw talk (says-first (Read r.client 64) answer (λ (a : Answer). finish (after_read r a)) result call
+    (rw (kept, replied)) (says-still refl (rw is)))
 
 -- a read that took events
-pub says-took : (before after : EvdevView) (old new : List CallMade) (r : Reading) (reply : Reply) (queue : List Taken) (result : Next × Reading) → r.queue ≡ [] → MakesRead before after r.client reply queue → new ≡ old ++ kept_call (Read r.client 64) reply
-    → is_accepted reply ≡ true → result ≡ hand_out (record r { queue = queue }) queue → Says before after old new (read_talk r) result
-says-took before after old new r reply queue result empty reads kept accepted handed =
+pub says-took : {before after : EvdevView} {old new : List CallMade} (r : Reading) (reply : Reply)
+    (queue : List Taken) (result : Next × Reading) → r.queue ≡ []
+    → MakesRead before after r.client reply queue → new ≡ old ++ kept_call (Read r.client 64) reply
+    → is_accepted reply ≡ true → result ≡ hand_out (record r { queue = queue }) queue
+    → Says before after old new (read_talk r) result
+says-took r reply queue result empty reads kept accepted handed =
     let a : Answer = reads.answer in
     let is : is_accepted a.reply ≡ true = ap is_accepted (sym reads.replied) ∙ accepted in
-    let queued : queue ≡ a.events = reads.queued ∙ ap (λ (b : Bool). if b then a.events else []) is in
-    let out : result ≡ hand_out r a.events = handed ∙ hand_out-queue r queue queue ∙ ap (λ (q : List Taken). hand_out r q) queued in
-    let after_it : after_read r a ≡ hand_out r a.events = ap (λ (b : Bool). if b then hand_out r a.events else (stop_of a.reply, r)) is in
-    says-by_read before after old new r a reply result empty reads.is_call reads.replied kept (after_it ∙ sym out)
+    let queued : queue ≡ a.events = rw (reads.queued, is) in
+    let out : result ≡ hand_out r a.events = rw (handed, hand_out-queue, queued) in
+    let after_it : after_read r a ≡ hand_out r a.events = rw is in
+    says-by_read r a reply result empty reads.is_call reads.replied kept (after_it ∙ sym out)
 
 -- a read that was not accepted
-pub says-read_nothing : (before after : EvdevView) (old new : List CallMade) (r : Reading) (reply : Reply) (queue : List Taken) (next : Next) → r.queue ≡ [] → MakesRead before after r.client reply queue → new ≡ old ++ kept_call (Read r.client 64) reply
-    → is_accepted reply ≡ false → next ≡ stop_of reply → Says before after old new (read_talk r) (next, record r { queue = queue })
-says-read_nothing before after old new r reply queue next empty reads kept refused stopped =
+pub says-read_nothing : {before after : EvdevView} {old new : List CallMade} (r : Reading) (reply : Reply)
+    (queue : List Taken) (next : Next) → r.queue ≡ [] → MakesRead before after r.client reply queue
+    → new ≡ old ++ kept_call (Read r.client 64) reply
+    → is_accepted reply ≡ false → next ≡ stop_of reply
+    → Says before after old new (read_talk r) (next, record r { queue = queue })
+says-read_nothing r reply queue next empty reads kept refused stopped =
     let a : Answer = reads.answer in
     let is : is_accepted a.reply ≡ false = ap is_accepted (sym reads.replied) ∙ refused in
-    let queued : queue ≡ r.queue = reads.queued ∙ ap (λ (b : Bool). if b then a.events else []) is ∙ sym empty in
-    let same : record r { queue = queue } ≡ r = ap (λ (q : List Taken). record r { queue = q }) queued in
-    let stop : stop_of a.reply ≡ next = ap (λ (rep : Reply). stop_of rep) (sym reads.replied) ∙ sym stopped in
-    let after_it : after_read r a ≡ (stop_of a.reply, r) = ap (λ (b : Bool). if b then hand_out r a.events else (stop_of a.reply, r)) is in
+    let queued : queue ≡ r.queue = rw (reads.queued, is) (sym empty) in
+    let same : record r { queue = queue } ≡ r = rw queued in
+    let stop : stop_of a.reply ≡ next = rw (← reads.replied) (sym stopped) in
+    let after_it : after_read r a ≡ (stop_of a.reply, r) = rw is in
     let result : Next × Reading = (next, record r { queue = queue }) in
-    says-by_read before after old new r a reply result empty reads.is_call reads.replied kept
-    (after_it ∙ ap (λ (n : Next). (n, r)) stop ∙ ap (λ (t : Reading). (next, t)) (sym same))
+    says-by_read r a reply result empty reads.is_call reads.replied kept
+    (rw (after_it, stop, ← same))
 
 -- an event of the queue
 hand_out-queued : (r : Reading) (q : List Taken) → (q ≡ [] → ⊥) → read_or_hand_out r q ≡ finish (hand_out r q)
 hand_out-queued r [] h = absurd (h refl)
 hand_out-queued r (taken ∷ rest) h = refl
 
-pub says-queued : (told : EvdevView) (old new : List CallMade) (r : Reading) (result : Next × Reading) → (r.queue ≡ [] → ⊥) → new ≡ old → result ≡ hand_out r r.queue → Says told told old new (read_talk r) result
+-- where an event is queued the first one is handed out, and no call is made
+pub says-queued : {told : EvdevView} {old new : List CallMade} (r : Reading) (result : Next × Reading)
+    → (r.queue ≡ [] → ⊥) → new ≡ old → result ≡ hand_out r r.queue
+    → Says told told old new (read_talk r) result
 unfolding read_talk
-says-queued told old new r result h kept handed =
-    says-still told old new (read_or_hand_out r r.queue) result kept (hand_out-queued r r.queue h ∙ ap (λ (o : Next × Reading). finish o) (sym handed))
+says-queued r result h kept handed = says-still kept (rw (hand_out-queued, ← handed))
 
 -- Synchronising
 
 -- and what follows it
-pub says-synchronised : (before between after : EvdevView) (old mid new : List CallMade)
-    (talk : Talk (Result View Reply))
-    (rest : Talk (Next × Reading)) (mode : Mode) (r : Reading) (asked : Result View Reply)
-    (result : Next × Reading)
-    → Says before between old mid talk asked → rest ≡ talk_after_sync mode r asked → Says between after mid new rest result
+pub says-synchronised : {before between after : EvdevView} {old mid new : List CallMade}
+    (talk : Talk (Result View Reply)) (rest : Talk (Next × Reading)) (mode : Mode) (r : Reading)
+    (asked : Result View Reply) (result : Next × Reading) → Says before between old mid talk asked
+    → rest ≡ talk_after_sync mode r asked → Says between after mid new rest result
     → Says before after old new (and_then talk (talk_after_sync mode r)) result
-says-synchronised before between after old mid new talk rest mode r asked result h is k =
-    says-then before between after old mid new talk (talk_after_sync mode r) asked result h
-    (subst (λ (t : Talk (Next × Reading)). Says between after mid new t result) is k)
+says-synchronised talk rest mode r asked result h is k =
+    says-then _ _ _ _ _ _ talk (talk_after_sync mode r) asked result h
+    (rw is at k)
 
 -- Starting
 
 -- the queries of a start
-pub says-begun : (before after : EvdevView) (old new : List CallMade) (xs : List Step) (client ring : ℕ)
-    (r : Reading)
-    (asked : Result View Reply) (result : Started × Reading)
+pub says-begun : {before after : EvdevView} {old new : List CallMade} (xs : List Step) (client ring : ℕ)
+    (r : Reading) (asked : Result View Reply) (result : Started × Reading)
     → Says before after old new (ask_each xs r.view) asked → after_queries client ring r asked ≡ result
     → Says before after old new
     (and_then (ask_each xs r.view) (λ o. finish (after_queries client ring r o))) result
-says-begun before after old new xs client ring r asked result h is =
+says-begun xs client ring r asked result h is =
     let next : Result View Reply → Talk (Started × Reading) = λ o. finish (after_queries client ring r o) in
-    says-then before after after old new new (ask_each xs r.view) next asked result h
-    (says-still after new new (next asked) result refl (ap (λ (o : Started × Reading). finish o) is))
+    says-then _ _ _ _ _ _ (ask_each xs r.view) next asked result h
+    (says-still refl (rw is))
 
 -- a start, once its Open was accepted
-pub says-opened : (before between after : EvdevView) (old mid new : List CallMade) (d : Description) (r : Reading) (reply : Reply) (result : Started × Reading) → (answer : Answer) → reply ≡ answer.reply → IsCall before between (record { step = Open; answer = answer }) → mid ≡ old ++ kept_call Open answer.reply
-    → Says between after mid new (after_open d r reply) result → Says before after old new (start_talk d r) result
+pub says-opened : {before between after : EvdevView} {old mid new : List CallMade} (d : Description)
+    (r : Reading) (reply : Reply) (result : Started × Reading) → (answer : Answer) → reply ≡ answer.reply
+    → IsCall before between (record { step = Open; answer = answer })
+    → mid ≡ old ++ kept_call Open answer.reply
+    → Says between after mid new (after_open d r reply) result
+    → Says before after old new (start_talk d r) result
 unfolding start_talk
-says-opened before between after old mid new d r reply result answer replied call kept s =
-    says-first before between after old mid new Open answer (λ (a : Answer). after_open d r a.reply) result call kept
-    (subst (λ (rep : Reply). Says between after mid new (after_open d r rep) result) replied s)
+says-opened d r reply result answer replied call kept s =
+    says-first Open answer (λ (a : Answer). after_open d r a.reply) result call kept
+    (rw replied at s)
 
-after_open-stopped : (d : Description) (r : Reading) (reply : Reply) → ((at client ring : ℕ) → reply ≡ Opened at client ring → ⊥) → after_open d r reply ≡ finish (start_stop_of reply, r)
+after_open-stopped : (d : Description) (r : Reading) (reply : Reply)
+    → ((at client ring : ℕ) → reply ≡ Opened at client ring → ⊥)
+    → after_open d r reply ≡ finish (start_stop_of reply, r)
 after_open-stopped d r (Opened at client ring) h = absurd (h at client ring refl)
 after_open-stopped d r _ h = refl
 
 -- a start whose Open was refused
-pub says-not_opened : (before after : EvdevView) (old new : List CallMade) (d : Description) (r : Reading) (reply : Reply) (started : Started) (answer : Answer) → reply ≡ answer.reply → IsCall before after (record { step = Open; answer = answer }) → new ≡ old ++ kept_call Open answer.reply
-    → ((at client ring : ℕ) → reply ≡ Opened at client ring → ⊥) → started ≡ start_stop_of reply → Says before after old new (start_talk d r) (started, r)
-says-not_opened before after old new d r reply started answer replied call kept h stopped =
+pub says-not_opened : {before after : EvdevView} {old new : List CallMade} (d : Description) (r : Reading)
+    (reply : Reply) (started : Started) (answer : Answer) → reply ≡ answer.reply
+    → IsCall before after (record { step = Open; answer = answer }) → new ≡ old ++ kept_call Open answer.reply
+    → ((at client ring : ℕ) → reply ≡ Opened at client ring → ⊥) → started ≡ start_stop_of reply
+    → Says before after old new (start_talk d r) (started, r)
+says-not_opened d r reply started answer replied call kept h stopped =
     let result : Started × Reading = (started, r) in
-    says-opened before after after old new new d r reply result answer replied call kept
-    (says-still after new new (after_open d r reply) result refl (after_open-stopped d r reply h ∙ ap (λ (n : Started). finish (n, r)) (sym stopped)))
+    says-opened d r reply result answer replied call kept
+    (says-still refl (rw (after_open-stopped, ← stopped)))

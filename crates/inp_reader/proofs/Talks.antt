@@ -1,5 +1,6 @@
 -- Talks and calls, one after another.
-use Rattle.std.proofs.Common.{◌≡◌, List, [], ◌∷◌, ◌++◌, refl, sym, ap, subst, ◌∙◌, append_assoc, Bool, true, false, if◌then◌else◌}
+use Rattle.std.proofs.Common.{◌≡◌, List, [], ◌∷◌, ◌++◌, refl, sym, append_assoc, Bool, true, false}
+use Rattle.std.proofs.Common.{if◌then◌else◌}
 use Rattle.std.specs.Prelude.{Result, Ok, Err}
 use Rattle.inp_model.specs.declared.step.Step.{Step}
 use Rattle.inp_model.specs.declared.reply.Reply.{Reply}
@@ -13,17 +14,23 @@ use Rattle.inp_reader.specs.Says.{kept_call, calls_kept}
 
 -- Talks
 
-pub LeadsTo-append : {A : Type 0} (talk between left : Talk A) (calls more : List Call) → LeadsTo talk calls between → LeadsTo between more left → LeadsTo talk (calls ++ more) left
+-- more calls of what is left of a talk are calls of the talk behind the first ones
+pub LeadsTo-append : {A : Type 0} (talk between left : Talk A) (calls more : List Call)
+    → LeadsTo talk calls between → LeadsTo between more left → LeadsTo talk (calls ++ more) left
 unfolding LeadsTo
-LeadsTo-append talk between left [] more h k = subst (λ t. LeadsTo t more left) (sym h) k
+LeadsTo-append talk between left [] more h k = rw h k
 LeadsTo-append (finish a) between left (call ∷ calls) more h k = elim h [ ]
-LeadsTo-append (ask x rest) between left (call ∷ calls) more h k = (h.0, LeadsTo-append (rest call.answer) between left calls more h.1 k)
+LeadsTo-append (ask x rest) between left (call ∷ calls) more h k =
+    (h.0, LeadsTo-append (rest call.answer) between left calls more h.1 k)
 
-pub LeadsTo-and_then : {A B : Type 0} (talk left : Talk A) (next : A → Talk B) (calls : List Call) → LeadsTo talk calls left → LeadsTo (and_then talk next) calls (and_then left next)
+-- the first calls are those of the first talk, and the next one is still to come
+pub LeadsTo-and_then : {A B : Type 0} (talk left : Talk A) (next : A → Talk B) (calls : List Call)
+    → LeadsTo talk calls left → LeadsTo (and_then talk next) calls (and_then left next)
 unfolding LeadsTo
-LeadsTo-and_then talk left next [] h = ap (λ t. and_then t next) h
+LeadsTo-and_then talk left next [] h = rw h
 LeadsTo-and_then (finish a) left next (call ∷ calls) h = elim h [ ]
-LeadsTo-and_then (ask x rest) left next (call ∷ calls) h = (h.0, LeadsTo-and_then (rest call.answer) left next calls h.1)
+LeadsTo-and_then (ask x rest) left next (call ∷ calls) h =
+    (h.0, LeadsTo-and_then (rest call.answer) left next calls h.1)
 
 -- Talks that ask for steps in order
 
@@ -46,6 +53,7 @@ ask_on-if : (b : Bool) (ys : List Step) (talk longer : Talk (Result View Reply))
 ask_on-if true ys talk longer reply h = h
 ask_on-if false ys talk longer reply h = refl
 
+-- where all of the first steps are accepted the others follow, and a refusal ends both ways
 pub ask_each-append : (xs ys : List Step) (view : View)
     → and_then (ask_each xs view) (ask_on ys) ≡ ask_each (xs ++ ys) view
 unfolding ask_each
@@ -57,6 +65,10 @@ ask_each-append (x ∷ xs) ys view = λ i. ask x (λ a.
 
 -- Calls
 
-pub calls_kept-append : (calls more : List Call) → calls_kept (calls ++ more) ≡ calls_kept calls ++ calls_kept more
+-- whether a call is kept is told by its own reply alone
+pub calls_kept-append : (calls more : List Call)
+    → calls_kept (calls ++ more) ≡ calls_kept calls ++ calls_kept more
 calls_kept-append [] more = refl
-calls_kept-append (call ∷ calls) more = ap (λ ms. kept_call call.step call.answer.reply ++ ms) (calls_kept-append calls more) ∙ sym (append_assoc (kept_call call.step call.answer.reply) (calls_kept calls) (calls_kept more))
+calls_kept-append (call ∷ calls) more =
+    rw (calls_kept-append calls more)
+    (sym (append_assoc (kept_call call.step call.answer.reply) (calls_kept calls) (calls_kept more)))

@@ -4,4 +4,5 @@ use Rattle.inp_reader.specs.Synthesis.{cells_differ}
 use Rattle.inp_reader.proofs.changes.is_changed.Given as goal
 
 abbrev pub invariant-loop-code : goal.invariant-loop-code
-invariant-loop-code l = list_any (cells_differ l.old.cells l.new.cells l.slot) (range_with_len 48 (l.code - 48)) ≡ false
+invariant-loop-code l =
+    list_any (cells_differ l.old.cells l.new.cells l.slot) (range_with_len 48 (l.code - 48)) ≡ false

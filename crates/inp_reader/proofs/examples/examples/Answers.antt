@@ -10,6 +10,7 @@ use Rattle.inp_model.proofs.Computation.{computing}
 use Rattle.inp_reader.proofs.Computation.{computing_reader}
 use Rattle.inp_reader.proofs.examples.examples.Goals as goal
 
+-- what the client asked, what it read and the view that both made are given, and compute
 pub returns-clause-stands : goal.returns-clause-stands
 unfolding computing computing_reader
 returns-clause-stands c = record {

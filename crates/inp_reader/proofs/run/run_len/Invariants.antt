@@ -7,5 +7,6 @@ invariant-loop-taken l = record {
   count : l.count ≡ l.taken-index;
   few : l.count ≤ l.most;
   within : l.count ≤ length l.queue;
-  run : first_run l.most l.queue ≡ take l.count l.queue ++ first_run (l.most - l.count) (drop l.count l.queue);
+  run : first_run l.most l.queue ≡ take l.count l.queue
+      ++ first_run (l.most - l.count) (drop l.count l.queue);
 }

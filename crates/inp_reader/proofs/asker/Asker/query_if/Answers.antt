@@ -2,4 +2,5 @@ use Rattle.inp_reader.proofs.SaysInTurn.{says-unwanted}
 use Rattle.inp_reader.proofs.asker.Asker.query_if.Goals as goal
 
 pub returns-else-wanted-clause-says : goal.returns-else-wanted-clause-says
-returns-else-wanted-clause-says g c = says-unwanted _ _ c.args.wanted c.args.step c.args.self.now.view c.if-wanted.false
+returns-else-wanted-clause-says g c =
+    says-unwanted c.args.wanted c.args.step c.args.self.now.view c.if-wanted.false

@@ -5,7 +5,8 @@ use Rattle.inp_reader.proofs.event_list.EventList.push_cells.Given as goal
 
 abbrev pub invariant-loop-slot : goal.invariant-loop-slot
 invariant-loop-slot l = record {
-  walked : IsWalked (changes_in l.old l.new) (is_changed l.old l.new) l.slot l.old.slot l.initial.self.events l.self.events l.current;
+  walked : IsWalked (changes_in l.old l.new)
+      (is_changed l.old l.new) l.slot l.old.slot l.initial.self.events l.self.events l.current;
   room : l.self.room ≡ l.initial.self.room;
   few : length l.self.events ≤ length l.initial.self.events + 15 * l.slot;
 }

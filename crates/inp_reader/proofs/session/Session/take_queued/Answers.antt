@@ -1,4 +1,4 @@
-use Rattle.std.proofs.Common.{◌∙◌, Bool, if◌then◌else◌, List, take, length, length-take, sym, ap, arith}
+use Rattle.std.proofs.Common.{◌∙◌, List, take, length, length-take, ap, arith}
 use Rattle.inp_model.specs.declared.taken.Taken.{Taken}
 use Rattle.inp_reader.specs.declared.phase.Phase.TheVariants.{Needed}
 use Rattle.inp_reader.specs.Session.{reading_of}
@@ -16,13 +16,19 @@ skip-requires c = record { few = few-queued c.args.count (reading_of c.args.self
 pub returns-then-is_lost-clause-reading : goal.returns-then-is_lost-clause-reading
 returns-then-is_lost-clause-reading c =
     let r = reading_of c.args.self.now in
-    let is = ap (λ (q : List Taken). take c.args.count q) c.as_slice.ensures ∙ front-queued c.args.count r c.requires.queued in
-    run-taken c.args.count r (take c.args.count c.as_slice.result.now) c.skip.new.self c.take_events.new.self c.ends_with_loss-is_lost.result Needed c.requires.queued is c.skip.ensures c.take_events.ensures.view
-    (c.ends_with_loss-is_lost.ensures.lost c.args.count r is) (ap (λ (b : Bool). if b then Needed else r.phase) (sym c.if-is_lost.true))
+    let is =
+    ap (λ (q : List Taken). take c.args.count q) c.as_slice.ensures
+    ∙ front-queued c.args.count r c.requires.queued in
+    run-taken c.args.count r (take c.args.count c.as_slice.result.now) c.skip.new.self c.take_events.new.self
+    c.ends_with_loss-is_lost.result Needed c.requires.queued is c.skip.ensures c.take_events.ensures.view
+    (c.ends_with_loss-is_lost.ensures.lost c.args.count r is) (rw c.if-is_lost.true)
 
 pub returns-else-is_lost-clause-reading : goal.returns-else-is_lost-clause-reading
 returns-else-is_lost-clause-reading c =
     let r = reading_of c.args.self.now in
-    let is = ap (λ (q : List Taken). take c.args.count q) c.as_slice.ensures ∙ front-queued c.args.count r c.requires.queued in
-    run-taken c.args.count r (take c.args.count c.as_slice.result.now) c.skip.new.self c.take_events.new.self c.ends_with_loss-is_lost.result r.phase c.requires.queued is c.skip.ensures c.take_events.ensures.view
-    (c.ends_with_loss-is_lost.ensures.lost c.args.count r is) (ap (λ (b : Bool). if b then Needed else r.phase) (sym c.if-is_lost.false))
+    let is =
+    ap (λ (q : List Taken). take c.args.count q) c.as_slice.ensures
+    ∙ front-queued c.args.count r c.requires.queued in
+    run-taken c.args.count r (take c.args.count c.as_slice.result.now) c.skip.new.self c.take_events.new.self
+    c.ends_with_loss-is_lost.result r.phase c.requires.queued is c.skip.ensures c.take_events.ensures.view
+    (c.ends_with_loss-is_lost.ensures.lost c.args.count r is) (rw c.if-is_lost.false)
