@@ -1,8 +1,8 @@
 -- Items, written and read again, alone and line by line.
-use Rattle.std.proofs.Common.{◌≡◌, ℕ, Bool, true, false, ◌&&◌, not, if◌then◌else◌, nat_eq, List, [], ◌∷◌, length, codes, decimal, Option, Some, Ok, Err, refl, ap, ◌∙◌, suc, ◌++◌, map, Result, sym, subst}
-use Rattle.std.specs.Prelude.{option_and_then, is_some, slice_get}
-use Rattle.std.specs.List.{list_all}
-use Rattle.std.proofs.lemmas.Bool.{cond-false, not-false}
+use Rattle.std.proofs.Common.{◌≡◌, ℕ, Bool, true, false, ◌&&◌, nat_eq, List, [], ◌∷◌, length, codes, decimal}
+use Rattle.std.proofs.Common.{Some, Ok, refl, ◌∙◌, suc, ◌++◌, map, sym}
+use Rattle.std.specs.Prelude.{slice_get}
+use Rattle.std.proofs.lemmas.Bool.{not-false}
 use Rattle.inp_model.specs.declared.event.TheConstants.{EV_ABS}
 use Rattle.inp_model.specs.declared.axis_info.AxisInfo.{AxisInfo}
 use Rattle.inp_texts.specs.Texts.{code_text, role_text}
@@ -10,20 +10,17 @@ use Rattle.inp_record.specs.canon.Words.{Words, lines_text}
 use Rattle.inp_record.specs.canon.Device.{fuzz_words, axis_words, filter_words, info_words as info_text}
 use Rattle.inp_record.specs.canon.Text.{device_word, name_of_actor}
 use Rattle.inp_actors.specs.declared.actor_text.ActorText.{ActorText}
-use Rattle.inp_record.specs.declared.cause.Cause.TheVariants.{BadHeader, OutOfPlace}
 use Rattle.inp_record.specs.declared.item.Item.{Item}
 use Rattle.inp_record.specs.declared.item.Item.TheVariants.{Header, Device, Axis, Filter, Actor, Action}
 use Rattle.inp_record.specs.Keyword.{keyword_rows, filter_rows, keyword_of, has_words}
 use Rattle.inp_record.specs.Place.{is_first_place, is_out_of_place}
 use Rattle.inp_record.specs.Field.{version_word}
 use Rattle.inp_record.specs.Line.{line_row}
-use Rattle.inp_record.specs.Words.{word, is_header, is_action, plain_item, action_with, or_bad_word, item_of}
+use Rattle.inp_record.specs.Words.{word, is_action, plain_item, item_of}
 use Rattle.inp_record.specs.declared.context.Context.{Context}
-use Rattle.inp_record.specs.Meaning.{placed, item_of_words, unless_refused, behind, behind_words, behind_line, then_lines, behind_lines}
+use Rattle.inp_record.specs.Meaning.{item_of_words, behind_words, behind_line, behind_lines}
 use Rattle.inp_record.specs.Spelling.{item_words}
-use Rattle.inp_caps.specs.declared.caps_refused.CapsRefused.{CapsRefused}
 use Rattle.inp_texts.specs.Line.{lines_of as text_lines}
-use Rattle.inp_record.specs.declared.cause.Cause.{Cause}
 use Rattle.inp_record.specs.Past.{Past, after, context_of}
 use Rattle.inp_model.specs.declared.filter.Filter as filter
 use Rattle.inp_model.specs.declared.filter.Filter.TheVariants as filters
@@ -32,9 +29,11 @@ use Rattle.inp_actors.specs.declared.role.Role.TheVariants as roles
 use Rattle.inp_actors.specs.declared.command.Command as command
 use Rattle.inp_record.specs.declared.keyword.Keyword as keyword
 use Rattle.inp_record.specs.declared.keyword.Keyword.TheVariants as keywords
-use Rattle.inp_record.proofs.Sayable.{keyword_for, keyword_for_role, keyword_for_device, keyword_for_filter, is_later_role, is_header_item, is_action_item, is_later_item, acts, IsSayableAction, IsSayable, IsAccepted, after_all, AreAccepted}
+use Rattle.inp_record.proofs.Sayable.{keyword_for, keyword_for_role, keyword_for_device, keyword_for_filter}
+use Rattle.inp_record.proofs.Sayable.{is_later_role, is_header_item, is_action_item, is_later_item, acts}
+use Rattle.inp_record.proofs.Sayable.{IsSayableAction, IsSayable, IsAccepted, after_all, AreAccepted}
 use Rattle.inp_record.proofs.CanonLines.{line_read, empty_read}
-use Rattle.inp_record.proofs.PlainLines.{is_plain, IsPlainLine, ArePlainLines, line_of, lines_cut}
+use Rattle.inp_record.proofs.PlainLines.{IsPlainLine, ArePlainLines, line_of, lines_cut}
 use Rattle.inp_record.proofs.WordsAgain.{is_plain-name}
 use Rattle.inp_record.proofs.Fields.{version_read}
 use Rattle.inp_record.proofs.Lines.{of_line, plain_read, plain_line}
@@ -42,100 +41,112 @@ use Rattle.inp_record.proofs.Entries.{checked_once}
 use Rattle.inp_record.proofs.Rows.{do_words, do_keyword, command_read, command_plain}
 
 -- a line whose words are those of its keyword is read where it may stand
-placed_read : (c : Context) (k : keyword.Keyword) (ws : Words) (i : Item) → keyword_of c.version (word 0 ws) (word 1 ws) (length ws) ≡ Some k → is_first_place c.place ≡ false → is_out_of_place c.place c.requested k ≡ false
+placed_read : (c : Context) (k : keyword.Keyword) (ws : Words) (i : Item)
+    → keyword_of c.version (word 0 ws) (word 1 ws) (length ws) ≡ Some k → is_first_place c.place ≡ false
+    → is_out_of_place c.place c.requested k ≡ false
     → item_of c.actors c.streams k ws ≡ Ok i → item_of_words c ws ≡ Ok i
 unfolding item_of_words
-placed_read c k ws i is started within says =
-    cond-false (is_first_place c.place && not (is_header ws)) _ _
-    (ap (λ (b : Bool). b && not (is_header ws)) started)
-    ∙ ap (λ (o : Option keyword.Keyword). placed c o ws) is
-    ∙ cond-false (is_out_of_place c.place c.requested k) _ _ within
-    ∙ says
+placed_read c k ws i is started within says = rw (started, is, within) says
 
 module _ (actors : List ActorText) (streams : ℕ) where
-  action_read : (actor : ℕ) (does : command.Command) → (s : IsSayableAction actors streams actor does) → item_of actors streams keywords.Action (do_words s.text.name does) ≡ Ok (Action actor does)
+  action_read : (actor : ℕ) (does : command.Command) → (s : IsSayableAction actors streams actor does)
+      → item_of actors streams keywords.Action (do_words s.text.name does) ≡ Ok (Action actor does)
   unfolding item_of
-  action_read actor does s =
-      ap (λ (o : Option (ℕ × role.Role)). action_with streams o (do_words s.text.name does)) s.first
-      ∙ command_read s.text.name streams actor s.text.role does s.of_row
+  action_read actor does s = rw s.first (command_read s.text.name streams actor s.text.role does s.of_row)
 
-device_keyword : (version : ℕ) (requested : Bool) (name : List ℕ) → (requested && nat_eq version 1) ≡ false → keyword_of version (device_word requested) name 2 ≡ Some (keyword_for_device requested)
+device_keyword : (version : ℕ) (requested : Bool) (name : List ℕ) → (requested && nat_eq version 1) ≡ false
+    → keyword_of version (device_word requested) name 2 ≡ Some (keyword_for_device requested)
 unfolding keyword_of keyword_rows has_words line_row
-device_keyword version true name later = let late : nat_eq version 1 ≡ false = later in rw late refl
+device_keyword version true name later = rw later refl
 device_keyword version false name later = refl
 
-role_keyword : (version : ℕ) (r : role.Role) (name : List ℕ) → (is_later_role r && nat_eq version 1) ≡ false → keyword_of version (role_text r) name 2 ≡ Some (keyword_for_role r)
+role_keyword : (version : ℕ) (r : role.Role) (name : List ℕ) → (is_later_role r && nat_eq version 1) ≡ false
+    → keyword_of version (role_text r) name 2 ≡ Some (keyword_for_role r)
 unfolding role_text keyword_of keyword_rows has_words line_row
-role_keyword version roles.Owner name later = let late : nat_eq version 1 ≡ false = later in rw late refl
-role_keyword version roles.Joy name later = let late : nat_eq version 1 ≡ false = later in rw late refl
+role_keyword version roles.Owner name later = rw later refl
+role_keyword version roles.Joy name later = rw later refl
 role_keyword version r name later = refl
 
-axis_keyword : (version code : ℕ) (i : AxisInfo) → keyword_of version (codes "axis") (code_text EV_ABS code) (length (axis_words code i)) ≡ Some keywords.Axis
+axis_keyword : (version code : ℕ) (i : AxisInfo)
+    → keyword_of version (codes "axis") (code_text EV_ABS code) (length (axis_words code i))
+    ≡ Some keywords.Axis
 unfolding keyword_of keyword_rows has_words line_row info_text fuzz_words
 axis_keyword version code i = refl
 
-filter_keyword : (version : ℕ) (f : filter.Filter) → nat_eq version 1 ≡ false → keyword_of version (word 0 (filter_words f)) (word 1 (filter_words f)) (length (filter_words f)) ≡ Some (keyword_for_filter f)
+filter_keyword : (version : ℕ) (f : filter.Filter) → nat_eq version 1 ≡ false
+    → keyword_of version (word 0 (filter_words f)) (word 1 (filter_words f)) (length (filter_words f))
+    ≡ Some (keyword_for_filter f)
 unfolding keyword_of keyword_rows has_words line_row filter_rows filter_words
 filter_keyword version filters.Norepeat later = rw later refl
 filter_keyword version f later = rw later refl
 
--- the words of an action, where its actor is there
-action_said : (actors : List ActorText) (streams actor : ℕ) (does : command.Command) → (s : IsSayableAction actors streams actor does) → item_words actors (Action actor does) ≡ do_words s.text.name does
-action_said actors streams actor does s = ap (λ (o : Option ActorText). do_words (name_of_actor o) does) s.there
-
 -- a header is read where nothing stands before it
-header_read : (c : Context) (version : ℕ) (w : List ℕ) → version_word w ≡ Some version → is_first_place c.place ≡ true → item_of_words c (codes "inputrecord" ∷ w ∷ []) ≡ Ok (Header version)
+header_read : (c : Context) (version : ℕ) (w : List ℕ) → version_word w ≡ Some version
+    → is_first_place c.place ≡ true → item_of_words c (codes "inputrecord" ∷ w ∷ []) ≡ Ok (Header version)
 unfolding item_of_words keyword_of keyword_rows has_words item_of plain_item line_row
-header_read c version w is h = by_version (version_word w) is
-  where
-    by_start : (start : Bool) → start ≡ true → (if start && false then Err BadHeader else if not start then Err OutOfPlace else Ok (Header version)) ≡ Ok (Header version)
-    by_start true h = refl
-    by_start false h = absurd (cc h)
-
-    by_version : (o : Option ℕ) → o ≡ Some version
-        → (if is_first_place c.place && not (is_some o) then Err BadHeader else if not (is_first_place c.place) then Err OutOfPlace else or_bad_word (option_and_then (λ v. Some (Header v)) o)) ≡ Ok (Header version)
-    by_version o e = rw e (by_start (is_first_place c.place) h)
+header_read c version w is h = rw (h, is) refl
 
 -- an item has its keyword in each version that has it
-item_keyword : (version : ℕ) (actors : List ActorText) (i : Item) → (is_later_item i && nat_eq version 1) ≡ false → keyword_of version (word 0 (item_words actors i)) (word 1 (item_words actors i)) (length (item_words actors i)) ≡ Some (keyword_for i)
+item_keyword : (version : ℕ) (actors : List ActorText) (i : Item)
+    → (is_later_item i && nat_eq version 1) ≡ false
+    → keyword_of version (word 0 (item_words actors i)) (word 1 (item_words actors i))
+    (length (item_words actors i)) ≡ Some (keyword_for i)
 unfolding keyword_of keyword_rows has_words line_row
 item_keyword version actors (Device requested name) p = device_keyword version requested name p
 item_keyword version actors (Axis code i) p = axis_keyword version code i
 item_keyword version actors (Filter f) p = filter_keyword version f p
 item_keyword version actors (Actor r name) p = role_keyword version r name p
-item_keyword version actors (Action actor does) p = do_keyword (name_of_actor (slice_get actors actor)) version does
+item_keyword version actors (Action actor does) p =
+    do_keyword (name_of_actor (slice_get actors actor)) version does
 item_keyword version actors i p = refl
 
 -- what a line that is no action says is read again
-line_item_read : (c : Context) (i : Item) → is_action_item i ≡ false → is_header_item i ≡ false → IsAccepted c i → item_of_words c (item_words c.actors i) ≡ Ok i
+line_item_read : (c : Context) (i : Item) → is_action_item i ≡ false → is_header_item i ≡ false
+    → IsAccepted c i → item_of_words c (item_words c.actors i) ≡ Ok i
 unfolding item_of
 line_item_read c i n h a =
     let none : is_action (keyword_for i) ≡ false = acts i ∙ n in
-    placed_read c (keyword_for i) (item_words c.actors i) i (item_keyword c.version c.actors i a.later) (a.headed h) a.in_place
-    (rw none (ap or_bad_word (plain_read c.actors i (of_line c.actors c.streams i none a.sayable))))
+    placed_read c (keyword_for i) (item_words c.actors i) i (item_keyword c.version c.actors i a.later)
+    (a.headed h) a.in_place
+    (rw (none, plain_read c.actors i (of_line c.actors c.streams i none a.sayable)))
 
 -- an item that is accepted is read again
 pub item_read : (c : Context) (i : Item) → IsAccepted c i → item_of_words c (item_words c.actors i) ≡ Ok i
-item_read c (Header version) a = header_read c version (decimal version) (version_read version a.sayable.0 a.sayable.1) (not-false (is_first_place c.place) a.in_place)
+item_read c (Header version) a =
+    header_read c version (decimal version) (version_read version a.sayable.0 a.sayable.1)
+    (not-false _ a.in_place)
 item_read c (Action actor does) a =
-    ap (item_of_words c) (action_said c.actors c.streams actor does a.sayable)
-    ∙ placed_read c keywords.Action (do_words a.sayable.text.name does) (Action actor does) (do_keyword a.sayable.text.name c.version does) (a.headed refl) refl (action_read c.actors c.streams actor does a.sayable)
+    rw a.sayable.there
+    (placed_read c keywords.Action (do_words a.sayable.text.name does) (Action actor does)
+    (do_keyword a.sayable.text.name c.version does) (a.headed refl) refl
+    (action_read c.actors c.streams actor does a.sayable))
 item_read c i a = line_item_read c i refl refl a
 
 -- its words make a line
-pub item_plain : (actors : List ActorText) (streams : ℕ) (i : Item) → IsSayable actors streams i → IsPlainLine (item_words actors i)
+pub item_plain : (actors : List ActorText) (streams : ℕ) (i : Item) → IsSayable actors streams i
+    → IsPlainLine (item_words actors i)
 item_plain actors streams (Action actor does) s =
-    record { first = refl; plain = ap (list_all is_plain) (action_said actors streams actor does s) ∙ rw (is_plain-name s.text.name s.name, command_plain streams s.text.role does s.of_row) refl }
+    record {
+      first = refl;
+      plain =
+          rw (
+            s.there,
+            is_plain-name s.text.name s.name,
+            command_plain streams s.text.role does s.of_row,
+          ) refl;
+    }
 item_plain actors streams i s = plain_line actors i (of_line actors streams i (acts i) s)
 
 -- Each action among these items comes behind these actors, so that it names them as the whole record does.
 abbrev pub AreBehindActors : List ActorText → Context → List Item → Type 0
 AreBehindActors actors c [] = Unit {0}
-AreBehindActors actors c (i ∷ more) = (is_action_item i ≡ true → c.actors ≡ actors) × AreBehindActors actors (after i c) more
+AreBehindActors actors c (i ∷ more) =
+    (is_action_item i ≡ true → c.actors ≡ actors) × AreBehindActors actors (after i c) more
 
 -- the words of a line depend on the actors at an action alone
-same_words : (others actors : List ActorText) (i : Item) → (is_action_item i ≡ true → others ≡ actors) → item_words actors i ≡ item_words others i
-same_words others actors (Action actor does) h = ap (λ (a : List ActorText). item_words a (Action actor does)) (sym (h refl))
+same_words : (others actors : List ActorText) (i : Item) → (is_action_item i ≡ true → others ≡ actors)
+    → item_words actors i ≡ item_words others i
+same_words others actors (Action actor does) h = rw (← h)
 same_words others actors i h = refl
 
 -- what stands behind these items
@@ -143,42 +154,52 @@ abbrev pub behind_items : List Item → Past → Past
 behind_items [] past = past
 behind_items (i ∷ more) past = behind_items more (i ∷ past)
 
-pub context_behind : (items : List Item) (past : Past) → context_of (behind_items items past) ≡ after_all items (context_of past)
+-- items that are entered one by one leave what they leave as a list
+pub context_behind : (items : List Item) (past : Past)
+    → context_of (behind_items items past) ≡ after_all items (context_of past)
 context_behind [] past = refl
 context_behind (i ∷ more) past = context_behind more (i ∷ past)
 
 -- an item that is accepted is read and leaves itself
 
-words_behind : (past : Past) (ws : Words) (i : Item) → IsPlainLine ws → item_of_words (context_of past) ws ≡ Ok i → IsAccepted (context_of past) i → behind_words past ws ≡ Ok (i ∷ past)
+words_behind : (past : Past) (ws : Words) (i : Item) → IsPlainLine ws
+    → item_of_words (context_of past) ws ≡ Ok i → IsAccepted (context_of past) i
+    → behind_words past ws ≡ Ok (i ∷ past)
 words_behind past [] i plain read a = absurd (cc plain.first)
 words_behind past (w ∷ ws) i plain read a =
     let c = context_of past in
     let once = checked_once c (item_of_words c (w ∷ ws)) i read a.in_version a.once a.few a.few_slots in
-    ap (behind past) (once ∙ ap (λ (why : Option CapsRefused). unless_refused why i) a.fits)
+    rw (once, a.fits)
 
-item_behind : (past : Past) (ws : Words) (i : Item) → ws ≡ item_words (context_of past).actors i → IsAccepted (context_of past) i → behind_line past (line_of ws) ≡ Ok (i ∷ past)
+item_behind : (past : Past) (ws : Words) (i : Item) → ws ≡ item_words (context_of past).actors i
+    → IsAccepted (context_of past) i → behind_line past (line_of ws) ≡ Ok (i ∷ past)
 item_behind past ws i same a =
     let c = context_of past in
-    let plain : IsPlainLine ws = subst (λ (v : Words). IsPlainLine v) (sym same) (item_plain c.actors c.streams i a.sayable) in
-    line_read past ws plain ∙ words_behind past ws i plain (ap (item_of_words c) same ∙ item_read c i a) a
+    let plain : IsPlainLine ws = rw same (item_plain c.actors c.streams i a.sayable) in
+    rw (line_read past ws plain) (words_behind past ws i plain (rw same (item_read c i a)) a)
 
-all_plain : (actors : List ActorText) (items : List Item) (c : Context) → AreAccepted c items → AreBehindActors actors c items → ArePlainLines (map (item_words actors) items)
+all_plain : (actors : List ActorText) (items : List Item) (c : Context) → AreAccepted c items
+    → AreBehindActors actors c items → ArePlainLines (map (item_words actors) items)
 all_plain actors [] c a h = tt
 all_plain actors (i ∷ items) c a h =
     let same : item_words c.actors i ≡ item_words actors i = sym (same_words c.actors actors i h.0) in
-    (subst (λ (v : Words). IsPlainLine v) same (item_plain c.actors c.streams i a.0.sayable), all_plain actors items (after i c) a.1 h.1)
+    (rw same at (item_plain c.actors c.streams i a.0.sayable), all_plain actors items (after i c) a.1 h.1)
 
-lines_behind : (actors : List ActorText) (items : List Item) (past : Past) (n : ℕ) → AreAccepted (context_of past) items → AreBehindActors actors (context_of past) items
-    → behind_lines n (map line_of (map (item_words actors) items) ++ [] ∷ []) past ≡ Ok (behind_items items past)
+lines_behind : (actors : List ActorText) (items : List Item) (past : Past) (n : ℕ)
+    → AreAccepted (context_of past) items → AreBehindActors actors (context_of past) items
+    → behind_lines n (map line_of (map (item_words actors) items) ++ [] ∷ []) past
+    ≡ Ok (behind_items items past)
 unfolding behind_lines
-lines_behind actors [] past n a h = ap (λ (r : Result Past Cause). then_lines n r (λ now. Ok now)) (empty_read past)
+lines_behind actors [] past n a h = rw empty_read
 lines_behind actors (i ∷ items) past n a h =
-    ap (λ (r : Result Past Cause). then_lines n r (λ now. behind_lines (suc n) (map line_of (map (item_words actors) items) ++ [] ∷ []) now)) (item_behind past (item_words actors i) i (same_words (context_of past).actors actors i h.0) a.0)
-    ∙ lines_behind actors items (i ∷ past) (suc n) a.1 h.1
+    rw (item_behind past (item_words actors i) i (same_words (context_of past).actors actors i h.0) a.0)
+    (lines_behind actors items (i ∷ past) (suc n) a.1 h.1)
 
 -- lines that say items that are accepted leave these items
-pub items_read : (actors : List ActorText) (items : List Item) (past : Past) (n : ℕ) → AreAccepted (context_of past) items → AreBehindActors actors (context_of past) items
-    → behind_lines n (text_lines (lines_text (map (item_words actors) items))) past ≡ Ok (behind_items items past)
+pub items_read : (actors : List ActorText) (items : List Item) (past : Past) (n : ℕ)
+    → AreAccepted (context_of past) items → AreBehindActors actors (context_of past) items
+    → behind_lines n (text_lines (lines_text (map (item_words actors) items))) past
+    ≡ Ok (behind_items items past)
 items_read actors items past n a h =
-    ap (λ (ls : List (List ℕ)). behind_lines n ls past) (lines_cut (map (item_words actors) items) (all_plain actors items (context_of past) a h))
-    ∙ lines_behind actors items past n a h
+    rw (lines_cut (map (item_words actors) items) (all_plain actors items (context_of past) a h))
+    (lines_behind actors items past n a h)

@@ -3,7 +3,8 @@ use Rattle.std.proofs.Common.{◌≡◌, ℕ, ◌^◌, ◌≤◌, ◌<◌, Bool,
 use Rattle.inp_actors.specs.declared.record.TheConstants.{VERSION_MAX}
 use Rattle.inp_actors.specs.Name.{is_name}
 use Rattle.inp_record.specs.canon.Words.{Words}
-use Rattle.inp_record.specs.Field.{Field, Number, Positive, Bits, Signed, Kind, Code, CodeOf, Name, File, Version, ValueOf, field_text, kind_behind, Makes}
+use Rattle.inp_record.specs.Field.{Field, Number, Positive, Bits, Signed, Kind, Code, CodeOf, Name, File}
+use Rattle.inp_record.specs.Field.{Version, ValueOf, field_text, kind_behind, Makes}
 
 -- numbers of more than 64 bits are not written
 abbrev pub is_sound : Field → Bool

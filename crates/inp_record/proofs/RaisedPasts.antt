@@ -1,5 +1,5 @@
 -- The lines of a record, with another version in their header, are accepted again.
-use Rattle.std.proofs.Common.{◌≡◌, ℕ, false, nat_eq, [], ◌∷◌, List, Ok, refl, sym, ap, ◌∙◌, subst, arith}
+use Rattle.std.proofs.Common.{◌≡◌, ℕ, false, nat_eq, [], ◌∷◌, List, Ok, refl, ap, ◌∙◌, arith}
 use Rattle.inp_actors.specs.Record.{RecordView}
 use Rattle.inp_record.specs.canon.Text.{record_text}
 use Rattle.inp_record.specs.declared.context.Context.{Context}
@@ -7,8 +7,8 @@ use Rattle.inp_record.specs.declared.item.Item.{Item}
 use Rattle.inp_record.specs.declared.item.Item.TheVariants.{Header, Slots, Action}
 use Rattle.inp_record.specs.Place.{is_first_place}
 use Rattle.inp_record.specs.Past.{Past, after, context_of}
-use Rattle.inp_record.specs.Meaning.{record_of_past, record_of_context, meaning}
-use Rattle.inp_record.proofs.Sayable.{is_later_item, IsAccepted, WereAccepted}
+use Rattle.inp_record.specs.Meaning.{record_of_past, meaning}
+use Rattle.inp_record.proofs.Sayable.{accepted, is_later_item, IsAccepted, WereAccepted}
 use Rattle.inp_record.proofs.CanonPasts.{never_both, meaning_of_past}
 use Rattle.inp_record.proofs.CanonRecords.{not_first}
 use Rattle.inp_record.proofs.RoundTrip.{read_again as past_read_again}
@@ -28,7 +28,8 @@ abbrev version_after : Item → ℕ → ℕ
 version_after (Header version) v = 2
 version_after _ v = v
 
-after_alike : (i : Item) (c : Context) (v : ℕ) → after (raised_item i) (record c { version = v }) ≡ record (after i c) { version = version_after i v }
+after_alike : (i : Item) (c : Context) (v : ℕ)
+    → after (raised_item i) (record c { version = v }) ≡ record (after i c) { version = version_after i v }
 after_alike (Header version) c v = refl
 after_alike i c v = refl
 
@@ -37,53 +38,58 @@ version_alike (Header version) c = refl
 version_alike i c = refl
 
 -- but for the version the raised lines leave what the lines leave
-same_context : (past : Past) → context_of (raised past) ≡ record (context_of past) { version = (context_of (raised past)).version }
+same_context : (past : Past)
+    → context_of (raised past) ≡ record (context_of past) { version = (context_of (raised past)).version }
 same_context [] = refl
-same_context (i ∷ past) =
-    ap (after (raised_item i)) (same_context past)
-    ∙ after_alike i (context_of past) (context_of (raised past)).version
-    ∙ ap (λ (n : ℕ). record (after i (context_of past)) { version = n }) (version_alike i (context_of (raised past)))
+same_context (i ∷ past) = rw (same_context past, after_alike, version_alike)
 
 -- behind their header the raised lines have version 2
-raised_version : (past : Past) → WereAccepted past → is_first_place (context_of past).place ≡ false → (context_of (raised past)).version ≡ 2
+raised_version : (past : Past) → WereAccepted past → is_first_place (context_of past).place ≡ false
+    → (context_of (raised past)).version ≡ 2
 raised_version [] were s = absurd (cc s)
 raised_version (Header version ∷ past) were s = refl
 raised_version (i ∷ past) were s = raised_version past were.1 (were.0.headed refl)
 
 -- a line that was accepted is accepted where the version alone differs, and is 2 behind a header
-accepted_alike : (c : Context) (v : ℕ) (i : Item) → (is_first_place c.place ≡ false → v ≡ 2) → IsAccepted c i → IsAccepted (record c { version = v }) (raised_item i)
-accepted_alike c v (Header version) two a = record { sayable = (omega arith, omega arith); headed = a.headed; in_place = a.in_place; later = refl; in_version = refl; once = refl; few = refl; few_slots = refl; fits = refl }
-accepted_alike c v (Slots count) two a = record { sayable = a.sayable; headed = a.headed; in_place = a.in_place; later = refl; in_version = refl; once = a.once; few = refl; few_slots = rw (two (a.headed refl)) refl; fits = a.fits }
-accepted_alike c v (Action actor does) two a = record { sayable = a.sayable; headed = a.headed; in_place = refl; later = refl; in_version = rw (two (a.headed refl)) refl; once = refl; few = a.few; few_slots = refl; fits = refl }
-accepted_alike c v i two a = record {
-  sayable = a.sayable;
-  headed = a.headed;
-  in_place = a.in_place;
-  later = never_both (is_later_item i) (nat_eq v 1) (λ _. rw (two (a.headed refl)) refl);
-  in_version = refl;
-  once = a.once;
-  few = a.few;
-  few_slots = refl;
-  fits = a.fits;
-}
+accepted_alike : (c : Context) (v : ℕ) (i : Item) → (is_first_place c.place ≡ false → v ≡ 2) → IsAccepted c i
+    → IsAccepted (record c { version = v }) (raised_item i)
+accepted_alike c v (Header version) two a =
+    accepted (omega arith, omega arith) a.headed a.in_place refl refl refl refl refl refl
+accepted_alike c v (Slots count) two a =
+    accepted a.sayable a.headed a.in_place refl refl a.once refl (rw (two (a.headed refl)) refl) a.fits
+accepted_alike c v (Action actor does) two a =
+    accepted a.sayable a.headed refl refl (rw (two (a.headed refl)) refl) refl a.few refl refl
+accepted_alike c v i two a =
+    accepted a.sayable a.headed a.in_place
+    (never_both (is_later_item i) (nat_eq v 1) (λ _. rw (two (a.headed refl)) refl)) refl a.once
+    a.few refl a.fits
 
 raised_accepted : (past : Past) → WereAccepted past → WereAccepted (raised past)
 raised_accepted [] were = tt
-raised_accepted (i ∷ past) were =
-    (subst (λ (c : Context). IsAccepted c (raised_item i)) (sym (same_context past)) (accepted_alike (context_of past) (context_of (raised past)).version i (raised_version past were.1) were.0), raised_accepted past were.1)
+raised_accepted (i ∷ past) were = (
+  rw (same_context past)
+      (accepted_alike (context_of past) (context_of (raised past)).version i
+      (raised_version past were.1) were.0),
+  raised_accepted past were.1,
+)
 
 -- the same record with version 2
 abbrev with_version_2 : RecordView → RecordView
 with_version_2 r = record r { version = 2 }
 
-raised_record : (past : Past) → (context_of (raised past)).version ≡ 2 → record_of_past (raised past) ≡ with_version_2 (record_of_past past)
-raised_record past two = ap record_of_context (same_context past) ∙ ap (λ (n : ℕ). record (record_of_past past) { version = n }) two
+raised_record : (past : Past) → (context_of (raised past)).version ≡ 2
+    → record_of_past (raised past) ≡ with_version_2 (record_of_past past)
+raised_record past two = rw (same_context, two)
 
 -- The canonical text of each record that some bytes are, with version 2, is that record with version 2.
-pub reads_again : (bytes : List ℕ) (r : RecordView) → meaning bytes ≡ Ok r → meaning (record_text (record r { version = 2 })) ≡ Ok (record r { version = 2 })
+pub reads_again : (bytes : List ℕ) (r : RecordView) → meaning bytes ≡ Ok r
+    → meaning (record_text (record r { version = 2 })) ≡ Ok (record r { version = 2 })
 reads_again bytes r e =
     let p = meaning_of_past bytes r e in
     let past : Past = p.newest ∷ p.past in
-    let same = raised_record past (raised_version past p.accepted (not_first p.newest (context_of p.past))) ∙ ap with_version_2 p.same in
-    let P : RecordView → Type 0 = λ x. meaning (record_text x) ≡ Ok x in
-    subst P same (past_read_again (raised past) (raised_accepted past p.accepted) (not_first (raised_item p.newest) (context_of (raised p.past))))
+    let same =
+    raised_record past (raised_version past p.accepted (not_first p.newest (context_of p.past)))
+    ∙ ap with_version_2 p.same in
+    rw (← same)
+    (past_read_again (raised past) (raised_accepted past p.accepted)
+    (not_first (raised_item p.newest) (context_of (raised p.past))))

@@ -1,5 +1,6 @@
 -- When an item can be said by words, and when a line that says it is accepted behind others.
-use Rattle.std.proofs.Common.{◌≡◌, ◌<◌, ◌≤◌, ◌^◌, ℕ, Bool, true, false, ◌&&◌, ◌||◌, not, nat_eq, List, [], ◌∷◌, slice_get, Some, None, FitsSigned, w32, refl}
+use Rattle.std.proofs.Common.{◌≡◌, ◌<◌, ◌≤◌, ◌^◌, ℕ, Bool, true, false, ◌&&◌, ◌||◌, not, nat_eq, List, []}
+use Rattle.std.proofs.Common.{◌∷◌, slice_get, Some, None, FitsSigned, w32, refl}
 use Rattle.inp_model.specs.declared.axis_info.AxisInfo.{AxisInfo}
 use Rattle.inp_model.specs.declared.limits.TheConstants.{BOUNCE_MAX}
 use Rattle.inp_model.specs.declared.filter.Filter as filter
@@ -11,9 +12,10 @@ use Rattle.inp_actors.specs.declared.command.Command as command
 use Rattle.inp_actors.specs.declared.record.TheConstants.{VERSION_MAX}
 use Rattle.inp_actors.specs.Name.{is_name}
 use Rattle.inp_actors.specs.Command.{is_joy, is_owner}
-use Rattle.inp_record.proofs.PlainLines.{is_visible, IsPlainWord}
+use Rattle.inp_record.proofs.PlainLines.{IsPlainWord}
 use Rattle.inp_record.specs.declared.item.Item.{Item}
-use Rattle.inp_record.specs.declared.item.Item.TheVariants.{Header, Device, Hint, Log, Realtime, Boottime, Slots, Kind, Code, Axis, Filter, Actor, Action}
+use Rattle.inp_record.specs.declared.item.Item.TheVariants.{Header, Device, Hint, Log, Realtime, Boottime}
+use Rattle.inp_record.specs.declared.item.Item.TheVariants.{Slots, Kind, Code, Axis, Filter, Actor, Action}
 use Rattle.inp_record.specs.declared.keyword.Keyword as keyword
 use Rattle.inp_record.specs.declared.keyword.Keyword.TheVariants as keywords
 use Rattle.inp_record.specs.Past.{Past, first_context, after, context_of}
@@ -21,7 +23,8 @@ use Rattle.inp_record.specs.declared.context.Context.{Context}
 use Rattle.inp_record.specs.declared.place.Place.{Place}
 use Rattle.inp_record.specs.Place.{is_first_place, is_describing, is_out_of_place}
 use Rattle.inp_record.specs.Words.{actor_from, is_action}
-use Rattle.inp_record.specs.Meaning.{is_later_command, is_twice, is_too_many, has_too_many_slots, builder_refusal}
+use Rattle.inp_record.specs.Meaning.{is_later_command, is_twice, is_too_many, has_too_many_slots}
+use Rattle.inp_record.specs.Meaning.{builder_refusal}
 use Rattle.inp_record.proofs.Rows.{IsOfRow}
 
 -- the first word of the canonical line of an item
@@ -63,11 +66,17 @@ keyword_for (Action actor command) = keywords.Action
 
 -- each value is one of 32 bits
 pub record IsSayableInfo (i : AxisInfo) : Type 0 where
+  -- for the value
   pub value : FitsSigned w32 i.value
+  -- for the minimum
   pub minimum : FitsSigned w32 i.minimum
+  -- for the maximum
   pub maximum : FitsSigned w32 i.maximum
+  -- for the fuzz
   pub fuzz : FitsSigned w32 i.fuzz
+  -- for the flat
   pub flat : FitsSigned w32 i.flat
+  -- for the resolution
   pub resolution : FitsSigned w32 i.resolution
 
 -- each number fits its word
@@ -78,11 +87,17 @@ IsSayableFilter (filters.Chord first second) = (first ≤ 65535) × (second ≤ 
 IsSayableFilter (filters.Bounce code micros) = (code ≤ 65535) × (1 ≤ micros) × (micros ≤ BOUNCE_MAX)
 
 -- the actor of this number is there and the first of its name, and its role has the command
-pub record IsSayableAction (actors : List ActorText) (stream actor : ℕ) (does : command.Command) : Type 0 where
+pub record IsSayableAction (actors : List ActorText) (stream actor : ℕ)
+    (does : command.Command) : Type 0 where
+  -- the actor that the action names
   pub text : ActorText
+  -- the actor is the one with the number that is given
   pub there : slice_get actors actor ≡ Some text
+  -- no actor before it has its name
   pub first : actor_from 0 actors text.name ≡ Some (actor, text.role)
+  -- its name is one that an actor can have
   pub name : is_name text.name ≡ true
+  -- its role has the command, with values that fields can say
   pub of_row : IsOfRow IsPlainWord stream text.role does
 
 -- the item can be said, where these actors are there and so many streams
@@ -131,15 +146,44 @@ is_later_item _ = false
 
 -- A line that says the item is accepted where what came before is this.
 pub record IsAccepted (c : Context) (i : Item) : Type 0 where
+  -- words can say the item
   pub sayable : IsSayable c.actors c.streams i
+  -- any item but a header stands behind a header
   pub headed : is_header_item i ≡ false → is_first_place c.place ≡ false
+  -- a line with its keyword may stand there
   pub in_place : is_out_of_place c.place c.requested (keyword_for i) ≡ false
+  -- an item of a later version does not stand under version 1
   pub later : (is_later_item i && nat_eq c.version 1) ≡ false
+  -- the version has its command
   pub in_version : is_later_command c i ≡ false
+  -- it is not said twice
   pub once : is_twice c i ≡ false
+  -- it is not one too many
   pub few : is_too_many c i ≡ false
+  -- it gives no more slots than its version allows
   pub few_slots : has_too_many_slots c i ≡ false
+  -- the builder does not refuse it
   pub fits : builder_refusal c.builder i ≡ None
+
+-- an item is accepted by these facts, in the order of the record's fields
+pub accepted : {c : Context} {i : Item} → IsSayable c.actors c.streams i
+    → (is_header_item i ≡ false → is_first_place c.place ≡ false)
+    → is_out_of_place c.place c.requested (keyword_for i) ≡ false
+    → (is_later_item i && nat_eq c.version 1) ≡ false → is_later_command c i ≡ false → is_twice c i ≡ false
+    → is_too_many c i ≡ false → has_too_many_slots c i ≡ false → builder_refusal c.builder i ≡ None
+    → IsAccepted c i
+accepted sayable headed in_place later in_version once few few_slots fits =
+    record {
+      sayable = sayable;
+      headed = headed;
+      in_place = in_place;
+      later = later;
+      in_version = in_version;
+      once = once;
+      few = few;
+      few_slots = few_slots;
+      fits = fits;
+    }
 
 -- what these items leave, one after another
 abbrev pub after_all : List Item → Context → Context
@@ -157,7 +201,9 @@ WereAccepted [] = Unit {0}
 WereAccepted (i ∷ past) = IsAccepted (context_of past) i × WereAccepted past
 
 -- what holds before the first line, and with each accepted line goes on to hold, holds behind accepted lines
-pub always : (P : Context → Type 0) → P first_context → ((c : Context) (i : Item) → IsAccepted c i → P c → P (after i c)) → (past : Past) → WereAccepted past → P (context_of past)
+pub always : (P : Context → Type 0) → P first_context
+    → ((c : Context) (i : Item) → IsAccepted c i → P c → P (after i c)) → (past : Past) → WereAccepted past
+    → P (context_of past)
 always P start step [] were = start
 always P start step (i ∷ past) were = step (context_of past) i were.0 (always P start step past were.1)
 
@@ -169,7 +215,8 @@ acts (Actor roles.Source name) = refl
 acts i = refl
 
 -- what describes a device may stand in a description alone
-pub describes_place : (p : Place) (requested : Bool) (i : Item) → is_describing_item i ≡ true → is_out_of_place p requested (keyword_for i) ≡ not (is_describing p)
+pub describes_place : (p : Place) (requested : Bool) (i : Item) → is_describing_item i ≡ true
+    → is_out_of_place p requested (keyword_for i) ≡ not (is_describing p)
 describes_place p requested (Header version) d = absurd (cc d)
 describes_place p requested (Device made name) d = absurd (cc d)
 describes_place p requested (Actor role name) d = absurd (cc d)

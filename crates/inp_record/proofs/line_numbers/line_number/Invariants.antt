@@ -8,5 +8,6 @@ abbrev pub invariant-loop-piece : goal.invariant-loop-piece
 invariant-loop-piece l = record {
   counted : l.number ≡ length l.yielded;
   within : l.number ≤ length (lines_of l.text);
-  left : slice_get (action_numbers 1 (lines_of l.text)) l.line ≡ slice_get (action_numbers (l.number + 1) (drop l.number (lines_of l.text))) l.left;
+  left : slice_get (action_numbers 1 (lines_of l.text)) l.line
+      ≡ slice_get (action_numbers (l.number + 1) (drop l.number (lines_of l.text))) l.left;
 }

@@ -7,7 +7,8 @@ use Rattle.inp_record.proofs.loader.stamps_of.Given as goal
 
 abbrev pub invariant-loop-rest : goal.invariant-loop-rest
 invariant-loop-rest l = record {
-  read : stamps_of (time_len l.form) l.bytes ≡ option_map (λ (more : List Stamped). l.stamps ++ more) (stamps_of (time_len l.form) l.rest);
+  read : stamps_of (time_len l.form) l.bytes ≡ option_map (λ (more : List Stamped). l.stamps ++ more)
+      (stamps_of (time_len l.form) l.rest);
   in_time : AreInTime l.stamps;
 }
 

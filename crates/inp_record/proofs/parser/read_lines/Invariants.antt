@@ -9,7 +9,8 @@ invariant-lines l = record {
   counted : l.line + length (lines_of l.rest) ≡ length (lines_of l.text);
   room : IsWithinCounts l.context;
   actors : length l.context.actors ≤ l.line;
-  read : (past : Past) × (l.context ≡ context_of past) × (behind_lines 1 (lines_of l.text) [] ≡ behind_lines (l.line + 1) (lines_of l.rest) past);
+  read : (past : Past) × (l.context ≡ context_of past)
+      × (behind_lines 1 (lines_of l.text) [] ≡ behind_lines (l.line + 1) (lines_of l.rest) past);
 }
 
 abbrev pub decreases-lines : goal.decreases-lines

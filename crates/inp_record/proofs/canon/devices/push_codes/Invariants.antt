@@ -7,4 +7,5 @@ use Rattle.inp_record.proofs.canon.devices.push_codes.Given as goal
 -- the lines so far
 abbrev pub invariant-loop-code : goal.invariant-loop-code
 invariant-loop-code l =
-    string_bytes l.text ≡ string_bytes l.initial.text ++ lines_text (flat_map (code_lines l.caps l.kind) (range_with_len 0 (l.code - 0)))
+    string_bytes l.text ≡ string_bytes l.initial.text
+    ++ lines_text (flat_map (code_lines l.caps l.kind) (range_with_len 0 (l.code - 0)))

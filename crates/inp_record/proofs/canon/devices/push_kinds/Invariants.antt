@@ -7,4 +7,5 @@ use Rattle.inp_record.proofs.canon.devices.push_kinds.Given as goal
 -- the types so far
 abbrev pub invariant-loop-kind : goal.invariant-loop-kind
 invariant-loop-kind l =
-    string_bytes l.text ≡ string_bytes l.initial.text ++ lines_text (flat_map (kind_lines l.caps) (range_with_len 1 (l.kind - 1)))
+    string_bytes l.text ≡ string_bytes l.initial.text
+    ++ lines_text (flat_map (kind_lines l.caps) (range_with_len 1 (l.kind - 1)))

@@ -7,4 +7,5 @@ use Rattle.inp_record.proofs.canon.text.push_actors.Given as goal
 -- the actors so far
 abbrev pub invariant-loop-actor : goal.invariant-loop-actor
 invariant-loop-actor l =
-    string_bytes l.text ≡ string_bytes l.initial.text ++ lines_text (flat_map (actor_lines l.device) (take l.actor-index l.actor-items))
+    string_bytes l.text ≡ string_bytes l.initial.text
+    ++ lines_text (flat_map (actor_lines l.device) (take l.actor-index l.actor-items))

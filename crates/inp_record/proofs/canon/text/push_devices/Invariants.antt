@@ -7,4 +7,5 @@ use Rattle.inp_record.proofs.canon.text.push_devices.Given as goal
 -- the devices so far
 abbrev pub invariant-loop-index : goal.invariant-loop-index
 invariant-loop-index l =
-    string_bytes l.text ≡ string_bytes l.initial.text ++ lines_text (flat_map (device_lines l.actors) (take l.index (enumerate_from 0 l.devices)))
+    string_bytes l.text ≡ string_bytes l.initial.text
+    ++ lines_text (flat_map (device_lines l.actors) (take l.index (enumerate_from 0 l.devices)))
