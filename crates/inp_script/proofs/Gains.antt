@@ -1,17 +1,22 @@
--- What a line leaves of the history's places and of the legal run, by the calls that its sight tells of.
-use Rattle.std.proofs.Common.{◌≡◌, ℕ, true, List, [], ◌∷◌, ◌++◌, refl, sym, ap, ◌∙◌, append_assoc, append-nil, Option, Some, inl, inr}
+-- The places in the history that a line adds are those of the entries that it adds, and the calls that a job
+-- saw stay a legal run.
+use Rattle.std.proofs.Common.{◌≡◌, ℕ, true, List, [], ◌∷◌, ◌++◌, refl, sym, append_assoc, append-nil, Option}
+use Rattle.std.proofs.Common.{Some, inl, inr}
 use Rattle.std.specs.Prelude.{filter}
 use Rattle.std.proofs.lemmas.List.Elements.{filter-append}
 use Rattle.std.proofs.lemmas.Bool.{cond_both}
 use Rattle.inp_model.specs.Evdev.{own_after}
 use Rattle.inp_script.specs.Legal.{places_in, IsLegalSight, GainsPlaces}
-use Rattle.inp_script.proofs.Common.{Step, Reply, Description, Call, Sight, Holds, DoesLine, Job, ActorView, end_talk, call_sight, again_sight, Waiting, RecordView, EvdevView, is_again, AreCalls, places_of, sight_of_calls, is_call_entry, LeavesOut}
+use Rattle.inp_script.proofs.Common.{Step, Reply, Description, Call, Sight, Holds, DoesLine, Job, ActorView}
+use Rattle.inp_script.proofs.Common.{end_talk, call_sight, again_sight, Waiting, RecordView, EvdevView}
+use Rattle.inp_script.proofs.Common.{is_again, AreCalls, sight_of_calls, is_call_entry, LeavesOut}
 use Rattle.inp_model.specs.declared.reply.Reply.TheVariants.{Again as NothingVisible}
 use Rattle.inp_model.proofs.Leaves.{own-grown}
 use Rattle.inp_script.specs.declared.sight.Sight.TheVariants.{Call as Called}
 use Rattle.inp_script.proofs.LineTold.{line-told, end-told}
 use Rattle.inp_script.proofs.Runs.{leaves_out-append, legal-less, runs-on}
 use Rattle.inp_script.proofs.Told.{Tells, sight_of_calls-append}
+use Rattle.inp_model.specs.Leaves.{places_of}
 
 -- The places of calls
 
@@ -20,19 +25,22 @@ again_has_none (NothingVisible at ends) h = refl
 again_has_none _ h = absurd cc
 
 left_out-places : (kept calls : List Call) → LeavesOut kept calls → places_of kept ≡ places_of calls
-left_out-places kept [] out = ap (λ (cs : List Call). places_of cs) out
-left_out-places kept (call ∷ calls) (inl out) = ap (λ (cs : List Call). places_of cs) out.1 ∙ ap (λ (ps : List ℕ). own_after call.answer.reply [] ++ ps) (left_out-places out.0 calls out.2)
-left_out-places kept (call ∷ calls) (inr out) = left_out-places kept calls out.1 ∙ ap (λ (ps : List ℕ). ps ++ places_of calls) (sym (again_has_none call.answer.reply out.0))
+left_out-places kept [] out = rw out
+left_out-places kept (call ∷ calls) (inl out) = rw (out.1, left_out-places out.0 calls out.2)
+left_out-places kept (call ∷ calls) (inr out) =
+    rw (again_has_none call.answer.reply out.0, ← left_out-places kept calls out.1)
 
 places_in-append : (sight more : List Sight) → places_in (sight ++ more) ≡ places_in sight ++ places_in more
 places_in-append [] more = refl
-places_in-append (Called x reply ∷ sight) more = ap (λ (ps : List ℕ). own_after reply [] ++ ps) (places_in-append sight more) ∙ sym (append_assoc (own_after reply []) (places_in sight) (places_in more))
+places_in-append (Called x reply ∷ sight) more =
+    rw (places_in-append sight more)
+    (sym (append_assoc (own_after reply []) (places_in sight) (places_in more)))
 places_in-append (entry ∷ sight) more = places_in-append sight more
 
 -- events have none
 places_in-entries : (sight : List Sight) → places_in (filter is_call_entry sight) ≡ places_in sight
 places_in-entries [] = refl
-places_in-entries (Called x reply ∷ sight) = ap (λ (ps : List ℕ). own_after reply [] ++ ps) (places_in-entries sight)
+places_in-entries (Called x reply ∷ sight) = rw (places_in-entries sight)
 places_in-entries (entry ∷ sight) = places_in-entries sight
 
 again_sight-places : (reply : Reply) → places_in (again_sight reply) ≡ []
@@ -41,37 +49,50 @@ again_sight-places _ = refl
 
 call_sight-places : (x : Step) (reply : Reply) → places_in (call_sight x reply) ≡ own_after reply []
 call_sight-places x reply =
-    cond_both (is_again reply) _ _ (λ y. places_in y ≡ own_after reply []) (λ e. sym (again_has_none reply e)) (λ e. append-nil (own_after reply []))
+    cond_both (is_again reply) _ _ (λ y. places_in y ≡ own_after reply []) (λ e. sym (again_has_none reply e))
+    (λ e. append-nil (own_after reply []))
 
 entries-places : (calls : List Call) → places_in (sight_of_calls calls) ≡ places_of calls
 entries-places [] = refl
 entries-places (call ∷ calls) =
     let reply : Reply = call.answer.reply in
-    places_in-append (call_sight call.step reply ++ again_sight reply) (sight_of_calls calls)
-    ∙ ap (λ (ps : List ℕ). ps ++ places_in (sight_of_calls calls)) (places_in-append (call_sight call.step reply) (again_sight reply) ∙ ap (λ (ps : List ℕ). places_in (call_sight call.step reply) ++ ps) (again_sight-places reply) ∙ append-nil (places_in (call_sight call.step reply)) ∙ call_sight-places call.step reply)
-    ∙ ap (λ (ps : List ℕ). own_after reply [] ++ ps) (entries-places calls)
+    rw (
+      places_in-append,
+      places_in-append,
+      again_sight-places,
+      append-nil,
+      call_sight-places,
+      entries-places calls,
+    )
 
 -- The two laws
 
-pub gains-places : (a b : EvdevView) (calls : List Call) (old new : List Sight) → AreCalls a b calls → Tells calls old new → GainsPlaces a b old new
+-- only calls that were answered Again are left out of a sight, and these have no place
+pub gains-places : (a b : EvdevView) (calls : List Call) (old new : List Sight) → AreCalls a b calls
+    → Tells calls old new → GainsPlaces a b old new
 gains-places a b calls old new are t = record {
   gained = t.gained;
   sight = t.sight;
   own =
-      own-grown a b calls are
-      ∙ ap (λ (ps : List ℕ). a.own ++ ps) (sym (left_out-places t.kept calls t.part) ∙ sym (entries-places t.kept) ∙ ap (λ (es : List Sight). places_in es) t.entries ∙ places_in-entries t.gained);
+      rw (
+        own-grown a b calls are,
+        ← left_out-places t.kept calls t.part,
+        ← entries-places t.kept,
+        t.entries,
+        places_in-entries t.gained,
+      );
 }
 
-pub stays-legal : (d : Description) (a b : EvdevView) (calls : List Call) (old new : List Sight) → a.description ≡ d → AreCalls a b calls → Tells calls old new → IsLegalSight d a.seen old → IsLegalSight d b.seen new
+-- the line's calls go on with the legal run, which may leave out those answered Again
+pub stays-legal : (d : Description) (a b : EvdevView) (calls : List Call) (old new : List Sight)
+    → a.description ≡ d → AreCalls a b calls → Tells calls old new → IsLegalSight d a.seen old
+    → IsLegalSight d b.seen new
 stays-legal d a b calls old new same are t l = record {
   calls = l.calls ++ t.kept;
-  legal = legal-less d b.seen 0 (l.calls ++ t.kept) (l.calls ++ calls) (leaves_out-append l.calls t.kept l.calls calls (all_kept l.calls) t.part) (runs-on d a b l.calls calls same l.legal are);
-  entries =
-      sight_of_calls-append l.calls t.kept
-      ∙ ap (λ (es : List Sight). es ++ sight_of_calls t.kept) l.entries
-      ∙ ap (λ (es : List Sight). filter is_call_entry old ++ es) t.entries
-      ∙ sym (filter-append is_call_entry old t.gained)
-      ∙ ap (λ (es : List Sight). filter is_call_entry es) (sym t.sight);
+  legal =
+      legal-less d b.seen 0 _ _ (leaves_out-append l.calls t.kept l.calls calls (all_kept l.calls) t.part)
+      (runs-on d a b l.calls calls same l.legal are);
+  entries = rw (sight_of_calls-append, l.entries, t.entries, ← filter-append, ← t.sight);
 }
   where
     all_kept : (cs : List Call) → LeavesOut cs cs
@@ -79,9 +100,14 @@ stays-legal d a b calls old new same are t l = record {
     all_kept (c ∷ cs) = inl (cs, refl, all_kept cs)
 
 -- of a line
-pub line-tells : (a b : EvdevView) (actor : ActorView) (r : RecordView) (wait : Option Waiting) (number : ℕ) (new : Job) → (does : DoesLine a b actor r wait number new) → Tells does.holds.calls actor.job.sight new.sight
-line-tells a b actor r wait number new does = line-told actor.role actor.description r.streams wait does.rounds does.line.command actor.job new does.holds.calls does.holds.talk_ends
+pub line-tells : (a b : EvdevView) (actor : ActorView) (r : RecordView) (wait : Option Waiting) (number : ℕ)
+    (new : Job) → (does : DoesLine a b actor r wait number new)
+    → Tells does.holds.calls actor.job.sight new.sight
+line-tells a b actor r wait number new does =
+    line-told actor.role actor.description r.streams wait does.rounds does.line.command actor.job new
+    does.holds.calls does.holds.talk_ends
 
 -- of the end of a source
-pub end-tells : (a b : EvdevView) (old new : Job) → (h : Holds a b (end_talk old.stop old) (Some new)) → Tells h.calls old.sight new.sight
+pub end-tells : (a b : EvdevView) (old new : Job) → (h : Holds a b (end_talk old.stop old) (Some new))
+    → Tells h.calls old.sight new.sight
 end-tells a b old new h = end-told old.stop old new h.calls h.talk_ends

@@ -12,4 +12,5 @@ returns-clause-owner c = (
 
 pub returns-clause-refused_owner : goal.returns-clause-refused_owner
 unfolding computing_feedback
-returns-clause-refused_owner c = (record { answer = _; events = _; fed = (refl, refl, refl); noted = refl }, (refl, refl))
+returns-clause-refused_owner c =
+    (record { answer = _; events = _; fed = (refl, refl, refl); noted = refl }, (refl, refl))

@@ -1,23 +1,33 @@
-use Rattle.std.proofs.Common.{◌≡◌, ◌∙◌, sym, ap, subst, rules, true, false, List, ℕ}
+use Rattle.std.proofs.Common.{◌≡◌, rules, true, false, ℕ}
 use Rattle.std.specs.Prelude.{Some, OnOk, is_some}
 use Rattle.std.specs.List.{slice_get}
 use Rattle.std.proofs.lemmas.Option.{slice_get_within}
 use Rattle.std.proofs.lemmas.Result.{on_ok_weaker}
 use Rattle.inp_model.proofs.Leaves.{left-none}
-use Rattle.inp_script.proofs.Common.{Line, Job, ActorView, job_in, Begins, BeginsLine, DoesCommand, IsCommandFor, command_talk}
+use Rattle.inp_script.proofs.Common.{Line, Job, ActorView, job_in, Begins, BeginsLine, IsCommandFor}
+use Rattle.inp_script.proofs.Common.{command_talk}
 use Rattle.inp_script.proofs.TalkCalls.{begins-none, begins-left}
 use Rattle.inp_script.proofs.Lines.{begins-line}
 use Rattle.inp_script.proofs.LinesDone.{IsLineDone, command-of, line-stopped, line-went_on}
 use Rattle.inp_script.proofs.actor.Actor.line.Goals as goal
 
+-- an actor that stopped makes no call at a line
 pub returns-then-is_some : goal.returns-then-is_some
 returns-then-is_some g c =
     let actor : ActorView = c.args.self.now in
-    let stopped : is_some actor.job.stop ≡ true = ap (λ (a : ActorView). is_some a.job.stop) (sym c.self.view_is) ∙ sym c.is_some.ensures ∙ c.if-is_some.true in
-    let all = line-stopped (g.E.Evdev.told c.args.dev.now) actor c.args.rec.now c.args.wait c.args.line c.requires.device c.lines.ensures.«record» c.requires.actor c.requires.line stopped in
+    let stopped : is_some actor.job.stop ≡ true =
+    rw (← c.self.view_is, ← c.is_some.ensures) c.if-is_some.true in
+    let all =
+    line-stopped (g.E.Evdev.told c.args.dev.now) actor c.args.rec.now c.args.wait c.args.line
+    c.requires.device c.lines.ensures.«record» c.requires.actor c.requires.line stopped in
     record {
       done = all.done;
-      begun = record { line = c.requires.line.line; is_line = c.requires.line.is_line; rounds = 0; begins = begins-none _ _ };
+      begun = record {
+        line = c.requires.line.line;
+        is_line = c.requires.line.is_line;
+        rounds = 0;
+        begins = begins-none _ _;
+      };
       places = all.places;
       legal = all.legal;
       view = all.view;
@@ -26,17 +36,25 @@ returns-then-is_some g c =
       left = left-none _;
     }
 
+-- the record has the line of that number
 pub get-requires : goal.get-requires
 get-requires g c =
-    record { within = slice_get_within c.lines.result.now c.args.line c.requires.line.line (ap (λ (lines : List Line). slice_get lines c.args.line) c.lines.ensures.lines ∙ c.requires.line.is_line) }
+    record {
+      within =
+          slice_get_within c.lines.result.now c.args.line c.requires.line.line
+          (rw c.lines.ensures.lines c.requires.line.is_line);
+    }
 
 pub do_command-requires-clause-command : goal.do_command-requires-clause-command
 do_command-requires-clause-command g c =
     let got : Line = c.get.result.now in
-    let is_line : slice_get c.args.rec.now.lines c.args.line ≡ Some got = ap (λ (lines : List Line). slice_get lines c.args.line) (sym c.lines.ensures.lines) ∙ c.get.ensures.item in
-    subst (λ (a : ActorView). IsCommandFor a.role c.args.rec.now.streams got.command) (sym c.self.view_is)
-    (command-of c.args.rec.now c.args.self.now c.args.line got c.lines.ensures.«record» c.requires.actor c.requires.line is_line)
+    let is_line : slice_get c.args.rec.now.lines c.args.line ≡ Some got =
+    rw (← c.lines.ensures.lines) c.get.ensures.item in
+    rw (← c.self.view_is) at
+    (command-of c.args.rec.now c.args.self.now c.args.line got c.lines.ensures.«record» c.requires.actor
+    c.requires.line is_line)
 
+-- an actor that goes on does the line by its command
 pub returns : goal.returns
 returns g c =
     let a = g.E.Evdev.told c.args.dev.now in
@@ -45,16 +63,22 @@ returns g c =
     let actor : ActorView = c.args.self.now in
     let new : Job = job_in c.do_command.new.self c.do_command.new.notes in
     let got : Line = c.get.result.now in
-    let is_line : slice_get r.lines c.args.line ≡ Some got = ap (λ (lines : List Line). slice_get lines c.args.line) (sym c.lines.ensures.lines) ∙ c.get.ensures.item in
-    let command : IsCommandFor actor.role r.streams got.command = command-of r actor c.args.line got c.lines.ensures.«record» c.requires.actor c.requires.line is_line in
-    let goes : is_some actor.job.stop ≡ false = ap (λ (x : ActorView). is_some x.job.stop) (sym c.self.view_is) ∙ sym c.is_some.ensures ∙ c.if-is_some.false in
+    let is_line : slice_get r.lines c.args.line ≡ Some got =
+    rw (← c.lines.ensures.lines) c.get.ensures.item in
+    let command : IsCommandFor actor.role r.streams got.command =
+    command-of r actor c.args.line got c.lines.ensures.«record» c.requires.actor c.requires.line is_line in
+    let goes : is_some actor.job.stop ≡ false =
+    rw (← c.self.view_is, ← c.is_some.ensures) c.if-is_some.false in
     let all : OnOk c.do_command.result (IsLineDone a b actor r c.args.wait c.args.line new) =
     on_ok_weaker c.do_command.result
-    (λ does. line-went_on a b actor r c.args.wait c.args.line got new c.requires.device command is_line goes
-    (subst (λ (x : ActorView). DoesCommand a b x.role x.description r.streams c.args.wait got.command x.job new) c.self.view_is does))
+    (λ does. line-went_on a b actor r c.args.wait c.args.line got new c.requires.device is_line command goes
+    (rw (← c.self.view_is) does))
     c.do_command.ensures.done in
-    let some_rounds = subst (λ (x : ActorView). (n : ℕ) × Begins a b (command_talk x.role x.description r.streams c.args.wait n got.command x.job)) c.self.view_is c.do_command.ensures.begun in
-    let begun : BeginsLine a b actor r c.args.wait c.args.line = begins-line a b actor r c.args.wait c.args.line got some_rounds.0 is_line goes some_rounds.1 in
+    let some_rounds : (n : ℕ) × Begins a b
+    (command_talk actor.role actor.description r.streams c.args.wait n got.command actor.job) =
+    rw (← c.self.view_is) c.do_command.ensures.begun in
+    let begun : BeginsLine a b actor r c.args.wait c.args.line =
+    begins-line actor r c.args.wait c.args.line got is_line a b some_rounds.0 goes some_rounds.1 in
     record {
       done = on_ok_weaker c.do_command.result (λ h. h.done) all;
       begun = begun;

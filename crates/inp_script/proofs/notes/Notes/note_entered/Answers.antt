@@ -1,17 +1,17 @@
-use Rattle.std.proofs.Common.{get_or, refl, ap, ◌∙◌, arith, List}
+use Rattle.std.proofs.Common.{get_or, refl, arith}
 use Rattle.std.specs.Prelude.{None}
 use Rattle.std.proofs.lemmas.List.{take_all}
-use Rattle.inp_script.specs.Notes.{entered_calls}
-use Rattle.inp_script.proofs.Common.{Stamped, Notes, Sight, notes_after}
 use Rattle.inp_script.proofs.Batches.{no_stamped, entered-more}
 use Rattle.inp_script.proofs.notes.Notes.note_entered.Goals as goal
 
+-- before the first event nothing is noted
 pub loop-stamped-init : goal.loop-stamped-init
 loop-stamped-init c = record { place = omega arith; noted = refl }
 
 pub overflow_add-at : goal.overflow_add-at
 overflow_add-at c = omega (arith, c.loop-stamped.invariant.place, c.loop-stamped-test.true, c.requires.fits)
 
+-- one event more is noted, at the place behind the one before
 pub loop-stamped-preserved : goal.loop-stamped-preserved
 loop-stamped-preserved c =
     let events = c.args.events.now in
@@ -20,11 +20,17 @@ loop-stamped-preserved c =
     let at = c.loop-stamped.at in
     record {
       place = omega (arith, c.loop-stamped.invariant.place);
-      noted = entered-more c.args.from i at events (get_or events i no_stamped) c.args.self.now mid (record { sight = c.push_entered.new.self; stop = None }) c.loop-stamped-test.true refl c.loop-stamped.invariant.place c.loop-stamped.invariant.noted
-          (ap (λ (sight : List Sight). let n : Notes = record { sight = sight; stop = None } in n) c.in_ok-push_entered.ensures.ok);
+      noted =
+          entered-more c.args.from i at events (get_or events i no_stamped) c.args.self.now mid
+          (record { sight = c.push_entered.new.self; stop = None }) c.loop-stamped-test.true refl
+          c.loop-stamped.invariant.place c.loop-stamped.invariant.noted
+          (rw c.in_ok-push_entered.ensures.ok);
     }
 
+-- at the end of the list all events are noted
 pub returns : goal.returns
 returns c =
-    c.loop-stamped.invariant.noted
-    ∙ ap (λ (xs : List Stamped). notes_after (entered_calls c.args.from xs) c.args.self.now) (take_all c.loop-stamped.stamped-index c.args.events.now c.loop-stamped-test.false)
+    rw (
+      c.loop-stamped.invariant.noted,
+      take_all c.loop-stamped.stamped-index c.args.events.now c.loop-stamped-test.false,
+    )

@@ -6,5 +6,6 @@ use Rattle.inp_script.proofs.run.Played.of.Given as goal
 
 abbrev pub invariant-loop-device : goal.invariant-loop-device
 invariant-loop-device l =
-    (l.runs ≡ map ended_run l.yielded) × (l.joys ≡ flat_map (λ (device : DeviceEnds). joys_among device.ends) l.yielded)
+    (l.runs ≡ map ended_run l.yielded)
+    × (l.joys ≡ flat_map (λ (device : DeviceEnds). joys_among device.ends) l.yielded)
     × (l.owners ≡ flat_map (λ (device : DeviceEnds). owners_among device.ends) l.yielded)

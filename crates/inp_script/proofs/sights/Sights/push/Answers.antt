@@ -1,6 +1,7 @@
 use Rattle.inp_script.proofs.SightLists.{within-after}
 use Rattle.inp_script.proofs.sights.Sights.push.Goals as goal
 
+-- the entry is kept without an index into the whole ones, so it is within any list
 pub invariant_of-self : goal.invariant_of-self
 invariant_of-self c =
     let old = c.self.inside in

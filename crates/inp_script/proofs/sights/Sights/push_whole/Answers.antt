@@ -1,18 +1,20 @@
-use Rattle.std.proofs.Common.{[], ◌∷◌, ◌++◌, ap, ◌∙◌, List}
+use Rattle.std.proofs.Common.{◌∙◌}
 use Rattle.std.proofs.lemmas.Result.{IfOk-weaker, on_err_weaker}
-use Rattle.inp_script.specs.declared.sight.Sight.{Sight}
 use Rattle.inp_script.proofs.SightLists.{pushed-whole, refused-whole}
 use Rattle.inp_script.proofs.sights.Sights.push_whole.Goals as goal
 
+-- the entry stands last among the whole ones, and its index last among all
 pub returns-clause-ok : goal.returns-clause-ok
 returns-clause-ok c =
     let old = c.self.inside in
     let sight = c.args.sight in
     let index = c.len-index.result in
     IfOk-weaker c.push-2.result _ _ (λ _ pushed.
-    pushed-whole old.whole c.push.new.self sight old.kept c.push-2.new.self index
-    c.self.invariant c.in_ok-push.ensures.ok c.len-index.ensures.length pushed
-    ∙ ap (λ (ss : List Sight). ss ++ sight ∷ []) c.self.view_is) c.push-2.ensures.ok
+    rw (
+      pushed-whole old.whole c.push.new.self sight old.kept c.push-2.new.self index c.self.invariant
+          c.in_ok-push.ensures.ok c.len-index.ensures.length pushed,
+      c.self.view_is,
+    )) c.push-2.ensures.ok
 
 pub returns-clause-err : goal.returns-clause-err
 returns-clause-err c =
