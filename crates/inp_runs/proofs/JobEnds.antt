@@ -1,8 +1,10 @@
 -- What came of a device's actors, apart: its jobs, its joysticks' jobs, and its owners.
-use Rattle.std.proofs.Common.{◌≡◌, ℕ, suc, ◌+◌, Bool, true, not, ◌||◌, if◌then◌else◌, cond, List, [], ◌∷◌, map, refl, sym, ap, ◌∙◌, arith, Some}
+use Rattle.std.proofs.Common.{◌≡◌, ℕ, suc, ◌+◌, Bool, true, not, ◌||◌, if◌then◌else◌, cond, List, [], ◌∷◌}
+use Rattle.std.proofs.Common.{map, refl, sym, ap, ◌∙◌, arith, Some}
 use Rattle.inp_script.specs.Job.{job_end, joy_end, owner_end}
 use Rattle.inp_runs.specs.Job.{joy_entries_at}
-use Rattle.inp_runs.proofs.Common.{filter, sum_by, slice_get-map, Role, Joy, Owner, is_joy, is_owner, ActorView, JobView, JoyJobView, OwnerView, entries_at}
+use Rattle.inp_runs.proofs.Common.{filter, sum_by, slice_get-map, Role, Joy, Owner, is_joy, is_owner}
+use Rattle.inp_runs.proofs.Common.{ActorView, JobView, JoyJobView, OwnerView, entries_at}
 use Rattle.std.specs.Prelude.{slice_get}
 use Rattle.std.proofs.lemmas.List.Sums.{sum_by-cons}
 use Rattle.inp_script.specs.Ended.{ended_as, ended_of, jobs_among, joys_among, owners_among}
@@ -20,102 +22,145 @@ is_feeding a = is_owner a.role
 abbrev pub is_other : ActorView → Bool
 is_other a = not (is_joy a.role || is_owner a.role)
 
+-- only a joystick passes the test for joysticks
 pub joy-role : (role : Role) → is_joy role ≡ true → role ≡ Joy
 joy-role Joy h = refl
 joy-role _ h = absurd cc
 
+-- only an owner passes the test for owners
 pub owner-role : (role : Role) → is_owner role ≡ true → role ≡ Owner
 owner-role Owner h = refl
 owner-role _ h = absurd cc
 
 -- the jobs are those of the actors that are neither joysticks nor owners
-pub jobs-kept : (actors : List ActorView) → jobs_among (map ended_of actors) ≡ map job_end (filter is_other actors)
+pub jobs-kept : (actors : List ActorView)
+    → jobs_among (map ended_of actors) ≡ map job_end (filter is_other actors)
 jobs-kept [] = refl
 jobs-kept (a ∷ actors) = by a.role (jobs-kept actors)
   where
-    by : (role : Role) → jobs_among (map ended_of actors) ≡ map job_end (filter is_other actors) → jobs_among (ended_as role a ∷ map ended_of actors) ≡ map job_end (cond (not (is_joy role || is_owner role)) (a ∷ filter is_other actors) (filter is_other actors))
+    by : (role : Role) → jobs_among (map ended_of actors) ≡ map job_end (filter is_other actors)
+        → jobs_among (ended_as role a ∷ map ended_of actors)
+        ≡ map job_end
+        (cond (not (is_joy role || is_owner role)) (a ∷ filter is_other actors) (filter is_other actors))
     by Joy e = e
     by Owner e = e
-    by _ e = ap (λ (jobs : List JobView). job_end a ∷ jobs) e
+    by _ e = rw e
 
 -- the joysticks' jobs are those of the joysticks
-pub joys-kept : (actors : List ActorView) → joys_among (map ended_of actors) ≡ map joy_end (filter is_stick actors)
+pub joys-kept : (actors : List ActorView)
+    → joys_among (map ended_of actors) ≡ map joy_end (filter is_stick actors)
 joys-kept [] = refl
 joys-kept (a ∷ actors) = by a.role (joys-kept actors)
   where
-    by : (role : Role) → joys_among (map ended_of actors) ≡ map joy_end (filter is_stick actors) → joys_among (ended_as role a ∷ map ended_of actors) ≡ map joy_end (cond (is_joy role) (a ∷ filter is_stick actors) (filter is_stick actors))
-    by Joy e = ap (λ (joys : List JoyJobView). joy_end a ∷ joys) e
+    by : (role : Role) → joys_among (map ended_of actors) ≡ map joy_end (filter is_stick actors)
+        → joys_among (ended_as role a ∷ map ended_of actors)
+        ≡ map joy_end (cond (is_joy role) (a ∷ filter is_stick actors) (filter is_stick actors))
+    by Joy e = rw e
     by _ e = e
 
 -- and the owners are those of the owners
-pub owners-kept : (actors : List ActorView) → owners_among (map ended_of actors) ≡ map owner_end (filter is_feeding actors)
+pub owners-kept : (actors : List ActorView)
+    → owners_among (map ended_of actors) ≡ map owner_end (filter is_feeding actors)
 owners-kept [] = refl
 owners-kept (a ∷ actors) = by a.role (owners-kept actors)
   where
-    by : (role : Role) → owners_among (map ended_of actors) ≡ map owner_end (filter is_feeding actors) → owners_among (ended_as role a ∷ map ended_of actors) ≡ map owner_end (cond (is_owner role) (a ∷ filter is_feeding actors) (filter is_feeding actors))
-    by Owner e = ap (λ (owners : List OwnerView). owner_end a ∷ owners) e
+    by : (role : Role) → owners_among (map ended_of actors) ≡ map owner_end (filter is_feeding actors)
+        → owners_among (ended_as role a ∷ map ended_of actors)
+        ≡ map owner_end (cond (is_owner role) (a ∷ filter is_feeding actors) (filter is_feeding actors))
+    by Owner e = rw e
     by _ e = e
 
 -- this came of an actor that passes a test
-pub record IsEndOf {X : Type 0} (end : ActorView → X) (test : ActorView → Bool) (actors : List ActorView) (x : X) : Type 0 where
+pub record IsEndOf {X : Type 0} (end : ActorView → X) (test : ActorView → Bool) (actors : List ActorView)
+    (x : X) : Type 0 where
+  -- where the actor stands in the list
   pub index : ℕ
+  -- the actor that it came of
   pub actor : ActorView
+  -- the actor stands there
   pub is : slice_get actors index ≡ Some actor
+  -- the actor passes the test
   pub passes : test actor ≡ true
+  -- it is what came of the actor
   pub same : end actor ≡ x
 
-end-of : {X : Type 0} (end : ActorView → X) (test : ActorView → Bool) (actors : List ActorView) (k : ℕ) (x : X) → slice_get (map end (filter test actors)) k ≡ Some x → IsEndOf end test actors x
+end-of : {X : Type 0} (end : ActorView → X) (test : ActorView → Bool) (actors : List ActorView) (k : ℕ)
+    (x : X) → slice_get (map end (filter test actors)) k ≡ Some x → IsEndOf end test actors x
 end-of end test actors k x h =
     let kept : List ActorView = filter test actors in
-    let image : IsImage end (slice_get kept k) x = option_map-some end (slice_get kept k) x (sym (slice_get-map end kept k) ∙ h) in
+    let image : IsImage end (slice_get kept k) x =
+    option_map-some end (slice_get kept k) x (sym (slice_get-map end kept k) ∙ h) in
     let at : IsAt test actors image.from = slice_get-filter test actors k image.from image.is in
     record { index = at.index; actor = image.from; is = at.is; passes = at.passes; same = image.same }
 
-pub job-end_of : (actors : List ActorView) (k : ℕ) (job : JobView) → slice_get (jobs_among (map ended_of actors)) k ≡ Some job → IsEndOf job_end is_other actors job
-job-end_of actors k job h = end-of job_end is_other actors k job (ap (λ (jobs : List JobView). slice_get jobs k) (sym (jobs-kept actors)) ∙ h)
+module _ (actors : List ActorView) where
+  -- each job came of an actor that is neither a joystick nor an owner, as no others are kept
+  pub job-end_of : (k : ℕ) (job : JobView) → slice_get (jobs_among (map ended_of actors)) k ≡ Some job
+      → IsEndOf job_end is_other actors job
+  job-end_of k job h = end-of job_end is_other actors k job (rw (← jobs-kept) h)
 
-pub joy-end_of : (actors : List ActorView) (k : ℕ) (joy : JoyJobView) → slice_get (joys_among (map ended_of actors)) k ≡ Some joy → IsEndOf joy_end is_stick actors joy
-joy-end_of actors k joy h = end-of joy_end is_stick actors k joy (ap (λ (joys : List JoyJobView). slice_get joys k) (sym (joys-kept actors)) ∙ h)
+  -- each joystick's job came of a joystick, as no others are kept
+  pub joy-end_of : (k : ℕ) (joy : JoyJobView) → slice_get (joys_among (map ended_of actors)) k ≡ Some joy
+      → IsEndOf joy_end is_stick actors joy
+  joy-end_of k joy h = end-of joy_end is_stick actors k joy (rw (← joys-kept) h)
 
-pub owner-end_of : (actors : List ActorView) (k : ℕ) (owner : OwnerView) → slice_get (owners_among (map ended_of actors)) k ≡ Some owner → IsEndOf owner_end is_feeding actors owner
-owner-end_of actors k owner h = end-of owner_end is_feeding actors k owner (ap (λ (owners : List OwnerView). slice_get owners k) (sym (owners-kept actors)) ∙ h)
+  -- each owner's result came of an owner, as no others are kept
+  pub owner-end_of : (k : ℕ) (owner : OwnerView)
+      → slice_get (owners_among (map ended_of actors)) k ≡ Some owner
+      → IsEndOf owner_end is_feeding actors owner
+  owner-end_of k owner h = end-of owner_end is_feeding actors k owner (rw (← owners-kept) h)
 
 -- of these actors no owner counts
 abbrev pub OwnersCountNothing : (ActorView → ℕ) → List ActorView → Type 0
-OwnersCountNothing f actors = (k : ℕ) (a : ActorView) → slice_get actors k ≡ Some a → is_owner a.role ≡ true → f a ≡ 0
+OwnersCountNothing f actors =
+    (k : ℕ) (a : ActorView) → slice_get actors k ≡ Some a → is_owner a.role ≡ true → f a ≡ 0
 
 -- then the joysticks and those that are neither have the whole sum
-split-roles : (f : ActorView → ℕ) (actors : List ActorView) → OwnersCountNothing f actors → sum_by (λ a. if is_other a then f a else 0) actors + sum_by (λ a. if is_stick a then f a else 0) actors ≡ sum_by f actors
+split-roles : (f : ActorView → ℕ) (actors : List ActorView) → OwnersCountNothing f actors
+    → sum_by (λ a. if is_other a then f a else 0) actors + sum_by (λ a. if is_stick a then f a else 0) actors
+    ≡ sum_by f actors
 split-roles f [] none = refl
 split-roles f (a ∷ actors) none =
-    omega (arith, one a.role (f a) (none 0 a refl), split-roles f actors (λ k b is. none (suc k) b is), sum_by-cons (λ b. if is_other b then f b else 0) a actors, sum_by-cons (λ b. if is_stick b then f b else 0) a actors, sum_by-cons f a actors)
+    omega (
+      arith,
+      one a.role (f a) (none 0 a refl),
+      split-roles f actors (λ k b is. none (suc k) b is),
+      sum_by-cons (λ b. if is_other b then f b else 0) a actors,
+      sum_by-cons (λ b. if is_stick b then f b else 0) a actors,
+      sum_by-cons f a actors,
+    )
   where
-    one : (role : Role) (n : ℕ) → (is_owner role ≡ true → n ≡ 0) → (if not (is_joy role || is_owner role) then n else 0) + (if is_joy role then n else 0) ≡ n
+    one : (role : Role) (n : ℕ) → (is_owner role ≡ true → n ≡ 0)
+        → (if not (is_joy role || is_owner role) then n else 0) + (if is_joy role then n else 0) ≡ n
     one Joy n h = omega arith
     one Owner n h = sym (h refl)
     one _ n h = omega arith
 
 -- the jobs and the joysticks' jobs have all entries, where owners have none
-pub split-sums : (place : ℕ) (actors : List ActorView) → OwnersCountNothing (calls_at place) actors → entries_at place (jobs_among (map ended_of actors)) + joy_entries_at place (joys_among (map ended_of actors)) ≡ sum_by (calls_at place) actors
+pub split-sums : (place : ℕ) (actors : List ActorView) → OwnersCountNothing (calls_at place) actors
+    → entries_at place (jobs_among (map ended_of actors)) + joy_entries_at place
+    (joys_among (map ended_of actors)) ≡ sum_by (calls_at place) actors
 split-sums place actors none =
-    let jobs : entries_at place (jobs_among (map ended_of actors)) ≡ sum_by (λ (a : ActorView). if is_other a then calls_at place a else 0) actors =
-    ap (entries_at place) (jobs-kept actors) ∙ sum_by-kept (λ (job : JobView). entries place job.sight) job_end is_other actors in
-    let joys : joy_entries_at place (joys_among (map ended_of actors)) ≡ sum_by (λ (a : ActorView). if is_stick a then calls_at place a else 0) actors =
-    ap (joy_entries_at place) (joys-kept actors) ∙ sum_by-kept (λ (joy : JoyJobView). entries place joy.sight) joy_end is_stick actors in
-    ap (λ (n : ℕ). n + joy_entries_at place (joys_among (map ended_of actors))) jobs
-    ∙ ap (λ (n : ℕ). sum_by (λ (a : ActorView). if is_other a then calls_at place a else 0) actors + n) joys
-    ∙ split-roles (calls_at place) actors none
+    let jobs : entries_at place (jobs_among (map ended_of actors))
+    ≡ sum_by (λ (a : ActorView). if is_other a then calls_at place a else 0) actors =
+    ap (entries_at place) (jobs-kept actors)
+    ∙ sum_by-kept (λ (job : JobView). entries place job.sight) job_end is_other actors in
+    let joys : joy_entries_at place (joys_among (map ended_of actors))
+    ≡ sum_by (λ (a : ActorView). if is_stick a then calls_at place a else 0) actors =
+    ap (joy_entries_at place) (joys-kept actors)
+    ∙ sum_by-kept (λ (joy : JoyJobView). entries place joy.sight) joy_end is_stick actors in
+    rw (jobs, joys) (split-roles (calls_at place) actors none)
 
 -- each actor counts as what comes of it
-pub sum-ends : (place : ℕ) (actors : List ActorView) → entries_at place (map job_end actors) ≡ sum_by (calls_at place) actors
+pub sum-ends : (place : ℕ) (actors : List ActorView)
+    → entries_at place (map job_end actors) ≡ sum_by (calls_at place) actors
 sum-ends place [] = refl
 sum-ends place (a ∷ actors) =
-    sum_by-cons (λ (job : JobView). entries place job.sight) (job_end a) (map job_end actors)
-    ∙ ap (λ (n : ℕ). calls_at place a + n) (sum-ends place actors)
-    ∙ sym (sum_by-cons (calls_at place) a actors)
+    rw (sum_by-cons, sum-ends place actors) (sym (sum_by-cons (calls_at place) a actors))
 
 -- what comes of actors has their numbers
-pub end-numbers : {X : Type 0} (end : ActorView → X) (number : X → ℕ) → ((a : ActorView) → number (end a) ≡ a.actor) → (actors : List ActorView) → map number (map end actors) ≡ map (λ (a : ActorView). a.actor) actors
+pub end-numbers : {X : Type 0} (end : ActorView → X) (number : X → ℕ)
+    → ((a : ActorView) → number (end a) ≡ a.actor) → (actors : List ActorView)
+    → map number (map end actors) ≡ map (λ (a : ActorView). a.actor) actors
 end-numbers end number same [] = refl
-end-numbers end number same (a ∷ actors) =
-    ap (λ (n : ℕ). n ∷ map number (map end actors)) (same a) ∙ ap (λ (ns : List ℕ). a.actor ∷ ns) (end-numbers end number same actors)
+end-numbers end number same (a ∷ actors) = rw (same, end-numbers end number same actors)

@@ -1,11 +1,17 @@
 -- What a talk leaves, whatever the one-thread device answers: of its result, and of the entries of its calls.
--- A reader's
--- talks leave a view of the device's size, and each answer told but Again, which ends them.
-use Rattle.std.proofs.Common.{◌≡◌, List, [], ◌∷◌, ◌++◌, ap, subst, ◌∙◌, append_assoc, append-nil, refl, true, false, sym, inl}
+-- A reader's talks leave a view of the device's size, and each answer told but Again, which ends them.
+use Rattle.std.proofs.Common.{◌≡◌, List, [], ◌∷◌, ◌++◌, ◌∙◌, append_assoc, append-nil, refl, true, false, sym}
+use Rattle.std.proofs.Common.{inl}
 use Rattle.inp_script.proofs.Told.{call_kept}
-use Rattle.inp_recon.proofs.Sizes.{IsSizedFor-after_event, length-keys_after_answer, length-switches_after_answer, length-leds_after_answer, length-axes_after_answer}
+use Rattle.inp_recon.proofs.Sizes.{IsSizedFor-after_event, length-keys_after_answer}
+use Rattle.inp_recon.proofs.Sizes.{length-switches_after_answer, length-leds_after_answer}
+use Rattle.inp_recon.proofs.Sizes.{length-axes_after_answer}
 use Rattle.inp_reader.specs.Reader.{as_plain, after_failed_sync}
-use Rattle.inp_runs.proofs.Common.{filter, Result, Ok, Err, filter-append, Step, Description, Answer, answer, is_accepted, Call, Talk, EndsWith, Sight, sight_of_calls, is_call_entry, call_sight, again_sight, Meets, Any, meets-ends, NotedBy, Reply, is_again, View, IsSizedFor, Mode, Started, Success, Dropped, Sync, Reading, queries, start_talk, stop_of, next_talk, Each}
+use Rattle.inp_runs.proofs.Common.{filter, Result, Ok, Err, filter-append, Step, Description, Answer, answer}
+use Rattle.inp_runs.proofs.Common.{is_accepted, Call, Talk, EndsWith, Sight, sight_of_calls, is_call_entry}
+use Rattle.inp_runs.proofs.Common.{call_sight, again_sight, Meets, Any, meets-ends, NotedBy, Reply, is_again}
+use Rattle.inp_runs.proofs.Common.{View, IsSizedFor, Mode, Started, Success, Dropped, Sync, Reading, queries}
+use Rattle.inp_runs.proofs.Common.{start_talk, stop_of, next_talk, Each}
 use Rattle.inp_runs.proofs.Entries.{call_entries}
 use Rattle.inp_reader.proofs.Meets.{Runs}
 use Rattle.inp_model.specs.declared.step.Step.TheVariants.{Open, Read}
@@ -17,7 +23,8 @@ use Rattle.inp_reader.specs.declared.next.Next.{Next}
 use Rattle.inp_reader.specs.declared.next.Next.TheVariants.{Again, Synced, Closed}
 use Rattle.inp_script.specs.declared.sight.Sight.TheVariants.{Again as AgainSight}
 use Rattle.inp_reader.proofs.AgainCounts.{IsNoRead, not_again, no_read-queries, no_read-sync}
-use Rattle.inp_reader.proofs.NextWalk.{AskRules, asked-meets, sync-meets, Queried, start-meets, Renewed, NextRules, next-meets}
+use Rattle.inp_reader.proofs.NextWalk.{AskRules, asked-meets, sync-meets, Queried, start-meets, Renewed}
+use Rattle.inp_reader.proofs.NextWalk.{NextRules, next-meets}
 use Rattle.inp_reader.proofs.AgreedViews.{sized-answer}
 use Rattle.inp_script.proofs.Told as told
 
@@ -32,55 +39,26 @@ Leaves {A} d P entries talk = Meets Any (EntriesBy d) (λ (es : List Sight) (a :
 -- Calls that the one-thread device answered, each after some past.
 abbrev pub AreAnswered : Description → List Call → Type 0
 AreAnswered d [] = Unit {0}
-AreAnswered d (call ∷ calls) = (past : List Step) × (call.answer ≡ answer d past call.step) × AreAnswered d calls
-
-entries-run : (d : Description) (entries : List Sight) (calls : List Call) → AreAnswered d calls → Runs (EntriesBy d) entries calls (entries ++ sight_of_calls calls)
-unfolding Runs
-entries-run d entries [] answered = append-nil entries
-entries-run d entries (call ∷ calls) answered =
-    let more : List Sight = entries ++ call_entries call.step call.answer.reply in (
-      more,
-      ((answered.0, answered.1), refl),
-      subst (λ (es : List Sight). Runs (EntriesBy d) more calls es) (append_assoc entries (call_entries call.step call.answer.reply) (sight_of_calls calls)) (entries-run d more calls answered.2),
-    )
-
-pub leaves-ends : {A : Type 0} (d : Description) (P : A → List Sight → Type 0) (entries : List Sight) (talk : Talk A) (calls : List Call) (result : A) → AreAnswered d calls → EndsWith talk calls result → Leaves d P entries talk → P result (entries ++ sight_of_calls calls)
-leaves-ends {A} d P entries talk calls result answered ends h =
-    meets-ends Any (EntriesBy d) (λ (es : List Sight) (a : A). P a es) entries (entries ++ sight_of_calls calls) talk calls result h (entries-run d entries calls answered) ends
+AreAnswered d (call ∷ calls) =
+    (past : List Step) × (call.answer ≡ answer d past call.step) × AreAnswered d calls
 
 -- Talks of a reader, which are noted
 
--- The same, with the entries that a note of the calls has: it has none of an answer Again.
-abbrev pub Answers : {A : Type 0} → Description → (A → List Sight → List Sight → Type 0) → List Sight × List Sight → Talk A → Type 0
-Answers {A} d P u talk = Meets Any (NotedBy (EntriesBy d)) (λ (v : List Sight × List Sight) (a : A). P a (filter is_call_entry v.1) v.0) u talk
-
--- what is noted of one call more
-pub note-kept : (d : Description) (u v : List Sight × List Sight) (x : Step) (a : Answer) → NotedBy (EntriesBy d) u x a v → filter is_call_entry v.1 ≡ filter is_call_entry u.1 ++ call_sight x a.reply
-note-kept d u v x a by =
-    ap (filter is_call_entry) by.1 ∙ filter-append is_call_entry u.1 (call_sight x a.reply) ∙ ap (λ (es : List Sight). filter is_call_entry u.1 ++ es) (call_kept x a.reply)
-
--- a view keeps its size
-pub sized-answered : (d : Description) (past : List Step) (x : Step) (view : View) → IsSizedFor d.slots view → IsSizedFor d.slots (view_after_answer view x (answer d past x).reply (answer d past x).cells)
-unfolding view_after_answer
-sized-answered d past x view h =
-    let reply : Reply = (answer d past x).reply in
-    record {
-      keys = length-keys_after_answer x reply view.keys h.keys;
-      switches = length-switches_after_answer x reply view.switches h.switches;
-      leds = length-leds_after_answer x reply view.leds h.leds;
-      axes = length-axes_after_answer x reply view.axes ∙ h.axes;
-      cells = sized-answer d past x (answer d past x) view (inl refl) h.cells;
-    }
+-- What a talk leaves, with the entries that a note of the calls has: it has none of an answer Again.
+abbrev pub Answers : {A : Type 0} → Description → (A → List Sight → List Sight → Type 0)
+    → List Sight × List Sight → Talk A → Type 0
+Answers {A} d P u talk =
+    Meets Any (NotedBy (EntriesBy d))
+    (λ (v : List Sight × List Sight) (a : A). P a (filter is_call_entry v.1) v.0) u talk
 
 accepted_again : (reply : Reply) → is_accepted reply ≡ true → again_sight reply ≡ []
 accepted_again (NothingVisible at ends) h = absurd cc
 accepted_again _ h = refl
 
 -- a call that was not answered Again is told
-one_told : (kept entries : List Sight) (x : Step) (reply : Reply) → again_sight reply ≡ [] → kept ≡ entries → kept ++ call_sight x reply ≡ entries ++ call_entries x reply
-one_told kept entries x reply none same =
-    ap (λ (ks : List Sight). ks ++ call_sight x reply) same
-    ∙ ap (λ (es : List Sight). entries ++ es) (sym (append-nil (call_sight x reply)) ∙ ap (λ (es : List Sight). call_sight x reply ++ es) (sym none))
+one_told : (kept entries : List Sight) (x : Step) (reply : Reply) → again_sight reply ≡ [] → kept ≡ entries
+    → kept ++ call_sight x reply ≡ entries ++ call_entries x reply
+one_told kept entries x reply none same = rw (none, append-nil, ← same)
 
 -- the entries of all calls, and what is noted
 abbrev pub Both : Type 0
@@ -90,45 +68,12 @@ Both = List Sight × List Sight
 abbrev pub IsSame : Both → Type 0
 IsSame u = filter is_call_entry u.1 ≡ u.0
 
-told-by : (d : Description) (u v : Both) (x : Step) (a : Answer) → again_sight a.reply ≡ [] → IsSame u → NotedBy (EntriesBy d) u x a v → IsSame v
-told-by d u v x a none same by = note-kept d u v x a by ∙ one_told (filter is_call_entry u.1) u.0 x a.reply none same ∙ sym by.0.1
-
-quiet-by : (d : Description) (u v : Both) (x : Step) (a : Answer) → IsNoRead x → NotedBy (EntriesBy d) u x a v → is_again a.reply ≡ false
-quiet-by d u v x a no_read by = not_again d by.0.0.0 x a no_read (inl by.0.0.1)
-
--- Asking for steps in order
-
+-- a view of the device's size, and steps to ask for that read nothing
 abbrev IsSizedSoFar : Description → Both → View → List Step → Type 0
 IsSizedSoFar d u view left = IsSizedFor d.slots view × IsSame u × Each IsNoRead left
 
-sized-asks : (d : Description) (Q : Both → Result View Reply → Type 0) → ((u : Both) (view : View) → IsSizedFor d.slots view → IsSame u → Q u (Ok view)) → ((u : Both) (reply : Reply) → is_again reply ≡ false → IsSame u → Q u (Err reply)) → AskRules Any (NotedBy (EntriesBy d)) (IsSizedSoFar d) Q
-sized-asks d Q whole stopped = record {
-  asks = λ u view x xs j. tt;
-  told = λ u v view x xs a j by is. (
-    subst (λ (b : Answer). IsSizedFor d.slots (view_after_answer view x b.reply b.cells)) (sym by.0.0.1) (sized-answered d by.0.0.0 x view j.0),
-    told-by d u v x a (told.not_again a.reply (quiet-by d u v x a j.2.0 by)) j.1 by,
-    j.2.1,
-  );
-  stopped = λ u v view x xs a j by is.
-      let never : is_again a.reply ≡ false = quiet-by d u v x a j.2.0 by in
-      stopped v a.reply never (told-by d u v x a (told.not_again a.reply never) j.1 by);
-  whole = λ u view j. whole u view j.0 j.1;
-}
-
 abbrev pub IsStarted : Description → Started × Reading → List Sight → List Sight → Type 0
 IsStarted d o kept entries = IsSizedFor d.slots o.1.view × (kept ≡ entries)
-
-pub answers-start : (d : Description) (r : Reading) (u : Both) → IsSizedFor d.slots r.view → IsSame u → Answers d (IsStarted d) u (start_talk d r)
-answers-start d r u sized same =
-    let Q : Both → Started × Reading → Type 0 = λ v o. IsStarted d o (filter is_call_entry v.1) v.0 in
-    let opens : (v : Both) (a : Answer) → NotedBy (EntriesBy d) u Open a v → IsSame v = λ v a by. told-by d u v Open a (told.not_again a.reply (quiet-by d u v Open a refl by)) same by in
-    start-meets Any (NotedBy (EntriesBy d)) Q d r u (record {
-      asks_open = tt;
-      opened = λ v a at client ring by is.
-          asked-meets Any (NotedBy (EntriesBy d)) (IsSizedSoFar d) (Queried Q client ring r) (sized-asks d (Queried Q client ring r) (λ w view s e. (s, e)) (λ w reply never e. (sized, e))) v (queries d client) r.view
-          (sized, opens v a by, no_read-queries d client);
-      refused = λ v a by other. (sized, opens v a by);
-    })
 
 -- where a reader answers Again there is one entry more
 abbrev pub again_of : Next → List Sight
@@ -151,34 +96,129 @@ IsSizedReader d u r = IsSizedFor d.slots r.view × IsSame u
 abbrev pub LeavesNext : Description → Both → Next × Reading → Type 0
 LeavesNext d u o = IsNext d o (filter is_call_entry u.1) u.0
 
-next-nothing : (d : Description) (u : Both) (o : Next × Reading) → IsSizedFor d.slots o.1.view → again_of o.0 ≡ [] → IsSame u → LeavesNext d u o
-next-nothing d u o sized none same = (sized, ap (λ (es : List Sight). filter is_call_entry u.1 ++ es) none ∙ append-nil (filter is_call_entry u.1) ∙ same)
+module _ (d : Description) where
+  entries-run : (entries : List Sight) (calls : List Call) → AreAnswered d calls
+      → Runs (EntriesBy d) entries calls (entries ++ sight_of_calls calls)
+  unfolding Runs
+  entries-run entries [] answered = append-nil entries
+  entries-run entries (call ∷ calls) answered =
+      let more : List Sight = entries ++ call_entries call.step call.answer.reply in (
+        more,
+        ((answered.0, answered.1), refl),
+        rw append_assoc at (entries-run more calls answered.2),
+      )
 
-next-rules : (d : Description) (mode : Mode) → NextRules Any (NotedBy (EntriesBy d)) (IsSizedReader d) (LeavesNext d) d mode
-next-rules d mode = record {
-  asks_read = λ u r h. tt;
-  reads = λ u v r a h plain none by is. (h.0, told-by d u v (Read r.client 64) a (accepted_again a.reply is) h.1 by);
-  stops = λ u v r a h plain none by is. (
-    h.0,
-    ap (λ (ks : List Sight). ks ++ again_of (stop_of a.reply)) (note-kept d u v (Read r.client 64) a by)
-        ∙ ap (λ (es : List Sight). (filter is_call_entry u.1 ++ call_sight (Read r.client 64) a.reply) ++ es) (stopped-again a.reply)
-        ∙ append_assoc (filter is_call_entry u.1) (call_sight (Read r.client 64) a.reply) (again_sight a.reply)
-        ∙ ap (λ (ks : List Sight). ks ++ call_entries (Read r.client 64) a.reply) h.1
-        ∙ sym by.0.1,
-  );
-  hands = λ u r taken rest h plain q is. next-nothing d u (Success taken, record r { queue = rest; view = view_after_event r.view taken.event }) (IsSizedFor-after_event d.slots r.view taken.event h.0) refl h.1;
-  loses = λ u r taken rest h plain q is. next-nothing d u (Dropped taken, record r { queue = rest; view = view_after_event r.view taken.event; phase = Needed }) (IsSizedFor-after_event d.slots r.view taken.event h.0) refl h.1;
-  empty = λ u r h plain q. next-nothing d u (Closed, r) h.0 refl h.1;
-  idles = λ u r h plain is. next-nothing d u (Synced, r) h.0 refl h.1;
-  syncs = λ u r h needed.
-      let Q : Both → Result View Reply → Type 0 = Renewed (IsSizedReader d) (LeavesNext d) r in
-      sync-meets Any (NotedBy (EntriesBy d)) (IsSizedSoFar d) Q d u r
-      (sized-asks d Q (λ v view sized same. (sized, same)) (λ v reply never same. next-nothing d v (stop_of reply, after_failed_sync r) h.0 (stopped-again reply ∙ told.not_again reply never) same))
-      (h.0, h.1, no_read-sync d r.client);
-  makes = λ u r event left h handing sync is. next-nothing d u (Sync event, record r { left = left }) h.0 refl h.1;
-  made_all = λ u r h handing sync is. next-nothing d u (Synced, as_plain r) h.0 refl h.1;
-  goes_on = λ u r h handing is. h;
-}
+  -- what is noted of one call more
+  pub note-kept : (u v : List Sight × List Sight) (x : Step) (a : Answer) → NotedBy (EntriesBy d) u x a v
+      → filter is_call_entry v.1 ≡ filter is_call_entry u.1 ++ call_sight x a.reply
+  note-kept u v x a by = rw (by.1, filter-append, call_kept)
 
-pub answers-next : (d : Description) (mode : Mode) (r : Reading) (u : Both) → IsSizedFor d.slots r.view → IsSame u → Answers d (IsNext d) u (next_talk d mode r)
-answers-next d mode r u sized same = next-meets Any (NotedBy (EntriesBy d)) (IsSizedReader d) (LeavesNext d) d mode (next-rules d mode) u r (sized, same)
+  -- a view keeps its size
+  pub sized-answered : (past : List Step) (x : Step) (view : View) → IsSizedFor d.slots view
+      → IsSizedFor d.slots (view_after_answer view x (answer d past x).reply (answer d past x).cells)
+  unfolding view_after_answer
+  sized-answered past x view h =
+      let reply : Reply = (answer d past x).reply in
+      record {
+        keys = length-keys_after_answer x reply view.keys h.keys;
+        switches = length-switches_after_answer x reply view.switches h.switches;
+        leds = length-leds_after_answer x reply view.leds h.leds;
+        axes = length-axes_after_answer x reply view.axes ∙ h.axes;
+        cells = sized-answer d past x (answer d past x) view (inl refl) h.cells;
+      }
+
+  told-by : (u v : Both) (x : Step) (a : Answer) → again_sight a.reply ≡ [] → IsSame u
+      → NotedBy (EntriesBy d) u x a v → IsSame v
+  told-by u v x a none same by =
+      note-kept u v x a by ∙ one_told (filter is_call_entry u.1) u.0 x a.reply none same ∙ sym by.0.1
+
+  quiet-by : (u v : Both) (x : Step) (a : Answer) → IsNoRead x → NotedBy (EntriesBy d) u x a v
+      → is_again a.reply ≡ false
+  quiet-by u v x a no_read by = not_again d by.0.0.0 x a no_read (inl by.0.0.1)
+
+  sized-asks : (Q : Both → Result View Reply → Type 0)
+      → ((u : Both) (view : View) → IsSizedFor d.slots view → IsSame u → Q u (Ok view))
+      → ((u : Both) (reply : Reply) → is_again reply ≡ false → IsSame u → Q u (Err reply))
+      → AskRules Any (NotedBy (EntriesBy d)) (IsSizedSoFar d) Q
+  sized-asks Q whole stopped = record {
+    asks = λ u view x xs j. tt;
+    told = λ u v view x xs a j by is. (
+      rw by.0.0.1 (sized-answered by.0.0.0 x view j.0),
+      told-by u v x a (told.not_again a.reply (quiet-by u v x a j.2.0 by)) j.1 by,
+      j.2.1,
+    );
+    stopped = λ u v view x xs a j by is.
+        let never : is_again a.reply ≡ false = quiet-by u v x a j.2.0 by in
+        stopped v a.reply never (told-by u v x a (told.not_again a.reply never) j.1 by);
+    whole = λ u view j. whole u view j.0 j.1;
+  }
+
+  -- a start makes no read, so no call of it is answered Again, and all are noted
+  pub answers-start : (r : Reading) (u : Both) → IsSizedFor d.slots r.view → IsSame u
+      → Answers d (IsStarted d) u (start_talk d r)
+  answers-start r u sized same =
+      let Q : Both → Started × Reading → Type 0 = λ v o. IsStarted d o (filter is_call_entry v.1) v.0 in
+      let opens : (v : Both) (a : Answer) → NotedBy (EntriesBy d) u Open a v → IsSame v =
+      λ v a by. told-by u v Open a (told.not_again a.reply (quiet-by u v Open a refl by)) same by in
+      start-meets Any (NotedBy (EntriesBy d)) Q d r u (record {
+        asks_open = tt;
+        opened = λ v a at client ring by is.
+            asked-meets Any (NotedBy (EntriesBy d)) (IsSizedSoFar d) (Queried Q client ring r)
+            (sized-asks (Queried Q client ring r) (λ w view s e. (s, e)) (λ w reply never e. (sized, e))) v
+            (queries d client) r.view
+            (sized, opens v a by, no_read-queries d client);
+        refused = λ v a by other. (sized, opens v a by);
+      })
+
+  next-nothing : (u : Both) (o : Next × Reading) → IsSizedFor d.slots o.1.view → again_of o.0 ≡ [] → IsSame u
+      → LeavesNext d u o
+  next-nothing u o sized none same = (sized, rw (none, append-nil) same)
+
+  next-rules : (mode : Mode) → NextRules Any (NotedBy (EntriesBy d)) (IsSizedReader d) (LeavesNext d) d mode
+  next-rules mode = record {
+    asks_read = λ u r h. tt;
+    reads =
+        λ u v r a h plain none by is.
+        (h.0, told-by u v (Read r.client 64) a (accepted_again a.reply is) h.1 by);
+    stops = λ u v r a h plain none by is. (
+      h.0,
+      rw (note-kept u v (Read r.client 64) a by, stopped-again, append_assoc, h.1) (sym by.0.1),
+    );
+    hands = λ u r taken rest h plain q is.
+        next-nothing u (Success taken, record r { queue = rest; view = view_after_event r.view taken.event })
+        (IsSizedFor-after_event d.slots r.view taken.event h.0) refl h.1;
+    loses = λ u r taken rest h plain q is.
+        next-nothing u (
+          Dropped taken,
+          record r { queue = rest; view = view_after_event r.view taken.event; phase = Needed },
+        )
+        (IsSizedFor-after_event d.slots r.view taken.event h.0) refl h.1;
+    empty = λ u r h plain q. next-nothing u (Closed, r) h.0 refl h.1;
+    idles = λ u r h plain is. next-nothing u (Synced, r) h.0 refl h.1;
+    syncs = λ u r h needed.
+        let Q : Both → Result View Reply → Type 0 = Renewed (IsSizedReader d) (LeavesNext d) r in
+        sync-meets Any (NotedBy (EntriesBy d)) (IsSizedSoFar d) Q d u r
+        (sized-asks Q (λ v view sized same. (sized, same))
+        (λ v reply never same. next-nothing v (stop_of reply, after_failed_sync r) h.0 (stopped-again reply
+        ∙ told.not_again reply never) same))
+        (h.0, h.1, no_read-sync d r.client);
+    makes = λ u r event left h handing sync is.
+        next-nothing u (Sync event, record r { left = left }) h.0 refl h.1;
+    made_all = λ u r h handing sync is. next-nothing u (Synced, as_plain r) h.0 refl h.1;
+    goes_on = λ u r h handing is. h;
+  }
+
+  -- only a read is answered Again, and it is the last call then; all others are noted
+  pub answers-next : (mode : Mode) (r : Reading) (u : Both) → IsSizedFor d.slots r.view → IsSame u
+      → Answers d (IsNext d) u (next_talk d mode r)
+  answers-next mode r u sized same =
+      next-meets Any (NotedBy (EntriesBy d)) (IsSizedReader d) (LeavesNext d) d mode
+      (next-rules mode) u r (sized, same)
+
+-- what a talk leaves whatever is answered, it leaves after these answers too
+pub leaves-ends : {A : Type 0} (d : Description) (P : A → List Sight → Type 0) (entries : List Sight)
+    (talk : Talk A) (calls : List Call) (result : A) → AreAnswered d calls → EndsWith talk calls result
+    → Leaves d P entries talk → P result (entries ++ sight_of_calls calls)
+leaves-ends {A} d P entries talk calls result answered ends h =
+    meets-ends Any (EntriesBy d) (λ (es : List Sight) (a : A). P a es) entries
+    (entries ++ sight_of_calls calls) talk calls result h (entries-run d entries calls answered) ends

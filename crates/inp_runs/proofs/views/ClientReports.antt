@@ -1,20 +1,28 @@
 -- The view of a client's job at each report that it took.
-use Rattle.std.proofs.Common.{◌≡◌, ◌<◌, inl, inr, ℕ, Bool, true, false, ◌&&◌, nat_eq, List, [], ◌∷◌, ◌++◌, length, map, reverse, refl, sym, ap, subst, ◌∙◌, arith, append-nil, append_assoc, Option, Some, None}
-use Rattle.std.specs.Prelude.{slice_get}
-use Rattle.inp_actors.specs.declared.command.Command.TheVariants.{Close, Grab, Ungrab, Revoke, Mask, Clock, Write, SetAxis}
+use Rattle.std.proofs.Common.{◌≡◌, ◌<◌, inl, inr, ℕ, Bool, true, false, nat_eq, List, [], ◌∷◌, ◌++◌, length}
+use Rattle.std.proofs.Common.{reverse, refl, sym, ap, subst, ◌∙◌, arith, append-nil, append_assoc, Option}
+use Rattle.std.proofs.Common.{Some, None}
+use Rattle.inp_actors.specs.declared.command.Command.TheVariants.{Close, Grab, Ungrab, Revoke, Mask, Clock}
+use Rattle.inp_actors.specs.declared.command.Command.TheVariants.{Write, SetAxis}
 use Rattle.inp_recon.specs.View.{first_view}
 use Rattle.inp_recon.proofs.Each.{and-right}
 use Rattle.inp_script.proofs.LineWalk.{AfterNext, turn-of, is_one_call, noted-ends-meet}
 use Rattle.inp_script.specs.Job.{first_reading}
 use Rattle.inp_script.specs.Sight.{start_lacks_memory}
 use Rattle.inp_reader.proofs.Meets.{Runs}
-use Rattle.inp_runs.proofs.Common.{true≢false, cond_both, eqb-true, Taken, Step, Reply, Description, past_at, Answer, accepted, Call, HasPlace, place_of, next_place, client_of, is_same, is_open_step, Command, Client, is_command_of, eaten, View, IsHistory, Mode, Success, Dropped, Sync, NO_CLIENT, Started, Reading, start_talk, next_talk, is_use, is_use_of, Talk, finish, EndsWith, Sight, Took, Stop, Waiting, OfTurn, OfGoing, LineRules, OfJob, read_so, Job, first_job, after_call, tap_client_after, step_of, noted, call_sight, again_sight, taken_sight, noted_sight, LastRead, reads_as, is_read_as, index_in_history, Any, Meets, meets-then}
+use Rattle.inp_runs.proofs.Common.{true≢false, cond_both, eqb-true, Taken, Step, Reply, Description, past_at}
+use Rattle.inp_runs.proofs.Common.{Answer, accepted, Call, HasPlace, place_of, is_open_step, Command, Client}
+use Rattle.inp_runs.proofs.Common.{is_command_of, eaten, View, IsHistory, Mode, Success, Dropped, Sync}
+use Rattle.inp_runs.proofs.Common.{NO_CLIENT, Started, Reading, start_talk, next_talk, is_use, is_use_of}
+use Rattle.inp_runs.proofs.Common.{Talk, finish, EndsWith, Sight, Took, Stop, Waiting, OfTurn, OfGoing}
+use Rattle.inp_runs.proofs.Common.{LineRules, OfJob, read_so, Job, first_job, after_call, tap_client_after}
+use Rattle.inp_runs.proofs.Common.{step_of, noted, call_sight, noted_sight, LastRead, reads_as, is_read_as}
+use Rattle.inp_runs.proofs.Common.{index_in_history, Any, Meets, meets-then}
 use Rattle.inp_model.specs.declared.event.Event.{Event}
 use Rattle.inp_model.specs.declared.event.TheConstants.{EV_SYN, SYN_DROPPED, SYN_REPORT}
 use Rattle.inp_model.specs.declared.reply.Reply.TheVariants.{Again as NothingVisible}
 use Rattle.inp_model.specs.Event.{is_report}
 use Rattle.inp_recon.proofs.ReadEntries.{HasEntry, entry-of}
-use Rattle.inp_recon.specs.ClientView.{read_entries}
 use Rattle.inp_reader.specs.declared.next.Next.{Next}
 use Rattle.inp_reader.specs.declared.next.Next.TheVariants.{Again}
 use Rattle.inp_recon.specs.Synchronised.{is_dropped}
@@ -22,23 +30,34 @@ use Rattle.inp_reader.specs.TrueView.{index_handed_out}
 use Rattle.inp_reader.proofs.StandsByCalls.{client-next}
 use Rattle.inp_reader.proofs.TalksKeepSpare.{new-spare}
 use Rattle.inp_script.specs.declared.sight.Sight.TheVariants.{Again as AgainSight, Made}
-use Rattle.inp_script.specs.Client.{Going, Turn, start_job, start_ends, job_after_start, after_next, mode_of, with_sight, with_stop, next_round, forced}
+use Rattle.inp_script.specs.Client.{Going, Turn, start_job, start_ends, job_after_start, after_next, mode_of}
+use Rattle.inp_script.specs.Client.{with_sight, with_stop, next_round, forced}
 use Rattle.inp_script.specs.Fold.{settled, after_first_call, client_fold}
 use Rattle.inp_script.proofs.ClientFolds.{next-folds, entries_of_next, start-folds}
 use Rattle.inp_script.proofs.Folds.{ArePlaced}
 use Rattle.inp_script.proofs.LineFolds.{folds-on, IsSilent, no_events, silent-fold}
-use Rattle.inp_runs.specs.JobViews.{client_after_sight, read_after_sight, IsOwnEvent, folded_view, sight_view, IsSeenAt}
-use Rattle.inp_runs.proofs.views.AtHand.{AreAtHand, IsRest, hand-first, hand-took, hand-index, hand-taken, taken-later, index-took, next-hand, read_after-append, read_after-took, read_after-told, unused-unread, with_handed, next-sources}
-use Rattle.inp_runs.proofs.views.ClientReadings.{IsReadingAt, NextReads, HandsAt, next-reads, start-reads, quiet-reads, quiet-hand, start-hand, legal-first}
+use Rattle.inp_runs.specs.JobViews.{client_after_sight, read_after_sight, IsOwnEvent, folded_view, sight_view}
+use Rattle.inp_runs.specs.JobViews.{IsSeenAt}
+use Rattle.inp_runs.proofs.views.AtHand.{AreAtHand, IsRest, hand-first, hand-took, hand-index, hand-taken}
+use Rattle.inp_runs.proofs.views.AtHand.{taken-later, index-took, next-hand, read_after-append}
+use Rattle.inp_runs.proofs.views.AtHand.{read_after-took, read_after-told, unused-unread, with_handed}
+use Rattle.inp_runs.proofs.views.AtHand.{next-sources}
+use Rattle.inp_runs.proofs.views.ClientReadings.{IsReadingAt, NextReads, HandsAt, next-reads, start-reads}
+use Rattle.inp_runs.proofs.views.ClientReadings.{quiet-reads, quiet-hand, start-hand, legal-first}
 use Rattle.inp_runs.proofs.views.Folded.{legal-placed}
 use Rattle.inp_runs.proofs.views.JobClients.{Drops, last_opened, next-names, start-names, stays-last}
-use Rattle.inp_runs.proofs.views.Reports.{AtEach, at_each-append, at_each-noted, place_behind, AreToCome, Coming, Comes, HaveCome, have-come, shows-as, at_each-eventless}
+use Rattle.inp_runs.proofs.views.Reports.{sight_told, AtEach, at_each-append, at_each-noted, place_behind}
+use Rattle.inp_runs.proofs.views.Reports.{AreToCome, Coming, Comes, HaveCome, have-come, shows-as}
+use Rattle.inp_runs.proofs.views.Reports.{at_each-eventless}
 use Rattle.inp_runs.proofs.views.TapViews.{client_after-append, client_after-none, client_after-told}
 use Rattle.inp_runs.proofs.LinesWalk.{OfStep}
 
--- What is promised of an event that a client's job took: it is the one of its own index, and at a report the view is shown.
+-- What is promised of an event that a client's job took: it is the one of its own index, and at a report the
+-- view is shown.
 pub record ClientSaw (d : Description) (h : List Step) (sight : List Sight) (taken : Taken) : Type 0 where
+  -- it is the one of its own index among those that its client took
   pub own : IsOwnEvent d h sight taken
+  -- at a report that was taken the view is the one of its client in the history
   pub seen : is_report taken.event ≡ true → IsSeenAt d h Client sight taken
 
 -- the last read that a job's sight tells of
@@ -49,38 +68,47 @@ last_read j = read_after_sight j.reading.client None j.sight
 abbrev pub HasAtHand : Description → List Step → ℕ → Job → List Taken → Type 0
 HasAtHand d h least j queue = AreAtHand d h least j.reading.client (last_read j) queue
 
--- A client's job before the calls that are to come: its view is the fold of its sight, it reads as the client that it opened
--- last, its reader stands so in the history, what it has at hand is the rest of its last read, and at each report its view
--- was that of its client.
+-- A client's job before the calls that are to come: its view is the fold of its sight, it reads as the client
+-- that it opened last, its reader stands so in the history, what it has at hand is the rest of its last read,
+-- and at each report its view was that of its client.
 pub record IsClientJob (d : Description) (h : List Step) (Q : ℕ → Type 0) (least : ℕ) (j : Job) : Type 0 where
+  -- its reader stands so in the history
   pub reading : IsReadingAt d h Q least j.reading
+  -- its view is the fold of its sight
   pub folded : client_fold d h (settled (first_view d)) j.sight ≡ settled j.reading.view
+  -- it reads as the client that it opened last
   pub reads : reads_as j.sight ≡ j.reading.client
+  -- what it has at hand is the rest of its last read
   pub hand : HasAtHand d h least j j.reading.queue
+  -- at a report that was taken the view is the one of its client in the history
   pub seen : AtEach (ClientSaw d h) [] j.sight
 
 -- a loss is no report
 not-both : (e : Event) → is_dropped e ≡ true → is_report e ≡ true → ⊥
 not-both e lost report =
-    let one : e.code ≡ SYN_DROPPED = eqb-true e.code SYN_DROPPED (and-right (nat_eq e.kind EV_SYN) (nat_eq e.code SYN_DROPPED) lost) in
-    let other : e.code ≡ SYN_REPORT = eqb-true e.code SYN_REPORT (and-right (nat_eq e.kind EV_SYN) (nat_eq e.code SYN_REPORT) report) in
+    let one : e.code ≡ SYN_DROPPED =
+    eqb-true e.code SYN_DROPPED (and-right (nat_eq e.kind EV_SYN) (nat_eq e.code SYN_DROPPED) lost) in
+    let other : e.code ≡ SYN_REPORT =
+    eqb-true e.code SYN_REPORT (and-right (nat_eq e.kind EV_SYN) (nat_eq e.code SYN_REPORT) report) in
     omega (arith, one, other)
 
 -- the client that the entries of calls lead to
-call-client : (client : ℕ) (x : Step) (reply : Reply) → client_after_sight client (call_sight x reply) ≡ tap_client_after x reply client
+call-client : (client : ℕ) (x : Step) (reply : Reply)
+    → client_after_sight client (call_sight x reply) ≡ tap_client_after x reply client
 unfolding client_after_sight
 call-client client x (NothingVisible at n) = sym (client_after-none x at n client)
 call-client client x _ = refl
 
-noted-client : (client : ℕ) (calls : List Call) → client_after_sight client (noted_sight calls) ≡ last_opened client calls
+noted-client : (client : ℕ) (calls : List Call)
+    → client_after_sight client (noted_sight calls) ≡ last_opened client calls
 unfolding client_after_sight last_opened
 noted-client client [] = refl
 noted-client client (call ∷ calls) =
-    client_after-append client (call_sight call.step call.answer.reply) (noted_sight calls)
-    ∙ ap (λ (n : ℕ). client_after_sight n (noted_sight calls)) (call-client client call.step call.answer.reply)
-    ∙ noted-client (tap_client_after call.step call.answer.reply client) calls
+    rw (client_after-append, call-client)
+    (noted-client (tap_client_after call.step call.answer.reply client) calls)
 
-module _ (d : Description) (h : List Step) (Q : ℕ → Type 0) (history : IsHistory d (reverse h)) (short : length h < NO_CLIENT) where
+module _ (d : Description) (h : List Step) (Q : ℕ → Type 0) (history : IsHistory d (reverse h))
+    (short : length h < NO_CLIENT) where
   abbrev IsAt : ℕ → Job → Type 0
   IsAt least j = IsClientJob d h Q least j
 
@@ -96,103 +124,102 @@ module _ (d : Description) (h : List Step) (Q : ℕ → Type 0) (history : IsHis
     reads : reads_as j.sight ≡ j.reading.client
     seen : AtEach (ClientSaw d h) [] j.sight
 
-  -- what is promised of an event that was at hand
-  took-saw : (least : ℕ) (j : Job) (taken : Taken) → IsReadTo least j (Took taken ∷ [])
-      → IsRest d h least j.reading.client (last_read j) (taken ∷ j.reading.queue)
-      → (is_report taken.event ≡ true → HandsAt d h Q least (Success taken) j.reading)
-      → ClientSaw d h (j.sight ++ Took taken ∷ []) taken
-  unfolding client_after_sight
-  took-saw least j taken r rest shows =
-      let client : ℕ = j.reading.client in
-      let sight : List Sight = j.sight ++ Took taken ∷ [] in
-      let i : ℕ = index_handed_out d (past_at h least) j.reading in
-      let now : reads_as sight ≡ client = client_after-append NO_CLIENT j.sight (Took taken ∷ []) ∙ r.reads in
-      let own : index_in_history d h sight ≡ Some i =
-      index-took d h client j.sight taken now ∙ hand-index d h least client (last_read j) taken
-      j.reading.queue rest in
-      let e : HasEntry (eaten d) d (reverse h) client i taken =
-      entry-of (eaten d) d (reverse h) client i taken
-      (taken-later d h least client i taken (hand-taken d h least client (last_read j) taken j.reading.queue rest)) in
-      record {
-        own = record {
-          index = i;
-          is_own = own;
-          at = e.at;
-          is_at = subst (λ (n : ℕ). slice_get (read_entries d (reverse h) n) i ≡ Some e.at) (sym now) e.is_at;
-          is_taken = e.is_taken;
-        };
-        seen = λ report.
-            shows-as d (reverse h) client (reads_as sight) (Some i) (index_in_history d h sight) taken
-            j.reading.view (sight_view Client d h sight) now own (ap folded_view r.folded) (shows report);
-      }
+  module _ (least : ℕ) (j : Job) where
+    -- what is promised of an event that was at hand
+    took-saw : (taken : Taken) → IsReadTo least j (Took taken ∷ [])
+        → IsRest d h least j.reading.client (last_read j) (taken ∷ j.reading.queue)
+        → (is_report taken.event ≡ true → HandsAt d h Q least (Success taken) j.reading)
+        → ClientSaw d h (j.sight ++ Took taken ∷ []) taken
+    unfolding client_after_sight
+    took-saw taken r rest shows =
+        let client : ℕ = j.reading.client in
+        let sight : List Sight = j.sight ++ Took taken ∷ [] in
+        let i : ℕ = index_handed_out d (past_at h least) j.reading in
+        let now : reads_as sight ≡ client =
+        client_after-append NO_CLIENT j.sight (Took taken ∷ []) ∙ r.reads in
+        let own : index_in_history d h sight ≡ Some i =
+        index-took d h client j.sight taken now ∙ hand-index d h least client (last_read j) taken
+        j.reading.queue rest in
+        let e : HasEntry (eaten d) d (reverse h) client i taken =
+        entry-of (eaten d) d (reverse h) client i taken
+        (taken-later d h least client i taken
+        (hand-taken d h least client (last_read j) taken j.reading.queue rest)) in
+        record {
+          own = record {
+            index = i;
+            is_own = own;
+            at = e.at;
+            is_at = rw now e.is_at;
+            is_taken = e.is_taken;
+          };
+          seen = λ report.
+              shows-as d (reverse h) client (reads_as sight) (Some i) (index_in_history d h sight) taken
+              j.reading.view (sight_view Client d h sight) now own (ap folded_view r.folded) (shows report);
+        }
 
-  -- what the reader has at hand goes on with the job
-  hand-on : (least : ℕ) (j : Job) (entry : Sight) (queue : List Taken)
-      → read_after_sight j.reading.client (last_read j) (entry ∷ []) ≡ last_read j
-      → HasAtHand d h least j queue → HasAtHand d h least (with_sight j entry) queue
-  hand-on least j entry queue same hand =
-      subst (λ (o : Option LastRead). AreAtHand d h least j.reading.client o queue)
-      (sym (read_after-append j.reading.client None j.sight (entry ∷ []) ∙ same)) hand
+    -- what the reader has at hand goes on with the job
+    hand-on : (entry : Sight) (queue : List Taken)
+        → read_after_sight j.reading.client (last_read j) (entry ∷ []) ≡ last_read j
+        → HasAtHand d h least j queue → HasAtHand d h least (with_sight j entry) queue
+    hand-on entry queue same hand = rw (read_after-append, same) hand
 
-  took-job : (least : ℕ) (j : Job) (taken : Taken) → IsReadTo least j (Took taken ∷ [])
-      → HasAtHand d h least j (taken ∷ j.reading.queue)
-      → (is_report taken.event ≡ true → HandsAt d h Q least (Success taken) j.reading)
-      → IsAt least (with_sight j (Took taken))
-  unfolding client_after_sight
-  took-job least j taken r hand shows =
-      let client : ℕ = j.reading.client in
-      let queue : List Taken = j.reading.queue in
-      let rest = hand-first d h least client (last_read j) taken queue hand in
-      record {
-        reading = r.reading;
-        folded = r.folded;
-        reads = client_after-append NO_CLIENT j.sight (Took taken ∷ []) ∙ r.reads;
-        hand =
-            subst (λ (o : Option LastRead). AreAtHand d h least client o queue)
-            (sym (read_after-append client None j.sight (Took taken ∷ []) ∙ read_after-took client
-            (last_read j) taken))
-            (inr (hand-took d h least client (last_read j) taken queue rest));
-        seen =
-            at_each-append (ClientSaw d h) [] j.sight (Took taken ∷ []) r.seen
-            (took-saw least j taken r rest shows, tt);
-      }
+    took-job : (taken : Taken) → IsReadTo least j (Took taken ∷ [])
+        → HasAtHand d h least j (taken ∷ j.reading.queue)
+        → (is_report taken.event ≡ true → HandsAt d h Q least (Success taken) j.reading)
+        → IsAt least (with_sight j (Took taken))
+    unfolding client_after_sight
+    took-job taken r hand shows =
+        let client : ℕ = j.reading.client in
+        let queue : List Taken = j.reading.queue in
+        let rest = hand-first d h least client (last_read j) taken queue hand in
+        record {
+          reading = r.reading;
+          folded = r.folded;
+          reads = client_after-append NO_CLIENT j.sight (Took taken ∷ []) ∙ r.reads;
+          hand =
+              rw (read_after-append, read_after-took)
+              (inr (hand-took d h least client (last_read j) taken queue rest));
+          seen =
+              at_each-append (ClientSaw d h) [] j.sight (Took taken ∷ []) r.seen
+              (took-saw taken r rest shows, tt);
+        }
 
-  made-job : (least : ℕ) (j : Job) (event : Event) → IsReadTo least j (Made event ∷ [])
-      → HasAtHand d h least j j.reading.queue → IsAt least (with_sight j (Made event))
-  unfolding client_after_sight read_after_sight
-  made-job least j event r hand = record {
-    reading = r.reading;
-    folded = r.folded;
-    reads = client_after-append NO_CLIENT j.sight (Made event ∷ []) ∙ r.reads;
-    hand = hand-on least j (Made event) j.reading.queue refl hand;
-    seen = at_each-append (ClientSaw d h) [] j.sight (Made event ∷ []) r.seen (tt, tt);
-  }
+    made-job : (event : Event) → IsReadTo least j (Made event ∷ []) → HasAtHand d h least j j.reading.queue
+        → IsAt least (with_sight j (Made event))
+    unfolding client_after_sight read_after_sight
+    made-job event r hand = record {
+      reading = r.reading;
+      folded = r.folded;
+      reads = client_after-append NO_CLIENT j.sight (Made event ∷ []) ∙ r.reads;
+      hand = hand-on (Made event) j.reading.queue refl hand;
+      seen = at_each-append (ClientSaw d h) [] j.sight (Made event ∷ []) r.seen (tt, tt);
+    }
 
-  again-job : (least at ends : ℕ) (j : Job) → IsAt least j → IsAt least (with_sight j (AgainSight at ends))
-  unfolding client_after_sight client_fold read_after_sight
-  again-job least at ends j s = record {
-    reading = s.reading;
-    folded = folds-on d h (first_view d) j (AgainSight at ends ∷ []) s.folded;
-    reads = client_after-append NO_CLIENT j.sight (AgainSight at ends ∷ []) ∙ s.reads;
-    hand = hand-on least j (AgainSight at ends) j.reading.queue refl s.hand;
-    seen = at_each-append (ClientSaw d h) [] j.sight (AgainSight at ends ∷ []) s.seen (tt, tt);
-  }
+    again-job : (at ends : ℕ) → IsAt least j → IsAt least (with_sight j (AgainSight at ends))
+    unfolding client_after_sight client_fold read_after_sight
+    again-job at ends s = record {
+      reading = s.reading;
+      folded = folds-on d h (first_view d) j (AgainSight at ends ∷ []) s.folded;
+      reads = client_after-append NO_CLIENT j.sight (AgainSight at ends ∷ []) ∙ s.reads;
+      hand = hand-on (AgainSight at ends) j.reading.queue refl s.hand;
+      seen = at_each-append (ClientSaw d h) [] j.sight (AgainSight at ends ∷ []) s.seen (tt, tt);
+    }
 
-  stop-job : (least : ℕ) (j : Job) (stop : Stop) → IsAt least j → IsAt least (with_stop j stop)
-  stop-job least j stop s = record { reading = s.reading; folded = s.folded; reads = s.reads; hand = s.hand; seen = s.seen }
+    stop-job : (stop : Stop) → IsAt least j → IsAt least (with_stop j stop)
+    stop-job stop s =
+        record { reading = s.reading; folded = s.folded; reads = s.reads; hand = s.hand; seen = s.seen }
 
-  -- Rounds
+    -- Rounds
 
-  -- no entry is added
-  bare-job : (least : ℕ) (j : Job) → IsReadTo least j [] → HasAtHand d h least j j.reading.queue
-      → IsAt least j
-  bare-job least j r hand = record {
-    reading = r.reading;
-    folded = ap (λ (es : List Sight). client_fold d h (settled (first_view d)) es) (sym (append-nil j.sight)) ∙ r.folded;
-    reads = r.reads;
-    hand = hand;
-    seen = r.seen;
-  }
+    -- no entry is added
+    bare-job : IsReadTo least j [] → HasAtHand d h least j j.reading.queue → IsAt least j
+    bare-job r hand = record {
+      reading = r.reading;
+      folded = rw (← append-nil j.sight) r.folded;
+      reads = r.reads;
+      hand = hand;
+      seen = r.seen;
+    }
 
   turn-job : (t : Coming d h Q) (next : Next) (j : Job) → IsReadTo t.place j (entries_of_next next)
       → HasAtHand d h t.place j (with_handed next j.reading.queue) → HandsAt d h Q t.place next j.reading
@@ -202,32 +229,30 @@ module _ (d : Description) (h : List Step) (Q : ℕ → Type 0) (history : IsHis
       took-job t.place j taken r hand (λ report. absurd (not-both taken.event drops report))
   turn-job t (Sync event) j r hand hands drops = made-job t.place j event r hand
   turn-job t (Again at ends) j r hand hands drops =
-      let bare : IsAt t.place j = bare-job t.place j r hand in (bare, again-job t.place at ends j bare)
+      let bare : IsAt t.place j = bare-job t.place j r hand in (bare, again-job t.place j at ends bare)
   turn-job t _ j r hand hands drops = bare-job t.place j r hand
 
   placed : (least : ℕ) (calls more : List Call) → AreToCome d h Q least (calls ++ more) → ArePlaced d h calls
   placed least calls more c = legal-placed d h least calls (legal-first d h least calls more c.legal)
 
   -- the sight with the entries of a reader's calls
-  noted-reads : (j : Job) (calls : List Call) (client : ℕ) → reads_as j.sight ≡ j.reading.client → last_opened j.reading.client calls ≡ client → reads_as (j.sight ++ noted_sight calls) ≡ client
-  noted-reads j calls client reads last =
-      client_after-append NO_CLIENT j.sight (noted_sight calls)
-      ∙ ap (λ (n : ℕ). client_after_sight n (noted_sight calls)) reads
-      ∙ noted-client j.reading.client calls
-      ∙ last
+  noted-reads : (j : Job) (calls : List Call) (client : ℕ) → reads_as j.sight ≡ j.reading.client
+      → last_opened j.reading.client calls ≡ client → reads_as (j.sight ++ noted_sight calls) ≡ client
+  noted-reads j calls client reads last = rw (client_after-append, reads, noted-client) last
 
-  noted-seen : (j : Job) (calls : List Call) → AtEach (ClientSaw d h) [] j.sight → AtEach (ClientSaw d h) [] (j.sight ++ noted_sight calls)
-  noted-seen j calls seen = at_each-append (ClientSaw d h) [] j.sight (noted_sight calls) seen (at_each-noted (ClientSaw d h) j.sight calls)
+  noted-seen : (j : Job) (calls : List Call) → AtEach (ClientSaw d h) [] j.sight
+      → AtEach (ClientSaw d h) [] (j.sight ++ noted_sight calls)
+  noted-seen j calls seen =
+      at_each-append (ClientSaw d h) [] j.sight (noted_sight calls) seen
+      (at_each-noted (ClientSaw d h) j.sight calls)
 
   -- what is at hand behind them
-  noted-hand : (at client now : ℕ) (sight : List Sight) (calls : List Call) (queue : List Taken) → now ≡ client
-      → AreAtHand d h at client (read_after_sight client (read_after_sight client None sight) (noted_sight calls)) queue
+  noted-hand : (at client now : ℕ) (sight : List Sight) (calls : List Call)
+      (queue : List Taken) → now ≡ client
+      → AreAtHand d h at client
+      (read_after_sight client (read_after_sight client None sight) (noted_sight calls)) queue
       → AreAtHand d h at now (read_after_sight now None (sight ++ noted_sight calls)) queue
-  noted-hand at client now sight calls queue same hand =
-      subst (λ (n : ℕ). AreAtHand d h at n (read_after_sight n None (sight ++ noted_sight calls)) queue)
-      (sym same)
-      (subst (λ (o : Option LastRead). AreAtHand d h at client o queue)
-      (sym (read_after-append client None sight (noted_sight calls))) hand)
+  noted-hand at client now sight calls queue same hand = rw (same, read_after-append) hand
 
   -- the job behind an answer of its reader
   next-job : (s t : Coming d h Q) (mode : Mode) (j : Job) (calls : List Call) (o : Next × Reading)
@@ -240,20 +265,18 @@ module _ (d : Description) (h : List Step) (Q : ℕ → Type 0) (history : IsHis
       let told : List Sight = noted_sight calls in
       let entries : List Sight = entries_of_next o.0 in
       let reads : NextReads d h Q t.place o.0 o.1 =
-      subst (λ (n : ℕ). NextReads d h Q n o.0 o.1) (sym c.place)
+      rw c.place
       (next-reads d h Q s.place mode j.reading o.1 o.0 calls t.left history short c.to_come i.reading ends) in
       let names = next-names d mode j.reading o.1 o.0 calls ends in
       let hand : AreAtHand d h t.place client (read_after_sight client (last_read j) told) queue =
-      subst (λ (n : ℕ). AreAtHand d h n client (read_after_sight client (last_read j) told) queue)
-      (sym c.place)
+      rw c.place
       (next-hand d h Q s.place client (last_read j) j.reading.queue queue calls t.left c.to_come i.hand
       (next-sources d mode j.reading o.1 o.0 calls ends)) in
       let read : IsReadTo t.place (read_so j o.1 (j.sight ++ told)) entries = record {
         reading = reads.reading;
         folded =
-            ap (λ (es : List Sight). client_fold d h (settled (first_view d)) es) (append_assoc j.sight told entries)
-            ∙ folds-on d h (first_view d) j (told ++ entries) i.folded
-            ∙ next-folds d h mode j.reading o.1 o.0 calls (placed s.place calls t.left c.to_come) ends;
+            rw (append_assoc, folds-on d h (first_view d) j (told ++ entries) i.folded)
+            (next-folds d h mode j.reading o.1 o.0 calls (placed s.place calls t.left c.to_come) ends);
         reads = noted-reads j calls o.1.client i.reads names.0;
         seen = noted-seen j calls i.seen;
       } in
@@ -284,7 +307,7 @@ module _ (d : Description) (h : List Step) (Q : ℕ → Type 0) (history : IsHis
   started-job s t j calls o run ends i =
       let c : HaveCome d h Q s t calls = have-come d h Q s t calls run in
       let client : ℕ = o.1.client in
-      subst (λ (n : ℕ). IsAt n (job_after_start o.0 o.1 (j.sight ++ noted_sight calls))) (sym c.place)
+      rw c.place
       (record {
         reading = start-reads d h Q s.place j.reading o.1 o.0 calls t.left c.to_come i.reading ends;
         folded =
@@ -293,7 +316,8 @@ module _ (d : Description) (h : List Step) (Q : ℕ → Type 0) (history : IsHis
         reads = noted-reads j calls client i.reads (start-names d j.reading o.1 o.0 calls ends);
         hand =
             noted-hand (place_behind s.place calls) client client j.sight calls o.1.queue refl
-            (start-hand d h Q s.place j.reading o.1 o.0 calls t.left (λ n. read_after_sight n None j.sight) c.to_come
+            (start-hand d h Q s.place j.reading o.1 o.0 calls t.left
+            (λ n. read_after_sight n None j.sight) c.to_come
             i.reading ends i.hand);
         seen = noted-seen j calls i.seen;
       })
@@ -317,18 +341,19 @@ module _ (d : Description) (h : List Step) (Q : ℕ → Type 0) (history : IsHis
     unused : is_use x ≡ false
     shut : is_open_step x ≡ false
 
-  idle : {x : Step} → ((view : View) (reply : Reply) → after_first_call d view x reply ≡ settled view) → ((past : List Step) → (accepted d past x).events ≡ []) → is_use x ≡ false → is_open_step x ≡ false → IsIdle x
-  idle alone unread unused shut = record { silent = record { alone = alone; unread = unread }; unused = unused; shut = shut }
+  idle : {x : Step} → ((view : View) (reply : Reply) → after_first_call d view x reply ≡ settled view)
+      → ((past : List Step) → (accepted d past x).events ≡ []) → is_use x ≡ false
+      → is_open_step x ≡ false → IsIdle x
+  idle alone unread unused shut =
+      record { silent = record { alone = alone; unread = unread }; unused = unused; shut = shut }
 
   -- a call that reads nothing leaves the last read
-  idle-last : (j : Job) (x : Step) (a : Answer) → a.events ≡ [] → is_read_as j.reading.client x ≡ false → read_after_sight j.reading.client None (after_call j x a).sight ≡ last_read j
+  idle-last : (j : Job) (x : Step) (a : Answer) → a.events ≡ [] → is_read_as j.reading.client x ≡ false
+      → read_after_sight j.reading.client None (after_call j x a).sight ≡ last_read j
   idle-last j x a none other =
       let client : ℕ = j.reading.client in
-      let front : List Sight = call_sight x a.reply ++ again_sight a.reply in
-      ap (λ (ts : List Taken). read_after_sight client None (j.sight ++ (front ++ map taken_sight ts))) none
-      ∙ ap (λ (es : List Sight). read_after_sight client None (j.sight ++ es)) (append-nil front)
-      ∙ read_after-append client None j.sight front
-      ∙ read_after-told client (last_read j) x a.reply other
+      let front : List Sight = sight_told x a.reply in
+      rw (none, append-nil, read_after-append) (read_after-told client (last_read j) x a.reply other)
 
   call-job : (s t : Coming d h Q) (j : Job) (x : Step) (a : Answer) → IsIdle x → IsClientOn s j
       → Comes d h Q s x a t → IsClientOn t (after_call j x a)
@@ -338,14 +363,13 @@ module _ (d : Description) (h : List Step) (Q : ℕ → Type 0) (history : IsHis
       let c : AreToCome d h Q s.place (call ∷ t.left) = subst (AreToCome d h Q s.place) by.0 s.to_come in
       let there : HasPlace d h call = c.legal.1 in
       let none : a.events ≡ [] = no_events d (past_at h (place_of a.reply)) x a idle.silent there.exact in
-      let unused : is_use_of client x ≡ false = ap (λ (b : Bool). b && is_same (client_of x) client) idle.unused in
-      subst (λ (n : ℕ). IsAt n (after_call j x a)) (sym by.1) (record {
+      let unused : is_use_of client x ≡ false = rw idle.unused in
+      rw by.1 (record {
         reading = quiet-reads d h Q s.place j.reading call t.left c unused i.reading;
         folded = silent-fold d h (first_view d) j x a idle.silent there i.folded;
         reads = client_after-told j x a.reply a.events i.reads ∙ stays-last x a.reply client idle.shut;
         hand =
-            subst (λ (o : Option LastRead). AreAtHand d h (next_place a.reply) client o j.reading.queue)
-            (sym (idle-last j x a none (unused-unread client x idle.unused)))
+            rw (idle-last j x a none (unused-unread client x idle.unused))
             (quiet-hand d h Q s.place j.reading call t.left (last_read j) c unused i.reading i.hand);
         seen = at_each-eventless (ClientSaw d h) j x a none i.seen;
       })
@@ -365,7 +389,8 @@ module _ (d : Description) (h : List Step) (Q : ℕ → Type 0) (history : IsHis
     seen = s.seen;
   }
 
-  idle_step : (client : ℕ) (command : Command) → is_command_of Client command ≡ true → is_one_call command ≡ true
+  idle_step : (client : ℕ) (command : Command) → is_command_of Client command ≡ true
+      → is_one_call command ≡ true
       → OfStep IsIdle (step_of client command)
   idle_step client Close of_role one = idle (λ view reply. refl) (λ past. refl) refl refl
   idle_step client Grab of_role one = idle (λ view reply. refl) (λ past. refl) refl refl
@@ -397,7 +422,10 @@ module _ (d : Description) (h : List Step) (Q : ℕ → Type 0) (history : IsHis
   pub client-first : IsClientJob d h Q 0 (first_job Client d)
   unfolding client_fold client_after_sight
   client-first = record {
-    reading = record { spare = new-spare d d (first_reading d) refl refl refl; stands = inr (record { client = refl; queue = refl }) };
+    reading = record {
+      spare = new-spare d d (first_reading d) refl refl refl;
+      stands = inr (record { client = refl; queue = refl });
+    };
     folded = refl;
     reads = refl;
     hand = inl refl;

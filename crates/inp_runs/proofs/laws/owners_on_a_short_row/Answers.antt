@@ -1,6 +1,6 @@
 -- What comes of an owner on a short row, computed.
 use Rattle.std.proofs.Common.{pos, refl, [], ◌∷◌, inl, inr}
-use Rattle.inp_runs.proofs.Common.{Inject, Owning, first_owning, after_feedback}
+use Rattle.inp_runs.proofs.Common.{Inject, Owning}
 use Rattle.inp_feedback.specs.declared.u_entry.UEntry.TheVariants.{Made, Feedback}
 use Rattle.inp_feedback.specs.declared.fed.Fed.TheVariants.{Took, Full}
 use Rattle.inp_feedback.specs.Examples.{bell}
@@ -8,6 +8,7 @@ use Rattle.inp_feedback.proofs.Computation.{computing}
 use Rattle.inp_runs.specs.Owner.{HasFed}
 use Rattle.inp_runs.specs.OwnerExamples.{TakesTheBellOnce, StopsAtItsLimit}
 use Rattle.inp_runs.proofs.laws.owners_on_a_short_row.Goals as goal
+use Rattle.inp_script.specs.Owner.{first_owning, after_feedback}
 
 -- told of the bell
 abbrev told_once : Owning
@@ -38,10 +39,21 @@ stops = record {
     done = 8 ∷ [];
     before = told_once;
     fed = (first_owning, refl, refl, refl);
-    ends = inr (record { room = 8; left = 8 ∷ []; is_next = refl; later = []; found = Feedback 1 ∷ Made (Inject (bell (pos 1)) 0) ∷ []; split = refl; full = refl; told = refl });
+    ends =
+        inr (record {
+          room = 8;
+          left = 8 ∷ [];
+          is_next = refl;
+          later = [];
+          found = Feedback 1 ∷ Made (Inject (bell (pos 1)) 0) ∷ [];
+          split = refl;
+          full = refl;
+          told = refl;
+        });
   };
   ended = refl;
 }
 
+-- each example is computed from what the device kept
 pub returns : goal.returns
 returns c = record { once = takes; limit = stops }
