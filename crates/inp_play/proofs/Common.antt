@@ -4,4 +4,4 @@ pub use Rattle.inp_runs.specs.EventLines.{inject_line}
 pub use Rattle.inp_runs.specs.Play.{Stage, runs_of}
 unfoldable pub use Rattle.inp_runs.specs.Play.{after_line, after_lines}
 pub use Rattle.inp_uinput.specs.UdevView.{UdevView}
-pub use Rattle.inp_play.specs.Player.{HasActors, HasDevices, first_device, stage_of, stage_with}
+pub use Rattle.inp_play.specs.Player.{HasActors, HasDevices, stage_of, stage_with}

@@ -1,35 +1,45 @@
-use Rattle.std.proofs.Common.{◌≡◌, ◌<◌, inl, inr, ℕ, length, map, take, List, [], ◌∷◌, ◌++◌, Some, sym, ap, subst, ◌∙◌, arith}
+use Rattle.std.proofs.Common.{◌≡◌, ◌<◌, inl, inr, length, Some, sym, subst, ◌∙◌, arith}
 use Rattle.std.specs.List.{slice_get}
 use Rattle.std.proofs.lemmas.Bool.{cases_lt}
 use Rattle.std.proofs.lemmas.List.{map_more}
 use Rattle.std.proofs.lemmas.Option.{same_Some, slice_get_within, slice_get-get_or}
-use Rattle.inp_script.proofs.Common.{Description, IsDescription, DeviceText}
-use Rattle.inp_play.proofs.Common.{UdevView, first_device}
+use Rattle.inp_script.proofs.Common.{IsDescription}
 use Rattle.inp_play.proofs.player.first_devices.Goals as goal
+use Rattle.inp_play.specs.Player.{first_device}
 
 pub loop-device-preserved : goal.loop-device-preserved
 loop-device-preserved c = record {
   made =
-      c.in_ok-push.ensures.items
-      ∙ ap (λ (ds : List UdevView). ds ++ c.in_ok-new.field-0 ∷ []) c.loop-device.invariant.made
-      ∙ ap (λ (d : UdevView). map first_device (take c.loop-device.device-index c.as_slice-device-items.result.now) ++ d ∷ []) (c.in_ok-new.ensures.fresh ∙ ap (λ (caps : Description). record { description = caps; kept = []; agains = 0 }) c.copy.ensures.same)
-      ∙ ap (λ (text : DeviceText). map first_device (take c.loop-device.device-index c.as_slice-device-items.result.now) ++ first_device text ∷ []) c.device-item.is
-      ∙ sym (map_more first_device c.as_slice-device-items.result.now c.loop-device.device-index c.device-item.result c.loop-device-test.true);
+      rw (
+        c.in_ok-push.ensures.items,
+        c.loop-device.invariant.made,
+        c.in_ok-new.ensures.fresh,
+        c.copy.ensures.same,
+        c.device-item.is,
+      )
+      (sym
+      (map_more first_device c.as_slice-device-items.result.now c.loop-device.device-index
+      c.device-item.result c.loop-device-test.true));
   described = λ i text below is. elim (cases_lt i c.loop-device.device-index) [
     | inl earlier ↦ c.loop-device.invariant.described i text earlier is
     | inr late ↦
         (let last : i ≡ c.loop-device.device-index = omega (arith, late, below) in
         let got : slice_get c.as_slice-device-items.result.now i ≡ Some c.device-item.result =
-        ap (λ (n : ℕ). slice_get c.as_slice-device-items.result.now n) last
-        ∙ slice_get-get_or c.as_slice-device-items.result.now c.loop-device.device-index c.device-item.result c.loop-device-test.true
-        ∙ ap (λ (t : DeviceText). Some t) (sym c.device-item.is) in
+        rw (
+          last,
+          slice_get-get_or c.as_slice-device-items.result.now c.loop-device.device-index c.device-item.result
+              c.loop-device-test.true,
+          ← c.device-item.is,
+        ) in
         let same : c.device-item.result ≡ text = same_Some c.device-item.result text (sym got ∙ is) in
-        subst IsDescription (c.copy.ensures.same ∙ ap (λ (t : DeviceText). t.caps) same) c.copy.ensures.description)
+        subst IsDescription (rw (c.copy.ensures.same, same)) c.copy.ensures.description)
   ];
 }
 
 pub returns-clause-described : goal.returns-clause-described
 returns-clause-described c = λ i device is.
-    (let there : slice_get c.as_slice-device-items.result.now i ≡ Some device = ap (λ (ds : List DeviceText). slice_get ds i) (c.as_slice-device-items.ensures.items ∙ c.devices.ensures.devices) ∙ is in
-    let within : i < length c.as_slice-device-items.result.now = slice_get_within c.as_slice-device-items.result.now i device there in
+    (let there : slice_get c.as_slice-device-items.result.now i ≡ Some device =
+    rw (c.as_slice-device-items.ensures.items, c.devices.ensures.devices) is in
+    let within : i < length c.as_slice-device-items.result.now =
+    slice_get_within c.as_slice-device-items.result.now i device there in
     c.loop-device.invariant.described i device (omega (arith, within, c.loop-device-test.false)) there)

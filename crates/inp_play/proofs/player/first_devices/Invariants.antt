@@ -8,5 +8,6 @@ use Rattle.inp_play.proofs.player.first_devices.Given as goal
 abbrev pub invariant-loop-device : goal.invariant-loop-device
 invariant-loop-device l = record {
   made : l.devices.items ≡ map first_device (take l.device-index l.device-items);
-  described : (i : ℕ) (text : DeviceText) → i < l.device-index → slice_get l.device-items i ≡ Some text → IsDescription text.caps;
+  described : (i : ℕ) (text : DeviceText) → i < l.device-index → slice_get l.device-items i ≡ Some text
+      → IsDescription text.caps;
 }
