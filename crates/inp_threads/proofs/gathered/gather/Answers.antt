@@ -1,19 +1,23 @@
-use Rattle.std.proofs.Common.{List, [], ◌∷◌, ◌++◌, length, sym, ap, subst, ◌∙◌}
+use Rattle.std.proofs.Common.{List, [], ◌∷◌, length, sym, ◌∙◌}
 use Rattle.std.proofs.lemmas.Iterator.Adapters.{YieldsList-from_vec}
 use Rattle.std.proofs.lemmas.Iterator.Consumers.{YieldsList-turn}
 use Rattle.std.proofs.lemmas.List.{map-append}
 use Rattle.std.proofs.lemmas.List.Elements.{All-push}
 use Rattle.inp_script.proofs.Common.{ended_of}
-use Rattle.inp_threads.specs.Joined.{IsBack, IsSizedWorker}
-use Rattle.inp_threads.proofs.Common.{Ended, view_of, Worker, ends_of_workers}
+use Rattle.inp_threads.specs.Joined.{IsSizedWorker}
+use Rattle.inp_threads.proofs.Common.{view_of, Worker}
 use Rattle.inp_threads.proofs.Passes.{done-more, joined-more}
 use Rattle.inp_threads.proofs.gathered.gather.Goals as goal
 
 pub add-gathered-requires-clause-back : goal.add-gathered-requires-clause-back
 add-gathered-requires-clause-back c =
     let gives = c.into_iter-worker-iterator.ensures.into_iter_gives in
-    let turn = YieldsList-turn (YieldsList-from_vec {s = c.into_iter-worker-iterator.result} c.args.workers.items gives.0 (gives.1 ∙ c.args.workers.ok.0)) c.loop-worker.yielded c.loop-worker.worker-iterator c.loop-worker.yielded_by c.next.result c.next.new.self c.in-Some.worker c.in-Some.is c.next.ensures.steps in
-    subst (λ (w : Worker). IsBack c.args.port.now w) (sym turn.1) (c.requires.back (length c.loop-worker.yielded) c.in-Some.worker turn.0)
+    let turn =
+    YieldsList-turn
+    (YieldsList-from_vec {s = c.into_iter-worker-iterator.result} c.args.workers.items gives.0 (gives.1
+    ∙ c.args.workers.ok.0)) c.loop-worker.yielded c.loop-worker.worker-iterator c.loop-worker.yielded_by
+    c.next.result c.next.new.self c.in-Some.worker c.in-Some.is c.next.ensures.steps in
+    rw turn.1 (c.requires.back (length c.loop-worker.yielded) c.in-Some.worker turn.0)
 
 pub loop-worker-preserved : goal.loop-worker-preserved
 loop-worker-preserved c =
@@ -22,8 +26,9 @@ loop-worker-preserved c =
     let is = c.loop-worker.invariant in
     let added = c.add-gathered.ensures in (
       added.ready,
-      joined-more so_far (w ∷ []) (view_of c.args.pass) (view_of c.loop-worker.gathered.pass) (view_of c.add-gathered.result.pass) is.1 added.joined,
-      added.ends ∙ ap (λ (ends : List Ended). ends ++ ends_of_workers (w ∷ [])) is.2 ∙ sym (map-append (λ (u : Worker). ended_of u.actor) so_far (w ∷ [])),
+      joined-more so_far (w ∷ []) (view_of c.args.pass) (view_of c.loop-worker.gathered.pass)
+          (view_of c.add-gathered.result.pass) is.1 added.joined,
+      rw (added.ends, is.2) (sym (map-append (λ (u : Worker). ended_of u.actor) so_far (w ∷ []))),
       added.capacity ∙ is.3,
       All-push IsSizedWorker so_far w is.4 added.sized,
       λ both. done-more so_far w c.loop-worker.gathered.is_done is.5 (sym added.done ∙ both),

@@ -6,4 +6,6 @@ use Rattle.inp_threads.proofs.workers.source_count.Given as goal
 
 -- the sources so far
 abbrev pub invariant-loop-actor : goal.invariant-loop-actor
-invariant-loop-actor l = l.count ≡ count_by (λ (text : ActorText). is_source text.role && nat_eq text.device l.fn.device) (take l.actor-index l.actor-items)
+invariant-loop-actor l =
+    l.count ≡ count_by (λ (text : ActorText). is_source text.role && nat_eq text.device l.fn.device)
+    (take l.actor-index l.actor-items)

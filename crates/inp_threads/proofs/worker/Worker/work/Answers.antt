@@ -2,6 +2,7 @@ use Rattle.std.proofs.Common.{arith}
 use Rattle.std.proofs.lemmas.Option.{slice_get_within}
 use Rattle.inp_threads.proofs.worker.Worker.work.Goals as goal
 
+-- the worker's actor is one of the record, and each of those has a list of lines
 pub get-requires : goal.get-requires
 get-requires g c =
     let ready = c.requires.ready in

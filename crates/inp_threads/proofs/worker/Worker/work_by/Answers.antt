@@ -1,7 +1,6 @@
-use Rattle.std.proofs.Common.{Some, sym, ap, subst, ◌∙◌}
+use Rattle.std.proofs.Common.{Some, sym, subst}
 use Rattle.inp_script.proofs.Common.{HasActor, ActorView}
 use Rattle.inp_threads.specs.Worker.{IsFreshPass, IsAtStart}
-use Rattle.inp_threads.proofs.Common.{view_of, description_of, HasPass, HasDoneLines}
 use Rattle.inp_threads.proofs.WorkerThread.{worked-back, worked-done, has_actor-still, on-ok}
 use Rattle.inp_threads.proofs.worker.Worker.work_by.Goals as goal
 
@@ -19,12 +18,18 @@ returns-clause-worked g c =
     let left = c.do_lines-done.ensures.left in
     record {
       pass =
-          subst (λ x. HasPass x.client.port.now (Some last.inner.client.pass)) inner
-          (worked-back (λ s. s.inner.client.port.now) (λ s. s.inner.client.pass) (λ s. s.inner.client.agains) _ (λ b a room answer events h. h) old.role first last fresh last.inner.client.ready left);
-      actor = subst (HasActor r) (sym actor) (has_actor-still r old new.job new.owning c.requires.start.actor);
-      description = ap (λ (a : ActorView). a.description) actor ∙ c.requires.start.description;
+          rw inner at
+          (worked-back (λ s. s.inner.client.port.now) (λ s. s.inner.client.pass)
+          (λ s. s.inner.client.agains) _
+          (λ b a room answer events h. h) old.role first last fresh last.inner.client.ready left);
+      actor =
+          subst (HasActor r) (sym actor) (has_actor-still r old new.job new.owning c.requires.start.actor);
+      description = rw actor c.requires.start.description;
       worked = λ good.
-          subst (λ x. HasDoneLines new.role r (description_of x.client.port.now) (Some c.args.waiting) new (view_of last.inner.client.pass)) inner
-          (worked-done (λ s. s.inner.client.port.now) (λ s. s.inner.client.pass) (λ s. s.inner.client.agains) _ (λ b a room answer events h. h) r (Some c.args.waiting) first last old new fresh last.inner.client.ready start actor left
-          (on-ok _ c.do_lines-done.result c.is_ok-self.result c.is_ok-self.ensures.value good c.do_lines-done.ensures.done));
+          rw inner at
+          (worked-done (λ s. s.inner.client.port.now) (λ s. s.inner.client.pass)
+          (λ s. s.inner.client.agains) _ (λ b a room answer events h. h) r
+          (Some c.args.waiting) first last old new fresh last.inner.client.ready start actor left
+          (on-ok _ c.do_lines-done.result c.is_ok-self.result c.is_ok-self.ensures.value good
+          c.do_lines-done.ensures.done));
     }
