@@ -20,17 +20,22 @@ kept z = to_z w64 (of_z w64 z)
 
 pub returns-then-old-distance : goal.returns-then-old-distance
 returns-then-old-distance c =
-    let low : kept (kept c.from-old.result -ℤ kept c.args.distance) ≡ c.args.old -ℤ c.args.distance = omega (arith, ints) in
-    let high : kept (kept c.from-old.result +ℤ kept c.args.distance) ≡ c.args.old +ℤ c.args.distance = omega (arith, ints) in
+    let low : kept (kept c.from-old.result -ℤ kept c.args.distance) ≡ c.args.old -ℤ c.args.distance =
+    omega (arith, ints) in
+    let high : kept (kept c.from-old.result +ℤ kept c.args.distance) ≡ c.args.old +ℤ c.args.distance =
+    omega (arith, ints) in
     let new : kept c.from-value.result ≡ c.args.value = omega (arith, ints) in
-    both (int_lt (c.args.old -ℤ c.args.distance) c.args.value) (int_lt c.args.value (c.args.old +ℤ c.args.distance)) _
+    both (int_lt (c.args.old -ℤ c.args.distance) c.args.value)
+    (int_lt c.args.value (c.args.old +ℤ c.args.distance)) _
     (sym (lt_same _ _ _ _ low new) ∙ c.if-old-distance.true)
     (lt_same _ _ _ _ new high)
 
 pub returns-else-old-distance : goal.returns-else-old-distance
 returns-else-old-distance c =
-    let low : kept (kept c.from-old.result -ℤ kept c.args.distance) ≡ c.args.old -ℤ c.args.distance = omega (arith, ints) in
+    let low : kept (kept c.from-old.result -ℤ kept c.args.distance) ≡ c.args.old -ℤ c.args.distance =
+    omega (arith, ints) in
     let new : kept c.from-value.result ≡ c.args.value = omega (arith, ints) in
-    neither (int_lt (c.args.old -ℤ c.args.distance) c.args.value) (int_lt c.args.value (c.args.old +ℤ c.args.distance)) _
+    neither (int_lt (c.args.old -ℤ c.args.distance) c.args.value)
+    (int_lt c.args.value (c.args.old +ℤ c.args.distance)) _
     (sym (lt_same _ _ _ _ low new) ∙ c.if-old-distance.false)
     c.if-old-distance.false
