@@ -1,5 +1,7 @@
 -- What stands at an index of names that are laid out by their numbers.
-use Rattle.std.proofs.Common.{◌≡◌, ℕ, zero, suc, ◌+◌, ◌-◌, ◌<◌, ◌≤◌, Bool, true, false, ◌&&◌, List, [], ◌∷◌, ◌++◌, replicate, length, get_or, ◌==◌, Some, None, nat_le, nat_eq, refl, sym, ap, ◌∙◌, inl, inr, arith, leb-true, eq-eqb, eqb-true, ne_eqb}
+use Rattle.std.proofs.Common.{◌≡◌, ℕ, zero, suc, ◌+◌, ◌-◌, ◌<◌, ◌≤◌, Bool, true, false, ◌&&◌, List, [], ◌∷◌}
+use Rattle.std.proofs.Common.{◌++◌, replicate, length, get_or, ◌==◌, Some, None, nat_le, nat_eq, refl, sym}
+use Rattle.std.proofs.Common.{ap, ◌∙◌, inl, inr, arith, leb-true, eq-eqb, eqb-true, ne_eqb}
 use Rattle.std.proofs.lemmas.Bool.{and_parts, cases_order, true≢false, false≢true}
 use Rattle.std.specs.Borrow.{Bor}
 use Rattle.inp_codes.specs.Table.{NamedNumber, name_in}
@@ -21,7 +23,8 @@ numbers_rise first [] = true
 numbers_rise first (e ∷ es) = (nat_le first e.0 && is_some_text e.1) && numbers_rise (e.0 + 1) es
 
 -- no name is found below the first number
-name_in-below : (es : List (NamedNumber ℕ)) (first number : ℕ) → numbers_rise first es ≡ true → number < first → name_in nat_eq es number ≡ None
+name_in-below : (es : List (NamedNumber ℕ)) (first number : ℕ) → numbers_rise first es ≡ true → number < first
+    → name_in nat_eq es number ≡ None
 unfolding name_in numbers_rise
 name_in-below [] first number rise below = refl
 name_in-below (e ∷ es) first number rise below =
@@ -37,7 +40,8 @@ name_at-hole (suc holes) zero ts h = refl
 name_at-hole (suc holes) (suc i) ts h = name_at-hole holes i ts (omega arith)
 
 -- behind the holes stands what stood without them
-name_at-after : (holes i : ℕ) (ts : List (List ℕ)) → name_at (replicate holes [] ++ ts) (holes + i) ≡ name_at ts i
+name_at-after : (holes i : ℕ) (ts : List (List ℕ))
+    → name_at (replicate holes [] ++ ts) (holes + i) ≡ name_at ts i
 unfolding name_at
 name_at-after zero i ts = ap (name_at ts) (omega arith)
 name_at-after (suc holes) i ts =
@@ -45,7 +49,8 @@ name_at-after (suc holes) i ts =
     rw sum (name_at-after holes i ts)
 
 -- the name of a number stands at its index
-name_at-names_from : (es : List (NamedNumber ℕ)) (first i : ℕ) → numbers_rise first es ≡ true → name_at (names_from first es) i ≡ name_in nat_eq es (first + i)
+name_at-names_from : (es : List (NamedNumber ℕ)) (first i : ℕ) → numbers_rise first es ≡ true
+    → name_at (names_from first es) i ≡ name_in nat_eq es (first + i)
 unfolding names_from name_in numbers_rise name_at
 name_at-names_from [] first i rise = refl
 name_at-names_from (e ∷ es) first i rise =
@@ -57,11 +62,13 @@ name_at-names_from (e ∷ es) first i rise =
       | inl at ↦
           let i_is : i ≡ (e.0 - first) + 0 = omega arith in
           rw (eq-eqb e.0 (first + i) (sym at))
-          (ap (name_at (replicate (e.0 - first) [] ++ rest)) i_is ∙ name_at-after (e.0 - first) 0 rest ∙ unless_empty-some e.1 this.1)
+          (ap (name_at (replicate (e.0 - first) [] ++ rest)) i_is ∙ name_at-after (e.0 - first) 0 rest
+          ∙ unless_empty-some e.1 this.1)
       | inr apart ↦ elim apart [
         | inl before ↦
             rw (ne_eqb e.0 (first + i) (λ s. omega arith))
-            (name_at-hole (e.0 - first) i rest (omega arith) ∙ sym (name_in-below es (e.0 + 1) (first + i) parts.1 (omega arith)))
+            (name_at-hole (e.0 - first) i rest (omega arith)
+            ∙ sym (name_in-below es (e.0 + 1) (first + i) parts.1 (omega arith)))
         | inr after ↦
             let j = i - (e.0 - first) - 1 in
             let i_is : i ≡ (e.0 - first) + suc j = omega arith in
@@ -80,7 +87,8 @@ name_at-past (n ∷ ns) zero h = absurd (omega arith)
 name_at-past (n ∷ ns) (suc i) h = name_at-past ns i (omega arith)
 
 -- the text at an index is the name there, unless it is empty
-pub name_at-item : (names : List (Bor (List ℕ))) (i : ℕ) (x : Bor (List ℕ)) → i < length names → x ≡ get_or names i x → name_at (texts names) i ≡ unless_empty x.now
+pub name_at-item : (names : List (Bor (List ℕ))) (i : ℕ) (x : Bor (List ℕ)) → i < length names
+    → x ≡ get_or names i x → name_at (texts names) i ≡ unless_empty x.now
 unfolding name_at
 name_at-item [] i x h e = absurd (omega arith)
 name_at-item (n ∷ ns) zero x h e = ap (λ y. unless_empty y.now) (sym e)
@@ -96,5 +104,7 @@ unless_empty-is [] h = absurd (true≢false h)
 unless_empty-is (b ∷ bs) h = refl
 
 -- the name of a number stands at its index, from 0 on
-pub name_at-names_by_number : (es : List (NamedNumber ℕ)) (i : ℕ) → numbers_rise 0 es ≡ true → name_at (names_by_number es) i ≡ name_in nat_eq es i
-name_at-names_by_number es i rise = let sum : 0 + i ≡ i = omega arith in name_at-names_from es 0 i rise ∙ ap (name_in nat_eq es) sum
+pub name_at-names_by_number : (es : List (NamedNumber ℕ)) (i : ℕ) → numbers_rise 0 es ≡ true
+    → name_at (names_by_number es) i ≡ name_in nat_eq es i
+name_at-names_by_number es i rise = let sum : 0 + i ≡ i = omega arith in name_at-names_from es 0 i rise
+    ∙ ap (name_in nat_eq es) sum

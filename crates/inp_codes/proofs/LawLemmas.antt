@@ -1,14 +1,18 @@
 -- The laws of the tables, for the proofs of this crate and of those above it.
-use Rattle.std.proofs.Common.{◌≡◌, ℕ, true, false, List, [], ◌∷◌, get_or, Option, Some, None, nat_eq, eqb-true, refl}
+use Rattle.std.proofs.Common.{◌≡◌, ℕ, true, false, List, [], ◌∷◌, get_or, Option, Some, None, nat_eq}
+use Rattle.std.proofs.Common.{eqb-true, refl}
 use Rattle.std.specs.Char.{is_ascii_uppercase}
 use Rattle.std.specs.List.{list_all}
 use Rattle.std.proofs.lemmas.Bool.{and_parts}
-use Rattle.inp_codes.specs.CodeNames.{code_entries, name_of, code_of, is_same_code, CodeNamesAreEntries, CodesAreOneToOne, CodeNamesAreWords}
-use Rattle.inp_codes.specs.KindNames.{kind_entries, kind_name, kind_of, KindNamesAreEntries, KindsAreOneToOne, KindNamesAreWords}
+use Rattle.inp_codes.specs.CodeNames.{code_entries, name_of, code_of, is_same_code, CodeNamesAreEntries}
+use Rattle.inp_codes.specs.CodeNames.{CodesAreOneToOne, CodeNamesAreWords}
+use Rattle.inp_codes.specs.KindNames.{kind_entries, kind_name, kind_of, KindNamesAreEntries, KindsAreOneToOne}
+use Rattle.inp_codes.specs.KindNames.{KindNamesAreWords}
 use Rattle.inp_codes.specs.Table.{is_word_byte, is_name_word}
 use Rattle.inp_codes.proofs.CodeNamesLemmas.{is_same_code-true}
 use Rattle.inp_codes.proofs.Computation.{event_codes}
-use Rattle.inp_codes.proofs.TableLemmas.{names_found, numbers_found, name_in-iff_entry, name_in-iff_number, is_name_word-name_in}
+use Rattle.inp_codes.proofs.TableLemmas.{names_found, numbers_found, name_in-iff_entry, name_in-iff_number}
+use Rattle.inp_codes.proofs.TableLemmas.{is_name_word-name_in}
 
 -- the table of types finds the name and the number of each of its entries, and each name is a word
 kind_names_found : names_found nat_eq kind_entries kind_entries ≡ true
@@ -50,22 +54,29 @@ is_name_word-kind_name = is_name_word-name_in nat_eq eqb-true kind_entries kind_
 
 pub name_of-iff_entry : CodeNamesAreEntries
 unfolding name_of
-name_of-iff_entry kind code = name_in-iff_entry is_same_code is_same_code-true code_entries code_names_found (kind, code)
+name_of-iff_entry kind code =
+    name_in-iff_entry is_same_code is_same_code-true code_entries code_names_found (kind, code)
 
 pub name_of-iff_code_of : CodesAreOneToOne
 unfolding name_of code_of
-name_of-iff_code_of kind code = name_in-iff_number is_same_code is_same_code-true code_entries code_names_found code_numbers_found (kind, code)
+name_of-iff_code_of kind code =
+    name_in-iff_number is_same_code is_same_code-true code_entries code_names_found
+    code_numbers_found (kind, code)
 
 pub is_name_word-name_of : CodeNamesAreWords
 unfolding name_of
-is_name_word-name_of kind code = is_name_word-name_in is_same_code is_same_code-true code_entries code_words (kind, code)
+is_name_word-name_of kind code =
+    is_name_word-name_in is_same_code is_same_code-true code_entries code_words (kind, code)
 
 -- what begins with no upper-case letter is no word
 no_word : (text : List ℕ) → is_name_word text ≡ true → is_ascii_uppercase (get_or text 0 0) ≡ false → ⊥
 no_word [] word other = cc
-no_word (b ∷ bs) word other = let upper = (and_parts (is_ascii_uppercase b) (list_all is_word_byte bs) word).0 in cc
+no_word (b ∷ bs) word other = let upper =
+    (and_parts (is_ascii_uppercase b) (list_all is_word_byte bs) word).0 in cc
 
 -- and no code's name
-pub no_code : (text : List ℕ) (found : Option (ℕ × ℕ)) → code_of text ≡ found → is_ascii_uppercase (get_or text 0 0) ≡ false → found ≡ None
+pub no_code : (text : List ℕ) (found : Option (ℕ × ℕ)) → code_of text ≡ found
+    → is_ascii_uppercase (get_or text 0 0) ≡ false → found ≡ None
 no_code text None is other = refl
-no_code text (Some n) is other = absurd (no_word text (is_name_word-name_of n.0 n.1 text ((name_of-iff_code_of n.0 n.1 text).1 is)) other)
+no_code text (Some n) is other =
+    absurd (no_word text (is_name_word-name_of n.0 n.1 text ((name_of-iff_code_of n.0 n.1 text).1 is)) other)

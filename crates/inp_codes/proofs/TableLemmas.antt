@@ -1,5 +1,6 @@
 -- What a table gives, read by number and by name.
-use Rattle.std.proofs.Common.{◌≡◌, ◌↔◌, ℕ, suc, Bool, true, false, List, [], ◌∷◌, Option, Some, None, Contains, refl, sym, ap, ◌∙◌, subst, inl, inr, arith}
+use Rattle.std.proofs.Common.{◌≡◌, ◌↔◌, ℕ, suc, Bool, true, false, List, [], ◌∷◌, Option, Some, None}
+use Rattle.std.proofs.Common.{Contains, refl, sym, ap, ◌∙◌, subst, inl, inr, arith}
 use Rattle.std.specs.List.{list_all}
 use Rattle.std.specs.Str.{bytes_eq}
 use Rattle.std.proofs.lemmas.Bool.{cases_Bool, false≢true}
@@ -46,7 +47,8 @@ module _ {N : Type 0} (same : N → N → Bool) (same_is : (a b : N) → same a 
   is_number-true (Some found) number h = ap Some (same_is found number h)
 
   -- what is found by number is an entry
-  pub Contains-name_in : (es : List (NamedNumber N)) (number : N) (name : List ℕ) → name_in same es number ≡ Some name → Contains es (number, name)
+  pub Contains-name_in : (es : List (NamedNumber N)) (number : N) (name : List ℕ)
+      → name_in same es number ≡ Some name → Contains es (number, name)
   unfolding name_in
   Contains-name_in [] number name h = cc
   Contains-name_in (e ∷ es) number name h =
@@ -59,7 +61,8 @@ module _ {N : Type 0} (same : N → N → Bool) (same_is : (a b : N) → same a 
       ]
 
   -- what is found by name is an entry
-  pub Contains-number_in : (es : List (NamedNumber N)) (number : N) (name : List ℕ) → number_in es name ≡ Some number → Contains es (number, name)
+  pub Contains-number_in : (es : List (NamedNumber N)) (number : N) (name : List ℕ)
+      → number_in es name ≡ Some number → Contains es (number, name)
   unfolding number_in
   Contains-number_in [] number name h = cc
   Contains-number_in (e ∷ es) number name h =
@@ -72,38 +75,50 @@ module _ {N : Type 0} (same : N → N → Bool) (same_is : (a b : N) → same a 
       ]
 
   -- each entry whose name is found is read by its number
-  pub name_in-Contains : (table es : List (NamedNumber N)) → names_found same table es ≡ true → (number : N) (name : List ℕ) → Contains es (number, name) → name_in same table number ≡ Some name
+  pub name_in-Contains : (table es : List (NamedNumber N)) → names_found same table es ≡ true
+      → (number : N) (name : List ℕ) → Contains es (number, name) → name_in same table number ≡ Some name
   unfolding names_found
   name_in-Contains table es all number name h =
       is_name-true _ name (passes (λ e. is_name (name_in same table e.0) e.1) es (number, name) all h)
 
   -- each entry whose number is found is read by its name
-  pub number_in-Contains : (table es : List (NamedNumber N)) → numbers_found same table es ≡ true → (number : N) (name : List ℕ) → Contains es (number, name) → number_in table name ≡ Some number
+  pub number_in-Contains : (table es : List (NamedNumber N)) → numbers_found same table es ≡ true
+      → (number : N) (name : List ℕ) → Contains es (number, name) → number_in table name ≡ Some number
   unfolding numbers_found
   number_in-Contains table es all number name h =
       is_number-true _ number (passes (λ e. is_number same (number_in table e.1) e.0) es (number, name) all h)
 
   -- two tables that find each other's entries give each name one number
-  same_numbers : (xs ys : List (NamedNumber N)) → numbers_found same ys xs ≡ true → numbers_found same xs ys ≡ true → (name : List ℕ) (o p : Option N) → number_in xs name ≡ o → number_in ys name ≡ p → o ≡ p
+  same_numbers : (xs ys : List (NamedNumber N)) → numbers_found same ys xs ≡ true
+      → numbers_found same xs ys ≡ true → (name : List ℕ) (o p : Option N) → number_in xs name ≡ o
+      → number_in ys name ≡ p → o ≡ p
   same_numbers xs ys there back name None None h k = refl
-  same_numbers xs ys there back name None (Some n) h k = sym h ∙ number_in-Contains xs ys back n name (Contains-number_in ys n name k)
-  same_numbers xs ys there back name (Some n) p h k = sym (number_in-Contains ys xs there n name (Contains-number_in xs n name h)) ∙ k
+  same_numbers xs ys there back name None (Some n) h k =
+      sym h ∙ number_in-Contains xs ys back n name (Contains-number_in ys n name k)
+  same_numbers xs ys there back name (Some n) p h k =
+      sym (number_in-Contains ys xs there n name (Contains-number_in xs n name h)) ∙ k
 
-  pub number_in-same : (xs ys : List (NamedNumber N)) → numbers_found same ys xs ≡ true → numbers_found same xs ys ≡ true → (name : List ℕ) → number_in xs name ≡ number_in ys name
+  pub number_in-same : (xs ys : List (NamedNumber N)) → numbers_found same ys xs ≡ true
+      → numbers_found same xs ys ≡ true → (name : List ℕ) → number_in xs name ≡ number_in ys name
   number_in-same xs ys there back name = same_numbers xs ys there back name _ _ refl refl
 
   -- a table that finds the name of each of its entries names nothing else
-  pub name_in-iff_entry : (es : List (NamedNumber N)) → names_found same es es ≡ true → (number : N) (name : List ℕ) → (name_in same es number ≡ Some name) ↔ Contains es (number, name)
-  name_in-iff_entry es found number name = (Contains-name_in es number name, name_in-Contains es es found number name)
+  pub name_in-iff_entry : (es : List (NamedNumber N)) → names_found same es es ≡ true
+      → (number : N) (name : List ℕ) → (name_in same es number ≡ Some name) ↔ Contains es (number, name)
+  name_in-iff_entry es found number name =
+      (Contains-name_in es number name, name_in-Contains es es found number name)
 
   -- and one that finds both the name and the number of each of its entries is read alike both ways
-  pub name_in-iff_number : (es : List (NamedNumber N)) → names_found same es es ≡ true → numbers_found same es es ≡ true → (number : N) (name : List ℕ) → (name_in same es number ≡ Some name) ↔ (number_in es name ≡ Some number)
+  pub name_in-iff_number : (es : List (NamedNumber N)) → names_found same es es ≡ true
+      → numbers_found same es es ≡ true → (number : N) (name : List ℕ) → (name_in same es number ≡ Some name)
+      ↔ (number_in es name ≡ Some number)
   name_in-iff_number es names numbers number name = (
     λ h. number_in-Contains es es numbers number name (Contains-name_in es number name h),
     λ h. name_in-Contains es es names number name (Contains-number_in es number name h),
   )
 
   -- where each entry's name is a word, so is each name that is found
-  pub is_name_word-name_in : (es : List (NamedNumber N)) → list_all (λ e. is_name_word e.1) es ≡ true → (number : N) (name : List ℕ) → name_in same es number ≡ Some name → is_name_word name ≡ true
+  pub is_name_word-name_in : (es : List (NamedNumber N)) → list_all (λ e. is_name_word e.1) es ≡ true
+      → (number : N) (name : List ℕ) → name_in same es number ≡ Some name → is_name_word name ≡ true
   is_name_word-name_in es words number name h =
       passes (λ e. is_name_word e.1) es (number, name) words (Contains-name_in es number name h)

@@ -12,4 +12,5 @@ returns-then-eq g c =
     let row = c.index-rows-place.result in
     let here : bytes_eq (get_or rows place row).0.now c.args.name.now ≡ true = search rules in
     let within : place < length rows = omega arith in
-    sym (own_number rows c.args.name.now place row c.requires within here ∙ ap (λ r. Some r.1) (get_or_default rows place row c.index-rows-place-then-place-rows.result within))
+    sym (own_number rows c.args.name.now place row c.requires within here
+    ∙ ap (λ r. Some r.1) (get_or_default rows place row c.index-rows-place-then-place-rows.result within))

@@ -2,7 +2,8 @@ use Rattle.std.proofs.Common.{◌≡◌, true, refl, sym, ap, ◌∙◌}
 use Rattle.inp_codes.specs.ByNumber.{name_at}
 use Rattle.inp_codes.specs.CodeNames.{kinds_with_codes, code_entries, name_of, codes_of_kind}
 use Rattle.inp_codes.proofs.ByNumberLemmas.{name_at-names_by_number}
-use Rattle.inp_codes.proofs.CodeNamesLemmas.{kinds_rise_from, codes_rise, numbers_rise-codes_in, name_in-codes_in}
+use Rattle.inp_codes.proofs.CodeNamesLemmas.{kinds_rise_from, codes_rise, numbers_rise-codes_in}
+use Rattle.inp_codes.proofs.CodeNamesLemmas.{name_in-codes_in}
 use Rattle.inp_codes.proofs.Computation.{event_codes}
 use Rattle.inp_codes.proofs.codes.name_of.Goals as goal
 
@@ -23,6 +24,7 @@ returns c =
     record {
       name =
           c.name_at.ensures ∙ ap (λ names. name_at names code) c.code_names.ensures
-          ∙ name_at-names_by_number (codes_of_kind kind) code (numbers_rise-codes_in kinds_with_codes kind codes_rise_within)
+          ∙ name_at-names_by_number (codes_of_kind kind) code
+          (numbers_rise-codes_in kinds_with_codes kind codes_rise_within)
           ∙ sym (name_in-codes_in kinds_with_codes 0 kind code kinds_rise);
     }
