@@ -1,5 +1,7 @@
 -- How many events a frame has, and how many lines there are.
-use Rattle.std.proofs.Common.{◌≡◌, ◌∙◌, ℕ, zero, suc, ◌+◌, ◌*◌, ◌/◌, ◌%◌, ◌<◌, ◌≤◌, refl, sym, ap, arith, Bool, true, false, cond, nat_eq, List, [], ◌∷◌, ◌++◌, map, length, length-append}
+use Rattle.std.proofs.Common.{◌≡◌, ◌∙◌, ℕ, zero, suc, ◌+◌, ◌*◌, ◌/◌, ◌%◌, ◌<◌, ◌≤◌, refl, sym, ap, arith}
+use Rattle.std.proofs.Common.{Bool, true, false, cond, nat_eq, List, [], ◌∷◌, ◌++◌, map, length}
+use Rattle.std.proofs.Common.{length-append}
 use Rattle.std.proofs.lemmas.List.{length-map}
 use Rattle.std.specs.List.{range_with_len, flat_map}
 use Rattle.std.proofs.lemmas.Bool.{ne_eqb}
@@ -7,7 +9,8 @@ use Rattle.std.proofs.lemmas.List.Sums.{sum_by-append}
 use Rattle.inp_model.specs.declared.event.Event.{Event}
 use Rattle.inp_actors.specs.declared.line.Line.{Line}
 use Rattle.inp_actors.specs.declared.command.Command.TheVariants.{Follow}
-use Rattle.inp_make.specs.Generated.{finger, fast, mid, slow, line, finger_events, touches, frame_events, injected, follows, frame_lines, open_lines, lines}
+use Rattle.inp_make.specs.Generated.{finger, fast, mid, slow, line, finger_events, touches, frame_events}
+use Rattle.inp_make.specs.Generated.{injected, follows, frame_lines, open_lines, lines}
 use Rattle.inp_make.specs.Examples.{line_count}
 use Rattle.inp_make.proofs.Ranges.{flat_map-more}
 
@@ -29,36 +32,54 @@ injections : (frame : ℕ) (es : List Event) → line_count finger (map (injecte
 injections frame [] = refl
 injections frame (e ∷ es) =
     let first : line_count finger (injected frame e ∷ []) ≡ 1 = refl in
-    omega (arith, count-append finger (injected frame e ∷ []) (map (injected frame) es), first, injections frame es)
+    omega (
+      arith,
+      count-append finger (injected frame e ∷ []) (map (injected frame) es),
+      first,
+      injections frame es,
+    )
 
-no_injections : (a frame : ℕ) (es : List Event) → nat_eq finger a ≡ false → line_count a (map (injected frame) es) ≡ 0
+no_injections : (a frame : ℕ) (es : List Event) → nat_eq finger a ≡ false
+    → line_count a (map (injected frame) es) ≡ 0
 no_injections a frame [] other = refl
 no_injections a frame (e ∷ es) other =
     let first : line_count a (injected frame e ∷ []) ≡ 0 = ap (λ b. 0 + cond b 1 0) other in
-    omega (arith, count-append a (injected frame e ∷ []) (map (injected frame) es), first, no_injections a frame es other)
+    omega (
+      arith,
+      count-append a (injected frame e ∷ []) (map (injected frame) es),
+      first,
+      no_injections a frame es other,
+    )
 
 abbrev tenth : ℕ → ℕ
 tenth frame = cond (nat_eq (frame % 10) 9) 1 0
 
-follow_counts : (frame : ℕ) → (line_count finger (follows frame) ≡ 0) × (line_count fast (follows frame) ≡ 1) × (line_count mid (follows frame) ≡ tenth frame) × (line_count slow (follows frame) ≡ 0)
+follow_counts : (frame : ℕ)
+    → (line_count finger (follows frame) ≡ 0) × (line_count fast (follows frame) ≡ 1)
+    × (line_count mid (follows frame) ≡ tenth frame) × (line_count slow (follows frame) ≡ 0)
 follow_counts frame = go (nat_eq (frame % 10) 9)
   where
     go : (b : Bool) → let some = line fast Follow ∷ cond b (line mid Follow ∷ []) [] in
-        (line_count finger some ≡ 0) × (line_count fast some ≡ 1) × (line_count mid some ≡ cond b 1 0) × (line_count slow some ≡ 0)
+        (line_count finger some ≡ 0) × (line_count fast some ≡ 1) × (line_count mid some ≡ cond b 1 0)
+        × (line_count slow some ≡ 0)
     go true = (refl, refl, refl, refl)
     go false = (refl, refl, refl, refl)
 
 -- what a frame has of an actor's lines
-frame_count : (a number frame : ℕ) → line_count a (frame_lines number frame) ≡ line_count a (map (injected frame) (frame_events number frame)) + line_count a (follows frame)
+frame_count : (a number frame : ℕ)
+    → line_count a (frame_lines number frame)
+    ≡ line_count a (map (injected frame) (frame_events number frame)) + line_count a (follows frame)
 unfolding frame_lines
 frame_count a number frame = count-append a (map (injected frame) (frame_events number frame)) (follows frame)
 
-frame_count-finger : (number frame : ℕ) → line_count finger (frame_lines number frame) ≡ length (frame_events number frame)
+frame_count-finger : (number frame : ℕ)
+    → line_count finger (frame_lines number frame) ≡ length (frame_events number frame)
 frame_count-finger number frame =
     let follow = follow_counts frame in
     omega (arith, frame_count finger number frame, injections frame (frame_events number frame), follow.0)
 
-frame_count-client : (a number frame : ℕ) → nat_eq finger a ≡ false → line_count a (frame_lines number frame) ≡ line_count a (follows frame)
+frame_count-client : (a number frame : ℕ) → nat_eq finger a ≡ false
+    → line_count a (frame_lines number frame) ≡ line_count a (follows frame)
 frame_count-client a number frame other =
     omega (arith, frame_count a number frame, no_injections a frame (frame_events number frame) other)
 
@@ -66,7 +87,8 @@ frame_count-client a number frame other =
 abbrev frames_count : ℕ → ℕ → ℕ → ℕ
 frames_count a number n = line_count a (flat_map (frame_lines number) (range_with_len 0 n))
 
-more_frames : (a number n : ℕ) → frames_count a number (suc n) ≡ frames_count a number n + line_count a (frame_lines number n)
+more_frames : (a number n : ℕ)
+    → frames_count a number (suc n) ≡ frames_count a number n + line_count a (frame_lines number n)
 more_frames a number n =
     let one : suc n ≡ n + 1 = omega arith in
     ap (frames_count a number) one ∙ ap (line_count a) (sym (flat_map-more (frame_lines number) n))
@@ -76,17 +98,35 @@ frames_count-finger : (number n : ℕ) → frames_count finger number (suc n) �
 frames_count-finger number zero =
     omega (arith, more_frames finger number 0, frame_count-finger number 0, events_at_first number)
 frames_count-finger number (suc n) =
-    omega (arith, frames_count-finger number n, more_frames finger number (suc n), frame_count-finger number (suc n), events_later number (suc n) (omega arith))
+    omega (
+      arith,
+      frames_count-finger number n,
+      more_frames finger number (suc n),
+      frame_count-finger number (suc n),
+      events_later number (suc n) (omega arith),
+    )
 
 frames_count-fast : (number n : ℕ) → frames_count fast number n ≡ n
 frames_count-fast number zero = refl
 frames_count-fast number (suc n) =
-    omega (arith, frames_count-fast number n, more_frames fast number n, frame_count-client fast number n refl, (follow_counts n).1)
+    omega (
+      arith,
+      frames_count-fast number n,
+      more_frames fast number n,
+      frame_count-client fast number n refl,
+      (follow_counts n).1,
+    )
 
 frames_count-slow : (number n : ℕ) → frames_count slow number n ≡ 0
 frames_count-slow number zero = refl
 frames_count-slow number (suc n) =
-    omega (arith, frames_count-slow number n, more_frames slow number n, frame_count-client slow number n refl, (follow_counts n).3)
+    omega (
+      arith,
+      frames_count-slow number n,
+      more_frames slow number n,
+      frame_count-client slow number n refl,
+      (follow_counts n).3,
+    )
 
 next_tenth : (n : ℕ) → suc n / 10 ≡ n / 10 + tenth n
 next_tenth n = grind arith
@@ -94,18 +134,30 @@ next_tenth n = grind arith
 frames_count-mid : (number n : ℕ) → frames_count mid number n ≡ n / 10
 frames_count-mid number zero = refl
 frames_count-mid number (suc n) =
-    omega (arith, frames_count-mid number n, more_frames mid number n, frame_count-client mid number n refl, (follow_counts n).2, next_tenth n)
+    omega (
+      arith,
+      frames_count-mid number n,
+      more_frames mid number n,
+      frame_count-client mid number n refl,
+      (follow_counts n).2,
+      next_tenth n,
+    )
 
 -- with the lines before and behind the frames
-all_count : (a number count : ℕ) → line_count a (lines number count) ≡ line_count a open_lines + frames_count a number count + line_count a (line slow Follow ∷ [])
+all_count : (a number count : ℕ)
+    → line_count a (lines number count) ≡ line_count a open_lines + frames_count a number count + line_count a
+    (line slow Follow ∷ [])
 unfolding lines
 all_count a number count =
-    count-append a (open_lines ++ flat_map (frame_lines number) (range_with_len 0 count)) (line slow Follow ∷ [])
-    ∙ ap (λ n. n + line_count a (line slow Follow ∷ [])) (count-append a open_lines (flat_map (frame_lines number) (range_with_len 0 count)))
+    count-append a (open_lines ++ flat_map (frame_lines number) (range_with_len 0 count))
+    (line slow Follow ∷ [])
+    ∙ ap (λ n. n + line_count a (line slow Follow ∷ []))
+    (count-append a open_lines (flat_map (frame_lines number) (range_with_len 0 count)))
 
 pub count-finger : (number count : ℕ) → 1 ≤ count → line_count finger (lines number count) ≡ 31 * count + 11
 count-finger number zero some = absurd (omega arith)
-count-finger number (suc n) some = omega (arith, all_count finger number (suc n), frames_count-finger number n)
+count-finger number (suc n) some =
+    omega (arith, all_count finger number (suc n), frames_count-finger number n)
 
 pub count-fast : (number count : ℕ) → line_count fast (lines number count) ≡ count + 1
 count-fast number count = omega (arith, all_count fast number count, frames_count-fast number count)
@@ -147,10 +199,16 @@ length-frames number zero = omega arith
 length-frames number (suc n) =
     let one : suc n ≡ n + 1 = omega arith in
     let more : length (frames number (suc n)) ≡ length (frames number n) + length (frame_lines number n) =
-    ap (λ k. length (frames number k)) one ∙ ap length (sym (flat_map-more (frame_lines number) n)) ∙ length-append (frames number n) (frame_lines number n) in
+    ap (λ k. length (frames number k)) one ∙ ap length (sym (flat_map-more (frame_lines number) n))
+    ∙ length-append (frames number n) (frame_lines number n) in
     omega (arith, length-frames number n, more, length-frame number n)
 
 pub length-lines : (number count : ℕ) → length (lines number count) ≤ 44 * count + 4
 unfolding lines
 length-lines number count =
-    omega (arith, length-append (open_lines ++ frames number count) (line slow Follow ∷ []), length-append open_lines (frames number count), length-frames number count)
+    omega (
+      arith,
+      length-append (open_lines ++ frames number count) (line slow Follow ∷ []),
+      length-append open_lines (frames number count),
+      length-frames number count,
+    )

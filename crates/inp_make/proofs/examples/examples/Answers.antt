@@ -1,7 +1,8 @@
 -- Each example computes, and the counts are lemmas.
 use Rattle.std.proofs.Common.{refl}
 use Rattle.inp_make.specs.Generated.{pad, finger_events, touches, frame_events}
-use Rattle.inp_make.proofs.Counts.{events_at_first, events_later, count-finger, count-fast, count-mid, count-slow}
+use Rattle.inp_make.proofs.Counts.{events_at_first, events_later, count-finger, count-fast, count-mid}
+use Rattle.inp_make.proofs.Counts.{count-slow}
 use Rattle.inp_make.proofs.examples.examples.Goals as goal
 
 pub returns-clause-axes : goal.returns-clause-axes

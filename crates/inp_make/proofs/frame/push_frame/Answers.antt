@@ -6,6 +6,9 @@ use Rattle.inp_make.proofs.frame.push_frame.Goals as goal
 pub returns : goal.returns
 unfolding frame_lines frame_events
 returns c =
-    on_ok_weaker c.push_follows.result (λ e. pushed_with_others (injected c.args.frame) c.args.lines.now c.push_press.new.lines c.push_touches.new.lines
-    c.inject.new.lines c.push_follows.new.lines (press c.args.frame) (touches c.args.number c.args.frame) _ (follows c.args.frame)
+    on_ok_weaker c.push_follows.result
+    (λ e. pushed_with_others (injected c.args.frame) c.args.lines.now c.push_press.new.lines
+    c.push_touches.new.lines
+    c.inject.new.lines c.push_follows.new.lines (press c.args.frame) (touches c.args.number c.args.frame) _
+    (follows c.args.frame)
     c.in_ok-push_press.ensures c.in_ok-push_touches.ensures c.in_ok-inject.ensures e) c.push_follows.ensures

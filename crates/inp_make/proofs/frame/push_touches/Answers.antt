@@ -6,7 +6,8 @@ use Rattle.inp_make.proofs.frame.push_touches.Goals as goal
 
 pub loop-finger-preserved : goal.loop-finger-preserved
 loop-finger-preserved c =
-    mapped_more (injected c.args.frame) (finger_events c.args.number c.args.frame) c.args.lines.now c.loop-finger.lines c.push_finger.new.lines
+    mapped_more (injected c.args.frame)
+    (finger_events c.args.number c.args.frame) c.args.lines.now c.loop-finger.lines c.push_finger.new.lines
     c.loop-finger.finger c.loop-finger.invariant c.in_ok-push_finger.ensures
 
 pub returns : goal.returns
@@ -14,4 +15,5 @@ unfolding touches
 returns c =
     let last : c.loop-finger.finger ≡ 10 = omega arith in
     c.loop-finger.invariant
-    ∙ ap (λ n. c.args.lines.now ++ map (injected c.args.frame) (flat_map (finger_events c.args.number c.args.frame) (range_with_len 0 n))) last
+    ∙ ap (λ n. c.args.lines.now ++ map (injected c.args.frame)
+    (flat_map (finger_events c.args.number c.args.frame) (range_with_len 0 n))) last

@@ -4,5 +4,6 @@ use Rattle.inp_make.proofs.generated_record.push_frames.Goals as goal
 
 pub loop-frame-preserved : goal.loop-frame-preserved
 loop-frame-preserved c =
-    pushed_more (frame_lines c.args.number) c.args.lines.now c.loop-frame.lines c.push_frame.new.lines c.loop-frame.frame c.loop-frame.invariant
+    pushed_more (frame_lines c.args.number) c.args.lines.now c.loop-frame.lines c.push_frame.new.lines
+    c.loop-frame.frame c.loop-frame.invariant
     c.in_ok-push_frame.ensures
