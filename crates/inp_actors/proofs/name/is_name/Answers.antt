@@ -7,5 +7,7 @@ use Rattle.inp_actors.proofs.name.is_name.Goals as goal
 
 pub returns-then-contains : goal.returns-then-contains
 returns-then-contains c =
-    let e = all_from_yields_List is_name_byte _ _ c.all.result c.all.ensures.ran (YieldsList-from_slice c.args.word.now cc) (λ x b q k. search (rules, tests)) in
+    let e =
+    all_from_yields_List is_name_byte _ _ c.all.result c.all.ensures.ran
+    (YieldsList-from_slice c.args.word.now cc) (λ x b q k. search (rules, tests)) in
     grind (arith, nat_tests)

@@ -6,4 +6,5 @@ use Rattle.inp_actors.proofs.name.Name.as_str.Goals as goal
 pub unwrap-requires : goal.unwrap-requires
 unwrap-requires c =
     is_ok_from_cases _ _ _ c.from_utf8.ensures.cases
-    (λ e q. q.0 (subst IsUtf8 (sym c.bytes.ensures.bytes) (IsUtf8-from_name c.args.self.now c.bytes.ensures.name)))
+    (λ e q.
+    q.0 (subst IsUtf8 (sym c.bytes.ensures.bytes) (IsUtf8-from_name c.args.self.now c.bytes.ensures.name)))
