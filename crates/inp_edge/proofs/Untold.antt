@@ -17,15 +17,18 @@ OnErr-always P (Ok x) p = tt
 OnErr-always P (Err e) p = p
 
 -- a count that is raised at each error rose where there is one
-pub RoseUnlessSaturated-on_err : {T E : Type 0} (r : Result T E) (before after : ℕ) → after ≡ faults_after before (is_err r) → OnErr r (RoseUnlessSaturated before after)
+pub RoseUnlessSaturated-on_err : {T E : Type 0} (r : Result T E) (before after : ℕ)
+    → after ≡ faults_after before (is_err r) → OnErr r (RoseUnlessSaturated before after)
 RoseUnlessSaturated-on_err (Ok x) before after e = tt
 RoseUnlessSaturated-on_err (Err x) before after e = λ h. omega arith
 
 -- and stays where there is none
-pub faults_stay-on_ok : {T E : Type 0} (r : Result T E) (before after : ℕ) → after ≡ faults_after before (is_err r) → OnOk r (after ≡ before)
+pub faults_stay-on_ok : {T E : Type 0} (r : Result T E) (before after : ℕ)
+    → after ≡ faults_after before (is_err r) → OnOk r (after ≡ before)
 faults_stay-on_ok (Ok x) before after e = e
 faults_stay-on_ok (Err x) before after e = tt
 
-pub RoseUnlessSaturated-on_err_or : {T E : Type 0} (P : Type 0) (r : Result T E) (before after : ℕ) → after ≡ faults_after before (is_err r) → OnErr r (RoseUnlessSaturated before after ⊎ P)
+pub RoseUnlessSaturated-on_err_or : {T E : Type 0} (P : Type 0) (r : Result T E) (before after : ℕ)
+    → after ≡ faults_after before (is_err r) → OnErr r (RoseUnlessSaturated before after ⊎ P)
 RoseUnlessSaturated-on_err_or P (Ok x) before after e = tt
 RoseUnlessSaturated-on_err_or P (Err x) before after e = inl (λ h. omega arith)

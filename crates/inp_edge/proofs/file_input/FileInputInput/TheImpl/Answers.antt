@@ -1,5 +1,6 @@
 use Rattle.std.proofs.Common.{refl}
-use Rattle.inp_edge.proofs.Untold.{OnOk-always, IfOk-always, OnErr-always, faults_stay-on_ok, RoseUnlessSaturated-on_err, RoseUnlessSaturated-on_err_or}
+use Rattle.inp_edge.proofs.Untold.{OnOk-always, IfOk-always, OnErr-always, faults_stay-on_ok}
+use Rattle.inp_edge.proofs.Untold.{RoseUnlessSaturated-on_err, RoseUnlessSaturated-on_err_or}
 use Rattle.inp_edge.proofs.file_input.FileInputInput.TheImpl.Goals as goal
 
 pub begin-tells : goal.begin-tells
