@@ -1,5 +1,5 @@
 -- A client of a record that has one source beside it.
-use Rattle.std.proofs.Common.{◌≡◌, ◌≤◌, ℕ, sym, ap, subst, ◌∙◌, Option, Some}
+use Rattle.std.proofs.Common.{◌≡◌, ◌≤◌, ℕ, sym, ap, subst, ◌∙◌, Some}
 use Rattle.std.specs.Prelude.{slice_get}
 use Rattle.inp_actors.specs.declared.actor_text.ActorText.{ActorText}
 use Rattle.inp_actors.specs.declared.device_text.DeviceText.{DeviceText}
@@ -9,13 +9,17 @@ use Rattle.inp_script.specs.declared.waiting.Waiting.{Waiting}
 use Rattle.inp_script.specs.DoneLine.{HasActor, IsLineOf, IsWaiting, source_count}
 use Rattle.inp_script.specs.Job.{ActorView}
 
-pub its-line : (r : RecordView) (a : ActorView) (line : ℕ) → a.actor ≡ 1 → IsLineOf r line 1 → IsLineOf r line a.actor
+pub its-line : (r : RecordView) (a : ActorView) (line : ℕ) → a.actor ≡ 1 → IsLineOf r line 1
+    → IsLineOf r line a.actor
 its-line r a line number is = subst (λ (n : ℕ). IsLineOf r line n) (sym number) is
 
-pub its-description : (r : RecordView) (a : ActorView) (d : Description) → HasActor r a → ((i : ℕ) → (text : DeviceText) → slice_get r.devices i ≡ Some text → text.caps ≡ d) → a.description ≡ d
+pub its-description : (r : RecordView) (a : ActorView) (d : Description) → HasActor r a
+    → ((i : ℕ) → (text : DeviceText) → slice_get r.devices i ≡ Some text → text.caps ≡ d) → a.description ≡ d
 its-description r a d has devices = sym has.description ∙ devices has.text.device has.device has.is_device
 
-pub its-waiting : (r : RecordView) (a : ActorView) (waiting : Waiting) → HasActor r a → a.actor ≡ 1 → ((text : ActorText) → slice_get r.actors 1 ≡ Some text → text.device ≡ 0) → source_count r 0 ≡ 1 → 1 ≤ waiting.idle → waiting.sources ≡ 1 → IsWaiting r a waiting
+pub its-waiting : (r : RecordView) (a : ActorView) (waiting : Waiting) → HasActor r a → a.actor ≡ 1
+    → ((text : ActorText) → slice_get r.actors 1 ≡ Some text → text.device ≡ 0) → source_count r 0 ≡ 1
+    → 1 ≤ waiting.idle → waiting.sources ≡ 1 → IsWaiting r a waiting
 its-waiting r a waiting has number device one idle sources =
     let there : slice_get r.actors 1 ≡ Some has.text = ap (slice_get r.actors) (sym number) ∙ has.is_text in
     record {

@@ -1,5 +1,6 @@
 -- What a device answers whose history has the one step that it may have, and no client.
-use Rattle.std.proofs.Common.{◌≡◌, ℕ, Bool, true, false, not, if◌then◌else◌, List, [], ◌∷◌, Option, Some, None, refl, sym, ap, ◌∙◌, arith, inl, ℤ, IsTrue}
+use Rattle.std.proofs.Common.{◌≡◌, ℕ, Bool, true, false, not, if◌then◌else◌, List, [], ◌∷◌, Option, Some}
+use Rattle.std.proofs.Common.{None, refl, sym, ap, ◌∙◌, arith, inl, ℤ, IsTrue}
 use Rattle.std.specs.List.{slice_get}
 use Rattle.inp_actors.specs.Record.{RecordView}
 use Rattle.inp_script.specs.DoneLine.{HasActor}
@@ -33,12 +34,16 @@ bad_client : (o : Option ℕ) (client : ℕ) → o ≡ Some client → is_bad_cl
 bad_client None client h = absurd cc
 bad_client (Some named) client h = ap (λ b. not b) (never_open named)
 
-by_flag : (b : Bool) (given : Reply) (rest : Option Reply) (other : Answer) → b ≡ true → answer_by (if b then Some given else rest) other ≡ alone given
+by_flag : (b : Bool) (given : Reply) (rest : Option Reply) (other : Answer) → b ≡ true
+    → answer_by (if b then Some given else rest) other ≡ alone given
 by_flag true given rest other h = refl
 by_flag false given rest other h = absurd cc
 
-refuses_clients : (x : Step) (client : ℕ) → client_of x ≡ Some client → answer full (End ∷ []) x ≡ alone (Refused 1 BadClient)
-refuses_clients x client h = by_flag (is_bad_client (End ∷ []) (client_of x)) (Refused 1 BadClient) _ (accepted full (End ∷ []) x) (bad_client (client_of x) client h)
+refuses_clients : (x : Step) (client : ℕ) → client_of x ≡ Some client
+    → answer full (End ∷ []) x ≡ alone (Refused 1 BadClient)
+refuses_clients x client h =
+    by_flag (is_bad_client (End ∷ []) (client_of x)) (Refused 1 BadClient) _ (accepted full (End ∷ []) x)
+    (bad_client (client_of x) client h)
 
 refuses_others : (x : Step) → client_of x ≡ None → answer full (End ∷ []) x ≡ alone (Refused 1 LogFull)
 unfolding is_open opens
@@ -53,7 +58,9 @@ refuses_others _ h = absurd cc
 never : {A : Type 0} → IsTrue false → A
 never h = absurd cc
 
-full-call : (x : Step) (why : Refusal) (out : List Taken) (cells : List ℤ) → answer full (End ∷ []) x ≡ alone (Refused 1 why) → IsEvdevCall full_view full_view x (Refused 1 why) out out cells cells
+full-call : (x : Step) (why : Refusal) (out : List Taken) (cells : List ℤ)
+    → answer full (End ∷ []) x ≡ alone (Refused 1 why)
+    → IsEvdevCall full_view full_view x (Refused 1 why) out out cells cells
 full-call x why out cells h = record {
   call = record { step = x; answer = alone (Refused 1 why) };
   step = refl;
@@ -76,7 +83,8 @@ full-call x why out cells h = record {
   turns = tt;
 }
 
-pub full-inject_all : (events : List Stamped) → IsInjectAll full_view full_view events (record { from = 1; count = 0 })
+pub full-inject_all : (events : List Stamped)
+    → IsInjectAll full_view full_view events (record { from = 1; count = 0 })
 full-inject_all events = record {
   found = End ∷ [];
   description = refl;
@@ -92,14 +100,17 @@ full-inject_all events = record {
   history = (tt, refl);
 }
 
-pub full-client : (x : Step) (client : ℕ) (out : List Taken) (cells : List ℤ) → client_of x ≡ Some client → IsEvdevCall full_view full_view x (Refused 1 BadClient) out out cells cells
+pub full-client : (x : Step) (client : ℕ) (out : List Taken) (cells : List ℤ) → client_of x ≡ Some client
+    → IsEvdevCall full_view full_view x (Refused 1 BadClient) out out cells cells
 full-client x client out cells h = full-call x BadClient out cells (refuses_clients x client h)
 
-pub full-other : (x : Step) (out : List Taken) (cells : List ℤ) → client_of x ≡ None → IsEvdevCall full_view full_view x (Refused 1 LogFull) out out cells cells
+pub full-other : (x : Step) (out : List Taken) (cells : List ℤ) → client_of x ≡ None
+    → IsEvdevCall full_view full_view x (Refused 1 LogFull) out out cells cells
 full-other x out cells h = full-call x LogFull out cells (refuses_others x h)
 
 -- an actor after a line is still one of its record
-pub has-after : (r : RecordView) (a b : ActorView) → b ≡ record a { job = b.job } → HasActor r a → HasActor r b
+pub has-after : (r : RecordView) (a b : ActorView) → b ≡ record a { job = b.job }
+    → HasActor r a → HasActor r b
 has-after r a b same h = record {
   text = h.text;
   device = h.device;
