@@ -6,7 +6,8 @@ use Rattle.inp_uinput.specs.Queries.{HasBits}
 use Rattle.inp_c.specs.DeviceTold.{is_state_kind}
 
 -- the answer that there is
-pub answer_of_some : {X : Type 0} (is_open : Bool) (x y : X) → Some y ≡ (if is_open then Some x else None) → y ≡ x
+pub answer_of_some : {X : Type 0} (is_open : Bool) (x y : X)
+    → Some y ≡ (if is_open then Some x else None) → y ≡ x
 answer_of_some true x y e = cc
 answer_of_some false x y e = cc
 

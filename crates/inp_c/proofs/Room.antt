@@ -10,8 +10,11 @@ use Rattle.inp_model.specs.Reply.{HasRoom}
 use Rattle.inp_actors.specs.declared.command.TheConstants.{READ_MAX}
 use Rattle.inp_c.specs.Status.{has_room}
 
-pub device_room : (d : Description) (x : Step) (events : List Taken) (cells : List ℤ) → has_room d x (length events) (length cells) ≡ true → HasRoom d x events cells
-device_room d (Read client count) events cells h = second (nat_le count READ_MAX) (nat_le count (length events)) refl h
+-- a read needs as many places as it asks for, a query of slots as many as it answers, others none
+pub device_room : (d : Description) (x : Step) (events : List Taken) (cells : List ℤ)
+    → has_room d x (length events) (length cells) ≡ true → HasRoom d x events cells
+device_room d (Read client count) events cells h =
+    second (nat_le count READ_MAX) (nat_le count (length events)) refl h
   where
     second : (a b : Bool) → nat_le count (length events) ≡ b → a && b ≡ true → count ≤ length events
     second true true q h = grind (arith, nat_tests, q)

@@ -6,8 +6,10 @@ use Rattle.inp_actors.specs.Command.{stream_of, first_of}
 use Rattle.inp_actors.specs.Record.{RecordView, IsRecord}
 use Rattle.inp_record.proofs.Stamps.{stream_within}
 
+-- each line's stream number is below the number of the record's streams
 pub if_within : (r : RecordView) (line : ℕ) (l : Line) (o : Option ℕ) → IsRecord r
-    → slice_get r.lines line ≡ Some l → o ≡ first_of (stream_of l.command) → IfSome o (λ index. index < length r.streams)
+    → slice_get r.lines line ≡ Some l → o ≡ first_of (stream_of l.command)
+    → IfSome o (λ index. index < length r.streams)
 if_within r line l None h there e = tt
 if_within r line l (Some index) h there e =
     stream_within r.lines (length r.streams) line l index there (sym e) h.numbered

@@ -1,6 +1,7 @@
 -- Where nothing is at fault, the report is written, or memory ran out.
-use Rattle.std.proofs.Common.{◌≡◌, ℕ, zero, suc, Bool, List, [], ◌∷◌, ◌++◌, length, Option, Some, None, Ok, Err, refl, sym, ap, subst, ◌∙◌, inl, inr, arith}
-use Rattle.std.specs.Prelude.{◌⊎◌, IsTrue, if◌then◌else◌, is_some, slice_get}
+use Rattle.std.proofs.Common.{◌≡◌, ℕ, zero, suc, Bool, List, [], ◌∷◌, ◌++◌, length, Option, Some, None, Ok}
+use Rattle.std.proofs.Common.{Err, refl, sym, ap, subst, ◌∙◌, inl, inr, arith}
+use Rattle.std.specs.Prelude.{◌⊎◌, IsTrue, is_some, slice_get}
 use Rattle.inp_edge.specs.Count.{RoseUnlessSaturated}
 use Rattle.inp_edge.specs.File.{File, IsMissing, HasFile, HasLongerFile, bytes_of}
 use Rattle.inp_edge.specs.Sink.{Appends}
@@ -15,19 +16,20 @@ use Rattle.inp_record.specs.canon.Text.{record_text}
 use Rattle.inp_record.specs.declared.refused.Refused.{Refused as Refusal}
 use Rattle.inp_record.specs.Meaning.{meaning}
 use Rattle.inp_script.specs.declared.run.Played.{Played}
-use Rattle.inp_script.specs.declared.run.Run.{Run}
-use Rattle.inp_script.specs.Job.{JoyJobView, OwnerView}
 use Rattle.inp_report.specs.Whole.{whole_report}
 use Rattle.inp_tool.specs.Upgrade.{upgraded}
 use Rattle.inp_tool.specs.declared.end.End.{End}
 use Rattle.inp_tool.specs.declared.outcome.Outcome.{Outcome}
-use Rattle.inp_tool.specs.declared.outcome.Outcome.TheVariants.{Usage, Unread, TooLong, Refused, NoMemory, Played as WasPlayed, Migrated}
+use Rattle.inp_tool.specs.declared.outcome.Outcome.TheVariants.{Usage, Unread, TooLong, Refused, NoMemory}
+use Rattle.inp_tool.specs.declared.outcome.Outcome.TheVariants.{Played as WasPlayed, Migrated}
 use Rattle.inp_tool.specs.Edge.{Reads, Writes}
 use Rattle.inp_tool.specs.Streams.{StreamFile, file_of, stream_files, events_in, HoldEvents}
 use Rattle.inp_tool.specs.Outcome.{played_status}
-use Rattle.inp_tool.specs.RecordFile.{IsRead, IsUnread, IsTooLong, AreRead, IsParsed, IsAtStream, IsNext, HasBadText, HasBadStream, HasRecord}
+use Rattle.inp_tool.specs.RecordFile.{IsRead, IsUnread, IsTooLong, AreRead, IsParsed, IsAtStream, IsNext}
+use Rattle.inp_tool.specs.RecordFile.{HasBadText, HasBadStream, HasRecord}
 use Rattle.inp_tool.specs.Promise.{AskFor, NameFile, CameOf, HasCause, IsWrittenWhole, IsWritten, Promise}
-use Rattle.inp_tool.specs.Complete.{IsFaultless, IsThere, AreThere, IsReadable, played_by, IsTold, made_summary, IsToldWhole, IsRewritten, IsComplete}
+use Rattle.inp_tool.specs.Complete.{IsFaultless, IsThere, AreThere, IsReadable, played_by, IsTold}
+use Rattle.inp_tool.specs.Complete.{made_summary, IsToldWhole, IsRewritten, IsComplete}
 use Rattle.inp_tool.proofs.MadeBounds.{asked-not_full}
 use Rattle.inp_tool.proofs.MadeAlone.{made-no_joys, made-no_owners}
 use Rattle.inp_tool.proofs.StreamFiles.{line_found}
@@ -44,49 +46,62 @@ abbrev Each : (StreamFile → Type 0) → List StreamFile → Type 0
 Each P [] = Unit {0}
 Each P (stream ∷ streams) = P stream × Each P streams
 
-each_behind : (P : StreamFile → Type 0) (front streams : List StreamFile) → Each P (front ++ streams) → Each P streams
+each_behind : (P : StreamFile → Type 0) (front streams : List StreamFile) → Each P (front ++ streams)
+    → Each P streams
 each_behind P [] streams h = h
 each_behind P (stream ∷ front) streams h = each_behind P front streams h.1
 
-each_has : (files : List File) (its : List StreamFile) (contents : List (List ℕ)) (streams : List (List Stamped)) → AreThere files its contents → HoldEvents its contents streams → Each (HasStream files) its
+each_has : (files : List File) (its : List StreamFile) (contents : List (List ℕ))
+    (streams : List (List Stamped)) → AreThere files its contents → HoldEvents its contents streams
+    → Each (HasStream files) its
 each_has files [] [] streams h e = tt
 each_has files (stream ∷ its) (bytes ∷ contents) [] h e = absurd e
-each_has files (stream ∷ its) (bytes ∷ contents) (stamps ∷ streams) h e =
-    (record { bytes = bytes; there = h.0; stamps = stamps; means = e.0 }, each_has files its contents streams h.1 e.1)
+each_has files (stream ∷ its) (bytes ∷ contents) (stamps ∷ streams) h e = (
+  record { bytes = bytes; there = h.0; stamps = stamps; means = e.0 },
+  each_has files its contents streams h.1 e.1,
+)
 each_has files its contents streams h e = absurd h
 
 -- what each stream file has, that of a line has
-at_line : (P : StreamFile → Type 0) (lines : List Line) (i : ℕ) (l : Line) (stream : StreamFile) → Each P (stream_files lines) → slice_get lines i ≡ Some l → file_of l.command ≡ stream ∷ [] → P stream
+at_line : (P : StreamFile → Type 0) (lines : List Line) (i : ℕ) (l : Line) (stream : StreamFile)
+    → Each P (stream_files lines) → slice_get lines i ≡ Some l → file_of l.command ≡ stream ∷ [] → P stream
 at_line P [] i l stream h e f = let never : ⊥ = cc e in absurd never
 at_line P (line ∷ lines) zero l stream h e f =
     let same : file_of line.command ≡ stream ∷ [] = cc (e, f) in
     let Q : List StreamFile → Type 0 = λ fs. Each P (fs ++ stream_files lines) in
     let here = subst Q same h in here.0
-at_line P (line ∷ lines) (suc i) l stream h e f = at_line P lines i l stream (each_behind P (file_of line.command) (stream_files lines) h) e f
+at_line P (line ∷ lines) (suc i) l stream h e f =
+    at_line P lines i l stream (each_behind P (file_of line.command) (stream_files lines) h) e f
 
 -- a file that is told has one content
-same_bytes : (told : Option (List File)) (files : List File) (name bytes others : List ℕ) → told ≡ Some files → bytes_of files name ≡ Some bytes → HasFile told name others → others ≡ bytes
+same_bytes : (told : Option (List File)) (files : List File) (name bytes others : List ℕ) → told ≡ Some files
+    → bytes_of files name ≡ Some bytes → HasFile told name others → others ≡ bytes
 same_bytes told files name bytes others e f h =
     let P : Option (List File) → Type 0 = λ t. HasFile t name others in
     let is : bytes_of files name ≡ Some others = subst P e h in
     cc (is, f)
 
-there_is_found : (told : Option (List File)) (files : List File) (name bytes : List ℕ) → told ≡ Some files → bytes_of files name ≡ Some bytes → IsMissing told name → ⊥
+there_is_found : (told : Option (List File)) (files : List File) (name bytes : List ℕ) → told ≡ Some files
+    → bytes_of files name ≡ Some bytes → IsMissing told name → ⊥
 there_is_found told files name bytes e f h =
     let P : Option (List File) → Type 0 = λ t. IsMissing t name in
     let is : bytes_of files name ≡ None = subst P e h in
     cc (is, f)
 
-there_is_within : (told : Option (List File)) (files : List File) (name bytes : List ℕ) → told ≡ Some files → IsThere files name bytes → HasLongerFile told name INPUT_LIMIT → ⊥
+there_is_within : (told : Option (List File)) (files : List File) (name bytes : List ℕ) → told ≡ Some files
+    → IsThere files name bytes → HasLongerFile told name INPUT_LIMIT → ⊥
 there_is_within told files name bytes e is h =
     let same = same_bytes told files name bytes h.0 e is.file h.1 in
     omega (arith, is.within, h.2, ap length same)
 
 -- contents that were read of files that are there
-same_contents : (r : Reads) (files : List File) (streams : List StreamFile) (contents others : List (List ℕ)) → r.files ≡ Some files → IsTrue (is_some r.after.left) → AreThere files streams contents → AreRead r streams others → others ≡ contents
+same_contents : (r : Reads) (files : List File) (streams : List StreamFile) (contents others : List (List ℕ))
+    → r.files ≡ Some files → IsTrue (is_some r.after.left) → AreThere files streams contents
+    → AreRead r streams others → others ≡ contents
 same_contents r files [] [] [] e told h k = refl
 same_contents r files (stream ∷ streams) (bytes ∷ contents) (its ∷ others) e told h k =
-    let first : its ≡ bytes = same_bytes r.files files stream.name bytes its e (h.0).file ((k.0).whole told) in
+    let first : its ≡ bytes =
+    same_bytes r.files files stream.name bytes its e (h.0).file ((k.0).whole told) in
     let more : others ≡ contents = same_contents r files streams contents others e told h.1 k.1 in
     cc (first, more)
 same_contents r files [] [] (its ∷ others) e told h k = absurd k
@@ -94,7 +109,8 @@ same_contents r files (stream ∷ streams) (bytes ∷ contents) [] e told h k = 
 same_contents r files streams contents others e told h k = absurd h
 
 -- files with the same contents hold the same events
-same_streams : (files : List StreamFile) (contents : List (List ℕ)) (streams others : List (List Stamped)) → HoldEvents files contents streams → HoldEvents files contents others → streams ≡ others
+same_streams : (files : List StreamFile) (contents : List (List ℕ)) (streams others : List (List Stamped))
+    → HoldEvents files contents streams → HoldEvents files contents others → streams ≡ others
 same_streams [] [] [] [] h k = refl
 same_streams (f ∷ files) (b ∷ contents) (s ∷ streams) (t ∷ others) h k =
     let first : s ≡ t = cc (h.0, k.0) in
@@ -109,12 +125,16 @@ no_rise : (before after : ℕ) → IsFaultless before after → RoseUnlessSatura
 no_rise before after h rose = omega (arith, h.0, h.1, rose h.0)
 
 -- A record that is there, in an input that had no fault.
-module _ (r : Reads) (file : List ℕ) (recorded : RecordView) (readable : IsReadable r file recorded) (stays : is_some r.after.left ≡ is_some r.before.left) (faultless : IsFaultless r.before.faults r.after.faults) where
+module _ (r : Reads) (file : List ℕ) (recorded : RecordView) (readable : IsReadable r file recorded)
+    (stays : is_some r.after.left ≡ is_some r.before.left)
+    (faultless : IsFaultless r.before.faults r.after.faults) where
   told : IsTrue (is_some r.after.left)
   told = stays ∙ readable.told_bytes
 
   same_text : (text : List ℕ) → IsRead r file text → text ≡ readable.text
-  same_text text h = same_bytes r.files readable.files file readable.text text readable.told_files readable.there.file (h.whole told)
+  same_text text h =
+      same_bytes r.files readable.files file readable.text text readable.told_files
+      readable.there.file (h.whole told)
 
   same_record : (text : List ℕ) (parsed : RecordView) → IsParsed r file text parsed → parsed ≡ readable.parsed
   same_record text parsed h =
@@ -122,11 +142,15 @@ module _ (r : Reads) (file : List ℕ) (recorded : RecordView) (readable : IsRea
       let means : meaning readable.text ≡ Ok parsed = ap meaning (sym same) ∙ h.means in
       cc (means, readable.means)
 
-  stream_there : (parsed : RecordView) (line : ℕ) (stream : StreamFile) → parsed ≡ readable.parsed → IsAtStream r parsed line stream → HasStream readable.files stream
+  stream_there : (parsed : RecordView) (line : ℕ) (stream : StreamFile) → parsed ≡ readable.parsed
+      → IsAtStream r parsed line stream → HasStream readable.files stream
   stream_there parsed line stream same at =
-      let found = line_found (λ (l : Line). file_of l.command) (slice_get parsed.lines line) (stream ∷ []) at.here in
-      let here : slice_get readable.parsed.lines line ≡ Some found.0 = ap (λ (x : RecordView). slice_get x.lines line) (sym same) ∙ found.1 in
-      let all = each_has readable.files (stream_files readable.parsed.lines) readable.contents readable.streams readable.are_there readable.stamps in
+      let found =
+      line_found (λ (l : Line). file_of l.command) (slice_get parsed.lines line) (stream ∷ []) at.here in
+      let here : slice_get readable.parsed.lines line ≡ Some found.0 = rw (← same) found.1 in
+      let all =
+      each_has readable.files (stream_files readable.parsed.lines) readable.contents readable.streams
+      readable.are_there readable.stamps in
       at_line (HasStream readable.files) readable.parsed.lines line found.0 stream all here found.2
 
   next_there : (name : List ℕ) → IsNext r file name → (bytes : List ℕ) × IsThere readable.files name bytes
@@ -157,36 +181,43 @@ module _ (r : Reads) (file : List ℕ) (recorded : RecordView) (readable : IsRea
       let means : meaning readable.text ≡ Err refused = ap meaning (sym same) ∙ h.means in
       cc (means, readable.means)
   not_refused refused (inr h) =
-      let has = stream_there h.parsed h.bad.line h.bad.stream (same_record h.text h.parsed h.is_parsed) h.bad.at in
-      let same = same_bytes r.files readable.files h.bad.stream.name has.bytes h.bad.bytes readable.told_files has.there.file (h.bad.read.read.whole told) in
-      let none : events_in h.bad.stream has.bytes ≡ None = ap (events_in h.bad.stream) (sym same) ∙ h.bad.no_stream in
+      let has =
+      stream_there h.parsed h.bad.line h.bad.stream (same_record h.text h.parsed h.is_parsed) h.bad.at in
+      let same =
+      same_bytes r.files readable.files h.bad.stream.name has.bytes h.bad.bytes readable.told_files
+      has.there.file (h.bad.read.read.whole told) in
+      let none : events_in h.bad.stream has.bytes ≡ None =
+      ap (events_in h.bad.stream) (sym same) ∙ h.bad.no_stream in
       cc (none, has.means)
 
   same_whole : (its : RecordView) → HasRecord r file its → its ≡ recorded
   same_whole its h =
       let parsed = same_record h.text h.parsed h.is_parsed in
       let P : RecordView → Type 0 = λ p. AreRead r (stream_files p.lines) h.contents in
-      let contents = same_contents r readable.files (stream_files readable.parsed.lines) readable.contents h.contents readable.told_files told readable.are_there (subst P parsed h.loaded.read) in
+      let contents =
+      same_contents r readable.files
+      (stream_files readable.parsed.lines) readable.contents h.contents readable.told_files told
+      readable.are_there (subst P parsed h.loaded.read) in
       let L : RecordView → Type 0 = λ p. HoldEvents (stream_files p.lines) h.contents h.streams in
       let C : List (List ℕ) → Type 0 = λ c. HoldEvents (stream_files readable.parsed.lines) c h.streams in
-      let streams = same_streams (stream_files readable.parsed.lines) readable.contents h.streams readable.streams (subst C contents (subst L parsed h.loaded.stamps)) readable.stamps in
-      h.whole
-      ∙ ap (λ (p : RecordView). record p { streams = h.streams }) parsed
-      ∙ ap (λ (s : List (List Stamped)). record readable.parsed { streams = s }) streams
-      ∙ sym readable.whole
+      let streams =
+      same_streams (stream_files readable.parsed.lines) readable.contents h.streams readable.streams
+      (subst C contents (subst L parsed h.loaded.stamps)) readable.stamps in
+      rw (h.whole, parsed, streams) (sym readable.whole)
 
 -- the end has what was found
-same_played : (end : End) (played : Played) → end.runs ≡ played.runs → end.joys ≡ played.joys → end.owners ≡ played.owners → played_by end ≡ played
-same_played end played runs joys owners =
-    ap (λ (rs : List Run). record { runs = rs; joys = end.joys; owners = end.owners }) runs
-    ∙ ap (λ (js : List JoyJobView). record { runs = played.runs; joys = js; owners = end.owners }) joys
-    ∙ ap (λ (os : List OwnerView). record { runs = played.runs; joys = played.joys; owners = os }) owners
+same_played : (end : End) (played : Played) → end.runs ≡ played.runs → end.joys ≡ played.joys
+    → end.owners ≡ played.owners → played_by end ≡ played
+same_played end played runs joys owners = rw (runs, joys, owners)
 
 -- what came of a record was told
-is_told : (w : Writes) (idle : Option ℕ) (recorded : RecordView) (text : Played → List ℕ) (played : Played) (says : List ℕ) (end : End) → CameOf idle recorded played → says ≡ text played → played_by end ≡ played
-    → end.status ≡ played_status played → Appends says w.before.written w.after.written → IsTold w idle recorded text end
+is_told : (w : Writes) (idle : Option ℕ) (recorded : RecordView) (text : Played → List ℕ) (played : Played)
+    (says : List ℕ) (end : End) → CameOf idle recorded played → says ≡ text played → played_by end ≡ played
+    → end.status ≡ played_status played → Appends says w.before.written w.after.written
+    → IsTold w idle recorded text end
 is_told w idle recorded text played says end came e same status written =
-    let P : Played → Type 0 = λ p. (end.status ≡ played_status p) × Appends (text p) w.before.written w.after.written in
+    let P : Played → Type 0 =
+    λ p. (end.status ≡ played_status p) × Appends (text p) w.before.written w.after.written in
     let Q : List ℕ → Type 0 = λ t. Appends t w.before.written w.after.written in
     let here : P played = (status, subst Q e written) in
     let at = subst P (sym same) here in
@@ -201,17 +232,22 @@ IsReached (Refused refused text) = ⊥
 IsReached _ = Unit {0}
 
 -- a record that is there was not refused
-reached : (words : Arguments) (r : Reads) (found : Outcome) (file : List ℕ) (recorded : RecordView) → NameFile words file → IsReadable r file recorded
-    → is_some r.after.left ≡ is_some r.before.left → IsFaultless r.before.faults r.after.faults → HasCause words r found → IsReached found
-reached words r Usage file recorded named readable stays faultless h = refused_names_none words file h.refused named
+reached : (words : Arguments) (r : Reads) (found : Outcome) (file : List ℕ) (recorded : RecordView)
+    → NameFile words file → IsReadable r file recorded
+    → is_some r.after.left ≡ is_some r.before.left → IsFaultless r.before.faults r.after.faults
+    → HasCause words r found → IsReached found
+reached words r Usage file recorded named readable stays faultless h =
+    refused_names_none words file h.refused named
 reached words r Unread file recorded named readable stays faultless h =
     let same = same_file words file h.file named h.named in
     let P : List ℕ → Type 0 = λ f. IsNext r f h.unread.name in
-    not_unread r file recorded readable stays faultless h.unread.name (subst P same h.unread.next) h.unread.unread
+    not_unread r file recorded readable stays faultless h.unread.name
+    (subst P same h.unread.next) h.unread.unread
 reached words r TooLong file recorded named readable stays faultless h =
     let same = same_file words file h.file named h.named in
     let P : List ℕ → Type 0 = λ f. IsNext r f h.too_long.name in
-    not_too_long r file recorded readable stays faultless h.too_long.name (subst P same h.too_long.next) h.too_long.too_long
+    not_too_long r file recorded readable stays faultless h.too_long.name
+    (subst P same h.too_long.next) h.too_long.too_long
 reached words r (Refused refused text) file recorded named readable stays faultless h =
     let same = same_file words file h.file named h.named in
     let P : List ℕ → Type 0 = λ f. HasBadText r f refused ⊎ HasBadStream r f refused in
@@ -219,53 +255,88 @@ reached words r (Refused refused text) file recorded named readable stays faultl
 reached words r found file recorded named readable stays faultless h = tt
 
 -- a record that is there was played, or memory ran out
-by_outcome : (words : Arguments) (r : Reads) (w : Writes) (end : End) (found : Outcome) (file : List ℕ) (history : Bool) (idle : Option ℕ) (recorded : RecordView) → AskFor words file history idle → IsReadable r file recorded
-    → is_some r.after.left ≡ is_some r.before.left → IsFaultless r.before.faults r.after.faults → IsReached found → HasCause words r found → IsWrittenWhole w found end
+by_outcome : (words : Arguments) (r : Reads) (w : Writes) (end : End) (found : Outcome) (file : List ℕ)
+    (history : Bool) (idle : Option ℕ) (recorded : RecordView) → AskFor words file history idle
+    → IsReadable r file recorded
+    → is_some r.after.left ≡ is_some r.before.left → IsFaultless r.before.faults r.after.faults
+    → IsReached found → HasCause words r found → IsWrittenWhole w found end
     → (end.status ≡ 5) ⊎ IsTold w idle recorded (whole_report recorded history) end
-by_outcome words r w end NoMemory file history idle recorded asked readable stays faultless there h whole = inl whole.ended.status
-by_outcome words r w end (WasPlayed played text) file history idle recorded asked readable stays faultless there (inl h) whole =
-    let same = same_file words file h.file (plays_file words file history idle asked) (plays_file words h.file h.history h.idle h.asked) in
+by_outcome words r w end NoMemory file history idle recorded asked readable stays faultless there h whole =
+    inl whole.ended.status
+by_outcome words r w end (WasPlayed played text) file history idle recorded asked readable stays faultless
+    there (inl h) whole =
+    let same =
+    same_file words file h.file (plays_file words file history idle asked)
+    (plays_file words h.file h.history h.idle h.asked) in
     let same_history : h.history ≡ history = cc (h.asked, asked) in
     let same_idle : h.idle ≡ idle = cc (h.asked, asked) in
     let P : List ℕ → Type 0 = λ f. HasRecord r f h.recorded in
     let its = same_whole r file recorded readable stays faultless h.recorded (subst P same h.read) in
     let C : RecordView → Type 0 = λ x. CameOf idle x played in
-    let says = h.says ∙ ap (λ (x : RecordView). whole_report x h.history played) its ∙ ap (λ (b : Bool). whole_report recorded b played) same_history in
-    inr (is_told w idle recorded (whole_report recorded history) played text.items end (subst C its (subst (λ (o : Option ℕ). CameOf o h.recorded played) same_idle h.came)) says
-    (same_played end played whole.ended.runs whole.ended.joys whole.ended.owners) whole.ended.status whole.written)
-by_outcome words r w end (WasPlayed played text) file history idle recorded asked readable stays faultless there (inr h) whole = let never : ⊥ = cc (h.asked, asked) in absurd never
-by_outcome words r w end (Migrated text) file history idle recorded asked readable stays faultless there h whole = let never : ⊥ = cc (h.asked, asked) in absurd never
+    let says =
+    h.says ∙ ap (λ (x : RecordView). whole_report x h.history played) its
+    ∙ ap (λ (b : Bool). whole_report recorded b played) same_history in
+    inr (is_told w idle recorded (whole_report recorded history) played text.items end
+    (subst C its (rw same_idle at h.came)) says
+    (same_played end played whole.ended.runs whole.ended.joys whole.ended.owners)
+    whole.ended.status whole.written)
+by_outcome words r w end (WasPlayed played text) file history idle recorded asked readable stays faultless
+    there (inr h) whole = let never : ⊥ = cc (h.asked, asked) in absurd never
+by_outcome words r w end (Migrated text) file history idle recorded asked readable stays faultless there h
+    whole = let never : ⊥ = cc (h.asked, asked) in absurd never
 by_outcome words r w end _ file history idle recorded asked readable stays faultless there h _ = absurd there
 
 -- a record that is there was upgraded, or memory ran out
-by_outcome_migrated : (words : Arguments) (r : Reads) (w : Writes) (end : End) (found : Outcome) (file : List ℕ) (recorded : RecordView) → requested words ≡ Some (Migrate file) → IsReadable r file recorded
-    → is_some r.after.left ≡ is_some r.before.left → IsFaultless r.before.faults r.after.faults → IsReached found → HasCause words r found → IsWrittenWhole w found end
+by_outcome_migrated : (words : Arguments) (r : Reads) (w : Writes) (end : End) (found : Outcome)
+    (file : List ℕ) (recorded : RecordView) → requested words ≡ Some (Migrate file)
+    → IsReadable r file recorded
+    → is_some r.after.left ≡ is_some r.before.left → IsFaultless r.before.faults r.after.faults
+    → IsReached found → HasCause words r found → IsWrittenWhole w found end
     → (end.status ≡ 5) ⊎ IsRewritten w recorded end
-by_outcome_migrated words r w end NoMemory file recorded asked readable stays faultless there h whole = inl whole.ended.status
-by_outcome_migrated words r w end (WasPlayed played text) file recorded asked readable stays faultless there (inl h) whole = let never : ⊥ = cc (h.asked, asked) in absurd never
-by_outcome_migrated words r w end (WasPlayed played text) file recorded asked readable stays faultless there (inr h) whole = let never : ⊥ = cc (h.asked, asked) in absurd never
+by_outcome_migrated words r w end NoMemory file recorded asked readable stays faultless there h whole =
+    inl whole.ended.status
+by_outcome_migrated words r w end (WasPlayed played text) file recorded asked readable stays faultless there
+    (inl h) whole = let never : ⊥ = cc (h.asked, asked) in absurd never
+by_outcome_migrated words r w end (WasPlayed played text) file recorded asked readable stays faultless there
+    (inr h) whole = let never : ⊥ = cc (h.asked, asked) in absurd never
 by_outcome_migrated words r w end (Migrated text) file recorded asked readable stays faultless there h whole =
-    let same = same_file words file h.file (migrates_file words file asked) (migrates_file words h.file h.asked) in
+    let same =
+    same_file words file h.file (migrates_file words file asked) (migrates_file words h.file h.asked) in
     let P : List ℕ → Type 0 = λ f. HasRecord r f h.recorded in
     let its = same_whole r file recorded readable stays faultless h.recorded (subst P same h.read) in
-    let says : text.items ≡ record_text (upgraded recorded) = h.says ∙ ap (λ (x : RecordView). record_text (upgraded x)) its in
+    let says : text.items ≡ record_text (upgraded recorded) = rw (h.says, its) in
     let Q : List ℕ → Type 0 = λ t. Appends t w.before.written w.after.written in
-    inr (record { status = whole.ended.status; runs = whole.ended.runs; joys = whole.ended.joys; owners = whole.ended.owners; written = subst Q says whole.written })
+    inr (record {
+      status = whole.ended.status;
+      runs = whole.ended.runs;
+      joys = whole.ended.joys;
+      owners = whole.ended.owners;
+      written = subst Q says whole.written;
+    })
 by_outcome_migrated words r w end found file recorded asked readable stays _ there h whole = absurd there
 
 -- a record that was to be made was played, or memory ran out
-by_outcome_made : (words : Arguments) (r : Reads) (w : Writes) (end : End) (found : Outcome) (number count : ℕ) → requested words ≡ Some (Make number count) → HasCause words r found → IsWrittenWhole w found end
+by_outcome_made : (words : Arguments) (r : Reads) (w : Writes) (end : End) (found : Outcome)
+    (number count : ℕ) → requested words ≡ Some (Make number count) → HasCause words r found
+    → IsWrittenWhole w found end
     → (end.status ≡ 5) ⊎ IsTold w None (generated number count) (made_summary number count) end
-by_outcome_made words r w end Usage number count asked h whole = let never : ⊥ = cc (h.refused, asked) in absurd never
+by_outcome_made words r w end Usage number count asked h whole = let never : ⊥ =
+    cc (h.refused, asked) in absurd never
 by_outcome_made words r w end NoMemory number count asked h whole = inl whole.ended.status
-by_outcome_made words r w end (WasPlayed played text) number count asked (inl h) whole = let never : ⊥ = cc (h.asked, asked) in absurd never
-by_outcome_made words r w end (Migrated text) number count asked h whole = let never : ⊥ = cc (h.asked, asked) in absurd never
+by_outcome_made words r w end (WasPlayed played text) number count asked (inl h) whole = let never : ⊥ =
+    cc (h.asked, asked) in absurd never
+by_outcome_made words r w end (Migrated text) number count asked h whole = let never : ⊥ =
+    cc (h.asked, asked) in absurd never
 by_outcome_made words r w end (WasPlayed played text) number count asked (inr h) whole =
     let n : h.number ≡ number = cc (h.asked, asked) in
     let c : h.count ≡ count = cc (h.asked, asked) in
-    let C : ℕ → ℕ → Type 0 = λ x y. CameOf None (generated x y) played × (text.items ≡ made_summary x y played) in
-    let here : C number count = subst (λ (y : ℕ). C number y) c (subst (λ (x : ℕ). C x h.count) n (h.came, h.says)) in
-    inr (is_told w None (generated number count) (made_summary number count) played text.items end here.0 here.1 (same_played end played whole.ended.runs whole.ended.joys whole.ended.owners) whole.ended.status whole.written)
+    let C : ℕ → ℕ → Type 0 =
+    λ x y. CameOf None (generated x y) played × (text.items ≡ made_summary x y played) in
+    let here : C number count = rw c at (subst (λ (x : ℕ). C x h.count) n (h.came, h.says)) in
+    inr (is_told w None (generated number count)
+    (made_summary number count) played text.items end here.0 here.1
+    (same_played end played whole.ended.runs whole.ended.joys whole.ended.owners)
+    whole.ended.status whole.written)
 by_outcome_made words r w end found number count asked h whole =
     absurd (made_names_none words number count h.file asked h.named)
 
@@ -275,8 +346,11 @@ written_whole : (w : Writes) (found : Outcome) (end : End) → IsFaultless w.bef
 written_whole w found end none (inl whole) = whole
 written_whole w found end none (inr part) = absurd (no_rise w.before.faults w.after.faults none part.fault)
 
-when_read : (words : Arguments) (r : Reads) (w : Writes) (end : End) (p : Promise words r w end) → is_some r.after.left ≡ is_some r.before.left → (file : List ℕ) (history : Bool) (idle : Option ℕ) (recorded : RecordView)
-    → AskFor words file history idle → IsReadable r file recorded → IsFaultless r.before.faults r.after.faults → IsFaultless w.before.faults w.after.faults
+when_read : (words : Arguments) (r : Reads) (w : Writes) (end : End) (p : Promise words r w end)
+    → is_some r.after.left ≡ is_some r.before.left
+    → (file : List ℕ) (history : Bool) (idle : Option ℕ) (recorded : RecordView)
+    → AskFor words file history idle → IsReadable r file recorded → IsFaultless r.before.faults r.after.faults
+    → IsFaultless w.before.faults w.after.faults
     → (end.status ≡ 5) ⊎ IsTold w idle recorded (whole_report recorded history) end
 when_read words r w end p stays file history idle recorded asked readable no_read no_write =
     let named = plays_file words file history idle asked in
@@ -284,8 +358,10 @@ when_read words r w end p stays file history idle recorded asked readable no_rea
     (reached words r p.found file recorded named readable stays no_read p.cause) p.cause
     (written_whole w p.found end no_write p.written)
 
-when_migrated : (words : Arguments) (r : Reads) (w : Writes) (end : End) (p : Promise words r w end) → is_some r.after.left ≡ is_some r.before.left → (file : List ℕ) (recorded : RecordView)
-    → requested words ≡ Some (Migrate file) → IsReadable r file recorded → IsFaultless r.before.faults r.after.faults → IsFaultless w.before.faults w.after.faults
+when_migrated : (words : Arguments) (r : Reads) (w : Writes) (end : End) (p : Promise words r w end)
+    → is_some r.after.left ≡ is_some r.before.left → (file : List ℕ) (recorded : RecordView)
+    → requested words ≡ Some (Migrate file) → IsReadable r file recorded
+    → IsFaultless r.before.faults r.after.faults → IsFaultless w.before.faults w.after.faults
     → (end.status ≡ 5) ⊎ IsRewritten w recorded end
 when_migrated words r w end p stays file recorded asked readable no_read no_write =
     let named = migrates_file words file asked in
@@ -293,7 +369,9 @@ when_migrated words r w end p stays file recorded asked readable no_read no_writ
     (reached words r p.found file recorded named readable stays no_read p.cause) p.cause
     (written_whole w p.found end no_write p.written)
 
-when_made : (words : Arguments) (r : Reads) (w : Writes) (end : End) (p : Promise words r w end) → (number count : ℕ) → requested words ≡ Some (Make number count) → IsFaultless w.before.faults w.after.faults
+when_made : (words : Arguments) (r : Reads) (w : Writes) (end : End) (p : Promise words r w end)
+    → (number count : ℕ) → requested words ≡ Some (Make number count)
+    → IsFaultless w.before.faults w.after.faults
     → (end.status ≡ 5) ⊎ IsToldWhole w number count end
 when_made words r w end p number count asked no_write =
     let whole = written_whole w p.found end no_write p.written in
@@ -305,11 +383,18 @@ when_made words r w end p number count asked no_write =
           promised.joys_of promised.owners_of in
           inr (record {
             told = told;
-            status = told.status ∙ ap (λ (full : Bool). if full then 6 else 0) full;
+            status = rw (told.status, full);
             joys = made-no_joys number count end.joys promised.joys_of;
             owners = made-no_owners number count end.owners promised.owners_of;
           })
     ]
 
-pub complete : (words : Arguments) (r : Reads) (w : Writes) (end : End) → Promise words r w end → is_some r.after.left ≡ is_some r.before.left → IsComplete words r w end
-complete words r w end p stays = record { read = when_read words r w end p stays; migrated = when_migrated words r w end p stays; made = when_made words r w end p }
+-- without a fault what is asked for is read, found and written whole, unless memory runs out
+pub complete : (words : Arguments) (r : Reads) (w : Writes) (end : End) → Promise words r w end
+    → is_some r.after.left ≡ is_some r.before.left → IsComplete words r w end
+complete words r w end p stays =
+    record {
+      read = when_read words r w end p stays;
+      migrated = when_migrated words r w end p stays;
+      made = when_made words r w end p;
+    }

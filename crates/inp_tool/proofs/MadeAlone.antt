@@ -13,8 +13,12 @@ no_owners : (owners : List OwnerView) → owner_actors owners ≡ [] → owners 
 no_owners [] h = refl
 no_owners (owner ∷ owners) h = absurd cc
 
-pub made-no_joys : (number count : ℕ) (joys : List JoyJobView) → AreJoysOf (generated number count) joys → joys ≡ []
+-- a record that was made has no joystick among its actors
+pub made-no_joys : (number count : ℕ) (joys : List JoyJobView)
+    → AreJoysOf (generated number count) joys → joys ≡ []
 made-no_joys number count joys h = no_joys joys h
 
-pub made-no_owners : (number count : ℕ) (owners : List OwnerView) → AreOwnersOf (generated number count) owners → owners ≡ []
+-- a record that was made has no owner among its actors
+pub made-no_owners : (number count : ℕ) (owners : List OwnerView)
+    → AreOwnersOf (generated number count) owners → owners ≡ []
 made-no_owners number count owners h = no_owners owners h

@@ -10,12 +10,14 @@ use Rattle.inp_tool.specs.Edge.{Reads}
 use Rattle.inp_tool.specs.RecordFile.{HasRecord}
 
 -- the text has no event of a stream
-same_text : (r : RecordView) (streams : List (List Stamped)) → record_text (upgraded (record r { streams = streams })) ≡ record_text (upgraded r)
+same_text : (r : RecordView) (streams : List (List Stamped))
+    → record_text (upgraded (record r { streams = streams })) ≡ record_text (upgraded r)
 unfolding record_text record_lines
 same_text r streams = refl
 
 -- it means the record of the lines that were read, in version 2
-pub means_upgraded : (r : Reads) (file text : List ℕ) (recorded : RecordView) (h : HasRecord r file recorded) → text ≡ record_text (upgraded recorded) → meaning text ≡ Ok (upgraded h.parsed)
+pub means_upgraded : (r : Reads) (file text : List ℕ) (recorded : RecordView) (h : HasRecord r file recorded)
+    → text ≡ record_text (upgraded recorded) → meaning text ≡ Ok (upgraded h.parsed)
 means_upgraded r file text recorded h says =
-    let same : text ≡ record_text (upgraded h.parsed) = says ∙ ap (λ (x : RecordView). record_text (upgraded x)) h.whole ∙ same_text h.parsed h.streams in
+    let same : text ≡ record_text (upgraded h.parsed) = rw (says, h.whole) (same_text h.parsed h.streams) in
     ap meaning same ∙ reads_again h.text h.parsed h.is_parsed.means

@@ -1,5 +1,6 @@
 -- Which stream a stream line takes.
-use Rattle.std.proofs.Common.{◌≡◌, ℕ, ◌+◌, ◌<◌, List, [], ◌∷◌, ◌++◌, length, get_or, take, Option, Some, None, option_map, refl, ap, ◌∙◌, arith}
+use Rattle.std.proofs.Common.{◌≡◌, ℕ, ◌+◌, ◌<◌, List, [], ◌∷◌, ◌++◌, length, get_or, take, Option, Some, None}
+use Rattle.std.proofs.Common.{option_map, refl, ap, ◌∙◌, arith}
 use Rattle.std.specs.Prelude.{slice_get, flat_map}
 use Rattle.std.specs.List.{range_with_len}
 use Rattle.std.proofs.lemmas.List.{append-nil, take_more}
@@ -18,19 +19,23 @@ use Rattle.inp_record.specs.Stream.{stamps_of_command}
 use Rattle.inp_tool.specs.Streams.{StreamFile, file_of, stream_files, events_in}
 
 -- a command that names a file takes one stream
-pub one_stream : (c : Command) (file : StreamFile) → file_of c ≡ file ∷ [] → (index : ℕ) × (stream_of c ≡ index ∷ [])
+pub one_stream : (c : Command) (file : StreamFile) → file_of c ≡ file ∷ []
+    → (index : ℕ) × (stream_of c ≡ index ∷ [])
 one_stream (Stream name index) file h = (index, refl)
 one_stream (Stream16 name index) file h = (index, refl)
 one_stream _ file h = absurd (cc h)
 
 -- a command takes the events that its file holds
-pub stamps_of_command-file : (c : Command) (file : StreamFile) (bytes : List ℕ) → file_of c ≡ file ∷ [] → stamps_of_command c bytes ≡ events_in file bytes
+pub stamps_of_command-file : (c : Command) (file : StreamFile) (bytes : List ℕ) → file_of c ≡ file ∷ []
+    → stamps_of_command c bytes ≡ events_in file bytes
 stamps_of_command-file (Stream name index) file bytes h =
-    let its : StreamFile = record { name = name; form = Wide } in let same : its ≡ file = cc h in ap (λ (f : StreamFile). events_in f bytes) same
+    let its : StreamFile = record { name = name; form = Wide } in let same : its ≡ file = cc h in rw (← same)
 stamps_of_command-file (Stream16 name index) file bytes h =
-    let its : StreamFile = record { name = name; form = Narrow } in let same : its ≡ file = cc h in ap (λ (f : StreamFile). events_in f bytes) same
+    let its : StreamFile = record { name = name; form = Narrow } in let same : its ≡ file =
+    cc h in rw (← same)
 stamps_of_command-file _ file bytes h = absurd (cc h)
 
+-- a command takes one stream and names one file, or neither
 pub as_many : (c : Command) → length (stream_of c) ≡ length (file_of c)
 as_many Open = refl
 as_many _ = refl
@@ -41,39 +46,41 @@ as_many_files [] = refl
 as_many_files (line ∷ lines) = grind (arith, as_many line.command, as_many_files lines)
 
 -- the line of this number, by what is found of it
-pub line_found : {A : Type 0} (f : Line → A) (found : Option Line) (a : A) → option_map f found ≡ Some a → (l : Line) × (found ≡ Some l) × (f l ≡ a)
+pub line_found : {A : Type 0} (f : Line → A) (found : Option Line) (a : A) → option_map f found ≡ Some a
+    → (l : Line) × (found ≡ Some l) × (f l ≡ a)
 line_found f None a h = absurd (cc h)
 line_found f (Some l) a h = (l, refl, cc h)
 
 -- one more line
-pub files_more : (lines : List Line) (i : ℕ) (l : Line) → slice_get lines i ≡ Some l → stream_files (take (i + 1) lines) ≡ stream_files (take i lines) ++ file_of l.command
+pub files_more : (lines : List Line) (i : ℕ) (l : Line) → slice_get lines i ≡ Some l
+    → stream_files (take (i + 1) lines) ≡ stream_files (take i lines) ++ file_of l.command
 files_more lines i l h =
     let f : Line → List StreamFile = λ line. file_of line.command in
     let here : get_or lines i l ≡ l = get_or_from_slice_get lines i l l h in
-    let more : take (i + 1) lines ≡ take i lines ++ get_or lines i l ∷ [] = take_more lines i l (slice_get_within lines i l h) in
-    ap (flat_map f) (more ∙ ap (λ (x : Line). take i lines ++ x ∷ []) here)
-    ∙ flat_map-append f (take i lines) (l ∷ [])
-    ∙ ap (λ (x : List StreamFile). stream_files (take i lines) ++ x) (append-nil (file_of l.command))
+    let more : take (i + 1) lines ≡ take i lines ++ get_or lines i l ∷ [] =
+    take_more lines i l (slice_get_within lines i l h) in
+    rw (more, here, flat_map-append f (take i lines) (l ∷ []), append-nil (file_of l.command))
 
 -- a line's stream has the number of streams before it
-pub stream_number : (lines : List Line) (i : ℕ) (l : Line) (n index : ℕ) → streams_of lines ≡ range_with_len 0 n → slice_get lines i ≡ Some l → stream_of l.command ≡ index ∷ []
+pub stream_number : (lines : List Line) (i : ℕ) (l : Line) (n index : ℕ)
+    → streams_of lines ≡ range_with_len 0 n → slice_get lines i ≡ Some l → stream_of l.command ≡ index ∷ []
     → (index ≡ length (stream_files (take i lines))) × (index < n)
 stream_number lines i l n index numbered h one =
     let f : Line → List ℕ = λ line. stream_of line.command in
     let here : get_or lines i l ≡ l = get_or_from_slice_get lines i l l h in
     let within : i < length lines = slice_get_within lines i l h in
     let is : f (get_or lines i l) ≡ index ∷ [] = ap f here ∙ one in
-    let count : length (f (get_or lines i l)) ≡ 1 = ap (λ (x : List ℕ). length x) is in
+    let count : length (f (get_or lines i l)) ≡ 1 = rw is in
     let k = length (streams_of (take i lines)) in
     let fits = length-flat_map-take f lines i l within in
-    let all : length (flat_map f lines) ≡ n = ap (λ (x : List ℕ). length x) numbered ∙ length-range_with_len 0 n in
+    let all : length (flat_map f lines) ≡ n = rw numbered (length-range_with_len 0 n) in
     let room : k < n = omega (arith, fits, all, count) in
     let at = get_or-flat_map f lines i 0 l 0 within (omega (arith, count)) in
-    let first : get_or (f (get_or lines i l)) 0 0 ≡ index = ap (λ (x : List ℕ). get_or x 0 0) is in
+    let first : get_or (f (get_or lines i l)) 0 0 ≡ index = rw is in
     let counted : get_or (range_with_len 0 n) k 0 ≡ 0 + k = get_or-range_with_len 0 n k 0 room in
     let zero_k : 0 + k ≡ k = omega arith in
     let k_zero : k + 0 ≡ k = omega arith in
-    let there : get_or (flat_map f lines) (k + 0) 0 ≡ get_or (range_with_len 0 n) (k + 0) 0 = ap (λ (x : List ℕ). get_or x (k + 0) 0) numbered in
-    let moved : get_or (range_with_len 0 n) (k + 0) 0 ≡ get_or (range_with_len 0 n) k 0 = ap (λ (j : ℕ). get_or (range_with_len 0 n) j 0) k_zero in
+    let there : get_or (flat_map f lines) (k + 0) 0 ≡ get_or (range_with_len 0 n) (k + 0) 0 = rw numbered in
+    let moved : get_or (range_with_len 0 n) (k + 0) 0 ≡ get_or (range_with_len 0 n) k 0 = rw k_zero in
     let same : index ≡ k = cc in
     (same ∙ as_many_files (take i lines), omega (arith, same, room))

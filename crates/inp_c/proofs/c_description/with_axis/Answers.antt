@@ -14,7 +14,8 @@ answer over bad = if over then Err BadCode else if bad then Err BadAxis else Ok 
 made : Bool → Bool → Description → Described
 made over bad d = if over then Err BadCode else if bad then Err BadAxis else Ok d
 
-refused : (over bad : Bool) (why : CapsRefused) (d : Description) → answer over bad ≡ Err why → made over bad d ≡ Err why
+refused : (over bad : Bool) (why : CapsRefused) (d : Description) → answer over bad ≡ Err why
+    → made over bad d ≡ Err why
 unfolding answer made
 refused true bad why d e = cc
 refused false true why d e = cc
@@ -25,4 +26,6 @@ unfolding answer made
 returns-in_err-axis c =
     let p = err_from_is_err_and c.from_residual.result c.from_residual.ensures.1 in
     let i = slice_index_or c.args.infos.now c.args.code no_info in
-    rw (p.1, p.2) (sym (refused (nat_lt ABS_MAX c.args.code) (is_bad_axis c.args.code i) _ _ (sym c.axis.ensures.answer ∙ c.in_err-axis.was)))
+    rw (p.1, p.2)
+    (sym (refused (nat_lt ABS_MAX c.args.code) (is_bad_axis c.args.code i) _ _ (sym c.axis.ensures.answer
+    ∙ c.in_err-axis.was)))

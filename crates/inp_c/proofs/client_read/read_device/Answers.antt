@@ -1,5 +1,6 @@
 use Rattle.inp_c.proofs.client_read.read_device.Goals as goal
 
+-- a read is a step of the device, and it writes no values of slots
 pub returns : goal.returns
 returns c =
     let s = c.step.ensures in

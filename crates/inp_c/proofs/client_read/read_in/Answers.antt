@@ -1,6 +1,7 @@
 use Rattle.std.proofs.Common.{ap, refl, Some}
 use Rattle.inp_c.proofs.client_read.read_in.Goals as goal
 
+-- the kept device made the read, and C is told the place of its reply
 pub returns-clause-made : goal.returns-clause-made
 returns-clause-made c = λ _. record {
   old = c.in-Device.device;

@@ -5,6 +5,10 @@ use Rattle.inp_c.specs.ClientTold.{IsMaskWord}
 use Rattle.inp_c.proofs.Along.{at_contents}
 use Rattle.inp_c.proofs.client_told.inputplay_client_mask.Goals as goal
 
+-- the word of the client's mask is told of what the handle keeps
 pub returns-clause-told : goal.returns-clause-told
 returns-clause-told c = λ ok.
-    at_contents Kept (λ (k : Option Kept). IsMaskWord k c.args.client c.args.kind c.args.word c.mask_in-status.new.bits) (contents c.args.handle.now) c.take-kept.result.value c.deref.result.now c.take-kept.ensures.kept c.deref.ensures (c.mask_in-status.ensures.told ok)
+    at_contents Kept (λ (k : Option Kept).
+    IsMaskWord k c.args.client c.args.kind c.args.word c.mask_in-status.new.bits)
+    (contents c.args.handle.now) c.take-kept.result.value c.deref.result.now c.take-kept.ensures.kept
+    c.deref.ensures (c.mask_in-status.ensures.told ok)

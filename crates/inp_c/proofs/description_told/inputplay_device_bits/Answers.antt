@@ -5,6 +5,9 @@ use Rattle.inp_c.specs.DescriptionTold.{AreSupportedBits}
 use Rattle.inp_c.proofs.Along.{at_contents}
 use Rattle.inp_c.proofs.description_told.inputplay_device_bits.Goals as goal
 
+-- the supported codes are told of what the handle keeps
 pub returns-clause-told : goal.returns-clause-told
 returns-clause-told c = λ ok.
-    at_contents Kept (λ (k : Option Kept). AreSupportedBits k c.args.kind c.bits_in-status.new.words) (contents c.args.handle.now) c.take-kept.result.value c.deref.result.now c.take-kept.ensures.kept c.deref.ensures (c.bits_in-status.ensures.told ok)
+    at_contents Kept (λ (k : Option Kept). AreSupportedBits k c.args.kind c.bits_in-status.new.words)
+    (contents c.args.handle.now) c.take-kept.result.value c.deref.result.now c.take-kept.ensures.kept
+    c.deref.ensures (c.bits_in-status.ensures.told ok)

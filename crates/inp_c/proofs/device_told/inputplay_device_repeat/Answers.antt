@@ -5,6 +5,9 @@ use Rattle.inp_c.specs.DeviceTold.{IsToldRepeat}
 use Rattle.inp_c.proofs.Along.{at_contents}
 use Rattle.inp_c.proofs.device_told.inputplay_device_repeat.Goals as goal
 
+-- the autorepeat is told of what the handle keeps
 pub returns-clause-told : goal.returns-clause-told
 returns-clause-told c = λ ok.
-    at_contents Kept (λ (k : Option Kept). IsToldRepeat k c.repeat_in-status.new.repeat) (contents c.args.handle.now) c.take-kept.result.value c.deref.result.now c.take-kept.ensures.kept c.deref.ensures (c.repeat_in-status.ensures.told ok)
+    at_contents Kept (λ (k : Option Kept). IsToldRepeat k c.repeat_in-status.new.repeat)
+    (contents c.args.handle.now) c.take-kept.result.value c.deref.result.now c.take-kept.ensures.kept
+    c.deref.ensures (c.repeat_in-status.ensures.told ok)

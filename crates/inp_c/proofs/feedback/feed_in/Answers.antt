@@ -1,6 +1,7 @@
 use Rattle.std.proofs.Common.{ap, refl, Some}
 use Rattle.inp_c.proofs.feedback.feed_in.Goals as goal
 
+-- the kept device answered its owner's call, and C is told what it answered
 pub returns-clause-made : goal.returns-clause-made
 returns-clause-made c = λ _. record {
   old = c.in-Device.device;

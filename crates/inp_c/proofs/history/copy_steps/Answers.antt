@@ -9,7 +9,9 @@ use Rattle.inp_c.proofs.history.copy_steps.Goals as goal
 abbrev past_end : Step
 past_end = Inject (record { kind = 0; code = 0; value = pos 0 }) 0
 
+-- the next step is written just behind the copied ones, as C is told it
 pub loop-at-preserved : goal.loop-at-preserved
 loop-at-preserved c =
     ap (λ x. set c.loop-at.steps c.loop-at.at x) c.c_step.ensures
-    ∙ copy_more told_step c.args.made.now c.args.steps.now c.loop-at.steps c.loop-at.at past_end c.loop-at.invariant c.loop-at-test.true (omega arith)
+    ∙ copy_more told_step c.args.made.now c.args.steps.now c.loop-at.steps c.loop-at.at past_end
+    c.loop-at.invariant c.loop-at-test.true (omega arith)

@@ -1,6 +1,7 @@
 use Rattle.std.proofs.Common.{ap, Some}
 use Rattle.inp_c.proofs.joystick.picture_in.Goals as goal
 
+-- the picture is the one that the kept device's joystick client has
 pub returns-clause-picture : goal.returns-clause-picture
 returns-clause-picture c = λ _. record {
   device = c.in-Device.device;

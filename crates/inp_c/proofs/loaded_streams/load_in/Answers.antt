@@ -1,6 +1,7 @@
 use Rattle.std.proofs.Common.{ap, sym, refl, Some}
 use Rattle.inp_c.proofs.loaded_streams.load_in.Goals as goal
 
+-- the stream that the line takes has the events that were loaded, and is marked as loaded
 pub returns-in-Ok-clause-made : goal.returns-in-Ok-clause-made
 returns-in-Ok-clause-made c = λ _. record {
   old = c.in-Record.record;

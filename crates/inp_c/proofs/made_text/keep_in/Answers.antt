@@ -1,6 +1,7 @@
 use Rattle.std.proofs.Common.{ap, refl, arith, Some}
 use Rattle.inp_c.proofs.made_text.keep_in.Goals as goal
 
+-- the text that was made of the record is kept with it, and the record stays
 pub returns-in-Ok-clause-made : goal.returns-in-Ok-clause-made
 returns-in-Ok-clause-made c = λ _. record {
   old = c.in-Record.record;

@@ -1,6 +1,7 @@
 use Rattle.std.proofs.Common.{ap, sym, refl, Some}
 use Rattle.inp_c.proofs.reader.next_in.Goals as goal
 
+-- the kept device's reader made the `next` of the mode that C gave
 pub returns-clause-made : goal.returns-clause-made
 returns-clause-made c = λ _. record {
   old = c.in-Device.device;

@@ -5,6 +5,10 @@ use Rattle.inp_c.specs.ReaderTold.{IsSlotValue}
 use Rattle.inp_c.proofs.Along.{at_contents}
 use Rattle.inp_c.proofs.reader_told.inputplay_reader_slot_value.Goals as goal
 
+-- the value in the view's slot is told of what the handle keeps
 pub returns-clause-value : goal.returns-clause-value
 returns-clause-value c = λ ok.
-    at_contents Kept (λ (k : Option Kept). IsSlotValue k c.args.slot c.args.code c.slot_value_in-status.new.value) (contents c.args.handle.now) c.take-kept.result.value c.deref.result.now c.take-kept.ensures.kept c.deref.ensures (c.slot_value_in-status.ensures.value ok)
+    at_contents Kept (λ (k : Option Kept).
+    IsSlotValue k c.args.slot c.args.code c.slot_value_in-status.new.value)
+    (contents c.args.handle.now) c.take-kept.result.value c.deref.result.now c.take-kept.ensures.kept
+    c.deref.ensures (c.slot_value_in-status.ensures.value ok)

@@ -4,6 +4,7 @@ use Rattle.inp_recon.specs.declared.view.View.{View}
 use Rattle.inp_c.specs.ReaderTold.{phase_number}
 use Rattle.inp_c.proofs.reader_told.state_in.Goals as goal
 
+-- the client, the phase and the slot are those of the kept device's reader
 pub returns-clause-state : goal.returns-clause-state
 returns-clause-state c = λ _.
     let fits : SFits w32 c.view.result.now.slot = search rules in

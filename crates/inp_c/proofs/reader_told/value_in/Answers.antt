@@ -4,6 +4,7 @@ use Rattle.inp_recon.specs.declared.view.View.{View}
 use Rattle.inp_c.specs.ReaderTold.{view_value}
 use Rattle.inp_c.proofs.reader_told.value_in.Goals as goal
 
+-- the value is the one that the reader's view has, and fits in 32 bits with a sign
 pub returns-clause-value : goal.returns-clause-value
 returns-clause-value c = λ _.
     let fits : SFits w32 c.in-Some.known = search rules in

@@ -7,5 +7,6 @@ use Rattle.inp_c.proofs.record_text.record_of.Goals as goal
 counted : (lines bytes : ℕ) → lines ≤ bytes + 1 → bytes ≤ INPUT_LIMIT → lines < 2 ^ 32
 counted lines bytes few within = omega (arith, few, within)
 
+-- a text that is not too long has fewer lines than a number of 32 bits counts
 pub parse-requires : goal.parse-requires
 parse-requires c = record { few = counted _ _ (few_lines c.args.text.now) c.requires.within }

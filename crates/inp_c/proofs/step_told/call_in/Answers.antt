@@ -10,6 +10,7 @@ use Rattle.inp_c.proofs.step_told.call_in.Goals as goal
 abbrev past_end : CallMade
 past_end = record { step = Inject (record { kind = 0; code = 0; value = pos 0 }) 0; reply = Done 0 }
 
+-- the call is the one of the reader's last calls at that index, with its step and reply
 pub returns-clause-told : goal.returns-clause-told
 returns-clause-told c = λ _. record {
   device = c.in-Device.device;

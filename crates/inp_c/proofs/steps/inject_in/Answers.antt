@@ -5,13 +5,16 @@ use Rattle.inp_feedback.specs.UEntry.{steps_in}
 use Rattle.inp_c.proofs.Injected.{one_step}
 use Rattle.inp_c.proofs.steps.inject_in.Goals as goal
 
+-- the event is injected by the call for many, which is a step of the kept device
 pub returns-clause-made : goal.returns-clause-made
 returns-clause-made c = λ _.
     let old = c.in-Device.device in
     let new = c.inject-injected.new.self in
     let i = c.inject-injected.result in
     let s = c.inject-injected.ensures in
-    let one = one_step old.udev.description old.udev.kept new.udev.kept c.args.event c.args.now i.from i.count s.from s.count s.kept in
+    let one =
+    one_step old.udev.description old.udev.kept new.udev.kept c.args.event c.args.now i.from i.count s.from
+    s.count s.kept in
     record {
       old = old;
       new = new;

@@ -3,9 +3,14 @@ use Rattle.std.proofs.Common.{refl}
 use Rattle.inp_recon.proofs.Computation.{computing}
 use Rattle.inp_tool.proofs.examples.examples_of_views.Goals as goal
 
+-- computed: behind a press, and the release that an inhibition makes, the views show the keys
 pub returns-clause-follows : goal.returns-clause-follows
 unfolding computing
-returns-clause-follows c = ((_, _, refl, record { report = refl; frame = refl }, refl, refl, refl), (_, _, refl, record { report = refl; frame = refl }, refl, refl, refl), (_, _, refl, record { report = refl; frame = refl }, refl, refl, refl))
+returns-clause-follows c = (
+  (_, _, refl, record { report = refl; frame = refl }, refl, refl, refl),
+  (_, _, refl, record { report = refl; frame = refl }, refl, refl, refl),
+  (_, _, refl, record { report = refl; frame = refl }, refl, refl, refl),
+)
 
 pub returns-clause-loss : goal.returns-clause-loss
 unfolding computing

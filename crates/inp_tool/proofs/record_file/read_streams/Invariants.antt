@@ -11,5 +11,6 @@ invariant-loop-line g l =
       files_stay : I.files l.input ≡ I.files l.fn.input;
       stays_told : is_some (I.left l.input) ≡ is_some (I.left l.fn.input);
       never_falls : I.faults l.fn.input ≤ I.faults l.input;
-      loaded : IsLoadedTo (reads_of I.files I.given I.left I.faults l.fn.input l.input) l.fn.recorded l.line l.recorded;
+      loaded : IsLoadedTo (reads_of I.files I.given I.left I.faults l.fn.input l.input) l.fn.recorded
+          l.line l.recorded;
     }

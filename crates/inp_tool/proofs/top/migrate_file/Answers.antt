@@ -18,4 +18,6 @@ pub returns-in-Err-migrated_text-clause-cause : goal.returns-in-Err-migrated_tex
 returns-in-Err-migrated_text-clause-cause g c = λ words asked. inr (ran_out_after _ _ _ c.in-Ok.ensures.read)
 
 pub returns-in-Err-clause-cause : goal.returns-in-Err-clause-cause
-returns-in-Err-clause-cause g c = λ words asked. c.without_record.ensures.cause words _ _ (migrates_file words _ asked) c.in-Err.ensures.read
+returns-in-Err-clause-cause g c =
+    λ words asked. c.without_record.ensures.cause words _ _
+    (migrates_file words _ asked) c.in-Err.ensures.read

@@ -7,4 +7,6 @@ pub returns-in-Ok-clause-cause : goal.returns-in-Ok-clause-cause
 returns-in-Ok-clause-cause g c = λ words asked. inr (ran_out_after _ _ _ c.in-Ok.ensures.read)
 
 pub returns-clause-cause : goal.returns-clause-cause
-returns-clause-cause g c = λ words asked. c.without_record.ensures.cause words _ _ (plays_file words _ _ _ asked) c.in-Err.ensures.read
+returns-clause-cause g c =
+    λ words asked. c.without_record.ensures.cause words _ _
+    (plays_file words _ _ _ asked) c.in-Err.ensures.read

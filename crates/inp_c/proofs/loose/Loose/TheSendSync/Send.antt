@@ -19,8 +19,10 @@ use Rattle.inp_c.specs.contracts.loose.Loose.{the_row, the_type}
 -- what a box owns, and the right to free its block
 owned_keyless : (p : Ptr) (value : Option Kept) → Keyless (loose_owns p value)
 owned_keyless p None = tt
-owned_keyless (block_ptr b o) (Some x) =
-    (part_keyless Kept.the_row kept full_share x b o, heap.frees.frees the_heap (raw (lone Kept.the_row.mir)) (block_ptr b o))
+owned_keyless (block_ptr b o) (Some x) = (
+  part_keyless Kept.the_row kept full_share x b o,
+  heap.frees.frees the_heap (raw (lone Kept.the_row.mir)) (block_ptr b o),
+)
 owned_keyless null_ptr (Some x) = (tt, heap.frees.frees the_heap (raw (lone Kept.the_row.mir)) null_ptr)
 
 quiet : {D X : Type 0} (to : D → X) (e : Exit X) → Quiet e → Quiet (hidden (under to e))
