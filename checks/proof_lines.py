@@ -12,7 +12,7 @@ WIDEST = 110
 
 IMPORT = re.compile(r"(?:pub )?(?:use|mod|open) ")
 WORD = r"(?<![\w-]){}(?![\w-])"
-WRITTEN_OUT = re.compile(WORD.format("(?:ap|subst)") + r" \(λ")
+WRITTEN_OUT = re.compile(WORD.format("(?:ap|subst)") + r"\s+\(λ")
 REWRITE = re.compile(WORD.format("rw"))
 
 
@@ -26,11 +26,12 @@ class ProofLines:
             for number, line in enumerate(path.read_text().splitlines(), 1):
                 if len(line) > WIDEST and " " in line.strip():
                     self.wide.append(f"{path}:{number}")
-            for line in said(path.read_text()):
-                self.lines += 1
-                self.characters += len("".join(line.split()))
-                self.written_out += len(WRITTEN_OUT.findall(line))
-                self.rewrites += len(REWRITE.findall(line))
+            lines = list(said(path.read_text()))
+            text = "\n".join(lines)
+            self.lines += len(lines)
+            self.characters += len("".join(text.split()))
+            self.written_out += len(WRITTEN_OUT.findall(text))
+            self.rewrites += len(REWRITE.findall(text))
 
     @property
     def rewrites_in_a_thousand(self) -> float:

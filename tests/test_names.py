@@ -346,12 +346,12 @@ class ProofLines(unittest.TestCase):
         self.assertGreaterEqual(proofs.rewrites_in_a_thousand, 60)
 
     def test_what_is_counted(self):
-        said = "use A.{\n  one,\n  two,\n}\n-- ap (λ\nabc = ap (λ x. f x) e\n  ∙ rw e (subst (λ x. P x) e t)\npub use B.{c}\n"
+        said = "use A.{\n  one,\n  two,\n}\n-- ap (λ\nabc = ap\n  (λ x. f x) e\n  ∙ rw e (subst (λ x. P x) e t)\npub use B.{c}\n"
         with tempfile.TemporaryDirectory() as folder:
             path = Path(folder) / "Some.antt"
             path.write_text(said + "w" * 111 + "\n" + "w " * 60 + "\n")
             proofs = proof_lines.ProofLines([path])
-        self.assertEqual((4, 205, 2, 1, [f"{path}:10"]),
+        self.assertEqual((5, 205, 2, 1, [f"{path}:11"]),
                          (proofs.lines, proofs.characters, proofs.written_out, proofs.rewrites, proofs.wide))
 
 
