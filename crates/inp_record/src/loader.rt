@@ -25,7 +25,10 @@ fn stamps_of(alloc: Global, form: RecordForm, bytes: &[u8]) -> Result<Stamps, Lo
     ensures stamps { AreStamps result (stamps_of (time_len form) bytes.now) }
     ensures in_time { IfOk result (λ stamps. AreInTime stamps) }
 {
-    let mut stamps = Items::new(alloc);
+    let Ok(room) = Vec::with_capacity(alloc, bytes.len() / form.record_len()) else {
+        return Err(LoadFault::NoMemory);
+    };
+    let mut stamps = Items::of(room);
     let mut rest = bytes;
     while !rest.is_empty() {
         let Ok((event, now)) = form.decode(rest) else {

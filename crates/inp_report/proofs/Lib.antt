@@ -1,5 +1,6 @@
 pub mod Runs
 pub mod SightCounts
+pub mod ReadLine
 pub mod Actors
 pub mod AxisCounts
 pub mod Computation

@@ -1,10 +1,13 @@
 -- What is written and counted of a sight, one entry on.
-use Rattle.std.proofs.Common.{◌≡◌, ℕ, ◌+◌, Bool, true, false, cond, List, [], ◌∷◌, ◌++◌, take, Some, refl, ap}
+use Rattle.std.proofs.Common.{◌≡◌, ◌≤◌, ◌<◌, ◌-◌, ℕ, ◌+◌, min, arith, Bool, true, false, cond, refl, ap}
+use Rattle.std.proofs.Common.{List, [], ◌∷◌, ◌++◌, length, take, drop, Some}
 use Rattle.std.proofs.Common.{◌∙◌, sym}
 use Rattle.std.specs.Prelude.{slice_get}
 use Rattle.std.specs.List.{count_by, flat_map}
-use Rattle.std.proofs.lemmas.List.{take_more, flat_map_more}
-use Rattle.std.proofs.lemmas.List.Sums.{count_by_more_yes, count_by_more_no}
+use Rattle.std.proofs.lemmas.List.{take_more, flat_map_more, append_assoc, length-take, length-drop}
+use Rattle.std.proofs.lemmas.List.Concat.{flat_map-append}
+use Rattle.std.proofs.Math.Seq.{take-add}
+use Rattle.std.proofs.lemmas.List.Sums.{count_by_more_yes, count_by_more_no, sum_by-append}
 use Rattle.std.proofs.lemmas.Option.{slice_get_within, get_or_from_slice_get}
 use Rattle.inp_script.specs.declared.sight.Sight.{Sight}
 use Rattle.inp_report.specs.declared.sights.SightCounts.{SightCounts}
@@ -67,7 +70,37 @@ kinds-more sights i read sight old new at is more before =
       again = rw more (counted-more is_again_sight sights i sight old.again there before.again);
     }
 
+-- What is counted and written of a part more
+
+count-append : {X : Type 0} (p : X → Bool) (xs ys : List X)
+    → count_by p (xs ++ ys) ≡ count_by p xs + count_by p ys
+count-append p xs ys = sum_by-append (λ x. cond (p x) 1 0) xs ys
+
+-- a part that stands behind what was counted adds its own count
+pub counted-part : {X : Type 0} (p : X → Bool) (xs part : List X) (start : ℕ)
+    → part ≡ take (length part) (drop start xs)
+    → count_by p (take start xs) + count_by p part ≡ count_by p (take (start + length part) xs)
+counted-part p xs part start is =
+    rw (take-add start (length part) xs, count-append p (take start xs), ← is) refl
+
+-- such a part begins within the list, and ends there
+pub ends-within : {X : Type 0} (xs part : List X) (start : ℕ)
+    → part ≡ take (length part) (drop start xs) → start < length xs → start + length part ≤ length xs
+ends-within xs part start is begins =
+    let same : length part ≡ min (length part) (length xs - start) =
+    ap length is ∙ length-take (length part) (drop start xs)
+    ∙ ap (λ n. min (length part) n) (length-drop start xs) in
+    grind (arith, same, begins)
+
 -- What is written
+
+-- the text of a part is put behind that of the items before it
+pub written-part : {X : Type 0} (f : X → List ℕ) (before : List ℕ) (xs part : List X) (start : ℕ)
+    → part ≡ take (length part) (drop start xs)
+    → (before ++ flat_map f (take start xs)) ++ flat_map f part
+    ≡ before ++ flat_map f (take (start + length part) xs)
+written-part f before xs part start is =
+    rw (take-add start (length part) xs, flat_map-append f (take start xs), ← is, append_assoc) refl
 
 -- the text of the next entry is put behind that of those before it
 pub written-more : {X : Type 0} (f : X → List ℕ) (before : List ℕ) (xs : List X) (i : ℕ) (x : X)

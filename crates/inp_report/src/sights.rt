@@ -2,6 +2,10 @@
 ghost use Rattle.std.specs.Prelude.{◌≡◌, ◌++◌, codes, decimal, OnOk, flat_map};
 ghost use Rattle.std.specs.List.{count_by};
 ghost use Rattle.inp_model.specs.Step.{is_end_step};
+ghost use Rattle.inp_model.specs.declared.reply.Reply.TheVariants.{Took};
+ghost use Rattle.inp_model.specs.declared.step.Step.TheVariants.{Read};
+ghost use Rattle.inp_script.specs.declared.sight.Sight.TheVariants.{Call};
+ghost use Rattle.inp_script.specs.SightRef.{sight_of};
 ghost use Rattle.inp_report.specs.Steps.{step_text};
 ghost use Rattle.inp_report.specs.Replies.{query_kind, reply_text};
 ghost use Rattle.inp_report.specs.Sights.{joy_record_text, sight_line, is_counted_call, is_took, is_made, is_again_sight};
@@ -12,26 +16,88 @@ use crate::took_words::TookWords;
 use crate::words::{push_axis, push_event, push_numbered, push_refusal, push_spaced};
 use inp_joy::JoyRecord;
 use inp_model::{EV_KEY, EV_LED, EV_SND, EV_SW, EV_SYN, NoMemory, Reply, Step};
-use inp_script::{Sight, Sights};
+use inp_script::{Sight, SightRef, SightRun, Sights};
 use inp_texts::Page;
 
 pub(crate) fn push_sights(text: &mut Page, sights: &Sights) -> Result<(), NoMemory>
     ensures pushed { OnOk result (text.new ≡ text.old ++ flat_map sight_line sights.now) }
 {
     let mut took = TookWords::new(text.allocator())?;
-    for index in 0..sights.len() {
-        push_sight(text, &mut took, &sights.get(index))?;
+    let mut start = 0;
+    while start < sights.len() {
+        let run = sights.run_from(start);
+        push_run(text, &mut took, &run)?;
+        start += run.len();
     }
     Ok(())
 }
 
+// Appends the lines of entries that follow each other.
+fn push_run(text: &mut Page, took: &mut TookWords, run: &SightRun<'_>) -> Result<(), NoMemory>
+    ensures pushed { OnOk result (text.new ≡ text.old ++ flat_map sight_line run.now) }
+{
+    for index in 0..run.len() {
+        push_sight(text, took, run.get(index))?;
+    }
+    Ok(())
+}
+
+// Appends the line of an entry.
+#[inline(always)]
 #[tactic(auto, unfolding(crate::specs::Sights::sight_line))]
-fn push_sight(text: &mut Page, took: &mut TookWords, sight: &Sight) -> Result<(), NoMemory>
+fn push_sight(text: &mut Page, took: &mut TookWords, sight: SightRef<'_>) -> Result<(), NoMemory>
+    ensures pushed { OnOk result (text.new ≡ text.old ++ sight_line (sight_of sight.entry)) }
+{
+    match sight {
+        SightRef::Took { event } => return took.push(text, event),
+        SightRef::Read {
+            client,
+            most,
+            at,
+            count,
+        } => return push_read(text, client, most, at, count),
+        SightRef::Again { at, .. } => push_numbered(text, "again ", u64::from(at))?,
+        SightRef::Made { event } => {
+            text.push_str("made ")?;
+            push_event(text, event)?;
+        }
+        SightRef::Record { bytes } => push_joy_record(text, JoyRecord::from_bytes(bytes))?,
+        SightRef::Injected { .. } | SightRef::Whole { .. } => return push_whole(
+            text,
+            &sight.sight(),
+        ),
+    }
+    text.push_str("\n")
+}
+
+// Appends the line of a read that took events.
+#[tactic(auto, unfolding(crate::specs::Sights::sight_line, crate::specs::Steps::step_text, crate::specs::Replies::reply_text))]
+fn push_read(text: &mut Page, client: u32, most: u32, at: u32, count: u32) -> Result<(), NoMemory>
+    ensures pushed { OnOk result
+        (text.new ≡ text.old ++ sight_line (Call (Read client most) (Took at count))) }
+{
+    push_numbered(text, "call read ", u64::from(client))?;
+    push_numbered(text, " ", u64::from(most))?;
+    push_numbered(text, " reply took ", u64::from(at))?;
+    push_numbered(text, " ", u64::from(count))?;
+    text.push_str("\n")
+}
+
+// Appends the line of an entry of any kind.
+#[cold]
+#[inline(never)]
+#[tactic(auto, unfolding(crate::specs::Sights::sight_line))]
+fn push_whole(text: &mut Page, sight: &Sight) -> Result<(), NoMemory>
     ensures pushed { OnOk result (text.new ≡ text.old ++ sight_line sight.now) }
 {
     match sight {
         Sight::Call { step, reply } => push_call(text, *step, reply)?,
-        Sight::Took { event } => return took.push(text, event),
+        Sight::Took { event } => {
+            push_numbered(text, "took ", u64::from(event.place))?;
+            push_numbered(text, " ", event.time)?;
+            text.push_str(" ")?;
+            push_event(text, event.event)?;
+        }
         Sight::Made { event } => {
             text.push_str("made ")?;
             push_event(text, *event)?;
@@ -136,21 +202,37 @@ pub(crate) fn counted_calls(sights: &Sights) -> usize
     ensures count { result ≡ count_by is_counted_call sights.now }
 {
     let mut count = 0;
-    for index in 0..sights.len() {
-        if is_counted_call(&sights.get(index)) {
+    let mut start = 0;
+    while start < sights.len() {
+        let run = sights.run_from(start);
+        count += counted_in(&run);
+        start += run.len();
+    }
+    count
+}
+
+// How many of these entries are such calls.
+fn counted_in(run: &SightRun<'_>) -> usize
+    ensures count { result ≡ count_by is_counted_call run.now }
+{
+    let mut count = 0;
+    for index in 0..run.len() {
+        if is_counted_call(run.get(index)) {
             count += 1;
         }
     }
     count
 }
 
-fn is_counted_call(sight: &Sight) -> bool
-    ensures counted { result ≡ is_counted_call sight.now }
+fn is_counted_call(sight: SightRef<'_>) -> bool
+    ensures counted { result ≡ is_counted_call (sight_of sight.entry) }
 {
     match sight {
-        Sight::Call { step, reply } => reply.is_accepted() && !is_end(*step),
-        Sight::Took { .. } | Sight::Made { .. } | Sight::Again { .. } | Sight::Record { .. } =>
-            false,
+        SightRef::Injected { .. } | SightRef::Read { .. } => true,
+        SightRef::Whole {
+            sight: Sight::Call { step, reply },
+        } => reply.is_accepted() && !is_end(*step),
+        _ => false,
     }
 }
 
@@ -168,19 +250,40 @@ pub(crate) struct SightCounts {
     pub(crate) again: usize,
 }
 
+const NOTHING_SEEN: SightCounts = SightCounts {
+    took: 0,
+    made: 0,
+    again: 0,
+};
+
 // Counts the entries of the other kinds.
 pub(crate) fn sight_counts(sights: &Sights) -> SightCounts
     ensures took { result.took ≡ count_by is_took sights.now }
     ensures made { result.made ≡ count_by is_made sights.now }
     ensures again { result.again ≡ count_by is_again_sight sights.now }
 {
-    let mut counts = SightCounts {
-        took: 0,
-        made: 0,
-        again: 0,
-    };
-    for index in 0..sights.len() {
-        match sights.get(index) {
+    let mut counts = NOTHING_SEEN;
+    let mut start = 0;
+    while start < sights.len() {
+        let run = sights.run_from(start);
+        let more = counts_in(&run);
+        counts.took += more.took;
+        counts.made += more.made;
+        counts.again += more.again;
+        start += run.len();
+    }
+    counts
+}
+
+// The same of entries that follow each other.
+fn counts_in(run: &SightRun<'_>) -> SightCounts
+    ensures took { result.took ≡ count_by is_took run.now }
+    ensures made { result.made ≡ count_by is_made run.now }
+    ensures again { result.again ≡ count_by is_again_sight run.now }
+{
+    let mut counts = NOTHING_SEEN;
+    for index in 0..run.len() {
+        match run.get(index).sight() {
             Sight::Took { .. } => counts.took += 1,
             Sight::Made { .. } => counts.made += 1,
             Sight::Again { .. } => counts.again += 1,

@@ -6,9 +6,9 @@ ghost use Rattle.inp_script.specs.Runs.{AreRunsOf, IsRunOf};
 use crate::jobs::push_job;
 use crate::step_text::push_step_text;
 use crate::words::push_numbered;
-use inp_actors::{Actors, DeviceText, Name, Record};
+use inp_actors::{Actors, DeviceText, Name, Record, Role};
 use inp_model::{NoMemory, Step};
-use inp_script::{Run, Runs};
+use inp_script::{JobEnd, Run, Runs};
 use inp_texts::Page;
 use std::alloc::Global;
 
@@ -27,8 +27,36 @@ pub fn report(alloc: Global, rec: &Record, runs: &Runs, history: bool) -> Result
     ensures text { IfOk result (λ text. text.items ≡ report rec.now runs.now history) }
 {
     let mut text = Page::new(alloc);
+    text.reserve(expected_lines(rec.actors(), runs, history).saturating_mul(LINE_LEN));
     push_runs(&mut text, rec, runs, history)?;
     text.into_bytes()
+}
+
+/// How long a line is expected to be (this project's choice: most are shorter).
+const LINE_LEN: usize = 40;
+
+// About how many lines the report will have.
+fn expected_lines(actors: &Actors, runs: &Runs, history: bool) -> usize {
+    let mut lines: usize = 0;
+    for run in runs.as_slice() {
+        let steps = if history { run.history.len() } else { 0 };
+        let seen = seen_by(actors, run.jobs.as_slice());
+        lines = lines.saturating_add(steps).saturating_add(seen);
+    }
+    lines
+}
+
+// How many entries of these jobs are printed: those of a source are counted only.
+fn seen_by(actors: &Actors, jobs: &[JobEnd]) -> usize {
+    let mut seen: usize = 0;
+    for job in jobs {
+        if let Some(actor) = actors.as_slice().get(job.actor() as usize) {
+            if !matches!(actor.role, Role::Source) {
+                seen = seen.saturating_add(job.sight().len());
+            }
+        }
+    }
+    seen
 }
 
 fn push_runs(text: &mut Page, rec: &Record, runs: &Runs, history: bool) -> Result<(), NoMemory>

@@ -3,6 +3,7 @@ pub mod Computation
 pub mod TalkCalls
 pub mod IdleTurns
 pub mod SightLists
+pub mod BlockLists
 pub mod Batches
 pub mod Streams
 pub mod Replies

@@ -1,9 +1,12 @@
 -- What a job saw is kept in two lists, one with the entries that are kept whole: one entry more leaves those
 -- before it as they were.
-use Rattle.std.proofs.Common.{◌≡◌, ℕ, suc, List, [], ◌∷◌, ◌++◌, length, map, refl, arith, Result, Ok, Err}
+use Rattle.std.proofs.Common.{◌≡◌, ◌<◌, ℕ, suc, refl, arith, Result, Ok, Err, Some}
+use Rattle.std.proofs.Common.{List, [], ◌∷◌, ◌++◌, length, map, take, drop, get_or, slice_get}
 use Rattle.std.specs.Prelude.{OnOk, OnErr}
 use Rattle.std.specs.List.{All}
-use Rattle.std.proofs.lemmas.List.{get_or_append_left, get_or_push, map_push, map-append}
+use Rattle.std.proofs.lemmas.List.{get_or_append_left, get_or_push, map_push, map-append, length-map}
+use Rattle.std.proofs.lemmas.List.{take-map, drop-map}
+use Rattle.std.proofs.lemmas.Option.{slice_get-map, slice_get-get_or}
 use Rattle.std.proofs.lemmas.List.Elements.{All-push, All-append, All-map}
 use Rattle.std.proofs.lemmas.Simd.{map-map}
 use Rattle.inp_model.specs.declared.taken.Taken.{Taken}
@@ -13,6 +16,21 @@ use Rattle.inp_script.specs.declared.sight.Sight.{Sight}
 use Rattle.inp_script.specs.declared.sight.Sight.TheVariants.{Again}
 use Rattle.inp_script.specs.KeptSight.{sight_in, IsWithin}
 use Rattle.inp_script.specs.Sight.{taken_sight}
+
+-- A part of what is kept
+
+-- what a part of the list stands for is that part of what the list stands for
+pub part-of : {X Y : Type 0} (f : X → Y) (kept run : List X) (start : ℕ)
+    → run ≡ take (length run) (drop start kept)
+    → map f run ≡ take (length (map f run)) (drop start (map f kept))
+part-of f kept run start is = rw (length-map, drop-map, take-map, ← is) refl
+
+-- what is kept at an index is what the list has there
+pub kept-at : (whole : List Sight) (kept : List KeptSight) (index : ℕ) (d : KeptSight) (sight : Sight)
+    → index < length kept → sight ≡ sight_in whole (get_or kept index d)
+    → slice_get (map (sight_in whole) kept) index ≡ Some sight
+kept-at whole kept index d sight within is =
+    rw (slice_get-map (sight_in whole) kept index, slice_get-get_or kept index d within, is) refl
 
 -- One more is kept, or was refused
 

@@ -1,5 +1,7 @@
 pub mod Sight
 pub mod KeptSight
+pub mod Blocks
+pub mod SightRef
 pub mod Sights
 pub mod Owner
 pub mod Job

@@ -1,9 +1,11 @@
 //! The entries of what jobs saw, as they are kept.
 ghost use Rattle.std.specs.Prelude.{◌≡◌, IfSome, List};
 ghost use Rattle.inp_script.specs.declared.sight.Sight.{Sight as ASight};
+ghost use Rattle.inp_script.specs.declared.sight.Sight.TheVariants.{Call};
 ghost use Rattle.inp_script.specs.KeptSight.{sight_in, IsWithin};
+ghost use Rattle.inp_script.specs.SightRef.{sight_of};
 
-use crate::Sight;
+use crate::{Sight, SightRef};
 use inp_model::{Event, Items, Reply, Step, Taken};
 use std::mem::size_of;
 
@@ -57,60 +59,77 @@ impl KeptSight {
         ensures within { IfSome result (λ kept. (whole : List ASight) → IsWithin whole kept) }
         ensures sight { IfSome result (λ kept. (whole : List ASight) → sight_in whole kept ≡ sight) }
     {
-        let kept = match sight {
-            Sight::Took { event } => KeptSight::Took { event },
-            Sight::Call {
-                step: Step::Inject { event, now },
-                reply: Reply::Done { at },
-            } => KeptSight::Injected { event, now, at },
-            Sight::Call {
-                step: Step::Read {
+        match sight {
+            Sight::Took { event } => Some(KeptSight::Took { event }),
+            Sight::Made { event } => Some(KeptSight::Made { event }),
+            Sight::Again { at, ends } => Some(KeptSight::Again { at, ends }),
+            Sight::Record { bytes } => Some(KeptSight::Record { bytes }),
+            Sight::Call { step, reply } => KeptSight::of_call(&step, &reply),
+        }
+    }
+
+    // The small entry of a call, if it has one.
+    #[inline(always)]
+    pub(crate) fn of_call(step: &Step, reply: &Reply) -> Option<KeptSight>
+        ensures within { IfSome result (λ kept. (whole : List ASight) → IsWithin whole kept) }
+        ensures sight { IfSome result (λ kept. (whole : List ASight) →
+            sight_in whole kept ≡ Call step.now reply.now) }
+    {
+        match (step, reply) {
+            (Step::Inject { event, now }, Reply::Done { at }) => Some(KeptSight::Injected {
+                event: *event,
+                now: *now,
+                at: *at,
+            }),
+            (
+                Step::Read {
                     client,
                     count: most,
                 },
-                reply: Reply::Took { at, count },
-            } => KeptSight::Read {
-                client,
-                most,
-                at,
-                count,
-            },
-            Sight::Made { event } => KeptSight::Made { event },
-            Sight::Again { at, ends } => KeptSight::Again { at, ends },
-            Sight::Record { bytes } => KeptSight::Record { bytes },
-            Sight::Call { .. } => return None,
-        };
-        Some(kept)
+                Reply::Took { at, count },
+            ) => Some(KeptSight::Read {
+                client: *client,
+                most: *most,
+                at: *at,
+                count: *count,
+            }),
+            _ => None,
+        }
     }
 
     // What the job saw, by the second list.
     #[inline(always)]
-    pub(crate) fn sight(&self, whole: &Items<Sight>) -> Sight
+    pub(crate) fn lend<'a>(&'a self, whole: &'a Items<Sight>) -> SightRef<'a>
         requires within { IsWithin whole.now self.now }
-        ensures sight { result ≡ sight_in whole.now self.now }
+        ensures sight { sight_of result ≡ sight_in whole.now self.now }
     {
-        match *self {
-            KeptSight::Took { event } => Sight::Took { event },
-            KeptSight::Injected { event, now, at } => Sight::Call {
-                step: Step::Inject { event, now },
-                reply: Reply::Done { at },
+        match self {
+            KeptSight::Took { event } => SightRef::Took { event },
+            KeptSight::Injected { event, now, at } => SightRef::Injected {
+                event: *event,
+                now: *now,
+                at: *at,
             },
             KeptSight::Read {
                 client,
                 most,
                 at,
                 count,
-            } => Sight::Call {
-                step: Step::Read {
-                    client,
-                    count: most,
-                },
-                reply: Reply::Took { at, count },
+            } => SightRef::Read {
+                client: *client,
+                most: *most,
+                at: *at,
+                count: *count,
             },
-            KeptSight::Made { event } => Sight::Made { event },
-            KeptSight::Again { at, ends } => Sight::Again { at, ends },
-            KeptSight::Record { bytes } => Sight::Record { bytes },
-            KeptSight::Whole { index } => *whole.get(index),
+            KeptSight::Made { event } => SightRef::Made { event: *event },
+            KeptSight::Again { at, ends } => SightRef::Again {
+                at: *at,
+                ends: *ends,
+            },
+            KeptSight::Record { bytes } => SightRef::Record { bytes: *bytes },
+            KeptSight::Whole { index } => SightRef::Whole {
+                sight: whole.get(*index),
+            },
         }
     }
 }

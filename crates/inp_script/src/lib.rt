@@ -47,6 +47,7 @@
 #![tactic(auto)]
 
 mod actor;
+mod blocks;
 mod end;
 pub mod examples;
 mod fed_sight;
@@ -56,6 +57,8 @@ mod notes;
 mod role;
 mod run;
 mod sight;
+mod sight_ref;
+mod sight_run;
 mod sights;
 mod steps;
 mod stop;
@@ -71,6 +74,9 @@ pub use fed_sight::{FedList, FedSight};
 pub use gated::Gated;
 pub use run::{DeviceEnds, Jobs, JoyRuns, OwnerRuns, Played, Run, Runs};
 pub use sight::{JoySight, JoySights, Sight};
+pub use sight_ref::SightRef;
+pub use sight_run::SightRun;
 pub use sights::Sights;
+pub use steps::step_of;
 pub use stop::Stop;
 pub use waiting::Waiting;

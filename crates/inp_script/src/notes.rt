@@ -26,10 +26,7 @@ impl Notes {
             (self.new ≡ record self.old { sight = self.old.sight ++ map made_sight made.now }) }
     {
         for call in made {
-            self.sight.push(Sight::Call {
-                step: call.step,
-                reply: call.reply,
-            })?;
+            self.sight.push_call(&call.step, &call.reply)?;
         }
         Ok(())
     }
@@ -62,7 +59,7 @@ impl Notes {
     {
         match reply {
             Reply::Again { at, ends } => self.sight.push(Sight::Again { at, ends })?,
-            _ => self.sight.push(Sight::Call { step, reply })?,
+            _ => self.sight.push_call(&step, &reply)?,
         }
         self.sight.push_taken(events)?;
         self.stop = stop_after(reply);

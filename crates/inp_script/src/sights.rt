@@ -1,22 +1,24 @@
 //! What a job saw, as a list.
-ghost use Rattle.std.specs.Prelude.{◌≡◌, ◌<◌, [], ◌∷◌, ◌++◌, length, map, slice_get, nat_eq, OnOk, OnErr, Some};
+ghost use Rattle.std.specs.Prelude.{◌≡◌, ◌<◌, [], ◌∷◌, ◌++◌, length, map, take, drop, slice_get, nat_eq, OnOk, OnErr, Some};
 ghost use Rattle.inp_model.specs.Injection.{inject_of};
 ghost use Rattle.inp_model.specs.declared.reply.Reply.TheVariants.{Done};
 ghost use Rattle.inp_script.specs.declared.sight.Sight.TheVariants.{Call};
 ghost use Rattle.inp_script.specs.Sight.{taken_sight};
 
-use crate::Sight;
+use crate::blocks::Blocks;
 use crate::kept_sight::KeptSight;
-use inp_model::{Items, NoMemory, Stamped, Taken};
+use crate::{Sight, SightRun};
+use inp_model::{Items, NoMemory, Reply, Stamped, Step, Taken};
 use std::alloc::Global;
 use std::marker::Model;
 
 /// What a job saw, in order. Contracts see it as the list of its entries.
 ///
-/// An entry takes 32 bytes, and one of a call with much in it those of a [`Sight`] besides.
+/// An entry takes 32 bytes, and one of a call with much in it those of a [`Sight`] besides. It stays where it was put:
+/// the list grows by blocks of 128 entries.
 #[derive(Drop)]
 pub struct Sights {
-    kept: Items<KeptSight>,
+    kept: Blocks<KeptSight>,
     whole: Items<Sight>,
 }
 
@@ -39,7 +41,7 @@ impl Sights {
         ensures empty { result ≡ [] }
     {
         Sights {
-            kept: Items::new(alloc),
+            kept: Blocks::new(alloc),
             whole: Items::new(alloc),
         }
     }
@@ -100,12 +102,38 @@ impl Sights {
         self.kept.is_empty()
     }
 
+    /// Adds a call with its reply. It is refused for memory alone, and the list is then as before.
+    pub(crate) fn push_call(&mut self, step: &Step, reply: &Reply) -> Result<(), NoMemory>
+        ensures ok { OnOk result (self.new ≡ self.old ++ Call step.now reply.now ∷ []) }
+        ensures err { OnErr result (self.new ≡ self.old) }
+    {
+        match KeptSight::of_call(step, reply) {
+            Some(kept) => self.kept.push(kept),
+            None => self.push_whole(Sight::Call {
+                step: *step,
+                reply: *reply,
+            }),
+        }
+    }
+
+    /// The entries from an index on that are kept in one block with that one.
+    pub fn run_from(&self, start: usize) -> SightRun<'_>
+        requires within { start < length self.now }
+        ensures some { 0 < length result }
+        ensures run { result ≡ take (length result) (drop start self.now) }
+    {
+        SightRun {
+            kept: self.kept.run_from(start),
+            whole: &self.whole,
+        }
+    }
+
     /// The entry at an index below the length.
     #[inline(always)]
     pub fn get(&self, index: usize) -> Sight
         requires within { index < length self.now }
         ensures item { slice_get self.now index ≡ Some result }
     {
-        self.kept.get(index).sight(&self.whole)
+        self.kept.get(index).lend(&self.whole).sight()
     }
 }

@@ -5,9 +5,9 @@ ghost use Rattle.inp_script.specs.Line.{step_of};
 use inp_actors::Command;
 use inp_model::{Event, Step};
 
-// The step that a command makes on a client, if it makes one and no more.
-pub(crate) fn step_of(client: u32, command: &Command) -> Option<Step>
-    ensures { result ≡ step_of client command.now }
+/// The step that a command makes on a client, if it makes one and no more.
+pub fn step_of(client: u32, command: &Command) -> Option<Step>
+    ensures step { result ≡ step_of client command.now }
 {
     let step = match *command {
         Command::Event {

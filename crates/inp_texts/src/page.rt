@@ -42,6 +42,13 @@ impl Page {
         *self.text.allocator()
     }
 
+    /// Asks at once for the memory of so many more bytes. Where there is none, the page grows as it is written.
+    pub fn reserve(&mut self, bytes: usize)
+        ensures same { self.new ≡ self.old }
+    {
+        let _ = self.text.reserve(bytes);
+    }
+
     /// How many bytes were written.
     pub fn len(&self) -> usize
         ensures { result ≡ length self.now }

@@ -1,20 +1,17 @@
-use Rattle.std.proofs.Common.{sym, ◌∙◌}
+use Rattle.std.proofs.Common.{rules}
 use Rattle.inp_report.specs.Sights.{is_counted_call}
-use Rattle.inp_report.proofs.SightCounts.{counted-yes, counted-no}
-use Rattle.inp_report.proofs.sights.counted_calls.Goals.{then-is_counted_call, else-is_counted_call}
+use Rattle.inp_report.proofs.SightCounts.{counted-part, ends-within}
 use Rattle.inp_report.proofs.sights.counted_calls.Goals as goal
 
--- an entry that is a counted call adds one, and another one leaves the count
-pub loop-index-preserved : goal.loop-index-preserved
-loop-index-preserved c =
-    let sights = c.args.sights.now in
-    let index = c.loop-index.index in
-    let before = c.loop-index.invariant in
-    elim c.if-is_counted_call.branch [
-      | then-is_counted_call w ↦
-          w.count-is ∙ counted-yes is_counted_call sights index c.get.result c.loop-index.count
-          (sym c.is_counted_call.ensures.counted ∙ w.if-is_counted_call.true) c.get.ensures.item before
-      | else-is_counted_call w ↦
-          w.count-is ∙ counted-no is_counted_call sights index c.get.result c.loop-index.count
-          (sym c.is_counted_call.ensures.counted ∙ w.if-is_counted_call.false) c.get.ensures.item before
-    ]
+-- the next block adds the calls that it has
+pub loop-start-preserved : goal.loop-start-preserved
+loop-start-preserved c =
+    let run = c.run_from-run.ensures.run in
+    record {
+      count =
+          rw (c.counted_in-count.ensures.count, c.loop-start.invariant.count, c.len-start.ensures.length)
+          (counted-part is_counted_call c.args.sights.now c.run_from-run.result c.loop-start.start run);
+      within =
+          rw c.len-start.ensures.length
+          (ends-within c.args.sights.now c.run_from-run.result c.loop-start.start run (search rules));
+    }

@@ -1,26 +1,23 @@
-use Rattle.std.proofs.Common.{◌≡◌}
-use Rattle.inp_script.specs.declared.sight.Sight.{Sight}
-use Rattle.inp_script.specs.declared.sight.Sight.TheVariants.{Call, Took, Made, Again, Record}
-use Rattle.inp_report.proofs.SightCounts.{counts_with, kinds-more}
-use Rattle.inp_report.proofs.sights.sight_counts.Goals.{in-Took, in-Made, in-Again, in-Call, in-Record}
+use Rattle.std.proofs.Common.{rules}
+use Rattle.inp_report.specs.Sights.{is_took, is_made, is_again_sight}
+use Rattle.inp_report.proofs.SightCounts.{counted-part, ends-within}
 use Rattle.inp_report.proofs.sights.sight_counts.Goals as goal
 
--- whatever kind the next entry is of, the counts are those with it
-pub loop-index-preserved : goal.loop-index-preserved
-loop-index-preserved c =
-    let sights = c.args.sights.now in
-    let i = c.loop-index.index in
-    let read = c.get.result in
-    let at = c.get.ensures.item in
-    let old = c.loop-index.counts in
-    let new = c.match-get.counts in
-    let before = c.loop-index.invariant in
-    let more = λ (sight : Sight) (is : read ≡ sight) (with_it : new ≡ counts_with old sight).
-    kinds-more sights i read sight old new at is with_it before in
-    elim c.match-get.branch [
-      | in-Took w ↦ more (Took w.in-Took.event) w.in-Took.is w.counts-is
-      | in-Made w ↦ more (Made w.in-Made.event) w.in-Made.is w.counts-is
-      | in-Again w ↦ more (Again w.in-Again.at w.in-Again.ends) w.in-Again.is w.counts-is
-      | in-Call w ↦ more (Call w.in-Call.step w.in-Call.reply) w.in-Call.is w.counts-is
-      | in-Record w ↦ more (Record w.in-Record.bytes) w.in-Record.is w.counts-is
-    ]
+-- the next block adds the entries of each kind that it has
+pub loop-start-preserved : goal.loop-start-preserved
+loop-start-preserved c =
+    let run = c.run_from-run.ensures.run in
+    record {
+      took =
+          rw (c.counts_in-more.ensures.took, c.loop-start.invariant.took, c.len-start.ensures.length)
+          (counted-part is_took c.args.sights.now c.run_from-run.result c.loop-start.start run);
+      made =
+          rw (c.counts_in-more.ensures.made, c.loop-start.invariant.made, c.len-start.ensures.length)
+          (counted-part is_made c.args.sights.now c.run_from-run.result c.loop-start.start run);
+      again =
+          rw (c.counts_in-more.ensures.again, c.loop-start.invariant.again, c.len-start.ensures.length)
+          (counted-part is_again_sight c.args.sights.now c.run_from-run.result c.loop-start.start run);
+      within =
+          rw c.len-start.ensures.length
+          (ends-within c.args.sights.now c.run_from-run.result c.loop-start.start run (search rules));
+    }

@@ -1,5 +1,5 @@
 use Rattle.std.proofs.Common.{◌∙◌, sym, rules}
-use Rattle.std.specs.Prelude.{Some, is_some}
+use Rattle.std.specs.Prelude.{Some}
 use Rattle.inp_model.proofs.Leaves.{left-none, left-one}
 use Rattle.inp_script.proofs.Common.{Begins, Holds, Job, ActorView, end_talk, stick_of, job_in}
 use Rattle.inp_script.proofs.TalkCalls.{begins-none}

@@ -10,7 +10,7 @@ pub returns-in_default-clause-done : goal.returns-in_default-clause-done
 returns-in_default-clause-done g c =
     let j = job_of c.args.reader.now.reading c.args.notes.now in
     let none : step_of c.args.reader.now.reading.client c.args.command.now ≡ None =
-    rw (← c.client.ensures.client, ← c.step_of.ensures) c.in_default.is in
+    rw (← c.client.ensures.client, ← c.step_of.ensures.step) c.in_default.is in
     holds-nothing _ (call_if j (step_of c.args.reader.now.reading.client c.args.command.now))
     (Some j) (rw none)
 
@@ -18,7 +18,7 @@ returns-in_default-clause-done g c =
 pub returns-clause-done : goal.returns-clause-done
 returns-clause-done g c =
     let some : Some c.in-Some.step ≡ step_of c.args.reader.now.reading.client c.args.command.now =
-    rw (← c.in-Some.is, c.step_of.ensures, c.client.ensures.client) in
+    rw (← c.in-Some.is, c.step_of.ensures.step, c.client.ensures.client) in
     rw (← some)
     (holds-noted _ _ c.in-Some.step c.in_ok-call.field-0 c.args.notes.now c.call.new.self
     c.args.reader.now.reading no_stick c.in_ok-call.ensures.noted)
@@ -31,10 +31,10 @@ returns-in_default-clause-begun g c = begins-none _ _
 pub returns-clause-begun : goal.returns-clause-begun
 returns-clause-begun g c =
     begins-call_if _ _ c.in-Some.step _ (job_of c.args.reader.now.reading c.args.notes.now)
-    (rw (← c.in-Some.is, c.step_of.ensures, c.client.ensures.client)) c.in_ok-call.ensures.made
+    (rw (← c.in-Some.is, c.step_of.ensures.step, c.client.ensures.client)) c.in_ok-call.ensures.made
 
 -- the one call was made, though memory ran out while it was noted
 pub returns-in_err-call-clause-begun : goal.returns-in_err-call-clause-begun
 returns-in_err-call-clause-begun g c =
     begins-call_if _ _ c.in-Some.step _ (job_of c.args.reader.now.reading c.args.notes.now)
-    (rw (← c.in-Some.is, c.step_of.ensures, c.client.ensures.client)) c.in_err-call.ensures.made
+    (rw (← c.in-Some.is, c.step_of.ensures.step, c.client.ensures.client)) c.in_err-call.ensures.made

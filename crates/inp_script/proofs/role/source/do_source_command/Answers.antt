@@ -32,7 +32,7 @@ returns-clause-done g c r =
     rw (
       source_talk-single c.args.rec.now.streams c.args.command.now (job_of r c.args.notes.now)
           (sym c.stream_index.ensures.index ∙ none_of c.stream_index.result c.in_default.not-Some),
-      ← c.in-Some-step_of.ensures,
+      ← c.in-Some-step_of.ensures.step,
     )
     (holds-noted _ _ _ _ _ _ r no_stick c.in_ok-call.ensures.noted)
 
@@ -42,7 +42,7 @@ returns-clause-begun g c r =
     rw (source_talk-single c.args.rec.now.streams c.args.command.now (job_of r c.args.notes.now)
     (sym c.stream_index.ensures.index ∙ none_of c.stream_index.result c.in_default.not-Some))
     (begins-call_if _ _ c.in-Some-step_of.step _
-    (job_of r c.args.notes.now) c.in-Some-step_of.ensures c.in_ok-call.ensures.made)
+    (job_of r c.args.notes.now) c.in-Some-step_of.ensures.step c.in_ok-call.ensures.made)
 
 -- the one call was made, though memory ran out while it was noted
 pub returns-in_err-call-clause-begun : goal.returns-in_err-call-clause-begun
@@ -50,4 +50,4 @@ returns-in_err-call-clause-begun g c r =
     rw (source_talk-single c.args.rec.now.streams c.args.command.now (job_of r c.args.notes.now)
     (sym c.stream_index.ensures.index ∙ none_of c.stream_index.result c.in_default.not-Some))
     (begins-call_if _ _ c.in-Some-step_of.step _
-    (job_of r c.args.notes.now) c.in-Some-step_of.ensures c.in_err-call.ensures.made)
+    (job_of r c.args.notes.now) c.in-Some-step_of.ensures.step c.in_err-call.ensures.made)
