@@ -1,5 +1,5 @@
 -- A table of numbers and their names, and how it is read both ways.
-use Rattle.std.specs.Prelude.{ℕ, Bool, false, ◌&&◌, ◌||◌, ◌==◌, List, [], ◌∷◌, Option, Some, None, if◌then◌else◌}
+use Rattle.std.specs.Prelude.{ℕ, ◌+◌, Bool, false, ◌&&◌, ◌||◌, ◌==◌, List, [], ◌∷◌, ◌++◌, map, Option, Some, None, if◌then◌else◌}
 use Rattle.std.specs.Char.{is_ascii_uppercase, is_ascii_digit}
 use Rattle.std.specs.List.{list_all}
 use Rattle.std.specs.Str.{bytes_eq}
@@ -7,6 +7,25 @@ use Rattle.std.specs.Str.{bytes_eq}
 -- a number, or a pair of numbers, and its name
 abbrev pub NamedNumber : Type 0 → Type 0
 NamedNumber N = N × List ℕ
+
+-- one more byte before the words of a text: a space ends the word that it stands before
+unfoldable pub with_byte : ℕ → List (List ℕ) → List (List ℕ)
+with_byte b [] = (b ∷ []) ∷ []
+with_byte b (word ∷ words) = if b == 32 then [] ∷ word ∷ words else (b ∷ word) ∷ words
+
+-- the words of a text, which single spaces divide
+unfoldable pub words_between_spaces : List ℕ → List (List ℕ)
+words_between_spaces [] = [] ∷ []
+words_between_spaces (b ∷ bs) = with_byte b (words_between_spaces bs)
+
+-- these names, with numbers that follow each other from the first on
+unfoldable pub entries_from : ℕ → List (List ℕ) → List (NamedNumber ℕ)
+entries_from first [] = []
+entries_from first (name ∷ names) = (first, name) ∷ entries_from (first + 1) names
+
+-- names that begin alike and end in the words of a text, with numbers that follow each other from the first on
+unfoldable pub code_run : List ℕ → ℕ → List ℕ → List (NamedNumber ℕ)
+code_run begin first ends = entries_from first (map (λ end. begin ++ end) (words_between_spaces ends))
 
 module _ {N : Type 0} where
   -- the name of the first entry with this number

@@ -10,7 +10,7 @@
 //! | `name_of(1, 88)` | `Some("KEY_F12")` |
 //! | `code_of("KEY_F12")` | `Some((1, 88))` |
 //!
-//! The table is stated once, in `specs/KindNames.antt` and `specs/CodeNames.antt`, line by line as the header has it.
+//! The table is stated once, in `specs/KindNames.antt` and `specs/CodeNames.antt`. Codes in a row are one entry of it.
 //! Each look-up is proved to answer as that table does: the entry's name or numbers where there is an entry, and `None`
 //! everywhere else. The laws `kinds_are_one_to_one` and `codes_are_one_to_one` say that the look-ups are inverse, so
 //! that a name that was written is read back. They also say that each name is a word of upper-case letters, digits and
