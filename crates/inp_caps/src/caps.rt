@@ -73,6 +73,7 @@ impl Caps {
 
     /// Whether the code of the type is supported. `EV_SYN` has the codes 0 to 3, and `EV_REP`, where it is
     /// supported, has both of its codes.
+    #[inline]
     pub fn supports(&self, kind: u16, code: u16) -> bool
         ensures supported { result ≡ supports self.now kind code }
         ensures description { IsDescription self.now }

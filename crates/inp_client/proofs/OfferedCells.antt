@@ -17,7 +17,7 @@ use Rattle.std.proofs.lemmas.Bool.Decides.{nat_tests}
 use Rattle.inp_client.proofs.RingsLeft.{rings_in, ring_at_index, client_at_index}
 use Rattle.inp_client.specs.declared.location.Location.{Location}
 use Rattle.inp_client.specs.Client.{ClientView}
-use Rattle.inp_client.specs.Member.{Member, ring_of, client_in, cells_in, times_in, wanted, after_event}
+use Rattle.inp_client.specs.Member.{Member, ring_of, client_in, cells_in, times_in, after_event}
 use Rattle.inp_client.specs.Member.{AreStored}
 use Rattle.inp_client.specs.Locations.{client_at, clients_in, AreLocated}
 use Rattle.inp_client.specs.Numbers.{loses_event, ring_after, event_under, client_of_index, ring_of_index}

@@ -19,7 +19,7 @@ ghost use Rattle.inp_client.specs.Numbers.{held_numbers, stored_of, held_places,
 ghost use Rattle.inp_client.specs.declared.open_refused.OpenRefused.TheVariants.{TooMany};
 
 use crate::client::Client;
-use crate::frame::{Frame, offer_events, offer_run, takers_of_all};
+use crate::frame::{Frame, RUN_MAX, RUN_SHORT, offer_events, offer_run, takers_of_all};
 use crate::location::{Location, index_of, place_for};
 use crate::open_refused::OpenRefused;
 use crate::readable::write_readable;
@@ -316,7 +316,12 @@ impl Clients {
         };
         let locations = self.locations.as_slice();
         match takers_of_all(locations, &self.slab, &self.store, &frame) {
-            Some(takers) => offer_run(locations, &mut self.slab, &mut self.store, &frame, takers),
+            Some(takers) if frame.events.len() <= RUN_SHORT => {
+                offer_run::<RUN_SHORT>(locations, &mut self.slab, &mut self.store, &frame, takers);
+            }
+            Some(takers) => {
+                offer_run::<RUN_MAX>(locations, &mut self.slab, &mut self.store, &frame, takers);
+            }
             None => offer_events(locations, &mut self.slab, &mut self.store, &frame),
         }
     }

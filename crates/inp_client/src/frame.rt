@@ -27,7 +27,10 @@ pub struct Frame<'a> {
 }
 
 /// A frame of at most so many events is put into the rings in one run.
-const RUN_MAX: usize = 64;
+pub const RUN_MAX: usize = 64;
+
+/// Most frames have at most so many events (this project's choice). Less is set aside for their numbers.
+pub const RUN_SHORT: usize = 4;
 
 /// How many clients take a frame, where each that is offered it takes all of it. None tells nothing.
 pub fn takers_of_all(
@@ -95,9 +98,9 @@ fn takers_of(
     Some(takers)
 }
 
-/// Puts a frame in one run into the ring of each client that is offered it: so many, which all take all of it. First
-/// comes a cell for each event, and then all their numbers enter each ring.
-pub fn offer_run(
+/// Puts a frame of at most `N` events in one run into the ring of each client that is offered it: so many, which all take
+/// all of it. First comes a cell for each event, and then all their numbers enter each ring.
+pub fn offer_run<const N: usize>(
     locations: &[Location],
     slab: &mut Slab<Client>,
     store: &mut Store,
@@ -106,10 +109,12 @@ pub fn offer_run(
 )
     requires before { AreShared locations.now slab.old store.old }
     requires run { FitsInOneRun locations.now slab.old store.old frame.now takers }
+    requires short { length frame.now.events.now ≤ N }
+    requires few { N ≤ RUN_MAX }
     requires moment { frame.now.moment ≤ MOMENT_MAX }
     ensures { IsOffered frame.now locations.now slab.old slab.new store.old store.new }
 {
-    let mut numbers = [0; RUN_MAX];
+    let mut numbers = [0; N];
     for at in 0..frame.events.len() {
         let cell = Cell {
             event: frame.events[at],

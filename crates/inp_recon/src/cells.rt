@@ -93,9 +93,13 @@ impl Cells {
         if slot < 0 {
             return;
         }
-        let slot = slot as u32;
-        if slot < self.slot_count() {
-            self.cells[cell_index(slot, code)] = value;
+        let (slot, len) = (slot as u32, self.cells.len());
+        if slot >= SLOTS_MAX {
+            return;
+        }
+        let index = cell_index(slot, code);
+        if index < len {
+            self.cells[index] = value;
         }
     }
 

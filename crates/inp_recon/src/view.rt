@@ -59,6 +59,7 @@ impl View {
     /// value the current slot. A multi-touch value is then that of the current slot, if there is a slot of this number.
     /// Any other event changes nothing, and neither does one of a code past the view's lists.
     #[tactic(auto, unfolding(crate::specs::View::view_after_event))]
+    #[inline(always)]
     pub fn take_event(&mut self, event: Event)
         ensures view { self.new ≡ view_after_event self.old event }
         ensures cells { length self.new.cells ≡ length self.old.cells }

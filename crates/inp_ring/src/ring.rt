@@ -2,6 +2,7 @@
 ghost use Rattle.std.specs.Prelude.{◌≡◌, ◌≢◌, ◌≤◌, ◌<◌, ◌+◌, ◌||◌, ◌⊎◌, if◌then◌else◌, get_or, min, suc, nat_lt, false, [], ◌∷◌, ◌++◌, length, map, take, drop, Some, IfOk};
 ghost use Rattle.std.specs.Bool.{OnFalse};
 ghost use Rattle.std.specs.Option.{option_map};
+ghost use Rattle.circular_buffer.specs.Buffer.{buffer};
 ghost use Rattle.inp_model.specs.declared.event.TheConstants.{EV_SYN};
 ghost use Rattle.inp_model.specs.declared.stamped.TheConstants.{MOMENT_MAX};
 ghost use Rattle.inp_model.specs.Event.{is_report, syn_dropped};
@@ -20,6 +21,10 @@ use circular_buffer::HeapCircularBuffer;
 use inp_model::{EV_SYN, Event, MOMENT_MAX, NoMemory, SYN_DROPPED, Taken};
 use std::alloc::Global;
 use std::marker::Model;
+
+/// So many numbers enter a ring one after the other, and more of them by one copy (this project's choice: a copy costs
+/// as much as four numbers).
+const FEW: usize = 4;
 
 /// What tells a client that it lost events.
 const LOSS: Event = Event {
@@ -150,7 +155,11 @@ impl Ring {
         ensures appended { self.new
             ≡ record self.old { numbers = self.old.numbers ++ numbers.now } }
     {
-        self.numbers.fill_from_slice(numbers);
+        if numbers.len() > FEW {
+            self.numbers.fill_from_slice(numbers);
+            return;
+        }
+        push_each(&mut self.numbers, numbers);
     }
 
     /// Removes the events of a type, as the answer to a query of its codes does. Each SYN_REPORT that is left with
@@ -356,5 +365,15 @@ impl Ring {
         ensures moved { IsTakenOut store.old store.new self.old.numbers self.new.numbers }
     {
         remove_class(&mut self.numbers, store, class);
+    }
+}
+
+// Puts numbers at the end of those that a ring holds, which has room for them, one after the other.
+fn push_each(held: &mut HeapCircularBuffer<u32>, numbers: &[u32])
+    requires room { length held.old.items + length numbers.now ≤ held.old.capacity }
+    ensures pushed { held.new ≡ buffer (held.old.items ++ numbers.now) held.old.capacity }
+{
+    for number in numbers {
+        held.try_push_back(*number).unwrap();
     }
 }

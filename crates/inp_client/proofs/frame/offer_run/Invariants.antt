@@ -4,8 +4,8 @@ use Rattle.inp_client.proofs.Runs.{AreAdded}
 use Rattle.inp_client.proofs.frame.offer_run.Given as goal
 
 abbrev pub invariant-loop-at : goal.invariant-loop-at
-invariant-loop-at l =
+invariant-loop-at g l =
     AreAdded l.initial.store l.store
     (map (cell_of_event l.frame.moment l.frame.place) (take l.at l.frame.events.now)) l.takers
     (take l.at l.numbers)
-    × (l.store.spare + l.at ≡ l.initial.store.spare) × (length l.numbers ≡ 64)
+    × (l.store.spare + l.at ≡ l.initial.store.spare) × (length l.numbers ≡ g.row.N)

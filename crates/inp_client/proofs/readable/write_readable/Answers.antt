@@ -1,6 +1,5 @@
 use Rattle.std.proofs.Common.{refl, sym, ap, ◌∙◌, ◌∷◌, [], length, take, get_or, arith}
 use Rattle.std.proofs.lemmas.List.{length-append}
-use Rattle.inp_model.specs.Reply.{written}
 use Rattle.inp_client.proofs.Locations.{is_at}
 use Rattle.inp_client.specs.Locations.{clients_in}
 use Rattle.inp_client.proofs.ReadableClients.{readable_of, next_held, next_number, readable_same}

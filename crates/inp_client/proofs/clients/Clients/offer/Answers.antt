@@ -19,6 +19,16 @@ returns-in-Some-clause-stored c =
     (stored_after_offer c.self.inside c.offer_run.new.slab c.offer_run.new.store
     (rw c.as_slice-locations.ensures.value at c.offer_run.ensures))
 
+pub returns-in-Some-2-clause-once : goal.returns-in-Some-2-clause-once
+returns-in-Some-2-clause-once c =
+    rw (← c.self.view_is) (rw c.as_slice-locations.ensures.value at c.offer_run-in-Some-2.ensures).once
+
+pub returns-in-Some-2-clause-stored : goal.returns-in-Some-2-clause-stored
+returns-in-Some-2-clause-stored c =
+    rw (← c.self.view_is)
+    (stored_after_offer c.self.inside c.offer_run-in-Some-2.new.slab c.offer_run-in-Some-2.new.store
+    (rw c.as_slice-locations.ensures.value at c.offer_run-in-Some-2.ensures))
+
 pub returns-in-None-clause-once : goal.returns-in-None-clause-once
 returns-in-None-clause-once c =
     rw (← c.self.view_is) (rw c.as_slice-locations.ensures.value at c.offer_events.ensures).once

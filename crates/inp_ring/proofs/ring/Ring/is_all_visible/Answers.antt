@@ -1,5 +1,4 @@
 use Rattle.std.proofs.Common.{◌≡◌, length, ◌-◌, Some, sym, ap, ◌∙◌, option_copied, slice_get}
-use Rattle.inp_model.specs.Event.{is_report}
 use Rattle.inp_ring.specs.Store.{event_of_cell}
 use Rattle.inp_ring.specs.Ring.{cell_at}
 use Rattle.inp_ring.proofs.Counts.{ends_last, ends_none}

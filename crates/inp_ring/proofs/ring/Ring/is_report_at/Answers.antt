@@ -1,5 +1,4 @@
 use Rattle.std.proofs.Common.{sym, ap, ◌∙◌, option_copied}
-use Rattle.inp_model.specs.Event.{is_report}
 use Rattle.inp_ring.proofs.Moves.{number_there}
 use Rattle.inp_ring.proofs.Rings.{number_at}
 use Rattle.inp_ring.proofs.ring.Ring.is_report_at.Goals as goal
