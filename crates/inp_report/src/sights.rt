@@ -16,7 +16,7 @@ use crate::took_words::TookWords;
 use crate::words::{push_axis, push_event, push_numbered, push_refusal, push_spaced};
 use inp_joy::JoyRecord;
 use inp_model::{EV_KEY, EV_LED, EV_SND, EV_SW, EV_SYN, NoMemory, Reply, Step};
-use inp_script::{Sight, SightRef, SightRun, Sights};
+use inp_script::{SightRef, SightRun, Sights};
 use inp_texts::Page;
 
 pub(crate) fn push_sights(text: &mut Page, sights: &Sights) -> Result<(), NoMemory>
@@ -62,10 +62,12 @@ fn push_sight(text: &mut Page, took: &mut TookWords, sight: SightRef<'_>) -> Res
             push_event(text, event)?;
         }
         SightRef::Record { bytes } => push_joy_record(text, JoyRecord::from_bytes(bytes))?,
-        SightRef::Injected { .. } | SightRef::Whole { .. } => return push_whole(
+        SightRef::Injected { event, now, at } => push_call(
             text,
-            &sight.sight(),
-        ),
+            Step::Inject { event, now },
+            &Reply::Done { at },
+        )?,
+        SightRef::Call { call } => push_call(text, call.step, &call.reply)?,
     }
     text.push_str("\n")
 }
@@ -80,31 +82,6 @@ fn push_read(text: &mut Page, client: u32, most: u32, at: u32, count: u32) -> Re
     push_numbered(text, " ", u64::from(most))?;
     push_numbered(text, " reply took ", u64::from(at))?;
     push_numbered(text, " ", u64::from(count))?;
-    text.push_str("\n")
-}
-
-// Appends the line of an entry of any kind.
-#[cold]
-#[inline(never)]
-#[tactic(auto, unfolding(crate::specs::Sights::sight_line))]
-fn push_whole(text: &mut Page, sight: &Sight) -> Result<(), NoMemory>
-    ensures pushed { OnOk result (text.new ≡ text.old ++ sight_line sight.now) }
-{
-    match sight {
-        Sight::Call { step, reply } => push_call(text, *step, reply)?,
-        Sight::Took { event } => {
-            push_numbered(text, "took ", u64::from(event.place))?;
-            push_numbered(text, " ", event.time)?;
-            text.push_str(" ")?;
-            push_event(text, event.event)?;
-        }
-        Sight::Made { event } => {
-            text.push_str("made ")?;
-            push_event(text, *event)?;
-        }
-        Sight::Again { at, .. } => push_numbered(text, "again ", u64::from(*at))?,
-        Sight::Record { bytes } => push_joy_record(text, JoyRecord::from_bytes(*bytes))?,
-    }
     text.push_str("\n")
 }
 
@@ -229,9 +206,7 @@ fn is_counted_call(sight: SightRef<'_>) -> bool
 {
     match sight {
         SightRef::Injected { .. } | SightRef::Read { .. } => true,
-        SightRef::Whole {
-            sight: Sight::Call { step, reply },
-        } => reply.is_accepted() && !is_end(*step),
+        SightRef::Call { call } => call.reply.is_accepted() && !is_end(call.step),
         _ => false,
     }
 }
@@ -283,12 +258,14 @@ fn counts_in(run: &SightRun<'_>) -> SightCounts
 {
     let mut counts = NOTHING_SEEN;
     for index in 0..run.len() {
-        match run.get(index).sight() {
-            Sight::Took { .. } => counts.took += 1,
-            Sight::Made { .. } => counts.made += 1,
-            Sight::Again { .. } => counts.again += 1,
-            Sight::Call { .. } => {}
-            Sight::Record { .. } => {}
+        match run.get(index) {
+            SightRef::Took { .. } => counts.took += 1,
+            SightRef::Made { .. } => counts.made += 1,
+            SightRef::Again { .. } => counts.again += 1,
+            SightRef::Injected { .. } => {}
+            SightRef::Read { .. } => {}
+            SightRef::Record { .. } => {}
+            SightRef::Call { .. } => {}
         }
     }
     counts

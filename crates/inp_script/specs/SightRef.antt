@@ -4,7 +4,8 @@ use Rattle.inp_model.specs.declared.reply.Reply.TheVariants.{Done, Took as TookR
 use Rattle.inp_script.specs.declared.sight.Sight.{Sight}
 use Rattle.inp_script.specs.declared.sight.Sight.TheVariants.{Call, Took, Made, Again, Record}
 use Rattle.inp_script.specs.declared.sight_ref.SightRef.{SightRef}
-use Rattle.inp_script.specs.declared.sight_ref.SightRef.TheVariants.{Took as TookRef, Injected, Read, Made as MadeRef, Again as AgainRef, Record as RecordRef, Whole}
+use Rattle.inp_script.specs.declared.sight_ref.SightRef.TheVariants.{Took as TookRef, Injected, Read, Made as MadeRef, Again as AgainRef, Record as RecordRef, Call as CallRef}
+use Rattle.inp_script.specs.Sight.{made_sight}
 
 -- the entry that is lent so
 abbrev pub sight_of : SightRef → Sight
@@ -14,4 +15,4 @@ sight_of (Read client most at count) = Call (ReadStep client most) (TookReply at
 sight_of (MadeRef event) = Made event
 sight_of (AgainRef at ends) = Again at ends
 sight_of (RecordRef bytes) = Record bytes
-sight_of (Whole sight) = sight.now
+sight_of (CallRef call) = made_sight call.now

@@ -1,5 +1,5 @@
 //! Lists that leave their items where they were put.
-ghost use Rattle.std.specs.Prelude.{◌≡◌, ◌<◌, ◌-◌, ◌%◌, ◌⊎◌, [], ◌∷◌, ◌++◌, length, take, drop, slice_get, nat_eq, OnOk, OnErr, Some};
+ghost use Rattle.std.specs.Prelude.{◌≡◌, ◌<◌, ◌≤◌, ◌-◌, ◌%◌, All, [], ◌∷◌, ◌++◌, length, take, drop, slice_get, nat_eq, vec_capacity, OnOk, OnErr, Some};
 ghost use Rattle.inp_script.specs.Blocks.{items_in_blocks, AreBlocks};
 
 use inp_model::NoMemory;
@@ -22,14 +22,15 @@ pub(crate) struct Blocks<T> {
 }
 
 impl<T> Model for Blocks<T> {
-    ghost use Rattle.std.specs.Prelude.{List};
+    ghost use Rattle.std.specs.Prelude.{List, vec_capacity};
     ghost use Rattle.inp_script.specs.Blocks.{items_in_blocks, AreBlocks};
 
     ghost Value = { List T };
 
     ghost view = { λ blocks. items_in_blocks blocks.full.items blocks.last.items };
 
-    ghost invariant = { λ blocks. AreBlocks blocks.full.items blocks.last.items };
+    ghost invariant = { λ blocks. AreBlocks blocks.full.items blocks.last.items
+        (vec_capacity blocks.last) };
 }
 
 impl<T> Blocks<T> {
@@ -50,10 +51,10 @@ impl<T> Blocks<T> {
         ensures ok { OnOk result (self.new ≡ self.old ++ item ∷ []) }
         ensures err { OnErr result (self.new ≡ self.old) }
     {
-        if self.last.is_empty() || self.last.len() == BLOCK {
+        if self.last.len() == self.last.capacity() {
             return push_block(&mut self.full, &mut self.last, item);
         }
-        self.last.push(item)?;
+        self.last.push_reserved(item);
         Ok(())
     }
 
@@ -94,16 +95,16 @@ impl<T> Blocks<T> {
 #[cold]
 #[inline(never)]
 fn push_block<T: Drop>(full: &mut Vec<Vec<T>>, last: &mut Vec<T>, item: T) -> Result<(), NoMemory>
-    requires sized { AreBlocks full.old.items last.old.items }
-    requires whole { (length last.old.items ≡ 0) ⊎ (length last.old.items ≡ 128) }
+    requires sized { AreBlocks full.old.items last.old.items (vec_capacity last.old) }
+    requires whole { length last.old.items ≡ vec_capacity last.old }
     ensures pushed { OnOk result (items_in_blocks full.new.items last.new.items
         ≡ items_in_blocks full.old.items last.old.items ++ item ∷ []) }
     ensures kept { OnErr result (items_in_blocks full.new.items last.new.items
         ≡ items_in_blocks full.old.items last.old.items) }
-    ensures sized { AreBlocks full.new.items last.new.items }
+    ensures sized { AreBlocks full.new.items last.new.items (vec_capacity last.new) }
 {
     let mut block = Vec::with_capacity(*full.allocator(), BLOCK)?;
-    block.push(item)?;
+    block.push_reserved(item);
     if last.is_empty() {
         *last = block;
         return Ok(());
@@ -118,7 +119,8 @@ fn push_block<T: Drop>(full: &mut Vec<Vec<T>>, last: &mut Vec<T>, item: T) -> Re
 
 // The block in which an index stands, at the index's remainder by the size of a block.
 fn block_with<'a, T>(full: &'a [Vec<T>], last: &'a [T], index: usize) -> &'a [T]
-    requires sized { AreBlocks full.now last.now }
+    requires full { All (λ block. length block.items ≡ 128) full.now }
+    requires last { length last.now ≤ 128 }
     requires within { index < length (items_in_blocks full.now last.now) }
     ensures inside { index % 128 < length result.now }
     ensures front { drop (index % 128) result.now ≡ take (length result.now - index % 128)

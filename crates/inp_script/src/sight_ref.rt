@@ -4,8 +4,9 @@ ghost use Rattle.inp_script.specs.SightRef.{sight_of};
 
 use crate::Sight;
 use inp_model::{Event, Reply, Step, Taken};
+use inp_reader::CallMade;
 
-/// An entry of what a job saw, as it is kept: a frequent one by its parts, and any other one whole.
+/// An entry of what a job saw, as it is kept: a frequent one by its parts, and any other one by its call.
 #[derive(Clone, Copy)]
 pub enum SightRef<'a> {
     /// The job took this event.
@@ -38,9 +39,9 @@ pub enum SightRef<'a> {
     Record {
         bytes: [u8; 8],
     },
-    /// Another entry.
-    Whole {
-        sight: &'a Sight,
+    /// It made another call.
+    Call {
+        call: &'a CallMade,
     },
 }
 
@@ -71,7 +72,10 @@ impl SightRef<'_> {
             SightRef::Made { event } => Sight::Made { event },
             SightRef::Again { at, ends } => Sight::Again { at, ends },
             SightRef::Record { bytes } => Sight::Record { bytes },
-            SightRef::Whole { sight } => *sight,
+            SightRef::Call { call } => Sight::Call {
+                step: call.step,
+                reply: call.reply,
+            },
         }
     }
 }

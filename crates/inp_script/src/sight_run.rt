@@ -3,16 +3,17 @@ ghost use Rattle.std.specs.Prelude.{◌≡◌, ◌<◌, length, slice_get, Some}
 ghost use Rattle.inp_script.specs.SightRef.{sight_of};
 ghost use Rattle.inp_script.specs.Sights.{sights_kept, AreKeptWithin};
 
+use crate::SightRef;
 use crate::kept_sight::KeptSight;
-use crate::{Sight, SightRef};
 use inp_model::Items;
+use inp_reader::CallMade;
 use std::marker::Model;
 
 /// Entries of what a job saw that follow each other, lent from where they are kept. Contracts see the list of them.
 #[derive(Drop)]
 pub struct SightRun<'a> {
     pub(crate) kept: &'a [KeptSight],
-    pub(crate) whole: &'a Items<Sight>,
+    pub(crate) calls: &'a Items<CallMade>,
 }
 
 impl<'a> Model for SightRun<'a> {
@@ -22,9 +23,9 @@ impl<'a> Model for SightRun<'a> {
 
     ghost Value = { List ASight };
 
-    ghost view = { λ run. sights_kept run.whole.now run.kept.now };
+    ghost view = { λ run. sights_kept run.calls.now run.kept.now };
 
-    ghost invariant = { λ run. AreKeptWithin run.whole.now run.kept.now };
+    ghost invariant = { λ run. AreKeptWithin run.calls.now run.kept.now };
 }
 
 impl<'a> SightRun<'a> {
@@ -42,16 +43,16 @@ impl<'a> SightRun<'a> {
         requires within { index < length self.now }
         ensures item { slice_get self.now index ≡ Some (sight_of result) }
     {
-        lend_at(self.kept, self.whole, index)
+        lend_at(self.kept, self.calls, index)
     }
 }
 
 // The entry that is kept at an index.
 #[inline(always)]
-fn lend_at<'a>(kept: &'a [KeptSight], whole: &'a Items<Sight>, index: usize) -> SightRef<'a>
+fn lend_at<'a>(kept: &'a [KeptSight], calls: &'a Items<CallMade>, index: usize) -> SightRef<'a>
     requires within { index < length kept.now }
-    requires held { AreKeptWithin whole.now kept.now }
-    ensures item { slice_get (sights_kept whole.now kept.now) index ≡ Some (sight_of result) }
+    requires held { AreKeptWithin calls.now kept.now }
+    ensures item { slice_get (sights_kept calls.now kept.now) index ≡ Some (sight_of result) }
 {
-    kept[index].lend(whole)
+    kept[index].lend(calls)
 }

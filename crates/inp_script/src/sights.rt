@@ -3,23 +3,24 @@ ghost use Rattle.std.specs.Prelude.{◌≡◌, ◌<◌, [], ◌∷◌, ◌++◌,
 ghost use Rattle.inp_model.specs.Injection.{inject_of};
 ghost use Rattle.inp_model.specs.declared.reply.Reply.TheVariants.{Done};
 ghost use Rattle.inp_script.specs.declared.sight.Sight.TheVariants.{Call};
-ghost use Rattle.inp_script.specs.Sight.{taken_sight};
+ghost use Rattle.inp_script.specs.Sight.{taken_sight, made_sight};
 
 use crate::blocks::Blocks;
 use crate::kept_sight::KeptSight;
 use crate::{Sight, SightRun};
 use inp_model::{Items, NoMemory, Reply, Stamped, Step, Taken};
+use inp_reader::CallMade;
 use std::alloc::Global;
 use std::marker::Model;
 
 /// What a job saw, in order. Contracts see it as the list of its entries.
 ///
-/// An entry takes 32 bytes, and one of a call with much in it those of a [`Sight`] besides. It stays where it was put:
-/// the list grows by blocks of 128 entries.
+/// An entry takes 32 bytes, and one of a call with much in it those of a [`CallMade`] besides. It stays where it was
+/// put: the list grows by blocks of 128 entries.
 #[derive(Drop)]
 pub struct Sights {
     kept: Blocks<KeptSight>,
-    whole: Items<Sight>,
+    calls: Items<CallMade>,
 }
 
 impl Model for Sights {
@@ -42,7 +43,7 @@ impl Sights {
     {
         Sights {
             kept: Blocks::new(alloc),
-            whole: Items::new(alloc),
+            calls: Items::new(alloc),
         }
     }
 
@@ -52,19 +53,20 @@ impl Sights {
         ensures err { OnErr result (self.new ≡ self.old) }
     {
         match KeptSight::of(sight) {
-            Some(kept) => self.kept.push(kept),
-            None => self.push_whole(sight),
+            Ok(kept) => self.kept.push(kept),
+            Err(call) => self.push_whole(call),
         }
     }
 
-    // Adds an entry that stands whole in the second list. Where it is refused, the list is as before.
-    fn push_whole(&mut self, sight: Sight) -> Result<(), NoMemory>
-        ensures ok { OnOk result (self.new ≡ self.old ++ sight ∷ []) }
+    // Adds a call that stands whole in the second list. Where it is refused, the list is as before.
+    #[inline(never)]
+    fn push_whole(&mut self, call: CallMade) -> Result<(), NoMemory>
+        ensures ok { OnOk result (self.new ≡ self.old ++ made_sight call ∷ []) }
         ensures err { OnErr result (self.new ≡ self.old) }
     {
-        let index = self.whole.len();
-        self.whole.push(sight)?;
-        self.kept.push(KeptSight::Whole { index })
+        let index = self.calls.len();
+        self.calls.push(call)?;
+        self.kept.push(KeptSight::Call { index })
     }
 
     // Adds the events that a call read.
@@ -109,7 +111,7 @@ impl Sights {
     {
         match KeptSight::of_call(step, reply) {
             Some(kept) => self.kept.push(kept),
-            None => self.push_whole(Sight::Call {
+            None => self.push_whole(CallMade {
                 step: *step,
                 reply: *reply,
             }),
@@ -124,7 +126,7 @@ impl Sights {
     {
         SightRun {
             kept: self.kept.run_from(start),
-            whole: &self.whole,
+            calls: &self.calls,
         }
     }
 
@@ -134,6 +136,6 @@ impl Sights {
         requires within { index < length self.now }
         ensures item { slice_get self.now index ≡ Some result }
     {
-        self.kept.get(index).lend(&self.whole).sight()
+        self.kept.get(index).lend(&self.calls).sight()
     }
 }

@@ -7,13 +7,13 @@ use Rattle.inp_script.proofs.sights.Sights.push_taken.Goals as goal
 -- events that were taken are kept without an index, so all that is kept stays within
 pub invariant_of-self : goal.invariant_of-self
 invariant_of-self c = rw c.loop-event.invariant
-    (within-taken c.self.inside.whole c.self.inside.kept
+    (within-taken c.self.inside.calls c.self.inside.kept
     (take c.loop-event.event-index c.args.events.now) c.self.invariant)
 
 pub invariant_of-self-in_err-push : goal.invariant_of-self-in_err-push
 invariant_of-self-in_err-push c =
     let within : AreWithin c.loop-event.self-inside = rw c.loop-event.invariant
-    (within-taken c.self.inside.whole c.self.inside.kept
+    (within-taken c.self.inside.calls c.self.inside.kept
     (take c.loop-event.event-index c.args.events.now) c.self.invariant) in
     rw c.in_err-push.ensures.err within
 

@@ -6,5 +6,5 @@ use Rattle.inp_script.proofs.sights.Sights.run_from.Goals as goal
 pub returns-clause-run : goal.returns-clause-run
 returns-clause-run c =
     rw (← c.self.view_is)
-    (part-of (sight_in c.self.inside.whole) c.self.inside.kept c.run_from.result.now c.args.start
+    (part-of (sight_in c.self.inside.calls) c.self.inside.kept c.run_from.result.now c.args.start
     c.run_from.ensures.run)
