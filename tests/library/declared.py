@@ -36,7 +36,7 @@ NUMBERS = [
     ("a record is refused", "src/cause.rt", r"(?:Cause|CapsRefused)::(\w+) => (\d+),"),
     ("filters of a device", "src/c_filter.rt", r"(\d+)(?: if .*)? => Some\(Filter::(\w+)"),
     ("steps of a device", "src/c_step.rt", r"(\d+) => Some\(Step::(\w+)"),
-    ("replies to steps", "src/c_reply.rt", r"Reply::(\w+) \{[^}]*\} => CReply \{(?:\s*reply: (\d+),)?"),
+    ("replies to steps", "src/c_reply.rt", r"Reply::(\w+) \{[^}]*\} => (?:\{\s*out\.reply = (\d+);)?"),
     ("a step was refused", "src/c_reply.rt", r"Refusal::(\w+) => (\d+),"),
     ("the reader answers", "src/reader.rt", r"Next::(\w+)(?: \{ \.\. \})? => (\d+),"),
     ("the joystick client answers", "src/joystick.rt", r"JoyRead::(\w+)(?: \{ \.\. \})? => (\d+),"),

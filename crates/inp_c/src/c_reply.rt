@@ -62,61 +62,54 @@ pub(crate) fn number_of(why: Refusal) -> u32
     }
 }
 
-/// A reply, as C has it.
-pub(crate) fn c_reply(reply: Reply) -> CReply
-    ensures { result ≡ told reply }
+/// Tells C a reply, in place: what is not named is 0.
+pub(crate) fn tell_reply(reply: &Reply, out: &mut CReply)
+    ensures { out.new ≡ told reply.now }
 {
+    *out = nothing();
     match reply {
-        Reply::Done { at } => CReply { at, ..nothing() },
-        Reply::Opened { at, client, ring } => CReply {
-            reply: 1,
-            at,
-            client,
-            count: ring,
-            ..nothing()
-        },
-        Reply::Took { at, count } => CReply {
-            reply: 2,
-            at,
-            count,
-            ..nothing()
-        },
-        Reply::Discarded { at, count } => CReply {
-            reply: 3,
-            at,
-            count,
-            ..nothing()
-        },
-        Reply::Bits { at, words } => CReply {
-            reply: 4,
-            at,
-            words,
-            ..nothing()
-        },
-        Reply::Axis { at, info } => CReply {
-            reply: 5,
-            at,
-            info,
-            ..nothing()
-        },
-        Reply::Cells { at, count, slot } => CReply {
-            reply: 6,
-            at,
-            count,
-            slot,
-            ..nothing()
-        },
-        Reply::Again { at, ends } => CReply {
-            reply: 7,
-            at,
-            count: ends,
-            ..nothing()
-        },
-        Reply::Refused { at, why } => CReply {
-            reply: 8,
-            at,
-            why: number_of(why),
-            ..nothing()
-        },
+        Reply::Done { at } => out.at = *at,
+        Reply::Opened { at, client, ring } => {
+            out.reply = 1;
+            out.at = *at;
+            out.client = *client;
+            out.count = *ring;
+        }
+        Reply::Took { at, count } => {
+            out.reply = 2;
+            out.at = *at;
+            out.count = *count;
+        }
+        Reply::Discarded { at, count } => {
+            out.reply = 3;
+            out.at = *at;
+            out.count = *count;
+        }
+        Reply::Bits { at, words } => {
+            out.reply = 4;
+            out.at = *at;
+            out.words = *words;
+        }
+        Reply::Axis { at, info } => {
+            out.reply = 5;
+            out.at = *at;
+            out.info = *info;
+        }
+        Reply::Cells { at, count, slot } => {
+            out.reply = 6;
+            out.at = *at;
+            out.count = *count;
+            out.slot = *slot;
+        }
+        Reply::Again { at, ends } => {
+            out.reply = 7;
+            out.at = *at;
+            out.count = *ends;
+        }
+        Reply::Refused { at, why } => {
+            out.reply = 8;
+            out.at = *at;
+            out.why = number_of(*why);
+        }
     }
 }

@@ -3,7 +3,7 @@ ghost use Rattle.std.specs.Prelude.{◌≡◌, ◌≢◌, Some};
 ghost use Rattle.inp_c.specs.Contents.{contents};
 ghost use Rattle.inp_c.specs.ToldStep.{clock_number, step_by, told_step, call_status, IsToldCall};
 
-use crate::c_reply::{CReply, c_reply};
+use crate::c_reply::{CReply, tell_reply};
 use crate::c_step::CStep;
 use crate::handle::Handle;
 use crate::kept::Kept;
@@ -50,7 +50,7 @@ fn call_in(kept: &Kept, index: usize, step: &mut CStep, reply: &mut CReply) -> u
     }
     let call = made[index];
     *step = c_step(call.step);
-    *reply = c_reply(call.reply);
+    tell_reply(&call.reply, reply);
     OK
 }
 

@@ -7,7 +7,7 @@ ghost use Rattle.inp_c.specs.Status.{step_status, inject_status, has_room};
 ghost use Rattle.inp_c.specs.Steps.{TellsStep, IsToldStep, IsToldInject};
 ghost use Rattle.inp_c.specs.Injection.{inject_cause};
 
-use crate::c_reply::{CReply, c_reply, number_of};
+use crate::c_reply::{CReply, number_of, tell_reply};
 use crate::c_step::{CStep, step_of};
 use crate::handle::Handle;
 use crate::kept::Kept;
@@ -91,7 +91,7 @@ fn step_device(
         events.old events.new cells.old cells.new }
 {
     let made = device.step(step, events, cells);
-    *reply = c_reply(made);
+    tell_reply(&made, reply);
 }
 
 /// Whether C's arrays are long enough for a step, which reads no more than the greatest count.

@@ -20,5 +20,5 @@ returns-clause-told c = λ _. record {
       ap (λ (l : List CallMade). slice_get l c.args.index) (sym c.made-made.ensures.made)
       ∙ slice_get-get_or c.made-made.result.now c.args.index past_end c.if-index-made.false;
   step_is = c.c_step.ensures;
-  reply_is = c.c_reply.ensures;
+  reply_is = c.tell_reply.ensures;
 }

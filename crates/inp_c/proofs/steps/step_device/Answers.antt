@@ -15,7 +15,7 @@ returns c =
     record {
       given = s.given;
       answered = s.answered;
-      replied = c.c_reply.ensures ∙ ap told s.replied;
+      replied = c.tell_reply.ensures ∙ ap told s.replied;
       events_written = s.events_written;
       cells_written = s.cells_written;
     }
