@@ -107,6 +107,13 @@ entered-more from count at events stamped old mid new h is place before noted =
     let here : at ≡ from + length (take count events) = omega (arith, place, long) in
     rw (take_more events count no_stamped h, ← is, entered-append, ← here, notes-append, ← before) noted
 
+-- what is noted of an event at least is so whatever stopped the job before
+pub noted-anew : (from : ℕ) (events : List Stamped) (notes : Notes) → 1 ≤ length events
+    → notes_after (entered_calls from events) (record notes { stop = None })
+    ≡ notes_after (entered_calls from events) notes
+noted-anew from [] notes some = absurd (omega (arith, some))
+noted-anew from (stamped ∷ events) notes some = refl
+
 none_left : (count : ℕ) (events : List Stamped) → slice_get (drop count events) 0 ≡ None
     → length events ≤ count
 none_left count [] h = omega arith

@@ -8,12 +8,12 @@ use std::marker::Model;
 use std::mem::replace;
 
 /// How many items stand together (this project's choice).
-const BLOCK: usize = 128;
+const BLOCK: usize = 1024;
 
 /// More blocks than this are no list.
 const BLOCKS_MAX: usize = 1 << 48;
 
-/// A list in blocks of 128 items, each of which is allocated once: no item is moved where the list grows. A contract
+/// A list in blocks of 1,024 items, each of which is allocated once: no item is moved where the list grows. A contract
 /// sees the list of the items.
 #[derive(Drop)]
 pub(crate) struct Blocks<T> {
@@ -119,11 +119,11 @@ fn push_block<T: Drop>(full: &mut Vec<Vec<T>>, last: &mut Vec<T>, item: T) -> Re
 
 // The block in which an index stands, at the index's remainder by the size of a block.
 fn block_with<'a, T>(full: &'a [Vec<T>], last: &'a [T], index: usize) -> &'a [T]
-    requires full { All (λ block. length block.items ≡ 128) full.now }
-    requires last { length last.now ≤ 128 }
+    requires full { All (λ block. length block.items ≡ 1024) full.now }
+    requires last { length last.now ≤ 1024 }
     requires within { index < length (items_in_blocks full.now last.now) }
-    ensures inside { index % 128 < length result.now }
-    ensures front { drop (index % 128) result.now ≡ take (length result.now - index % 128)
+    ensures inside { index % 1024 < length result.now }
+    ensures front { drop (index % 1024) result.now ≡ take (length result.now - index % 1024)
         (drop index (items_in_blocks full.now last.now)) }
 {
     match full.get(index / BLOCK) {

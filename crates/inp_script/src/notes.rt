@@ -113,12 +113,15 @@ impl Notes {
         ensures { OnOk result
             (self.new ≡ notes_after (entered_calls from events.now) self.old) }
     {
+        if events.is_empty() {
+            return Ok(());
+        }
         let mut at = from;
         for stamped in events {
             self.sight.push_entered(*stamped, at)?;
-            self.stop = None;
             at += 1;
         }
+        self.stop = None;
         Ok(())
     }
 }

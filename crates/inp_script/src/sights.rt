@@ -16,7 +16,7 @@ use std::marker::Model;
 /// What a job saw, in order. Contracts see it as the list of its entries.
 ///
 /// An entry takes 32 bytes, and one of a call with much in it those of a [`CallMade`] besides. It stays where it was
-/// put: the list grows by blocks of 128 entries.
+/// put: the list grows by blocks of 1,024 entries.
 #[derive(Drop)]
 pub struct Sights {
     kept: Blocks<KeptSight>,
